@@ -1,0 +1,5 @@
+pub mod Places
+pub mod SumLaws
+pub mod CountLaws
+pub mod FlagLaws
+pub mod SetLaws

@@ -1,0 +1,58 @@
+-- Laws of sets of numbers: what a set has, and when two are equal.
+use Rattle.std.proofs.Common.{◌≡◌, ℕ, ◌+◌, ◌-◌, ◌<◌, ◌≤◌, leb, ltb, Bool, true, false, ◌&&◌, List, length, get_or, map, refl, sym, ap, ◌∙◌, arith, inl, inr}
+use Rattle.std.specs.List.{range_with_len}
+use Rattle.std.proofs.lemmas.List.{ext_get_or, get_or_past}
+use Rattle.std.proofs.lemmas.List.FromFn.{get_or-map-range_with_len, length-map-range_with_len}
+use Rattle.std.proofs.lemmas.Bool.{cases_lt, lt-leb, le-leb, lt-ltb, le-ltb, and_right}
+use Rattle.dds_base.specs.Sets.{NumberSet, flags_of, set_of, has_flag, has}
+
+pub length-flags_of : (base : ℕ) (p : ℕ → Bool) → length (flags_of base p) ≡ 256
+unfolding flags_of
+length-flags_of base p = length-map-range_with_len p base 256
+
+pub get-flags_of : (base k : ℕ) (p : ℕ → Bool) → k < 256 → get_or (flags_of base p) k false ≡ p (base + k)
+unfolding flags_of
+get-flags_of base k p within = get_or-map-range_with_len p base 256 k (base + k) false within refl
+
+-- 256 flags that answer as p are those of p
+pub flags_are : (base : ℕ) (p : ℕ → Bool) (flags : List Bool) → length flags ≡ 256 → ((n : ℕ) → base ≤ n → n < base + 256 → has_flag base flags n ≡ p n) → flags ≡ flags_of base p
+flags_are base p flags long answers = ext_get_or false flags (flags_of base p) (long ∙ sym (length-flags_of base p)) (λ k within.
+    sym (at k) ∙ answers (base + k) (omega arith) (omega (arith, long)) ∙ sym (get-flags_of base k p (omega (arith, long))))
+  where
+    at : (k : ℕ) → has_flag base flags (base + k) ≡ get_or flags k false
+    at k = let e : base + k - base ≡ k = omega arith in rw (le-leb base (base + k) (omega arith), e) refl
+
+-- sets of tests that agree on the 256 numbers are equal
+pub same_set_of : (base : ℕ) (p q : ℕ → Bool) → ((n : ℕ) → base ≤ n → n < base + 256 → p n ≡ q n) → set_of base p ≡ set_of base q
+same_set_of base p q same = ap (λ f. record { base = base; flags = f }) (flags_are base q (flags_of base p) (length-flags_of base p) (λ n low high. has_in n low high ∙ same n low high))
+  where
+    has_in : (n : ℕ) → base ≤ n → n < base + 256 → has_flag base (flags_of base p) n ≡ p n
+    has_in n low high = let e : base + (n - base) ≡ n = omega arith in rw (le-leb base n low, get-flags_of base (n - base) p (omega arith), e) refl
+
+-- what a set has: the numbers from its base to base + 255 that pass
+pub has-set_of : (base n : ℕ) (p : ℕ → Bool) → has (set_of base p) n ≡ (leb base n && (ltb n (base + 256) && p n))
+has-set_of base n p = elim (cases_lt n base) [
+  | inl below ↦ rw (lt-leb base n below) refl
+  | inr above ↦ elim (cases_lt n (base + 256)) [
+    | inl within ↦ let e : base + (n - base) ≡ n = omega arith in rw (le-leb base n above, lt-ltb n (base + 256) within, get-flags_of base (n - base) p (omega arith), e) refl
+    | inr past ↦ rw (le-leb base n above, le-ltb n (base + 256) past, get_or_past (flags_of base p) (n - base) false (rw (length-flags_of base p) (omega arith))) refl
+  ]
+]
+
+-- the empty set has none
+pub has_none : (base n : ℕ) → has (set_of base (λ m. false)) n ≡ false
+has_none base n = has-set_of base n (λ m. false) ∙ and_right (leb base n) (ltb n (base + 256) && false) (and_right (ltb n (base + 256)) false refl)
+
+-- no set has a number past its 256
+pub has_past : (s : NumberSet) (n : ℕ) → length s.flags ≡ 256 → s.base + 256 ≤ n → has s n ≡ false
+has_past s n long past = and_right (leb s.base n) (get_or s.flags (n - s.base) false) (get_or_past s.flags (n - s.base) false (rw long (omega arith)))
+
+pub has_within : (s : NumberSet) (n top : ℕ) → length s.flags ≡ 256 → s.base + 256 ≤ top → (has s n && ltb n top) ≡ has s n
+has_within s n top long high = elim (cases_lt n top) [
+  | inl below ↦ rw (lt-ltb n top below) (and_true (has s n))
+  | inr past ↦ rw (le-ltb n top past) (and_right (has s n) false refl ∙ sym (has_past s n long (omega arith)))
+]
+  where
+    and_true : (b : Bool) → (b && true) ≡ b
+    and_true true = refl
+    and_true false = refl

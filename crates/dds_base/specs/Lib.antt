@@ -1,0 +1,5 @@
+pub mod Names
+pub mod Sums
+pub mod Counts
+pub mod Sets
+pub mod Messages

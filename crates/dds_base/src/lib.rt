@@ -1,0 +1,20 @@
+//! The plain things that every layer speaks of: names with their numbers, the numbers of endpoints and keys, samples, messages,
+//! events and replies. A layer above sees `Names` as a list of distinct names, a number as the number itself, and a message as its
+//! plain content, which is in range.
+#![tactic(auto)]
+
+pub mod events;
+pub mod messages;
+pub mod names;
+pub mod numbers;
+pub mod portion;
+pub mod sample;
+pub mod sets;
+
+pub use events::{Event, Refusal, Reply};
+pub use messages::{AckNack, DataMsg, GapMsg, Heartbeat, Packet};
+pub use names::{NameFault, Names, is_name, is_name_byte};
+pub use numbers::{AppNo, Endpoint, KeyNo, ParticipantNo, ReaderNo, RuleNo, TopicNo, WriterNo};
+pub use portion::Portion;
+pub use sample::{Arrival, Data, Rejection, Sample};
+pub use sets::SnSet;

@@ -1,0 +1,9 @@
+pub mod Owners
+pub mod Pushes
+pub mod Distinct
+pub mod Readings
+pub mod ListsRead
+pub mod FitsEndpoints
+pub mod FitsRules
+pub mod FitsApplications
+pub mod Fits

@@ -1,0 +1,60 @@
+-- All that runs see of a plan: which endpoints match, filters, limits, rules, as functions of their numbers.
+use Rattle.std.specs.Prelude.{◌≡◌, ℕ, ◌+◌, ◌*◌, ◌<◌, ◌≤◌, Bool, true, ◌&&◌, ◌==◌, List, Option, Some, [], ◌∷◌, if◌then◌else◌}
+use Rattle.std.specs.List.{list_any}
+use Rattle.dds_base.specs.Sums.{In, any_below}
+use Rattle.dds_base.specs.declared.portion.Portion.{Portion}
+use Rattle.dds_qos.specs.declared.limits.ReaderLimits.{ReaderLimits}
+use Rattle.dds_qos.specs.declared.limits.WriterLimits.{WriterLimits}
+use Rattle.dds_deploy.specs.Lists.{Rule}
+
+-- a function of a writer and a reader has the writer first
+pub record Network : Type 0 where
+  pub writers : ℕ
+  pub readers : ℕ
+  -- no topic has more keys
+  pub keys : ℕ
+  pub rules : ℕ
+  pub matched : ℕ → ℕ → Bool
+  pub intended : ℕ → ℕ → Bool
+  -- the key is in the writer's topic
+  pub writes_key : ℕ → ℕ → Bool
+  -- the key is in the reader's filter
+  pub hears : ℕ → ℕ → Bool
+  pub writer_limits : ℕ → WriterLimits
+  pub reader_limits : ℕ → ReaderLimits
+  pub rule : ℕ → Rule
+
+-- what holds of the network of every plan: numbers are below the counts, rules name keys that are there, and by KEEP_LAST
+-- an instance never has more than a finite max_samples_per_instance
+pub record IsNetwork (net : Network) : Type 0 where
+  pub matched_writer : (w r : ℕ) → net.matched w r ≡ true → w < net.writers
+  pub matched_reader : (w r : ℕ) → net.matched w r ≡ true → r < net.readers
+  pub heard_reader : (r k : ℕ) → net.hears r k ≡ true → r < net.readers
+  pub heard_key : (r k : ℕ) → net.hears r k ≡ true → k < net.keys
+  pub written_writer : (w k : ℕ) → net.writes_key w k ≡ true → w < net.writers
+  pub written_key : (w k : ℕ) → net.writes_key w k ≡ true → k < net.keys
+  pub takes_known : (u : ℕ) (e : Portion ℕ) → u < net.rules → In e (net.rule u).takes → net.hears e.endpoint e.key ≡ true
+  pub writes_known : (u : ℕ) (e : Portion ℕ) → u < net.rules → In e (net.rule u).writes → net.writes_key e.endpoint e.key ≡ true
+  pub consistent : (r d m : ℕ) → (net.reader_limits r).keep_last ≡ Some d → (net.reader_limits r).max_samples_per_instance ≡ Some m → d ≤ m
+
+-- the count of an endpoint and key in a rule's list, 0 where it isn't named
+abbrev pub named : List (Portion ℕ) → ℕ → ℕ → ℕ
+named [] i k = 0
+named (e ∷ es) i k = (if (e.endpoint == i) && (e.key == k) then e.count else 0) + named es i k
+
+-- the sum of count times weight over a rule's list
+abbrev pub weighed : List (Portion ℕ) → (ℕ → ℕ → ℕ) → ℕ
+weighed [] f = 0
+weighed (e ∷ es) f = e.count * f e.endpoint e.key + weighed es f
+
+-- the list names the endpoint and key
+abbrev pub is_named : List (Portion ℕ) → ℕ → ℕ → Bool
+is_named es i k = list_any (λ e. (e.endpoint == i) && (e.key == k)) es
+
+-- some rule writes the key at a writer that matches the reader, and the reader hears it
+abbrev pub reach : Network → ℕ → ℕ → Bool
+reach net r k = net.hears r k && any_below net.rules (λ u. list_any (λ e. (e.key == k) && net.matched e.endpoint r) (net.rule u).writes)
+
+-- some rule writes the key at the writer
+abbrev pub is_written : Network → ℕ → ℕ → Bool
+is_written net w k = any_below net.rules (λ u. is_named (net.rule u).writes w k)

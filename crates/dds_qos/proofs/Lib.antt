@@ -1,0 +1,3 @@
+pub mod BaseLaws
+pub mod NoteLaws
+pub mod TakingLaws

@@ -1,0 +1,10 @@
+pub mod Limits
+pub mod Consistency
+pub mod Compatibility
+pub mod Profile
+pub mod Samples
+pub mod Admission
+pub mod Taking
+pub mod Reading
+pub mod Writing
+pub mod Notes

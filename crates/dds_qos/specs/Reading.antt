@@ -1,0 +1,74 @@
+-- What a message does at one reader: by its marks of the writer's numbers (a test), the last number heard, its samples and keys.
+use Rattle.std.specs.Prelude.{◌≡◌, ℕ, suc, ◌+◌, ◌≤◌, ◌<◌, max, Bool, true, false, cond, not, ◌&&◌, ◌||◌, ◌==◌, leb, ltb, List, length}
+use Rattle.dds_base.specs.declared.sample.Sample.{Sample}
+use Rattle.dds_base.specs.declared.sample.Arrival.{Arrival}
+use Rattle.dds_base.specs.declared.sample.Arrival.TheVariants.{New, Repeat, Irrelevant, Heard, Lost, Stranger}
+use Rattle.dds_base.specs.declared.sample.Arrival.TheVariants.{Overwrote as Overwrites, Rejected as Refuses}
+use Rattle.dds_base.specs.Sums.{least}
+use Rattle.dds_base.specs.Counts.{count_between}
+use Rattle.dds_base.specs.Sets.{NumberSet, last_number, set_of}
+use Rattle.dds_base.specs.Messages.{DataFor, GapFor, HeartbeatFor, covers}
+use Rattle.dds_qos.specs.declared.limits.ReaderLimits.{ReaderLimits}
+use Rattle.dds_qos.specs.declared.admission.Admit.{Admit}
+use Rattle.dds_qos.specs.declared.admission.Admit.TheVariants.{Stored, Overwrote, Rejected}
+use Rattle.dds_qos.specs.Samples.{Keys}
+use Rattle.dds_qos.specs.Admission.{admission}
+
+-- the base: the least unmarked number, last_number + 1 where all are marked
+abbrev pub base_of : (ℕ → Bool) → ℕ
+base_of marks = least (λ n. not (marks n)) last_number 1
+
+-- ── DATA
+abbrev pub arrival_of : Admit → Arrival
+arrival_of Stored = New
+arrival_of (Overwrote old) = Overwrites old
+arrival_of (Rejected why) = Refuses why
+
+-- what a DATA does, in this order: its writer is matched, its number marked, its key in the filter; then admission
+abbrev pub data_arrival : (matched marked relevant : Bool) → Admit → Arrival
+data_arrival matched marked relevant answer =
+    cond (not matched) Stranger (cond marked Repeat (cond (not relevant) (Irrelevant 1) (arrival_of answer)))
+
+-- a DATA with that answer marks its number
+abbrev pub marks_it : Arrival → Bool
+marks_it New = true
+marks_it (Irrelevant n) = true
+marks_it (Overwrites old) = true
+marks_it _ = false
+
+-- ── GAP
+-- the numbers that it marks: those that it covers and that have no mark
+abbrev pub new_by_gap : (ℕ → Bool) → GapFor → ℕ → Bool
+new_by_gap marks g n = covers g n && not (marks n)
+
+abbrev pub gap_count : (ℕ → Bool) → GapFor → ℕ
+gap_count marks g = count_between (new_by_gap marks g) g.start (g.set.base + 256)
+
+abbrev pub gap_arrival : Bool → (ℕ → Bool) → GapFor → Arrival
+gap_arrival matched marks g = cond matched (Irrelevant (gap_count marks g)) Stranger
+
+-- ── HEARTBEAT
+-- the numbers that it marks: those below first that have no mark
+abbrev pub below_first : ℕ → ℕ → Bool
+below_first first n = leb 1 n && ltb n first
+
+abbrev pub new_by_heartbeat : (ℕ → Bool) → ℕ → ℕ → Bool
+new_by_heartbeat marks first n = below_first first n && not (marks n)
+
+abbrev pub heartbeat_count : (ℕ → Bool) → ℕ → ℕ
+heartbeat_count marks first = count_between (new_by_heartbeat marks first) 1 first
+
+abbrev pub lost_or_heard : ℕ → Arrival
+lost_or_heard n = cond (n == 0) Heard (Lost n)
+
+abbrev pub heartbeat_arrival : Bool → (ℕ → Bool) → HeartbeatFor → Arrival
+heartbeat_arrival matched marks h = cond matched (lost_or_heard (heartbeat_count marks h.first)) Stranger
+
+-- the last number heard of afterwards
+abbrev pub heard_after : ℕ → HeartbeatFor → ℕ
+heard_after heard h = max heard h.last
+
+-- ── ACKNACK
+-- what it tells: the base, and of the 256 numbers from it on those heard of that have no mark
+abbrev pub missing_of : (ℕ → Bool) → ℕ → NumberSet
+missing_of marks heard = set_of (base_of marks) (λ n. leb n heard && not (marks n))
