@@ -1,6 +1,6 @@
 //! Names of 1 to 64 bytes, each with one number.
 
-ghost use Rattle.std.specs.Prelude.{◌≡◌, ◌≤◌, ◌<◌, ℕ, List, [], ◌∷◌, ◌++◌, length, map, is_some, Some, None, IfOk, IfErr, IfSome, OnErr, string_bytes, slice_get, OnOk};
+ghost use Rattle.std.specs.Prelude.{◌≡◌, ◌≤◌, ◌<◌, ℕ, List, [], ◌∷◌, ◌++◌, length, map, option_map, is_some, Some, None, IfOk, IfErr, IfSome, OnErr, string_bytes, slice_get, OnOk};
 ghost use Rattle.std.specs.List.{list_all};
 ghost use Rattle.dds_base.specs.Names.{is_name_byte, is_name, number_of, refusal, IsRefused};
 
@@ -87,6 +87,17 @@ impl Names {
         ensures own { number_of self.now result.now ≡ Some number }
     {
         self.set.as_slice()[number].as_str()
+    }
+
+    /// The name with this number, `None` where no name has it.
+    pub fn get(&self, number: usize) -> Option<&str>
+        ensures { option_map (λ s. s.now) result ≡ slice_get self.now number }
+    {
+        if number < self.len() {
+            Some(self.name(number))
+        } else {
+            None
+        }
     }
 
     /// Adds a text that is not there yet, at the end, whatever its bytes are: the caller knows whether it is a name.

@@ -1,2 +1,6 @@
+pub mod Marks
+pub mod Matching
 pub mod Network
+pub mod Partitions
 pub mod Plan
+pub mod Tables

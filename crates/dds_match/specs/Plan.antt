@@ -1,25 +1,17 @@
 -- The words on a plan, and the network that it is.
-use Rattle.std.specs.Prelude.{ℕ, Bool, true, false, ◌&&◌, ◌==◌, nat_lt, List, [], Option, Some, None, length, slice_get, option_map, unwrap_or, if◌then◌else◌}
+use Rattle.std.specs.Prelude.{is_none, ℕ, Bool, ◌&&◌, ◌==◌, nat_lt, [], length, slice_get, unwrap_or}
 use Rattle.std.specs.List.{list_any}
 use Rattle.std.specs.Option.{option_map_or}
-use Rattle.dds_base.specs.declared.portion.Portion.{Portion}
 use Rattle.dds_qos.specs.Limits.{reader_limits_of, writer_limits_of, no_reader_limits, no_writer_limits}
-use Rattle.dds_qos.specs.declared.limits.ReaderLimits.{ReaderLimits}
-use Rattle.dds_qos.specs.declared.limits.WriterLimits.{WriterLimits}
 use Rattle.dds_fields.specs.Pairs.{stands}
-use Rattle.dds_deploy.specs.Lists.{Participant, Writer, Reader, Rule, Lists, keys_at}
+use Rattle.dds_deploy.specs.Lists.{Writer, Reader, Rule, Lists}
 use Rattle.dds_deploy.specs.WellFormed.{filter_at, writer_key_count}
+use Rattle.dds_match.specs.Matching.{why_not}
 use Rattle.dds_match.specs.Network.{Network}
 
-abbrev pub domain_at : Lists → ℕ → ℕ
-domain_at d p = unwrap_or (option_map (λ (x : Participant). x.domain) (slice_get d.participants.entries p)) 0
-
--- the participants' domains are one, and the topics are one
-abbrev pub endpoints_match : Lists → Writer → Reader → Bool
-endpoints_match d w r = (domain_at d w.participant == domain_at d r.participant) && (w.topic == r.topic)
-
+-- there are such a writer and such a reader, and no reason keeps them from matching
 abbrev pub matched : Lists → ℕ → ℕ → Bool
-matched d w r = option_map_or (λ x. option_map_or (λ y. endpoints_match d x y) (slice_get d.readers.entries r) false) (slice_get d.writers.entries w) false
+matched d w r = nat_lt w (length d.writers.entries) && (nat_lt r (length d.readers.entries) && is_none (why_not d w r))
 
 -- a connection names the pair
 abbrev pub intended : Lists → ℕ → ℕ → Bool
@@ -33,6 +25,7 @@ hears d r k = list_any (λ y. y == k) (filter_at d.readers r)
 abbrev pub writes_key : Lists → ℕ → ℕ → Bool
 writes_key d w k = nat_lt k (writer_key_count d w)
 
+-- what stands for a rule that is not there: it takes and writes nothing
 abbrev pub no_rule : Rule
 no_rule = record { application = 0; takes = []; writes = []; start = 0 }
 

@@ -1,7 +1,13 @@
 //! Which endpoints match, and the plan that every later layer rests on.
 #![tactic(auto)]
 
+mod key_table;
+pub mod matching;
+pub mod partitions;
 pub mod plan;
 pub mod planning;
+mod tables;
 
+pub use matching::WhyNot;
+pub use partitions::{lists_match, name_matches};
 pub use plan::{NoMemory, Plan};

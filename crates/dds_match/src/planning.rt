@@ -1,14 +1,18 @@
 //! Makes the plan of a deployment.
 ghost use Rattle.std.specs.Prelude.{◌≡◌, IfOk, IfErr};
 
-use dds_deploy::Deployment;
-
 use crate::plan::{NoMemory, Plan};
+use crate::tables::Tables;
+use dds_deploy::Deployment;
+use std::alloc::Global;
 
-/// The plan of a deployment. Where memory runs out, the deployment comes back.
-pub fn plan(deployment: Deployment) -> Result<Plan, (NoMemory, Deployment)>
+/// The plan of a deployment, with its tables filled. Where memory runs out, the deployment comes back as it was.
+pub fn plan(alloc: Global, deployment: Deployment) -> Result<Plan, (NoMemory, Deployment)>
     ensures ok { IfOk result (λ p. p ≡ deployment) }
     ensures err { IfErr result (λ e. e.1 ≡ deployment) }
 {
-    Ok(Plan::of(deployment))
+    match Tables::of(alloc, &deployment) {
+        Ok(tables) => Ok(Plan::of(deployment, tables)),
+        Err(_) => Err((NoMemory, deployment)),
+    }
 }

@@ -1,0 +1,6 @@
+pub mod KindLaws
+pub mod DistinctLaws
+pub mod NamedLaws
+pub mod FitLaws
+pub mod ReadLaws
+pub mod WorkedFiles

@@ -1,0 +1,11 @@
+use Rattle.std.proofs.Common.{◌≡◌, [], drop, map}
+use Rattle.toml.specs.View.{items_view}
+use Rattle.dds_fields.specs.Places.{place_text}
+use Rattle.dds_fields.specs.Reading.{each}
+use Rattle.dds_cert.specs.Sections.{bound, bound_place}
+use Rattle.dds_cert.proofs.bounds.each_bound.Given as goal
+
+abbrev pub invariant-loop-i : goal.invariant-loop-i
+invariant-loop-i l =
+    (each (bound l.lists l.rows) (place_text l.path) l.i l.all.items (items_view (drop l.i l.values)) ≡ each (bound l.lists l.rows) (place_text l.path) 0 [] (items_view l.values))
+    × (l.named ≡ map bound_place l.all.items)

@@ -1,0 +1,118 @@
+//! The section of the bounds, and the fields that bounds and totals share.
+ghost use Rattle.std.specs.Prelude.{◌≡◌, [], map, OnOk, codes};
+ghost use Rattle.toml.specs.View.{view, items_view, table_view};
+ghost use Rattle.dds_fields.specs.Reading.{each};
+ghost use Rattle.dds_fields.specs.Gives.{Gives};
+ghost use Rattle.dds_fields.specs.Places.{place_text};
+ghost use Rattle.dds_cert.specs.Sections.{bound_place, bound_number, row_and_bound, bound_entry, bound, bounds};
+
+use crate::certificate::Bound;
+use crate::keys::reader_and_key;
+use dds_base::Names;
+use dds_deploy::Deployment;
+use dds_fields::fault::{FaultKind, ReadFault, refuse};
+use dds_fields::field::{entry, known_name_field, number_field, section};
+use dds_fields::pairs::Pairs;
+use dds_fields::place::Place;
+use std::alloc::Global;
+use toml::{Table, Value};
+
+// 0 to 4,294,967,295.
+#[tactic(auto, unfolding(crate::specs::Sections::bound_number))]
+fn bound_number(alloc: Global, path: &Place, table: &Table) -> Result<u32, ReadFault>
+    ensures { Gives (λ n. n) result (bound_number (place_text path.now) (table_view table.now)) }
+{
+    number_field(alloc, 0, 4_294_967_295, path, table, "bound")
+}
+
+/// The row that an entry names, and the number that the row is to show.
+#[tactic(auto, unfolding(crate::specs::Sections::row_and_bound))]
+pub(crate) fn row_and_bound(
+    alloc: Global,
+    rows: &Names,
+    path: &Place,
+    table: &Table,
+) -> Result<(usize, u32), ReadFault>
+    ensures { Gives (λ b. b) result (row_and_bound rows.now (place_text path.now) (table_view table.now)) }
+{
+    let row = known_name_field(alloc, rows, path, table, "row")?;
+    let bound = bound_number(alloc, path, table)?;
+    Ok((row, bound))
+}
+
+#[tactic(auto, unfolding(crate::specs::Sections::bound_entry))]
+fn bound_entry<'a>(alloc: Global, path: &Place, value: &'a Value) -> Result<&'a Table, ReadFault>
+    ensures { Gives (λ t. table_view t.now) result (bound_entry (place_text path.now) (view value.now)) }
+{
+    entry(alloc, &["reader", "key", "row", "bound"], path, value)
+}
+
+// `named` has the readers and keys of `all`.
+#[tactic(auto, unfolding(crate::specs::Sections::bound))]
+fn add_bound(
+    alloc: Global,
+    lists: &Deployment,
+    rows: &Names,
+    named: &mut Pairs,
+    all: &mut Vec<Bound>,
+    path: &Place,
+    value: &Value,
+) -> Result<(), ReadFault>
+    requires { named.old ≡ map bound_place all.old.items }
+    ensures gives { Gives (λ _. all.new.items) result (bound lists.now rows.now all.old.items (place_text path.now) (view value.now)) }
+    ensures named { OnOk result (named.new ≡ map bound_place all.new.items) }
+{
+    let table = bound_entry(alloc, path, value)?;
+    let (reader, key) = reader_and_key(alloc, lists, path, table)?;
+    let (row, bound) = row_and_bound(alloc, rows, path, table)?;
+    if named.contains(reader.number(), key.number()) {
+        return Err(refuse(alloc, FaultKind::Duplicate, path));
+    }
+    named.push(reader.number(), key.number())?;
+    all.push(Bound {
+        reader,
+        key,
+        row,
+        bound,
+    })?;
+    Ok(())
+}
+
+fn each_bound(
+    alloc: Global,
+    lists: &Deployment,
+    rows: &Names,
+    path: &Place,
+    values: &[Value],
+) -> Result<Vec<Bound>, ReadFault>
+    ensures { Gives (λ v. v.items) result (each (bound lists.now rows.now) (place_text path.now) 0 [] (items_view values.now)) }
+{
+    let mut named = Pairs::new(alloc);
+    let mut all = Vec::new(alloc);
+    for (i, value) in values.iter().enumerate() {
+        let at = Place::Index {
+            parent: &*path,
+            index: i,
+        };
+        add_bound(alloc, lists, rows, &mut named, &mut all, &at, value)?;
+    }
+    Ok(all)
+}
+
+/// The bounds of a document, whose rows have these names.
+#[tactic(auto, unfolding(crate::specs::Sections::bounds, dds_fields::specs::Paths::key_path))]
+pub(crate) fn bounds(
+    alloc: Global,
+    lists: &Deployment,
+    rows: &Names,
+    table: &Table,
+) -> Result<Vec<Bound>, ReadFault>
+    ensures { Gives (λ v. v.items) result (bounds lists.now rows.now (table_view table.now)) }
+{
+    let values = section(alloc, table, "bounds", 16_384)?;
+    let at = Place::Key {
+        parent: &Place::Root,
+        key: "bounds",
+    };
+    each_bound(alloc, lists, rows, &at, values)
+}

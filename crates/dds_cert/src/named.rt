@@ -1,0 +1,45 @@
+//! Whether a list names an endpoint and key twice, found in one pass by a table on the stack.
+ghost use Rattle.std.specs.Prelude.{◌≡◌, ◌==◌, ◌&&◌, All};
+ghost use Rattle.dds_cert.specs.Fits.{is_distinct, same_bound_place};
+ghost use Rattle.dds_cert.specs.Named.{IsWithin};
+ghost use Rattle.dds_cert.specs.Sections.{bound_place};
+
+use crate::certificate::{Bound, Weight};
+use dds_base::Endpoint;
+
+// A topic has at most so many keys.
+const KEYS: usize = 64;
+// A place for each key of each of 256 endpoints.
+const PLACES: usize = 16384;
+
+/// Whether no two of the weights are of one endpoint and key.
+pub(crate) fn weights_name_nothing_twice<E: Endpoint>(weights: &[Weight<E>]) -> bool
+    requires { All (λ x. IsWithin (E.number_of x.endpoint, x.key)) weights.now }
+    ensures { result ≡ is_distinct (λ x y. (E.number_of y.endpoint == E.number_of x.endpoint) && (y.key == x.key)) weights.now }
+{
+    let mut seen = [false; PLACES];
+    for weight in weights {
+        let place = weight.endpoint.place() * KEYS + weight.key.number();
+        if seen[place] {
+            return false;
+        }
+        seen[place] = true;
+    }
+    true
+}
+
+/// Whether no two of the bounds are of one reader and key.
+pub(crate) fn bounds_name_nothing_twice(bounds: &[Bound]) -> bool
+    requires { All (λ b. IsWithin (bound_place b)) bounds.now }
+    ensures { result ≡ is_distinct same_bound_place bounds.now }
+{
+    let mut seen = [false; PLACES];
+    for bound in bounds {
+        let place = bound.reader.number() * KEYS + bound.key.number();
+        if seen[place] {
+            return false;
+        }
+        seen[place] = true;
+    }
+    true
+}

@@ -1,0 +1,212 @@
+//! The lists of weights of a row.
+ghost use Rattle.std.specs.Prelude.{◌≡◌, [], map, OnOk};
+ghost use Rattle.toml.specs.View.{view, items_view, table_view};
+ghost use Rattle.dds_fields.specs.Reading.{each, optional};
+ghost use Rattle.dds_fields.specs.Gives.{Gives};
+ghost use Rattle.dds_fields.specs.Places.{place_text};
+ghost use Rattle.dds_cert.specs.Sections.{weight_place, weight_number, reader_weight_entry, reader_weight, reader_weights, writer_weight_entry, writer_weight, writer_weights};
+
+use crate::certificate::Weight;
+use crate::keys::{reader_and_key, writer_and_key};
+use dds_base::{ReaderNo, WriterNo};
+use dds_deploy::Deployment;
+use dds_fields::fault::{FaultKind, ReadFault, refuse};
+use dds_fields::field::{array_of_limit, entry, number_field, value_at};
+use dds_fields::pairs::Pairs;
+use dds_fields::place::Place;
+use std::alloc::Global;
+use toml::{Table, Value};
+
+// 0 to 4,294,967,295.
+#[tactic(auto, unfolding(crate::specs::Sections::weight_number))]
+fn weight_number(alloc: Global, path: &Place, table: &Table) -> Result<u32, ReadFault>
+    ensures { Gives (λ n. n) result (weight_number (place_text path.now) (table_view table.now)) }
+{
+    number_field(alloc, 0, 4_294_967_295, path, table, "weight")
+}
+
+#[tactic(auto, unfolding(crate::specs::Sections::reader_weight_entry))]
+fn reader_weight_entry<'a>(
+    alloc: Global,
+    path: &Place,
+    value: &'a Value,
+) -> Result<&'a Table, ReadFault>
+    ensures { Gives (λ t. table_view t.now) result (reader_weight_entry (place_text path.now) (view value.now)) }
+{
+    entry(alloc, &["reader", "key", "weight"], path, value)
+}
+
+// `named` has the readers and keys of `all`.
+#[tactic(auto, unfolding(crate::specs::Sections::reader_weight))]
+fn add_reader_weight(
+    alloc: Global,
+    lists: &Deployment,
+    named: &mut Pairs,
+    all: &mut Vec<Weight<ReaderNo>>,
+    path: &Place,
+    value: &Value,
+) -> Result<(), ReadFault>
+    requires { named.old ≡ map weight_place all.old.items }
+    ensures gives { Gives (λ _. all.new.items) result (reader_weight lists.now all.old.items (place_text path.now) (view value.now)) }
+    ensures named { OnOk result (named.new ≡ map weight_place all.new.items) }
+{
+    let table = reader_weight_entry(alloc, path, value)?;
+    let (reader, key) = reader_and_key(alloc, lists, path, table)?;
+    let weight = weight_number(alloc, path, table)?;
+    if named.contains(reader.number(), key.number()) {
+        return Err(refuse(alloc, FaultKind::Duplicate, path));
+    }
+    named.push(reader.number(), key.number())?;
+    all.push(Weight {
+        endpoint: reader,
+        key,
+        weight,
+    })?;
+    Ok(())
+}
+
+fn each_reader_weight(
+    alloc: Global,
+    lists: &Deployment,
+    path: &Place,
+    values: &[Value],
+) -> Result<Vec<Weight<ReaderNo>>, ReadFault>
+    ensures { Gives (λ v. v.items) result (each (reader_weight lists.now) (place_text path.now) 0 [] (items_view values.now)) }
+{
+    let mut named = Pairs::new(alloc);
+    let mut all = Vec::new(alloc);
+    for (i, value) in values.iter().enumerate() {
+        let at = Place::Index {
+            parent: &*path,
+            index: i,
+        };
+        add_reader_weight(alloc, lists, &mut named, &mut all, &at, value)?;
+    }
+    Ok(all)
+}
+
+#[tactic(auto, unfolding(crate::specs::Sections::reader_weights))]
+fn reader_weights_of(
+    alloc: Global,
+    lists: &Deployment,
+    path: &Place,
+    value: &Value,
+) -> Result<Vec<Weight<ReaderNo>>, ReadFault>
+    ensures { Gives (λ v. v.items) result (reader_weights lists.now (place_text path.now) (view value.now)) }
+{
+    let values = array_of_limit(alloc, 16_384, path, value)?;
+    each_reader_weight(alloc, lists, path, values)
+}
+
+/// The weights of readers at a key of a row, none where the key is absent.
+#[tactic(auto, unfolding(dds_fields::specs::Reading::optional))]
+pub(crate) fn reader_weights(
+    alloc: Global,
+    lists: &Deployment,
+    path: &Place,
+    table: &Table,
+    key: &str,
+) -> Result<Vec<Weight<ReaderNo>>, ReadFault>
+    ensures { Gives (λ v. v.items) result (optional key.now [] (reader_weights lists.now) (place_text path.now) (table_view table.now)) }
+{
+    match value_at(table, key) {
+        Some(value) => {
+            let at = Place::Key { parent: path, key };
+            reader_weights_of(alloc, lists, &at, value)
+        }
+        None => Ok(Vec::new(alloc)),
+    }
+}
+
+#[tactic(auto, unfolding(crate::specs::Sections::writer_weight_entry))]
+fn writer_weight_entry<'a>(
+    alloc: Global,
+    path: &Place,
+    value: &'a Value,
+) -> Result<&'a Table, ReadFault>
+    ensures { Gives (λ t. table_view t.now) result (writer_weight_entry (place_text path.now) (view value.now)) }
+{
+    entry(alloc, &["writer", "key", "weight"], path, value)
+}
+
+// `named` has the writers and keys of `all`.
+#[tactic(auto, unfolding(crate::specs::Sections::writer_weight))]
+fn add_writer_weight(
+    alloc: Global,
+    lists: &Deployment,
+    named: &mut Pairs,
+    all: &mut Vec<Weight<WriterNo>>,
+    path: &Place,
+    value: &Value,
+) -> Result<(), ReadFault>
+    requires { named.old ≡ map weight_place all.old.items }
+    ensures gives { Gives (λ _. all.new.items) result (writer_weight lists.now all.old.items (place_text path.now) (view value.now)) }
+    ensures named { OnOk result (named.new ≡ map weight_place all.new.items) }
+{
+    let table = writer_weight_entry(alloc, path, value)?;
+    let (writer, key) = writer_and_key(alloc, lists, path, table)?;
+    let weight = weight_number(alloc, path, table)?;
+    if named.contains(writer.number(), key.number()) {
+        return Err(refuse(alloc, FaultKind::Duplicate, path));
+    }
+    named.push(writer.number(), key.number())?;
+    all.push(Weight {
+        endpoint: writer,
+        key,
+        weight,
+    })?;
+    Ok(())
+}
+
+fn each_writer_weight(
+    alloc: Global,
+    lists: &Deployment,
+    path: &Place,
+    values: &[Value],
+) -> Result<Vec<Weight<WriterNo>>, ReadFault>
+    ensures { Gives (λ v. v.items) result (each (writer_weight lists.now) (place_text path.now) 0 [] (items_view values.now)) }
+{
+    let mut named = Pairs::new(alloc);
+    let mut all = Vec::new(alloc);
+    for (i, value) in values.iter().enumerate() {
+        let at = Place::Index {
+            parent: &*path,
+            index: i,
+        };
+        add_writer_weight(alloc, lists, &mut named, &mut all, &at, value)?;
+    }
+    Ok(all)
+}
+
+#[tactic(auto, unfolding(crate::specs::Sections::writer_weights))]
+fn writer_weights_of(
+    alloc: Global,
+    lists: &Deployment,
+    path: &Place,
+    value: &Value,
+) -> Result<Vec<Weight<WriterNo>>, ReadFault>
+    ensures { Gives (λ v. v.items) result (writer_weights lists.now (place_text path.now) (view value.now)) }
+{
+    let values = array_of_limit(alloc, 16_384, path, value)?;
+    each_writer_weight(alloc, lists, path, values)
+}
+
+/// The weights of writers at a key of a row, none where the key is absent.
+#[tactic(auto, unfolding(dds_fields::specs::Reading::optional))]
+pub(crate) fn writer_weights(
+    alloc: Global,
+    lists: &Deployment,
+    path: &Place,
+    table: &Table,
+    key: &str,
+) -> Result<Vec<Weight<WriterNo>>, ReadFault>
+    ensures { Gives (λ v. v.items) result (optional key.now [] (writer_weights lists.now) (place_text path.now) (table_view table.now)) }
+{
+    match value_at(table, key) {
+        Some(value) => {
+            let at = Place::Key { parent: path, key };
+            writer_weights_of(alloc, lists, &at, value)
+        }
+        None => Ok(Vec::new(alloc)),
+    }
+}

@@ -1,0 +1,6 @@
+use Rattle.std.proofs.Common.{◌≡◌, drop}
+use Rattle.dds_check.specs.Tables.{bound_of, total_of}
+use Rattle.dds_check.proofs.bounds.find_bound.Given as goal
+
+abbrev pub invariant-loop-b : goal.invariant-loop-b
+invariant-loop-b l = bound_of l.bounds l.reader l.key ≡ bound_of (drop l.b-index l.bounds) l.reader l.key

@@ -1,0 +1,30 @@
+-- A plan with a certificate that was accepted for it.
+use Rattle.std.specs.Prelude.{◌≡◌, ℕ, ◌≤◌, true, None}
+use Rattle.dds_deploy.specs.Lists.{Lists}
+use Rattle.dds_match.specs.Plan.{network_of}
+use Rattle.dds_cert.specs.Fits.{fits}
+use Rattle.dds_cert.specs.Lists.{Certificate}
+use Rattle.dds_check.specs.Accepted.{Accepted, certificate_of, IsBound, IsTotal}
+use Rattle.dds_check.specs.Accepts.{first_no}
+use Rattle.dds_check.specs.Certified.{Safe}
+
+pub record Judged : Type 0 where
+  pub plan : Lists
+  pub certificate : Certificate
+
+-- the certificate fits the plan, no condition fails, and so it is accepted and safe in every run
+pub record IsAccepted (d : Lists) (cert : Certificate) : Type 0 where
+  pub fits : fits (network_of d) cert ≡ true
+  pub passes : first_no d cert ≡ None
+  pub holds : Accepted (network_of d) (certificate_of cert)
+  pub safe : Safe (network_of d) (certificate_of cert)
+
+-- the least bound of the key of the reader by the certificate
+pub record IsLeastBound (cert : Certificate) (r k n : ℕ) : Type 0 where
+  pub given : IsBound (certificate_of cert) r k n
+  pub least : (m : ℕ) → IsBound (certificate_of cert) r k m → n ≤ m
+
+-- the least total of the reader by the certificate
+pub record IsLeastTotal (cert : Certificate) (r n : ℕ) : Type 0 where
+  pub given : IsTotal (certificate_of cert) r n
+  pub least : (m : ℕ) → IsTotal (certificate_of cert) r m → n ≤ m

@@ -1,0 +1,35 @@
+-- The laws of runs.
+use Rattle.std.specs.Prelude.{◌≡◌, ◌≤◌, ◌+◌, ℕ, true, false, List}
+use Rattle.dds_base.specs.Sums.{In}
+use Rattle.dds_match.specs.Network.{Network, IsNetwork}
+use Rattle.dds_check.specs.World.{World, Sample, Packet, opening, in_flight, unread, marked}
+use Rattle.dds_check.specs.Steps.{Reply}
+use Rattle.dds_check.specs.Runs.{Move, IsWideRun, replay}
+use Rattle.dds_check.specs.Accepted.{Row, budget, Certificate, Accepted}
+use Rattle.dds_check.specs.Certified.{weight, Safe, IsPrefix, took, wrote}
+use Rattle.dds_check.specs.Facts.{CountsOk, IsWrittenFor, FactOf}
+
+-- in each world of a wide run of an accepted certificate
+abbrev pub InEachWorld : (Network → Certificate → World → Type 0) → Type 0
+InEachWorld P = (net : Network) (cert : Certificate) (ms : List (Move × Reply)) → IsNetwork net → Accepted net cert → IsWideRun net ms → P net cert (replay net opening ms)
+
+-- counts: no row's weight is above its budget, and no count is below 0
+abbrev pub Counts : Type 0
+Counts = InEachWorld (λ net cert v. ((row : Row) → In row cert.rows → weight net row v ≤ budget net row) × CountsOk net v)
+
+-- packets: the facts of every packet that was ever sent
+abbrev pub Packets : Type 0
+Packets = InEachWorld (λ net cert v. (p : Packet) → In p v.sent → FactOf net v p)
+
+-- stored: what is unread is in flight, an arriving sample included
+abbrev pub Stored : Type 0
+Stored = InEachWorld (λ net cert v. ((r k : ℕ) → unread v r k ≤ in_flight net v r k)
+    × ((r : ℕ) (s : Sample) → IsWrittenFor net v r s → marked v r s.writer s.sn ≡ false → unread v r s.key + 1 ≤ in_flight net v r s.key))
+
+-- order: what was taken of a writer and key is a prefix of what was written
+abbrev pub Order : Type 0
+Order = (net : Network) (cert : Certificate) (ms : List (Move × Reply)) → IsNetwork net → Accepted net cert → IsWideRun net ms → (w r k : ℕ) → net.hears r k ≡ true → IsPrefix (took w r k ms) (wrote w k ms)
+
+-- the headline
+abbrev pub Headline : Type 0
+Headline = (net : Network) (cert : Certificate) → IsNetwork net → Accepted net cert → Safe net cert

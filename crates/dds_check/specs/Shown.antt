@@ -1,0 +1,37 @@
+-- Number 33: each bound and each total is shown by its row.
+use Rattle.std.specs.Prelude.{ℕ, suc, ◌*◌, Bool, false, ◌&&◌, ◌||◌, ◌≡◌, not, nat_lt, List, Option, Some, slice_get, slice_index}
+use Rattle.std.specs.Option.{option_map_or}
+use Rattle.dds_match.specs.Network.{Network, reach}
+use Rattle.dds_cert.specs.declared.certificate.Bound.{Bound}
+use Rattle.dds_cert.specs.declared.certificate.Total.{Total}
+use Rattle.dds_cert.specs.Lists as lists
+use Rattle.dds_check.specs.declared.verdict.No.{No}
+use Rattle.dds_check.specs.declared.verdict.Number.TheVariants.{BoundNotShown}
+use Rattle.dds_check.specs.declared.verdict.Subject.TheVariants.{Instance, Reader}
+use Rattle.dds_check.specs.First.{◌orElse◌, first_in, all_below}
+use Rattle.dds_check.specs.Verdict.{fails}
+use Rattle.dds_check.specs.Accepted.{Row, row_of, budget}
+
+-- a sample in flight weighs something, and the bound and one sample more weigh more than the permits at the opening
+abbrev pub shows : Network → Row → ℕ → ℕ → ℕ → Bool
+shows net row b r k = nat_lt 0 (row.samples r k) && nat_lt (budget net row) (suc b * row.samples r k)
+
+abbrev pub bound_not_shown : Network → List lists.Row → Bound → ℕ → Option No
+bound_not_shown net rows b i =
+    fails (not (option_map_or (λ row. shows net (row_of row) b.bound b.reader b.key) (slice_get rows b.row) false)) BoundNotShown (Instance b.reader b.key)
+
+-- the row shows the total for each key that can reach the reader
+abbrev pub shows_all : Network → Row → Total → Bool
+shows_all net row t = all_below net.keys (λ k. not (reach net t.reader k) || shows net row t.bound t.reader k)
+
+abbrev pub total_not_shown : Network → List lists.Row → Total → ℕ → Option No
+total_not_shown net rows t i =
+    fails (not (option_map_or (λ row. shows_all net (row_of row) t) (slice_get rows t.row) false)) BoundNotShown (Reader t.reader)
+
+-- each row's weight of the permits at the opening, by its number
+abbrev pub HasBudgets : Network → List lists.Row → List ℕ → Type 0
+HasBudgets net rows sums = (n : ℕ) (row : lists.Row) → slice_get rows n ≡ Some row → slice_index sums n ≡ budget net (row_of row)
+
+-- the first refusal of this number: bounds in the order of the certificate, then totals in theirs
+unfoldable pub shown_no : Network → lists.Certificate → Option No
+shown_no net cert = first_in cert.bounds (bound_not_shown net cert.rows) orElse first_in cert.totals (total_not_shown net cert.rows)

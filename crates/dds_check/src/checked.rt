@@ -1,0 +1,96 @@
+//! A plan with a certificate that was accepted for it.
+ghost use Rattle.std.specs.Prelude.{◌≡◌, true, Some, None, IfSome, IfOk, IfErr};
+ghost use Rattle.dds_match.specs.Plan.{network_of};
+ghost use Rattle.dds_cert.specs.Fits.{fits};
+ghost use Rattle.dds_cert.specs.Views.{certificate_view};
+ghost use Rattle.dds_check.specs.Accepted.{Accepted, certificate_of};
+ghost use Rattle.dds_check.specs.Accepts.{first_no};
+ghost use Rattle.dds_check.specs.Certified.{Safe};
+ghost use Rattle.dds_check.specs.Checked.{IsAccepted, IsLeastBound, IsLeastTotal};
+ghost use Rattle.dds_check.specs.Tables.{bound_of, total_of};
+
+use dds_base::{KeyNo, ReaderNo};
+use dds_cert::Certificate;
+use dds_match::Plan;
+use std::marker::Model;
+
+use crate::accepts::accepts;
+use crate::bounds::{find_bound, find_total};
+use crate::verdict::No;
+
+/// A plan, and a certificate that was accepted for it, so that the deployment is safe in every run. Only `check` makes one.
+#[derive(Drop)]
+pub struct Checked {
+    plan: Plan,
+    certificate: Certificate,
+}
+
+impl Model for Checked {
+    ghost use Rattle.dds_cert.specs.Views.{certificate_view};
+    ghost use Rattle.dds_check.specs.Checked.{Judged, IsAccepted};
+
+    ghost Value = { Judged };
+
+    ghost view = { λ x. record { plan = x.plan; certificate = certificate_view x.certificate } };
+
+    ghost invariant = { λ x. IsAccepted x.plan (certificate_view x.certificate) };
+}
+
+impl Checked {
+    /// The plan, as it was handed in. The certificate is accepted for it.
+    pub fn plan(&self) -> &Plan
+        ensures value { result.now ≡ self.now.plan }
+        ensures accepted { IsAccepted self.now.plan self.now.certificate }
+    {
+        &self.plan
+    }
+
+    /// The certificate, as it was handed in.
+    pub fn certificate(&self) -> &Certificate
+        ensures { certificate_view result.now ≡ self.now.certificate }
+    {
+        &self.certificate
+    }
+
+    /// At most so many samples of the key are unread at the reader, where the certificate gives a bound: 0 to
+    /// 4,294,967,295, and the least that it gives.
+    pub fn bound(&self, reader: ReaderNo, key: KeyNo) -> Option<u64>
+        ensures value { result ≡ bound_of self.now.certificate.bounds reader key }
+        ensures least { IfSome result (IsLeastBound self.now.certificate reader key) }
+    {
+        find_bound(&self.certificate.bounds, reader, key)
+    }
+
+    /// At most so many samples are stored at the reader, where the certificate gives a total: 0 to 4,294,967,295, and the
+    /// least that it gives.
+    pub fn total(&self, reader: ReaderNo) -> Option<u64>
+        ensures value { result ≡ total_of self.now.certificate.totals reader }
+        ensures least { IfSome result (IsLeastTotal self.now.certificate reader) }
+    {
+        find_total(&self.certificate.totals, reader)
+    }
+
+    /// The plan and the certificate, as they were handed in.
+    pub fn into_parts(self) -> (Plan, Certificate)
+        ensures plan { result.0 ≡ self.plan }
+        ensures certificate { certificate_view result.1 ≡ self.certificate }
+    {
+        let Checked { plan, certificate } = self;
+        (plan, certificate)
+    }
+}
+
+/// Accepts a certificate for a plan, or hands both back unchanged with the first condition that fails. It takes no memory. What is
+/// accepted is safe in every run, as `accepts` says.
+pub fn check(plan: Plan, certificate: Certificate) -> Result<Checked, (No, Plan, Certificate)>
+    requires { fits (network_of plan) (certificate_view certificate) ≡ true }
+    ensures yes { IfOk result (λ x. (first_no plan (certificate_view certificate) ≡ None) × (x.plan ≡ plan) × (x.certificate ≡ certificate_view certificate)) }
+    ensures no { IfErr result (λ e. (first_no plan (certificate_view certificate) ≡ Some e.0) × (e.1 ≡ plan) × (e.2 ≡ certificate)) }
+    ensures holds { IfOk result (λ x. Accepted (network_of x.plan) (certificate_of x.certificate)) }
+    ensures safe { IfOk result (λ x. Safe (network_of x.plan) (certificate_of x.certificate)) }
+{
+    match accepts(&plan, &certificate) {
+        Ok(()) => Ok(Checked { plan, certificate }),
+        Err(no) => Err((no, plan, certificate)),
+    }
+}

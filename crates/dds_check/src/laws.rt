@@ -1,0 +1,36 @@
+//! The laws of every run, over the definitions alone: four passes and what they come to. `accepts` rests on them.
+
+ghost use Rattle.dds_check.specs.CountRuns.{CountRuns};
+ghost use Rattle.dds_check.specs.Laws.{Counts, Headline, Order, Packets, Stored};
+
+/// Over writes, firings and takes alone, for every list of them for which permits and unspent takes suffice: no row's weight is above its
+/// budget, and no count is below 0.
+pub fn count_runs()
+    ensures { CountRuns }
+{}
+
+/// The first pass: in every wide run no row's weight is above its budget, and no count is below 0.
+pub fn counts()
+    ensures { Counts }
+{}
+
+/// The second pass: of every packet that was ever sent, an ACKNACK's base and a HEARTBEAT's first are at most the reader's base, a DATA is
+/// its place in the writer's history, and a GAP covers written irrelevant numbers alone.
+pub fn packets()
+    ensures { Packets }
+{}
+
+/// The third pass: what is unread is in flight, an arriving sample included, so that nothing is rejected or overwritten.
+pub fn stored()
+    ensures { Stored }
+{}
+
+/// The fourth pass: what a reader took of a writer and key is a prefix of what was written, in order, once.
+pub fn order()
+    ensures { Order }
+{}
+
+/// What they come to: an accepted certificate is safe in every wide run.
+pub fn headline()
+    ensures { Headline }
+{}

@@ -1,0 +1,19 @@
+//! The checker of a certificate against a plan: whether it is accepted, and else the first condition that fails.
+#![tactic(auto, using(crate::proofs::First::first_below_start, crate::proofs::First::first_below_more, crate::proofs::First::first_below_found, crate::proofs::Sums::total_start, crate::proofs::Sums::total_more, crate::proofs::First::all_below_start, crate::proofs::First::all_below_more))]
+
+pub mod accepts;
+mod bounds;
+mod budget;
+pub mod checked;
+pub mod laws;
+mod limits;
+mod pairs;
+mod profile;
+mod rows;
+mod shown;
+mod sizes;
+mod tables;
+pub mod verdict;
+
+pub use checked::{Checked, check};
+pub use verdict::{No, Number, Subject};

@@ -1,0 +1,188 @@
+//! Number 33: each bound and each total is shown by its row.
+ghost use Rattle.std.specs.Prelude.{◌≡◌, ◌&&◌, ◌||◌, ◌*◌, ℕ, suc, not, nat_lt, false, slice_get, ◌<◌, Some, option_map, vec_len};
+ghost use Rattle.std.specs.Option.{option_map_or};
+ghost use Rattle.dds_match.specs.Network.{reach};
+ghost use Rattle.dds_match.specs.Plan.{network_of};
+ghost use Rattle.dds_cert.specs.Lists.{weight_of};
+ghost use Rattle.dds_cert.specs.Views.{row_view, certificate_view};
+ghost use Rattle.dds_check.specs.First.{first_in};
+ghost use Rattle.dds_check.specs.Accepted.{row_of, budget};
+ghost use Rattle.dds_check.specs.Tables.{IsTabled};
+ghost use Rattle.dds_check.specs.Shown.{shows, bound_not_shown, shows_all, total_not_shown, HasBudgets, shown_no};
+
+use dds_base::{KeyNo, ReaderNo};
+use dds_cert::{Bound, Certificate, Row, Total, Weight};
+use dds_match::Plan;
+
+use crate::budget::budget;
+use crate::sizes::KEYS;
+use crate::tables::{Tables, tables_of};
+use crate::verdict::{No, Number, Subject, refusal_if};
+
+/// No certificate has more rows.
+const ROWS: usize = 64;
+
+fn budgets_of(plan: &Plan, certificate: &Certificate) -> [u128; ROWS]
+    requires { IsTabled (certificate_view certificate.now) }
+    ensures { HasBudgets (network_of plan.now) (certificate_view certificate.now).rows result }
+{
+    let mut budgets = [0; ROWS];
+    for n in 0..certificate.rows.len() {
+        let weights = tables_of(certificate, n);
+        budgets[n] = budget(plan, &weights);
+    }
+    budgets
+}
+
+fn weight_of(weights: &[Weight<ReaderNo>], reader: ReaderNo, key: KeyNo) -> u32
+    ensures { result ≡ weight_of weights.now reader key }
+{
+    for x in weights {
+        if x.endpoint == reader && x.key == key {
+            return x.weight;
+        }
+    }
+    0
+}
+
+fn is_enough(weight: u32, opening: u128, bound: u32) -> bool
+    ensures { result ≡ (nat_lt 0 weight && nat_lt opening (suc bound * weight)) }
+{
+    let weight = u128::from(weight);
+    0 < weight && opening < (u128::from(bound) + 1) * weight
+}
+
+fn shows(plan: &Plan, row: &Row, opening: u128, bound: u32, reader: ReaderNo, key: KeyNo) -> bool
+    requires { opening ≡ budget (network_of plan.now) (row_of (row_view row.now)) }
+    ensures { result ≡ shows (network_of plan.now) (row_of (row_view row.now)) bound reader key }
+{
+    is_enough(weight_of(&row.samples, reader, key), opening, bound)
+}
+
+fn shows_reached(plan: &Plan, weights: &Tables, opening: u128, total: &Total, key: KeyNo) -> bool
+    requires { opening ≡ budget (network_of plan.now) (row_of weights.now) }
+    ensures { result ≡ (not (reach (network_of plan.now) total.now.reader key) || shows (network_of plan.now) (row_of weights.now) total.now.bound total.now.reader key) }
+{
+    !plan.reaches(total.reader, key) || is_enough(weights.sample(total.reader, key), opening, total.bound)
+}
+
+fn shows_all(plan: &Plan, weights: &Tables, opening: u128, total: &Total) -> bool
+    requires { opening ≡ budget (network_of plan.now) (row_of weights.now) }
+    ensures { result ≡ shows_all (network_of plan.now) (row_of weights.now) total.now }
+{
+    let mut all = true;
+    for k in 0..KEYS {
+        let shown = shows_reached(plan, weights, opening, total, KeyNo::new(k));
+        all = all && shown;
+    }
+    all
+}
+
+fn find_row(certificate: &Certificate, n: usize) -> Option<&Row>
+    ensures { option_map (λ row. row_view row.now) result ≡ slice_get (certificate_view certificate.now).rows n }
+{
+    certificate.rows.get(n)
+}
+
+fn bound_at(certificate: &Certificate, i: usize) -> &Bound
+    requires { i < vec_len certificate.now.bounds }
+    ensures { slice_get (certificate_view certificate.now).bounds i ≡ Some result.now }
+{
+    &certificate.bounds[i]
+}
+
+fn total_at(certificate: &Certificate, i: usize) -> &Total
+    requires { i < vec_len certificate.now.totals }
+    ensures { slice_get (certificate_view certificate.now).totals i ≡ Some result.now }
+{
+    &certificate.totals[i]
+}
+
+fn is_bound_shown(plan: &Plan, certificate: &Certificate, budgets: &[u128; ROWS], bound: &Bound) -> bool
+    requires tabled { IsTabled (certificate_view certificate.now) }
+    requires opened { HasBudgets (network_of plan.now) (certificate_view certificate.now).rows budgets.now }
+    ensures { result ≡ option_map_or (λ row. shows (network_of plan.now) (row_of row) bound.now.bound bound.now.reader bound.now.key) (slice_get (certificate_view certificate.now).rows bound.now.row) false }
+{
+    match find_row(certificate, bound.row) {
+        Some(row) => shows(plan, row, budgets[bound.row], bound.bound, bound.reader, bound.key),
+        None => false,
+    }
+}
+
+fn bound_not_shown(plan: &Plan, certificate: &Certificate, budgets: &[u128; ROWS], i: usize, bound: &Bound) -> Option<No>
+    requires tabled { IsTabled (certificate_view certificate.now) }
+    requires opened { HasBudgets (network_of plan.now) (certificate_view certificate.now).rows budgets.now }
+    ensures { result ≡ bound_not_shown (network_of plan.now) (certificate_view certificate.now).rows bound.now i }
+{
+    let shown = is_bound_shown(plan, certificate, budgets, bound);
+    refusal_if(
+        !shown,
+        Number::BoundNotShown,
+        Subject::Instance {
+            reader: bound.reader,
+            key: bound.key,
+        },
+    )
+}
+
+fn first_bound_not_shown(plan: &Plan, certificate: &Certificate, budgets: &[u128; ROWS]) -> Option<No>
+    requires tabled { IsTabled (certificate_view certificate.now) }
+    requires opened { HasBudgets (network_of plan.now) (certificate_view certificate.now).rows budgets.now }
+    ensures { result ≡ first_in (certificate_view certificate.now).bounds (bound_not_shown (network_of plan.now) (certificate_view certificate.now).rows) }
+{
+    for i in 0..certificate.bounds.len() {
+        if let Some(no) = bound_not_shown(plan, certificate, budgets, i, bound_at(certificate, i)) {
+            return Some(no);
+        }
+    }
+    None
+}
+
+fn is_total_shown(plan: &Plan, certificate: &Certificate, budgets: &[u128; ROWS], total: &Total) -> bool
+    requires tabled { IsTabled (certificate_view certificate.now) }
+    requires opened { HasBudgets (network_of plan.now) (certificate_view certificate.now).rows budgets.now }
+    ensures { result ≡ option_map_or (λ row. shows_all (network_of plan.now) (row_of row) total.now) (slice_get (certificate_view certificate.now).rows total.now.row) false }
+{
+    match find_row(certificate, total.row) {
+        Some(row) => {
+            let weights = Tables::new(row);
+            shows_all(plan, &weights, budgets[total.row], total)
+        }
+        None => false,
+    }
+}
+
+fn total_not_shown(plan: &Plan, certificate: &Certificate, budgets: &[u128; ROWS], i: usize, total: &Total) -> Option<No>
+    requires tabled { IsTabled (certificate_view certificate.now) }
+    requires opened { HasBudgets (network_of plan.now) (certificate_view certificate.now).rows budgets.now }
+    ensures { result ≡ total_not_shown (network_of plan.now) (certificate_view certificate.now).rows total.now i }
+{
+    let shown = is_total_shown(plan, certificate, budgets, total);
+    refusal_if(!shown, Number::BoundNotShown, Subject::Reader(total.reader))
+}
+
+fn first_total_not_shown(plan: &Plan, certificate: &Certificate, budgets: &[u128; ROWS]) -> Option<No>
+    requires tabled { IsTabled (certificate_view certificate.now) }
+    requires opened { HasBudgets (network_of plan.now) (certificate_view certificate.now).rows budgets.now }
+    ensures { result ≡ first_in (certificate_view certificate.now).totals (total_not_shown (network_of plan.now) (certificate_view certificate.now).rows) }
+{
+    for i in 0..certificate.totals.len() {
+        if let Some(no) = total_not_shown(plan, certificate, budgets, i, total_at(certificate, i)) {
+            return Some(no);
+        }
+    }
+    None
+}
+
+/// The first bound that its row doesn't show, else the first total, each in the order of the certificate.
+#[tactic(auto, unfolding(crate::specs::Shown::shown_no))]
+pub(crate) fn shown_no(plan: &Plan, certificate: &Certificate) -> Option<No>
+    requires { IsTabled (certificate_view certificate.now) }
+    ensures { result ≡ shown_no (network_of plan.now) (certificate_view certificate.now) }
+{
+    let budgets = budgets_of(plan, certificate);
+    if let Some(no) = first_bound_not_shown(plan, certificate, &budgets) {
+        return Some(no);
+    }
+    first_total_not_shown(plan, certificate, &budgets)
+}

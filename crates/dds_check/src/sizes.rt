@@ -1,0 +1,36 @@
+//! How many endpoints, rules and keys the conditions go over.
+ghost use Rattle.std.specs.Prelude.{◌≡◌, ◌≤◌, length};
+ghost use Rattle.dds_deploy.specs.WellFormed.{IsWellFormed};
+ghost use Rattle.dds_match.specs.Plan.{network_of};
+
+use dds_match::Plan;
+
+/// No plan has more writers or more readers.
+pub(crate) const ENDPOINTS: usize = 256;
+
+/// No topic has more keys. A key that a topic doesn't have is neither heard nor written.
+pub(crate) const KEYS: usize = 64;
+
+pub(crate) fn writers_of(plan: &Plan) -> usize
+    ensures count { result ≡ (network_of plan.now).writers }
+    ensures few { result ≤ 256 }
+    ensures well_formed { IsWellFormed plan.now }
+{
+    plan.lists().writers()
+}
+
+pub(crate) fn readers_of(plan: &Plan) -> usize
+    ensures count { result ≡ (network_of plan.now).readers }
+    ensures few { result ≤ 256 }
+    ensures well_formed { IsWellFormed plan.now }
+{
+    plan.lists().readers()
+}
+
+pub(crate) fn rules_of(plan: &Plan) -> usize
+    ensures count { result ≡ (network_of plan.now).rules }
+    ensures few { result ≤ 256 }
+    ensures well_formed { IsWellFormed plan.now }
+{
+    plan.lists().rules()
+}

@@ -1,0 +1,4 @@
+pub mod Known
+pub mod Marking
+pub mod Patterns
+pub mod Reasons

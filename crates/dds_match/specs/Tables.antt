@@ -1,0 +1,30 @@
+-- What the tables of a plan hold.
+use Rattle.std.specs.Prelude.{◌≡◌, ℕ, ◌+◌, ◌*◌, ◌<◌, Bool, List, Option, None, length}
+use Rattle.std.specs.List.{slice_index_or}
+use Rattle.dds_deploy.specs.Lists.{Lists}
+use Rattle.dds_match.specs.declared.matching.WhyNot.{WhyNot}
+use Rattle.dds_match.specs.declared.tables.Tables.{Tables}
+use Rattle.dds_match.specs.Marks.{is_marked}
+use Rattle.dds_match.specs.Matching.{why_not}
+use Rattle.dds_match.specs.Network.{reach, is_written}
+use Rattle.dds_match.specs.Plan.{hears, network_of}
+
+-- the reason at a writer and a reader: each writer has a row of 256 places
+abbrev pub reason_at : List (Option WhyNot) → ℕ → ℕ → Option WhyNot
+reason_at reasons w r = slice_index_or reasons (w * 256 + r) None
+
+-- a row for each writer, with the reason of each reader below 256
+pub record ShowsReasons (d : Lists) (reasons : List (Option WhyNot)) : Type 0 where
+  pub rows : length reasons ≡ length d.writers.entries * 256
+  pub each : (w r : ℕ) → w < length d.writers.entries → r < 256 → reason_at reasons w r ≡ why_not d w r
+
+-- the keys of each reader's filter
+pub record ShowsHearing (d : Lists) (marks : List Bool) : Type 0 where
+  pub each : (r k : ℕ) → is_marked marks r k ≡ hears d r k
+
+-- each table shows its word
+pub record ShowsPlan (d : Lists) (t : Tables) : Type 0 where
+  pub reasons : ShowsReasons d t.reasons.items
+  pub hearing : ShowsHearing d t.hearing
+  pub reached : (r k : ℕ) → is_marked t.reached r k ≡ reach (network_of d) r k
+  pub written : (w k : ℕ) → is_marked t.written w k ≡ is_written (network_of d) w k

@@ -1,0 +1,224 @@
+//! The tables of a plan, filled once, so that each question is answered by one look.
+ghost use Rattle.std.specs.Prelude.{◌≡◌, ◌+◌, ◌*◌, ◌<◌, ◌==◌, ◌&&◌, All, length, IfOk};
+ghost use Rattle.std.specs.List.{list_any};
+ghost use Rattle.dds_deploy.specs.WellFormed.{IsWellFormed};
+ghost use Rattle.dds_match.specs.Marks.{AddsMarks};
+ghost use Rattle.dds_match.specs.Matching.{why_not};
+ghost use Rattle.dds_match.specs.Network.{is_named, is_written, reach};
+ghost use Rattle.dds_match.specs.Plan.{hears, matched, network_of};
+ghost use Rattle.dds_match.specs.Tables.{ShowsPlan, ShowsHearing, ShowsReasons};
+
+use crate::key_table::KeyTable;
+use crate::matching::{WhyNot, why_not_by_lists};
+use dds_base::{KeyNo, Portion, ReaderNo, RuleNo, WriterNo};
+use dds_deploy::Deployment;
+use std::alloc::{AllocError, Global};
+
+/// The most readers that a deployment has: a row of the reasons has a place for each.
+pub(crate) const READERS: usize = 256;
+
+/// The answers of matching.
+#[derive(Drop)]
+pub(crate) struct Tables {
+    /// Why a writer and a reader do not match, in rows of 256 readers.
+    pub(crate) reasons: Vec<Option<WhyNot>>,
+    /// The keys of each reader's filter.
+    pub(crate) hearing: KeyTable,
+    /// The keys that some rule writes at a writer matched with the reader, and that the reader hears.
+    pub(crate) reached: KeyTable,
+    /// The keys that some rule writes at the writer.
+    pub(crate) written: KeyTable,
+}
+
+/// The reasons of all pairs.
+fn reasons_of(alloc: Global, lists: &Deployment) -> Result<Vec<Option<WhyNot>>, AllocError>
+    ensures { IfOk result (λ reasons. ShowsReasons lists.now reasons.items) }
+{
+    let places = lists.writers() * READERS;
+    let mut reasons = Vec::with_capacity(alloc, places)?;
+    for place in 0..places {
+        reasons.push(reason_of(lists, place / READERS, place % READERS))?;
+    }
+    Ok(reasons)
+}
+
+/// The reason of a pair, `None` where there is no such pair.
+fn reason_of(lists: &Deployment, w: usize, r: usize) -> Option<WhyNot>
+    ensures { result ≡ why_not lists.now w r }
+{
+    if w < lists.writers() && r < lists.readers() {
+        why_not_by_lists(lists, WriterNo::new(w), ReaderNo::new(r))
+    } else {
+        None
+    }
+}
+
+/// Whether a pair matches, by the reasons.
+pub(crate) fn is_matched(
+    reasons: &[Option<WhyNot>],
+    lists: &Deployment,
+    w: WriterNo,
+    r: ReaderNo,
+) -> bool
+    requires reasons { ShowsReasons lists.now reasons.now }
+    ensures { result ≡ matched lists.now w r }
+{
+    w.number() < lists.writers()
+        && r.number() < lists.readers()
+        && reasons[w.number() * READERS + r.number()].is_none()
+}
+
+/// Marks the keys of a filter at a reader.
+fn mark_filter(hearing: &mut KeyTable, r: ReaderNo, filter: &[KeyNo])
+    requires reader { r * 64 < length hearing.old }
+    requires keys { All (λ k. k < 64) filter.now }
+    ensures { AddsMarks hearing.old hearing.new (λ i k. (r == i) && list_any (λ y. y == k) filter.now) }
+{
+    for key in filter {
+        hearing.mark(r.number(), key.number());
+    }
+}
+
+/// Marks the keys of all filters.
+fn mark_filters(hearing: &mut KeyTable, lists: &Deployment)
+    requires { length hearing.old ≡ length lists.now.readers.entries * 64 }
+    ensures { AddsMarks hearing.old hearing.new (hears lists.now) }
+{
+    for r in 0..lists.readers() {
+        mark_filter(
+            hearing,
+            ReaderNo::new(r),
+            &lists.reader(ReaderNo::new(r)).filter,
+        );
+    }
+}
+
+/// Marks what a rule writes.
+fn mark_writes(written: &mut KeyTable, writes: &[Portion<WriterNo>])
+    requires { All (λ e. (e.endpoint * 64 < length written.old) × (e.key < 64)) writes.now }
+    ensures { AddsMarks written.old written.new (is_named writes.now) }
+{
+    for portion in writes {
+        written.mark(portion.endpoint.number(), portion.key.number());
+    }
+}
+
+/// Marks what all rules write.
+fn mark_written(written: &mut KeyTable, lists: &Deployment)
+    requires well_formed { IsWellFormed lists.now }
+    requires size { length written.old ≡ length lists.now.writers.entries * 64 }
+    ensures { AddsMarks written.old written.new (is_written (network_of lists.now)) }
+{
+    for u in 0..lists.rules() {
+        mark_writes(written, &lists.rule(RuleNo::new(u)).writes);
+    }
+}
+
+/// Whether a key of a writer comes to a reader, which hears the key and matches the writer.
+fn comes_to(
+    lists: &Deployment,
+    reasons: &[Option<WhyNot>],
+    hearing: &KeyTable,
+    w: WriterNo,
+    key: KeyNo,
+    r: ReaderNo,
+) -> bool
+    requires reasons { ShowsReasons lists.now reasons.now }
+    requires hearing { ShowsHearing lists.now hearing.now }
+    ensures { result ≡ (hears lists.now r key && matched lists.now w r) }
+{
+    hearing.has(r.number(), key.number()) && is_matched(reasons, lists, w, r)
+}
+
+/// Marks a key of a writer at each reader that it comes to.
+fn mark_readers(
+    reached: &mut KeyTable,
+    lists: &Deployment,
+    reasons: &[Option<WhyNot>],
+    hearing: &KeyTable,
+    w: WriterNo,
+    key: KeyNo,
+)
+    requires size { length reached.old ≡ length lists.now.readers.entries * 64 }
+    requires key { key < 64 }
+    requires reasons { ShowsReasons lists.now reasons.now }
+    requires hearing { ShowsHearing lists.now hearing.now }
+    ensures { AddsMarks reached.old reached.new (λ r k. hears lists.now r k && ((key == k) && matched lists.now w r)) }
+{
+    for r in 0..lists.readers() {
+        if comes_to(lists, reasons, hearing, w, key, ReaderNo::new(r)) {
+            reached.mark(r, key.number());
+        }
+    }
+}
+
+/// Marks what comes of a rule's writes.
+fn mark_coming(
+    reached: &mut KeyTable,
+    lists: &Deployment,
+    reasons: &[Option<WhyNot>],
+    hearing: &KeyTable,
+    writes: &[Portion<WriterNo>],
+)
+    requires size { length reached.old ≡ length lists.now.readers.entries * 64 }
+    requires keys { All (λ e. e.key < 64) writes.now }
+    requires reasons { ShowsReasons lists.now reasons.now }
+    requires hearing { ShowsHearing lists.now hearing.now }
+    ensures { AddsMarks reached.old reached.new (λ r k. hears lists.now r k && list_any (λ e. (e.key == k) && matched lists.now e.endpoint r) writes.now) }
+{
+    for portion in writes {
+        mark_readers(
+            reached,
+            lists,
+            reasons,
+            hearing,
+            portion.endpoint,
+            portion.key,
+        );
+    }
+}
+
+/// Marks what comes of all rules.
+fn mark_reached(
+    reached: &mut KeyTable,
+    lists: &Deployment,
+    reasons: &[Option<WhyNot>],
+    hearing: &KeyTable,
+)
+    requires well_formed { IsWellFormed lists.now }
+    requires size { length reached.old ≡ length lists.now.readers.entries * 64 }
+    requires reasons { ShowsReasons lists.now reasons.now }
+    requires hearing { ShowsHearing lists.now hearing.now }
+    ensures { AddsMarks reached.old reached.new (reach (network_of lists.now)) }
+{
+    for u in 0..lists.rules() {
+        mark_coming(
+            reached,
+            lists,
+            reasons,
+            hearing,
+            &lists.rule(RuleNo::new(u)).writes,
+        );
+    }
+}
+
+impl Tables {
+    /// The tables of a deployment.
+    pub(crate) fn of(alloc: Global, lists: &Deployment) -> Result<Tables, AllocError>
+        ensures { IfOk result (ShowsPlan lists.now) }
+    {
+        let reasons = reasons_of(alloc, lists)?;
+        let mut hearing = KeyTable::new(alloc, lists.readers())?;
+        let mut reached = KeyTable::new(alloc, lists.readers())?;
+        let mut written = KeyTable::new(alloc, lists.writers())?;
+        mark_filters(&mut hearing, lists);
+        mark_reached(&mut reached, lists, &reasons, &hearing);
+        mark_written(&mut written, lists);
+        Ok(Tables {
+            reasons,
+            hearing,
+            reached,
+            written,
+        })
+    }
+}

@@ -1,0 +1,81 @@
+//! Files in memory, and readers that fail.
+use dds_tool::Sources;
+use std::io::{self, ErrorKind, Read};
+use std::str;
+
+/// A file that is interrupted for a while before it gives its bytes, and fails after some of them.
+#[derive(Drop)]
+pub struct Rough<'a> {
+    pub bytes: &'a [u8],
+    pub interruptions: u32,
+    pub fails_after: usize,
+}
+
+impl<'a> Read for Rough<'a> {
+    fn read(&mut self, buf: &mut [u8]) -> io::Result<usize> {
+        if self.interruptions > 0 {
+            self.interruptions -= 1;
+            return Err(io::Error::from(ErrorKind::Interrupted));
+        }
+        if self.fails_after == 0 {
+            return Err(io::Error::from(ErrorKind::Other));
+        }
+        let mut first = self.bytes;
+        if first.len() > self.fails_after {
+            first = &first[..self.fails_after];
+        }
+        let count = first.read(buf)?;
+        if count <= self.bytes.len() && count <= self.fails_after {
+            self.bytes = &self.bytes[count..];
+            self.fails_after -= count;
+        }
+        Ok(count)
+    }
+}
+
+/// A deployment at the path `d` and a certificate at the path `c`, and no other file. It counts the files that were opened.
+#[derive(Drop)]
+pub struct Pair<'a> {
+    pub deployment: &'a [u8],
+    pub certificate: &'a [u8],
+    pub interruptions: u32,
+    pub fails_after: usize,
+    pub opened: u64,
+}
+
+/// Two files that are read without a fault.
+pub fn readable<'a>(deployment: &'a [u8], certificate: &'a [u8]) -> Pair<'a> {
+    Pair {
+        deployment,
+        certificate,
+        interruptions: 0,
+        fails_after: usize::MAX,
+        opened: 0,
+    }
+}
+
+impl<'a> Sources for Pair<'a> {
+    type R = Rough<'a>;
+
+    fn open(&mut self, path: &str) -> Option<Rough<'a>> {
+        self.opened = self.opened.saturating_add(1);
+        let bytes = match path {
+            "d" => self.deployment,
+            "c" => self.certificate,
+            _ => return None,
+        };
+        Some(Rough {
+            bytes,
+            interruptions: self.interruptions,
+            fails_after: self.fails_after,
+        })
+    }
+}
+
+/// The text of what was written, to be compared.
+pub fn text_of(bytes: &[u8]) -> &str {
+    match str::from_utf8(bytes) {
+        Ok(text) => text,
+        Err(_) => "(bytes that are no text)",
+    }
+}

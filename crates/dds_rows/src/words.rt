@@ -1,0 +1,55 @@
+//! Command lines that ask for nothing, or for help.
+use crate::files::readable;
+use crate::texts::{PING, PING_CERT};
+use dds_tool::tool;
+use std::test::Fail;
+
+#[test]
+fn tells_usage_faults(rt: HostRuntime) -> Result<(), Fail> {
+    let alloc = rt.alloc();
+    let rows: [&[&str]; 8] = [
+        &["ddscheck"],
+        &["ddscheck", "frob"],
+        &["ddscheck", "check"],
+        &["ddscheck", "check", "d"],
+        &["ddscheck", "check", "d", "c", "e"],
+        &["ddscheck", "check", "d", "c", "--fast"],
+        &["ddscheck", "propose", "d"],
+        &["ddscheck", "run", "d", "c"],
+    ];
+    for words in rows {
+        let mut files = readable(PING.as_bytes(), PING_CERT.as_bytes());
+        let mut out = Vec::new(alloc);
+        let mut err = Vec::new(alloc);
+        let status = tool(alloc, words, &mut files, &mut out, &mut err);
+        assert_eq!(rt; status, 4, "{words:?}");
+        assert_eq!(rt; out.len(), 0, "{words:?}");
+        assert!(rt; err.as_slice().starts_with(b"error: "), "{words:?}");
+        assert_eq!(rt; files.opened, 0, "{words:?}");
+    }
+    Ok(())
+}
+
+#[test]
+fn helps(rt: HostRuntime) -> Result<(), Fail> {
+    let alloc = rt.alloc();
+    let rows: [&[&str]; 6] = [
+        &["ddscheck", "--help"],
+        &["ddscheck", "-h"],
+        &["ddscheck", "help"],
+        &["ddscheck", "help", "check"],
+        &["ddscheck", "check", "--help"],
+        &["ddscheck", "--version"],
+    ];
+    for words in rows {
+        let mut files = readable(PING.as_bytes(), PING_CERT.as_bytes());
+        let mut out = Vec::new(alloc);
+        let mut err = Vec::new(alloc);
+        let status = tool(alloc, words, &mut files, &mut out, &mut err);
+        assert_eq!(rt; status, 0, "{words:?}");
+        assert!(rt; out.len() > 0, "{words:?}");
+        assert_eq!(rt; err.len(), 0, "{words:?}");
+        assert_eq!(rt; files.opened, 0, "{words:?}");
+    }
+    Ok(())
+}

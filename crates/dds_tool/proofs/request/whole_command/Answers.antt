@@ -1,0 +1,12 @@
+use Rattle.std.proofs.Common.{ap₂, ◌∙◌}
+use Rattle.std.proofs.lemmas.Result.{IfOk-weaker}
+use Rattle.clap.specs.Words.{App, with_subcommand}
+use Rattle.dds_tool.proofs.request.whole_command.Goals as goal
+
+abbrev joined : App → App → App
+joined a b = with_subcommand a b.top
+
+pub returns : goal.returns
+returns c =
+    let first = c.in_ok-command.ensures ∙ ap₂ joined c.top_command.ensures c.in_ok-matching.ensures.app in
+    IfOk-weaker c.with_command-2.result _ _ (λ r h. h ∙ ap₂ joined first c.in_ok-checking.ensures.app) c.with_command-2.ensures

@@ -1,0 +1,54 @@
+-- What the words of a command line ask for, by clap's own account of a command and its words.
+use Rattle.std.specs.Prelude.{ℕ, ◌≡◌, ◌⊎◌, List, Option, Some, true, codes}
+use Rattle.std.specs.Io.KnownBytes.{Appends}
+use Rattle.clap.specs.Words.{App, Row, Rule, Text, new_app, new_rule, with_rule, with_subcommand, subcommand_of, first_of}
+use Rattle.clap.specs.declared.builder.ArgAction.TheVariants.{Set}
+use Rattle.clap.specs.Simple.{on_top}
+use Rattle.dds_tool.specs.declared.request.Request.{Request}
+use Rattle.dds_tool.specs.declared.request.Request.TheVariants as asked
+use Rattle.dds_tool.specs.declared.request.NoRequest.{NoRequest}
+use Rattle.dds_tool.specs.declared.request.NoRequest.TheVariants as none
+use Rattle.dds_tool.specs.Outcome.{file_outcome}
+use Rattle.dds_tool.specs.Report.{output_of, status_of}
+
+-- a file that has to be named
+abbrev pub file_rule : Text → Rule
+file_rule id = record (new_rule id) { required = true; action = Some Set }
+
+-- a command with a deployment
+abbrev pub one_file : Text → App
+one_file name = with_rule (new_app name) (file_rule (codes "deployment"))
+
+-- a command with a deployment and a certificate
+abbrev pub two_files : Text → App
+two_files name = with_rule (one_file name) (file_rule (codes "certificate"))
+
+-- the command by itself: it has a version, and wants a subcommand
+abbrev pub top_app : App
+top_app = on_top (λ s. record s { subcommand_required = true; has_version = true }) (new_app (codes "ddscheck"))
+
+-- the command with its subcommands
+abbrev pub whole : App
+whole = with_subcommand (with_subcommand top_app (one_file (codes "match")).top) (two_files (codes "check")).top
+
+-- the words name the subcommand, and the argument has this text
+abbrev pub Names : List Text → Text → Text → Text → Type 0
+Names words name id text = (rows : List Row) × (subcommand_of whole words ≡ Some (name, rows)) × (first_of id rows ≡ Some text)
+
+-- the words ask for this, by clap's own account of the command
+abbrev pub Asks : List Text → Request → Type 0
+Asks words (asked.Match d) = Names words (codes "match") (codes "deployment") d.now
+Asks words (asked.Check d c) = Names words (codes "check") (codes "deployment") d.now × Names words (codes "check") (codes "certificate") c.now
+
+-- help or the version was asked for
+abbrev pub IsHelp : NoRequest → Type 0
+IsHelp (none.Help text) = Unit {0}
+IsHelp (none.Usage text) = ⊥
+IsHelp none.NoMemory = ⊥
+
+-- Where a check of two files is asked for whose bytes are known, the status and what is added to the output are those of how that check ends.
+-- Otherwise memory or a device failed, and the status is 3.
+abbrev pub Answers : (List ℕ → Option (List ℕ)) → Request → ℕ → Option (List ℕ) → Option (List ℕ) → Type 0
+Answers holds (asked.Check d c) status old new = (x y : List ℕ) → holds d.now ≡ Some x → holds c.now ≡ Some y
+    → ((status ≡ status_of (file_outcome x y)) × Appends old new (output_of (file_outcome x y))) ⊎ (status ≡ 3)
+Answers holds (asked.Match d) status old new = Unit {0}

@@ -1,0 +1,23 @@
+//! The commands of `ddscheck`, over any files and any two writers. A file is read whole through a reader that counts its failed reads; two files get
+//! a report, which is the first of these: the fault of the deployment, the fault of the certificate, the first condition of the checker that fails, or
+//! yes. What the words of a command line ask for, the text of every answer and its exit status are stated functions of words and files.
+#![tactic(auto)]
+
+mod commands;
+mod counted;
+mod fault;
+mod memory;
+mod naming;
+mod reading;
+mod report;
+mod request;
+mod sources;
+
+pub use commands::{run_check, tell_fault, tool};
+pub use counted::Counted;
+pub use fault::{ToolFault, fault_status, fault_text};
+pub use memory::{Memory, check_text};
+pub use reading::{MAX_FILE, read_all};
+pub use report::{Report, answer_check, report_text};
+pub use request::{NoRequest, Request, read_request};
+pub use sources::Sources;

@@ -1,0 +1,51 @@
+//! Two files in memory.
+ghost use Rattle.std.specs.Prelude.{◌≡◌, MatchResult, IfOk, Some, codes, if◌then◌else◌};
+ghost use Rattle.std.specs.Str.{bytes_eq};
+ghost use Rattle.dds_tool.specs.Outcome.{file_outcome};
+ghost use Rattle.dds_tool.specs.Report.{Ends, output_of, status_of};
+
+use crate::commands::run_check;
+use crate::fault::ToolFault;
+use crate::sources::Sources;
+use std::alloc::Global;
+
+/// A deployment at the path `d`, and a certificate at every other path.
+#[derive(Drop)]
+pub struct Memory<'a> {
+    pub deployment: &'a [u8],
+    pub certificate: &'a [u8],
+}
+
+impl<'a> Sources for Memory<'a> {
+    type R = &'a [u8];
+
+    ghost holds = { λ s path. Some (if bytes_eq path (codes "d") then s.deployment.now else s.certificate.now) };
+
+    fn open(&mut self, path: &str) -> Option<&'a [u8]> {
+        if path == "d" {
+            Some(self.deployment)
+        } else {
+            Some(self.certificate)
+        }
+    }
+}
+
+/// What `check` writes for a deployment and a certificate with these bytes, and its status: 0 yes, 1 no. Every fault is that of how the check of these
+/// bytes ends, or want of memory.
+pub fn check_text(
+    alloc: Global,
+    deployment: &[u8],
+    certificate: &[u8],
+) -> Result<(u8, Vec<u8>), ToolFault>
+    ensures { MatchResult result
+        (λ r. (r.0 ≡ status_of (file_outcome deployment.now certificate.now)) × (r.1.items ≡ output_of (file_outcome deployment.now certificate.now)))
+        (λ e. Ends e (file_outcome deployment.now certificate.now)) }
+{
+    let mut out = Vec::new(alloc);
+    let mut files = Memory {
+        deployment,
+        certificate,
+    };
+    let status = run_check(alloc, "d", "c", &mut files, &mut out)?;
+    Ok((status, out))
+}

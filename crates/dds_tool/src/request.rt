@@ -1,0 +1,186 @@
+//! What the words of a command line ask for.
+ghost use Rattle.std.specs.Prelude.{◌≡◌, List, IfOk, IfErr, IfSome, Some, true, false, codes, map, option_map};
+ghost use Rattle.clap.specs.Words.{Text, app_of, first_of, found_of, kind_of, rows_of, rule_of, subcommand_of, subcommand_rows_of, takes, with_subcommand};
+ghost use Rattle.clap.specs.declared.builder.command.Command.TheViews.{out-Command as fields_of};
+ghost use Rattle.dds_tool.specs.Asking.{Asks, IsHelp, file_rule, one_file, top_app, two_files, whole};
+
+use clap::error::ErrorKind;
+use clap::{Arg, ArgAction, ArgMatches, Command};
+use std::alloc::{AllocError, Global};
+use std::convert::AsStr;
+
+/// What is asked for. The texts are those of the command line.
+#[derive(Drop)]
+pub enum Request<'a> {
+    /// Which endpoints of a deployment match.
+    Match {
+        deployment: &'a str,
+    },
+    /// Whether a certificate shows that a deployment is safe.
+    Check {
+        deployment: &'a str,
+        certificate: &'a str,
+    },
+}
+
+/// Why no request was read.
+#[derive(Drop)]
+pub enum NoRequest {
+    /// Help or the version was asked for: its text.
+    Help(String),
+    /// The words are no request: what to tell the user.
+    Usage(String),
+    /// Memory ran out.
+    NoMemory,
+}
+
+fn file<'a>(alloc: Global, id: &'a str) -> Arg<'a>
+    ensures rule { rule_of result ≡ file_rule id.entry.now }
+    ensures local { result.global ≡ false }
+{
+    Arg::new(alloc, id).required(true).action(ArgAction::Set)
+}
+
+fn one_file_command<'a>(
+    alloc: Global,
+    name: &'a str,
+    about: &'a str,
+) -> Result<Command<'a>, AllocError>
+    ensures app { IfOk result (λ c. app_of c ≡ one_file name.entry.now) }
+    ensures local { IfOk result (λ c. (fields_of c).has_globals ≡ false) }
+{
+    Command::new(alloc, name)
+        .about(about)
+        .arg(file(alloc, "deployment"))
+}
+
+fn two_files_command<'a>(
+    alloc: Global,
+    name: &'a str,
+    about: &'a str,
+) -> Result<Command<'a>, AllocError>
+    ensures app { IfOk result (λ c. app_of c ≡ two_files name.entry.now) }
+    ensures local { IfOk result (λ c. (fields_of c).has_globals ≡ false) }
+{
+    Command::new(alloc, name)
+        .about(about)
+        .arg(file(alloc, "deployment"))?
+        .arg(file(alloc, "certificate"))
+}
+
+/// The command, and a subcommand more that has no global argument.
+fn with_command<'a>(command: Command<'a>, below: Command<'a>) -> Result<Command<'a>, AllocError>
+    requires below { (fields_of below).has_globals ≡ false }
+    ensures { IfOk result (λ c. app_of c ≡ with_subcommand (app_of command.entry) (app_of below.entry).top) }
+{
+    command.subcommand(below)
+}
+
+fn top_command<'a>(alloc: Global) -> Command<'a>
+    ensures { app_of result ≡ top_app }
+{
+    Command::new(alloc, "ddscheck")
+        .version("0.1.0")
+        .subcommand_required(true)
+}
+
+fn whole_command<'a>(alloc: Global) -> Result<Command<'a>, AllocError>
+    ensures { IfOk result (λ c. app_of c ≡ whole) }
+{
+    let matching = one_file_command(alloc, "match", "Tells which endpoints match")?;
+    let checking = two_files_command(alloc, "check", "Checks a certificate of a deployment")?;
+    let command = with_command(top_command(alloc), matching)?;
+    with_command(command, checking)
+}
+
+/// The words are no request, for this reason.
+fn usage(alloc: Global, text: &str) -> NoRequest
+    ensures { ¬ IsHelp result }
+{
+    match text.to_string(alloc) {
+        Ok(text) => NoRequest::Usage(text),
+        Err(_) => NoRequest::NoMemory,
+    }
+}
+
+/// What to tell the user of an error of the command line.
+fn told(alloc: Global, error: &clap::Error) -> NoRequest
+    ensures { kind_of error.now ≡ ErrorKind.OutOfMemory → result ≡ NoRequest.NoMemory }
+{
+    if error.kind() == ErrorKind::OutOfMemory {
+        return NoRequest::NoMemory;
+    }
+    match format!(in alloc; "{error}") {
+        Ok(text) if error.use_stderr() => NoRequest::Usage(text),
+        Ok(text) => NoRequest::Help(text),
+        Err(_) => NoRequest::NoMemory,
+    }
+}
+
+/// The text of an argument, if it was given.
+fn argument<'a>(matches: &ArgMatches<'a>, id: &str) -> Option<&'a str>
+    ensures { option_map (λ s. s.now) result ≡ first_of id.now (rows_of (found_of matches.now)) }
+{
+    matches.get_str(id)
+}
+
+/// The name and the arguments of the subcommand.
+fn part<'a, 'm>(matches: &'m ArgMatches<'a>) -> Option<(&'a str, &'m ArgMatches<'a>)>
+    ensures { IfSome result (λ p. subcommand_rows_of matches.now ≡ Some (p.0.now, rows_of (found_of p.1.now))) }
+{
+    matches.subcommand()
+}
+
+/// The matches of the words.
+fn matches_of<'a, S: AsStr>(alloc: Global, words: &'a [S]) -> Result<ArgMatches<'a>, NoRequest>
+    ensures rows { IfOk result (λ m. subcommand_rows_of m ≡ subcommand_of whole (map S.text words.entry.now)) }
+    ensures taken { IfErr result (λ e. takes whole (map S.text words.entry.now) ≡ true → ¬ IsHelp e) }
+{
+    let Ok(command) = whole_command(alloc) else {
+        return Err(NoRequest::NoMemory);
+    };
+    match command.try_get_matches_from(words) {
+        Ok(matches) => Ok(matches),
+        Err(error) => Err(told(alloc, &error)),
+    }
+}
+
+fn check_request<'a>(alloc: Global, matches: &ArgMatches<'a>) -> Result<Request<'a>, NoRequest>
+    ensures asked { (words : List Text) → subcommand_of whole words ≡ Some (codes "check", rows_of (found_of matches.now)) → IfOk result (Asks words) }
+    ensures fault { IfErr result (λ e. ¬ IsHelp e) }
+{
+    match (
+        argument(matches, "deployment"),
+        argument(matches, "certificate"),
+    ) {
+        (Some(deployment), Some(certificate)) => Ok(Request::Check {
+            deployment,
+            certificate,
+        }),
+        _ => Err(usage(alloc, "error: a file is missing\n")),
+    }
+}
+
+fn match_request<'a>(alloc: Global, matches: &ArgMatches<'a>) -> Result<Request<'a>, NoRequest>
+    ensures asked { (words : List Text) → subcommand_of whole words ≡ Some (codes "match", rows_of (found_of matches.now)) → IfOk result (Asks words) }
+    ensures fault { IfErr result (λ e. ¬ IsHelp e) }
+{
+    match argument(matches, "deployment") {
+        Some(deployment) => Ok(Request::Match { deployment }),
+        None => Err(usage(alloc, "error: a file is missing\n")),
+    }
+}
+
+/// What the words ask for, of which the first is the program's name. Words that the command does not take are `Usage`, unless they ask for help or the
+/// version; words that it takes are never `Help`. No file is opened.
+pub fn read_request<'a, S: AsStr>(alloc: Global, words: &'a [S]) -> Result<Request<'a>, NoRequest>
+    ensures asked { IfOk result (Asks (map S.text words.entry.now)) }
+    ensures taken { IfErr result (λ e. takes whole (map S.text words.entry.now) ≡ true → ¬ IsHelp e) }
+{
+    let matches = matches_of(alloc, words)?;
+    match part(&matches) {
+        Some(("match", inner)) => match_request(alloc, inner),
+        Some(("check", inner)) => check_request(alloc, inner),
+        _ => Err(usage(alloc, "error: no such command\n")),
+    }
+}

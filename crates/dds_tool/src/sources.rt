@@ -1,0 +1,18 @@
+//! Where files come from.
+ghost use Rattle.std.specs.Prelude.{◌≡◌, ℕ, List, Option, Some, None, IfSome};
+
+use std::io::Read;
+
+/// Files by their paths. An implementation may say what its files hold; where it does, contracts speak of these bytes.
+pub trait Sources {
+    /// The reader of a file. It gives the bytes of the file from the first on.
+    type R: Read + Drop;
+
+    /// The bytes of the file at a path, where they are known.
+    ghost holds: { Self → List ℕ → Option (List ℕ) } = { λ _ _. None };
+
+    /// A reader of the file at a path, or `None` where it does not open. What the files hold stays the same.
+    fn open(&mut self, path: &str) -> Option<Self::R>
+        ensures bytes { IfSome result (λ r. IfSome (holds self.old path.now) (λ xs. Self.R.remaining r ≡ Some xs)) }
+        ensures others { holds self.new ≡ holds self.old };
+}

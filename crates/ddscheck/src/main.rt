@@ -1,0 +1,57 @@
+//! `ddscheck`, over the files and the standard streams of the system.
+#![tactic(auto)]
+
+use dds_tool::{Sources, ToolFault, tell_fault, tool};
+use std::alloc::Global;
+use std::env::{self, Env};
+use std::process::ExitCode;
+use std::rt::Files;
+use std::{fs, io};
+
+/// The files of the system.
+#[derive(Drop)]
+struct Disk<'a, F> {
+    rt: &'a F,
+}
+
+impl<'a, F: Files> Sources for Disk<'a, F> {
+    type R = F::File;
+
+    fn open(&mut self, path: &str) -> Option<F::File> {
+        match fs::open(self.rt, path) {
+            Ok(file) => Some(file),
+            Err(_) => None,
+        }
+    }
+}
+
+/// The words of the command line, of which the first is the program's name.
+fn words<R: Env + AllocGlobal>(rt: &R) -> io::Result<Vec<String>> {
+    Ok(env::args(rt)?.collect(rt.alloc())?)
+}
+
+/// Why there are no words.
+fn fault_of(alloc: Global, error: &io::Error) -> ToolFault {
+    if error.kind() == io::ErrorKind::OutOfMemory {
+        return ToolFault::NoMemory;
+    }
+    match String::from_str(alloc, "error: the words are not UTF-8\n") {
+        Ok(text) => ToolFault::Usage(text),
+        Err(_) => ToolFault::NoMemory,
+    }
+}
+
+fn main(rt: HostRuntime) -> ExitCode {
+    let mut out = io::writer(&rt);
+    let err = rt.stderr();
+    let mut err = io::writer(&err);
+    let words = match words(&rt) {
+        Ok(words) => words,
+        Err(error) => {
+            let fault = fault_of(rt.alloc(), &error);
+            return ExitCode::from(tell_fault(rt.alloc(), &mut err, &fault));
+        }
+    };
+    let mut files = Disk { rt: &rt };
+    ExitCode::from(tool(rt.alloc(), words.as_slice(), &mut files, &mut out, &mut err))
+}

@@ -1,0 +1,99 @@
+#!/bin/sh
+# Runs the built program with each of its allocations refused in turn. Each run has to answer as with ample memory, or to tell of want of memory:
+# nothing on standard output, 'ddscheck: 7 NoMemory' on standard error, status 3. The last line is 'N passed, M failed'; the status is 1 if one failed.
+here=$(CDPATH='' cd -- "$(dirname -- "$0")/.." && pwd)
+program=$here/crates/ddscheck/out/ddscheck
+room=$(mktemp -d) || exit 1
+trap 'rm -rf "$room"' EXIT
+passed=0
+failed=0
+
+pass() { passed=$((passed + 1)); }
+
+fail() {
+    failed=$((failed + 1))
+    echo "failed: $*"
+}
+
+finish() {
+    echo "$passed passed, $failed failed"
+    [ "$failed" = 0 ]
+    exit
+}
+
+# The library that refuses, built with the first compiler that is there: the caller's, those on PATH, the toolchain's.
+build_library() {
+    toolchain=$(readlink -f "$(command -v rt)")
+    for compiler in "$CC" clang gcc cc "$(dirname "$toolchain")/../toolchain/bin/clang"; do
+        if [ -n "$compiler" ] && "$compiler" -shared -fPIC -O1 -fno-builtin -nostdlib -o "$room/refuse.so" "$here/tools/refuse.c" 2>>"$room/compilers"; then
+            return 0
+        fi
+    done
+    cat "$room/compilers"
+    return 1
+}
+
+# Runs the program with ample memory into $room/want.*; the rest are its words.
+run_with_memory() {
+    "$program" "$@" >"$room/want.out" 2>"$room/want.err" </dev/null
+    echo $? >"$room/want.status"
+}
+
+is_wanted() {
+    cmp -s "$room/got.out" "$room/want.out" && cmp -s "$room/got.err" "$room/want.err" && cmp -s "$room/got.status" "$room/want.status"
+}
+
+is_want_of_memory() {
+    [ ! -s "$room/got.out" ] && [ "$(cat "$room/got.err")" = 'ddscheck: 7 NoMemory' ] && [ "$(cat "$room/got.status")" = 3 ]
+}
+
+# Runs the program with its allocation number $1 refused; the rest are its words. Answers whether there was such an allocation.
+run_refused() {
+    number=$1
+    shift
+    rm -f "$room/seen"
+    REFUSE=$number REFUSE_SEEN=$room/seen LD_PRELOAD=$room/refuse.so "$program" "$@" >"$room/got.out" 2>"$room/got.err" </dev/null
+    echo $? >"$room/got.status"
+    [ -s "$room/seen" ]
+}
+
+# Refuses each allocation of the program with these words.
+sweep() {
+    run_with_memory "$@"
+    number=1
+    while run_refused "$number" "$@"; do
+        if is_wanted || is_want_of_memory; then
+            pass
+        else
+            fail "$* with allocation $number refused: status $(cat "$room/got.status"), $(cat "$room/got.out" "$room/got.err")"
+        fi
+        number=$((number + 1))
+    done
+    if is_wanted; then
+        pass
+    else
+        fail "$* with no allocation refused"
+    fi
+    echo "$*: $((number - 1)) allocations, each refused once"
+}
+
+if [ ! -x "$program" ]; then
+    fail "there is no program at $program"
+    finish
+fi
+if ! build_library; then
+    fail "no compiler built tools/refuse.c"
+    finish
+fi
+ping=$here/examples/ping
+loop=$here/examples/loop
+: >"$room/empty.toml"
+sweep check "$ping/ping.toml" "$ping/ping.cert.toml"
+if cmp -s "$room/want.out" "$here/crates/ddscheck/stdout"; then pass; else fail 'the output for examples/ping is not the one in crates/ddscheck/stdout'; fi
+sweep check "$loop/loop.toml" "$loop/loop.cert.toml"
+sweep check "$loop/loop.toml" "$ping/ping.cert.toml"
+sweep check "$room/empty.toml" "$ping/ping.cert.toml"
+sweep check "$room/missing.toml" "$ping/ping.cert.toml"
+sweep check "$ping/ping.toml"
+sweep --help
+finish
