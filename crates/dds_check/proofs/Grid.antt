@@ -2,7 +2,7 @@
 use Rattle.std.proofs.Common.{ℕ, zero, suc, ◌≡◌, ◌≢◌, ◌+◌, ◌*◌, ◌<◌, ◌==◌, ◌&&◌, Bool, true, false, cond, if◌then◌else◌, List, [], ◌∷◌, inl, inr, refl, sym, ap, ◌∙◌, arith}
 use Rattle.std.proofs.lemmas.Bool.Decides.{nat_tests}
 use Rattle.dds_base.specs.Sums.{total, total_pairs, In}
-use Rattle.dds_base.specs.SumLaws.{total_ext, total_zero, total_add, total_one, total_times}
+use Rattle.dds_base.proofs.SumLaws.{total_ext, total_zero, total_add, total_one, total_times}
 use Rattle.dds_base.specs.declared.portion.Portion.{Portion}
 use Rattle.dds_match.specs.Network.{named, weighed}
 

@@ -1,7 +1,9 @@
 -- What the network of a well-formed deployment keeps.
 use Rattle.std.proofs.Common.{ℕ, zero, suc, ◌≡◌, ◌<◌, ◌≤◌, ◌==◌, ◌&&◌, Bool, true, false, List, [], ◌∷◌, All, Contains, inl, inr, length, slice_get, Option, Some, None, option_map, unwrap_or, nat_lt, refl, sym, ap, ◌∙◌, subst, arith}
 use Rattle.std.specs.List.{AllByRecursion, list_any}
-use Rattle.std.proofs.lemmas.Bool.{eqb-true}
+use Rattle.std.proofs.lemmas.Bool.{eqb-true, ltb-true}
+use Rattle.std.specs.Prelude.{is_none}
+use Rattle.dds_match.specs.Matching.{why_not}
 use Rattle.std.proofs.lemmas.Bool.Decides.{nat_tests}
 use Rattle.std.proofs.lemmas.List.Elements.{recursion_from_All}
 use Rattle.std.specs.Option.{option_map_or}
@@ -78,19 +80,12 @@ writes_in d u s = go (slice_get d.rules.entries u) refl
     go None e x i = absurd i
     go (Some v) e x i = key_written d x.endpoint x.key s (All_in (IsWriteOf d) v.writes x (All_at (IsRuleOf d) _ u v s.each_rule e).writes i)
 
-some_within : {X : Type 0} (f : X → Bool) (xs : List X) (i : ℕ) → option_map_or f (slice_get xs i) false ≡ true → (x : X) × (slice_get xs i ≡ Some x) × (f x ≡ true)
-some_within {X} f xs i h = go (slice_get xs i) refl h
-  where
-    go : (o : Option X) → slice_get xs i ≡ o → option_map_or f o false ≡ true → (x : X) × (slice_get xs i ≡ Some x) × (f x ≡ true)
-    go None e h = absurd (grind arith)
-    go (Some x) e h = (x, e, h)
-
 -- endpoints that match are there
 pub matched_in : (d : Lists) (w r : ℕ) → matched d w r ≡ true → (w < length d.writers.entries) × (r < length d.readers.entries)
 matched_in d w r h =
-    let x = some_within _ d.writers.entries w h in
-    let y = some_within _ d.readers.entries r x.2 in
-    (slice_get_within _ w x.0 x.1, slice_get_within _ r y.0 y.1)
+    let rest = nat_lt r (length d.readers.entries) && is_none (why_not d w r) in
+    let there = both_second (nat_lt w (length d.writers.entries)) rest h in
+    (ltb-true _ _ (both_first (nat_lt w (length d.writers.entries)) rest h), ltb-true _ _ (both_first (nat_lt r (length d.readers.entries)) (is_none (why_not d w r)) there))
 
 -- endpoints of a connection are there
 pub intended_in : (d : Lists) (w r : ℕ) → IsWellFormed d → intended d w r ≡ true → (w < length d.writers.entries) × (r < length d.readers.entries)

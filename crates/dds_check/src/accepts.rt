@@ -10,15 +10,14 @@ ghost use Rattle.dds_check.specs.Accepts.{first_no};
 ghost use Rattle.dds_check.specs.Certified.{Safe};
 ghost use Rattle.dds_check.specs.Tables.{IsTabled};
 
-use dds_cert::Certificate;
-use dds_match::Plan;
-
 use crate::limits::limits_no;
 use crate::pairs::pairs_no;
 use crate::profile::profile_no;
 use crate::rows::rows_no;
 use crate::shown::shown_no;
 use crate::verdict::No;
+use dds_cert::Certificate;
+use dds_match::Plan;
 
 #[tactic(auto, unfolding(crate::specs::Accepts::first_no))]
 fn first_no(plan: &Plan, certificate: &Certificate) -> Option<No>

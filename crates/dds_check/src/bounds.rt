@@ -3,11 +3,10 @@
 ghost use Rattle.std.specs.Prelude.{◌≡◌, ◌<◌, All, Some, None};
 ghost use Rattle.dds_check.specs.Tables.{bound_of, total_of, IsBoundWithin, IsTotalWithin, ShowsBounds, ShowsTotals};
 
+use crate::sizes::{ENDPOINTS, KEYS};
 use dds_base::{KeyNo, ReaderNo};
 use dds_cert::{Bound, Total};
 use std::marker::Model;
-
-use crate::sizes::{ENDPOINTS, KEYS};
 
 /// A place for each key of each reader.
 const CELLS: usize = 16384;
@@ -96,7 +95,11 @@ impl<'a> Bounds<'a> {
     {
         let r = reader.number();
         let k = key.number();
-        if r < ENDPOINTS && k < KEYS { self.cells[r * KEYS + k] } else { None }
+        if r < ENDPOINTS && k < KEYS {
+            self.cells[r * KEYS + k]
+        } else {
+            None
+        }
     }
 }
 

@@ -5,12 +5,11 @@ ghost use Rattle.dds_match.specs.Network.{weighed};
 ghost use Rattle.dds_match.specs.Plan.{network_of};
 ghost use Rattle.dds_check.specs.Accepted.{row_of, budget};
 
+use crate::sizes::rules_of;
+use crate::tables::Tables;
 use dds_base::RuleNo;
 use dds_deploy::Rule;
 use dds_match::Plan;
-
-use crate::sizes::rules_of;
-use crate::tables::Tables;
 
 fn rule_at(plan: &Plan, u: RuleNo) -> &Rule
     requires { u < (network_of plan.now).rules }

@@ -9,14 +9,13 @@ ghost use Rattle.dds_check.specs.Certified.{Safe};
 ghost use Rattle.dds_check.specs.Checked.{IsAccepted, IsLeastBound, IsLeastTotal};
 ghost use Rattle.dds_check.specs.Tables.{bound_of, total_of};
 
+use crate::accepts::accepts;
+use crate::bounds::{find_bound, find_total};
+use crate::verdict::No;
 use dds_base::{KeyNo, ReaderNo};
 use dds_cert::Certificate;
 use dds_match::Plan;
 use std::marker::Model;
-
-use crate::accepts::accepts;
-use crate::bounds::{find_bound, find_total};
-use crate::verdict::No;
 
 /// A plan, and a certificate that was accepted for it, so that the deployment is safe in every run. Only `check` makes one.
 #[derive(Drop)]
@@ -74,6 +73,7 @@ impl Checked {
     pub fn into_parts(self) -> (Plan, Certificate)
         ensures plan { result.0 ≡ self.plan }
         ensures certificate { certificate_view result.1 ≡ self.certificate }
+        ensures accepted { IsAccepted self.plan self.certificate }
     {
         let Checked { plan, certificate } = self;
         (plan, certificate)

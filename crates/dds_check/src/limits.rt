@@ -10,14 +10,13 @@ ghost use Rattle.dds_check.specs.Accepted.{instance_limit};
 ghost use Rattle.dds_check.specs.Tables.{IsTabled};
 ghost use Rattle.dds_check.specs.Limits.{reader_instances, no_bound, is_bounded, all_bounded, no_total, no_bounds, is_over, bound_over, reader_bound_over, reached_bound, bounds_within, is_within, samples_over, writer_instances, limits_no};
 
+use crate::bounds::{Bounds, Totals};
+use crate::sizes::{KEYS, readers_of, writers_of};
+use crate::verdict::{No, Number, Subject, refusal_if};
 use dds_base::{KeyNo, ReaderNo, WriterNo};
 use dds_cert::Certificate;
 use dds_match::Plan;
 use dds_qos::ReaderLimits;
-
-use crate::bounds::{Bounds, Totals};
-use crate::sizes::{KEYS, readers_of, writers_of};
-use crate::verdict::{No, Number, Subject, refusal_if};
 
 fn instance_limit(limits: &ReaderLimits) -> Option<u32>
     ensures { result ≡ instance_limit limits.now }
@@ -66,7 +65,10 @@ fn reader_instances(plan: &Plan, reader: ReaderNo) -> Option<No>
     requires { reader < (network_of plan.now).readers }
     ensures { result ≡ reader_instances (network_of plan.now) reader }
 {
-    let over = is_past(reached(plan, reader), plan.reader_limits(reader).max_instances);
+    let over = is_past(
+        reached(plan, reader),
+        plan.reader_limits(reader).max_instances,
+    );
     refusal_if(over, Number::ReaderInstances, Subject::Reader(reader))
 }
 
@@ -86,7 +88,9 @@ fn no_bound(plan: &Plan, bounds: &Bounds, reader: ReaderNo, key: KeyNo) -> Optio
     ensures { result ≡ no_bound (network_of plan.now) bounds.now reader key }
 {
     let limits = plan.reader_limits(reader);
-    let lacks = plan.reaches(reader, key) && instance_limit(&limits).is_some() && bounds.of(reader, key).is_none();
+    let lacks = plan.reaches(reader, key)
+        && instance_limit(&limits).is_some()
+        && bounds.of(reader, key).is_none();
     refusal_if(lacks, Number::NoBound, Subject::Instance { reader, key })
 }
 
@@ -124,7 +128,9 @@ fn no_total(plan: &Plan, bounds: &Bounds, totals: &Totals, reader: ReaderNo) -> 
     ensures { result ≡ no_total (network_of plan.now) bounds.now totals.now reader }
 {
     let limit = plan.reader_limits(reader).max_samples;
-    let lacks = limit.is_some() && totals.of(reader).is_none() && !all_bounded(plan, bounds, reader);
+    let lacks = limit.is_some()
+        && totals.of(reader).is_none()
+        && !all_bounded(plan, bounds, reader);
     refusal_if(lacks, Number::NoBound, Subject::Reader(reader))
 }
 
@@ -154,8 +160,13 @@ fn bound_over(plan: &Plan, bounds: &Bounds, reader: ReaderNo, key: KeyNo) -> Opt
     ensures { result ≡ bound_over (network_of plan.now) bounds.now reader key }
 {
     let limits = plan.reader_limits(reader);
-    let over = plan.reaches(reader, key) && is_over(bounds.of(reader, key), instance_limit(&limits));
-    refusal_if(over, Number::BoundOverInstanceLimit, Subject::Instance { reader, key })
+    let over = plan.reaches(reader, key)
+        && is_over(bounds.of(reader, key), instance_limit(&limits));
+    refusal_if(
+        over,
+        Number::BoundOverInstanceLimit,
+        Subject::Instance { reader, key },
+    )
 }
 
 fn reader_bound_over(plan: &Plan, bounds: &Bounds, reader: ReaderNo) -> Option<No>
@@ -185,7 +196,11 @@ fn reached_bound(plan: &Plan, bounds: &Bounds, reader: ReaderNo, key: KeyNo) -> 
     ensures value { result ≡ reached_bound (network_of plan.now) bounds.now reader key }
     ensures small { result < 2 ^ 32 }
 {
-    if plan.reaches(reader, key) { u64::from(bounds.of(reader, key).unwrap_or(0)) } else { 0 }
+    if plan.reaches(reader, key) {
+        u64::from(bounds.of(reader, key).unwrap_or(0))
+    } else {
+        0
+    }
 }
 
 fn sum_of_bounds(plan: &Plan, bounds: &Bounds, reader: ReaderNo) -> u64
@@ -211,7 +226,9 @@ fn samples_over(plan: &Plan, bounds: &Bounds, totals: &Totals, reader: ReaderNo)
     ensures { result ≡ samples_over (network_of plan.now) bounds.now totals.now reader }
 {
     let limit = plan.reader_limits(reader).max_samples;
-    let over = limit.is_some() && !is_within(totals.of(reader), limit) && !bounds_within(plan, bounds, reader);
+    let over = limit.is_some()
+        && !is_within(totals.of(reader), limit)
+        && !bounds_within(plan, bounds, reader);
     refusal_if(over, Number::BoundOverSamples, Subject::Reader(reader))
 }
 
@@ -240,7 +257,10 @@ fn writer_instances(plan: &Plan, writer: WriterNo) -> Option<No>
     requires { writer < (network_of plan.now).writers }
     ensures { result ≡ writer_instances (network_of plan.now) writer }
 {
-    let over = is_past(written(plan, writer), plan.writer_limits(writer).max_instances);
+    let over = is_past(
+        written(plan, writer),
+        plan.writer_limits(writer).max_instances,
+    );
     refusal_if(over, Number::WriterInstances, Subject::Writer(writer))
 }
 

@@ -4,17 +4,20 @@ ghost use Rattle.dds_match.specs.Plan.{network_of};
 ghost use Rattle.dds_check.specs.First.{first_below};
 ghost use Rattle.dds_check.specs.Pairs.{not_matched, not_intended, first_pair, pairs_no};
 
-use dds_base::{ReaderNo, WriterNo};
-use dds_match::Plan;
-
 use crate::sizes::{readers_of, writers_of};
 use crate::verdict::{No, Number, Subject, refusal_if};
+use dds_base::{ReaderNo, WriterNo};
+use dds_match::Plan;
 
 fn not_matched(plan: &Plan, writer: WriterNo, reader: ReaderNo) -> Option<No>
     ensures { result ≡ not_matched (network_of plan.now) writer reader }
 {
     let lacks = plan.intended(writer, reader) && !plan.matched(writer, reader);
-    refusal_if(lacks, Number::IntendedNotMatched, Subject::Pair { writer, reader })
+    refusal_if(
+        lacks,
+        Number::IntendedNotMatched,
+        Subject::Pair { writer, reader },
+    )
 }
 
 fn first_not_matched_with(plan: &Plan, writer: WriterNo) -> Option<No>
@@ -43,7 +46,11 @@ fn not_intended(plan: &Plan, writer: WriterNo, reader: ReaderNo) -> Option<No>
     ensures { result ≡ not_intended (network_of plan.now) writer reader }
 {
     let surplus = plan.matched(writer, reader) && !plan.intended(writer, reader);
-    refusal_if(surplus, Number::UnintendedMatch, Subject::Pair { writer, reader })
+    refusal_if(
+        surplus,
+        Number::UnintendedMatch,
+        Subject::Pair { writer, reader },
+    )
 }
 
 fn first_not_intended_with(plan: &Plan, writer: WriterNo) -> Option<No>

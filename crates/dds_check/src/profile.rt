@@ -5,13 +5,12 @@ ghost use Rattle.dds_deploy.specs.Views.{writer_view, reader_view};
 ghost use Rattle.dds_check.specs.First.{first_in};
 ghost use Rattle.dds_check.specs.Profile.{writer_keeps_last, reader_best_effort, writer_exclusive, reader_exclusive, reader_source_order, reader_ordered, writer_best_effort, profile_no};
 
+use crate::sizes::{readers_of, writers_of};
+use crate::verdict::{No, Number, Subject, refusal_if};
 use dds_base::{ReaderNo, WriterNo};
 use dds_deploy::{Reader, Writer};
 use dds_match::Plan;
 use dds_qos::{DestinationOrder, HistoryKind, Ownership, Reliability};
-
-use crate::sizes::{readers_of, writers_of};
-use crate::verdict::{No, Number, Subject, refusal_if};
 
 fn is_keep_last(kind: HistoryKind) -> bool
     ensures { result ≡ is_keep_last kind }
@@ -40,44 +39,72 @@ fn is_by_source(order: DestinationOrder) -> bool
 fn writer_keeps_last(x: &Writer, w: WriterNo) -> Option<No>
     ensures { result ≡ writer_keeps_last (writer_view x.now) w }
 {
-    refusal_if(is_keep_last(x.qos.offered.history.kind), Number::WriterKeepsLast, Subject::Writer(w))
+    refusal_if(
+        is_keep_last(x.qos.offered.history.kind),
+        Number::WriterKeepsLast,
+        Subject::Writer(w),
+    )
 }
 
 fn reader_best_effort(x: &Reader, r: ReaderNo) -> Option<No>
     ensures { result ≡ reader_best_effort (reader_view x.now) r }
 {
-    refusal_if(is_best_effort(x.qos.requested.reliability), Number::ReaderBestEffort, Subject::Reader(r))
+    refusal_if(
+        is_best_effort(x.qos.requested.reliability),
+        Number::ReaderBestEffort,
+        Subject::Reader(r),
+    )
 }
 
 fn writer_exclusive(x: &Writer, w: WriterNo) -> Option<No>
     ensures { result ≡ writer_exclusive (writer_view x.now) w }
 {
-    refusal_if(is_exclusive(x.qos.offered.ownership), Number::Exclusive, Subject::Writer(w))
+    refusal_if(
+        is_exclusive(x.qos.offered.ownership),
+        Number::Exclusive,
+        Subject::Writer(w),
+    )
 }
 
 fn reader_exclusive(x: &Reader, r: ReaderNo) -> Option<No>
     ensures { result ≡ reader_exclusive (reader_view x.now) r }
 {
-    refusal_if(is_exclusive(x.qos.requested.ownership), Number::Exclusive, Subject::Reader(r))
+    refusal_if(
+        is_exclusive(x.qos.requested.ownership),
+        Number::Exclusive,
+        Subject::Reader(r),
+    )
 }
 
 fn reader_source_order(x: &Reader, r: ReaderNo) -> Option<No>
     ensures { result ≡ reader_source_order (reader_view x.now) r }
 {
-    refusal_if(is_by_source(x.qos.requested.destination_order), Number::SourceOrder, Subject::Reader(r))
+    refusal_if(
+        is_by_source(x.qos.requested.destination_order),
+        Number::SourceOrder,
+        Subject::Reader(r),
+    )
 }
 
 fn reader_ordered(x: &Reader, r: ReaderNo) -> Option<No>
     ensures { result ≡ reader_ordered (reader_view x.now) r }
 {
     let access = x.qos.requested.presentation;
-    refusal_if(access.ordered || access.coherent, Number::OrderedOrCoherent, Subject::Reader(r))
+    refusal_if(
+        access.ordered || access.coherent,
+        Number::OrderedOrCoherent,
+        Subject::Reader(r),
+    )
 }
 
 fn writer_best_effort(x: &Writer, w: WriterNo) -> Option<No>
     ensures { result ≡ writer_best_effort (writer_view x.now) w }
 {
-    refusal_if(is_best_effort(x.qos.offered.reliability), Number::WriterBestEffort, Subject::Writer(w))
+    refusal_if(
+        is_best_effort(x.qos.offered.reliability),
+        Number::WriterBestEffort,
+        Subject::Writer(w),
+    )
 }
 
 fn first_writer_keeps_last(plan: &Plan) -> Option<No>

@@ -7,19 +7,28 @@ ghost use Rattle.dds_check.specs.Accepted.{row_of, spread};
 ghost use Rattle.dds_check.specs.Tables.{IsTabled};
 ghost use Rattle.dds_check.specs.Rows.{take_raises, row_take_raises, rule_raises, row_rule_raises, write_raises, row_write_raises, rows_no};
 
+use crate::sizes::{KEYS, readers_of, rules_of, writers_of};
+use crate::tables::{Tables, tables_of};
+use crate::verdict::{No, Number, Subject, refusal_if};
 use dds_base::{KeyNo, ReaderNo, RuleNo, WriterNo};
 use dds_cert::Certificate;
 use dds_match::Plan;
 
-use crate::sizes::{KEYS, readers_of, rules_of, writers_of};
-use crate::tables::{Tables, tables_of};
-use crate::verdict::{No, Number, Subject, refusal_if};
-
-fn take_raises(plan: &Plan, weights: &Tables, row: usize, reader: ReaderNo, key: KeyNo) -> Option<No>
+fn take_raises(
+    plan: &Plan,
+    weights: &Tables,
+    row: usize,
+    reader: ReaderNo,
+    key: KeyNo,
+) -> Option<No>
     ensures { result ≡ take_raises (network_of plan.now) (row_of weights.now) row reader key }
 {
     let raises = plan.hears(reader, key) && weights.sample(reader, key) < weights.take(reader, key);
-    refusal_if(raises, Number::TakeRaises, Subject::RowInstance { row, reader, key })
+    refusal_if(
+        raises,
+        Number::TakeRaises,
+        Subject::RowInstance { row, reader, key },
+    )
 }
 
 fn reader_take_raises(plan: &Plan, weights: &Tables, row: usize, reader: ReaderNo) -> Option<No>
@@ -62,8 +71,13 @@ fn rule_raises(plan: &Plan, weights: &Tables, row: usize, u: RuleNo) -> Option<N
     ensures { result ≡ rule_raises (network_of plan.now) (row_of weights.now) row u }
 {
     let rule = plan.rule(u);
-    let raises = 0 < rule.takes.len() && weights.takes_weighed(&rule.takes) < weights.permits_weighed(&rule.writes);
-    refusal_if(raises, Number::RuleRaises, Subject::RowRule { row, rule: u })
+    let raises = 0 < rule.takes.len()
+        && weights.takes_weighed(&rule.takes) < weights.permits_weighed(&rule.writes);
+    refusal_if(
+        raises,
+        Number::RuleRaises,
+        Subject::RowRule { row, rule: u },
+    )
 }
 
 fn row_rule_raises(plan: &Plan, weights: &Tables, row: usize) -> Option<No>
@@ -90,10 +104,20 @@ fn first_rule_raises(plan: &Plan, certificate: &Certificate) -> Option<No>
     None
 }
 
-fn heard_weight(plan: &Plan, weights: &Tables, writer: WriterNo, reader: ReaderNo, key: KeyNo) -> u32
+fn heard_weight(
+    plan: &Plan,
+    weights: &Tables,
+    writer: WriterNo,
+    reader: ReaderNo,
+    key: KeyNo,
+) -> u32
     ensures { result ≡ (if (network_of plan.now).matched writer reader && (network_of plan.now).hears reader key then (row_of weights.now).samples reader key else 0) }
 {
-    if plan.matched(writer, reader) && plan.hears(reader, key) { weights.sample(reader, key) } else { 0 }
+    if plan.matched(writer, reader) && plan.hears(reader, key) {
+        weights.sample(reader, key)
+    } else {
+        0
+    }
 }
 
 fn spread(plan: &Plan, weights: &Tables, writer: WriterNo, key: KeyNo) -> u128
@@ -106,11 +130,22 @@ fn spread(plan: &Plan, weights: &Tables, writer: WriterNo, key: KeyNo) -> u128
     total
 }
 
-fn write_raises(plan: &Plan, weights: &Tables, row: usize, writer: WriterNo, key: KeyNo) -> Option<No>
+fn write_raises(
+    plan: &Plan,
+    weights: &Tables,
+    row: usize,
+    writer: WriterNo,
+    key: KeyNo,
+) -> Option<No>
     ensures { result ≡ write_raises (network_of plan.now) (row_of weights.now) row writer key }
 {
-    let raises = plan.writes_key(writer, key) && u128::from(weights.permit(writer, key)) < spread(plan, weights, writer, key);
-    refusal_if(raises, Number::WriteRaises, Subject::RowWriterKey { row, writer, key })
+    let raises = plan.writes_key(writer, key)
+        && u128::from(weights.permit(writer, key)) < spread(plan, weights, writer, key);
+    refusal_if(
+        raises,
+        Number::WriteRaises,
+        Subject::RowWriterKey { row, writer, key },
+    )
 }
 
 fn writer_write_raises(plan: &Plan, weights: &Tables, row: usize, writer: WriterNo) -> Option<No>

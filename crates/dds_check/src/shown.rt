@@ -10,14 +10,13 @@ ghost use Rattle.dds_check.specs.Accepted.{row_of, budget};
 ghost use Rattle.dds_check.specs.Tables.{IsTabled};
 ghost use Rattle.dds_check.specs.Shown.{shows, bound_not_shown, shows_all, total_not_shown, HasBudgets, shown_no};
 
-use dds_base::{KeyNo, ReaderNo};
-use dds_cert::{Bound, Certificate, Row, Total, Weight};
-use dds_match::Plan;
-
 use crate::budget::budget;
 use crate::sizes::KEYS;
 use crate::tables::{Tables, tables_of};
 use crate::verdict::{No, Number, Subject, refusal_if};
+use dds_base::{KeyNo, ReaderNo};
+use dds_cert::{Bound, Certificate, Row, Total, Weight};
+use dds_match::Plan;
 
 /// No certificate has more rows.
 const ROWS: usize = 64;
@@ -63,7 +62,8 @@ fn shows_reached(plan: &Plan, weights: &Tables, opening: u128, total: &Total, ke
     requires { opening ≡ budget (network_of plan.now) (row_of weights.now) }
     ensures { result ≡ (not (reach (network_of plan.now) total.now.reader key) || shows (network_of plan.now) (row_of weights.now) total.now.bound total.now.reader key) }
 {
-    !plan.reaches(total.reader, key) || is_enough(weights.sample(total.reader, key), opening, total.bound)
+    !plan.reaches(total.reader, key)
+        || is_enough(weights.sample(total.reader, key), opening, total.bound)
 }
 
 fn shows_all(plan: &Plan, weights: &Tables, opening: u128, total: &Total) -> bool
@@ -98,18 +98,36 @@ fn total_at(certificate: &Certificate, i: usize) -> &Total
     &certificate.totals[i]
 }
 
-fn is_bound_shown(plan: &Plan, certificate: &Certificate, budgets: &[u128; ROWS], bound: &Bound) -> bool
+fn is_bound_shown(
+    plan: &Plan,
+    certificate: &Certificate,
+    budgets: &[u128; ROWS],
+    bound: &Bound,
+) -> bool
     requires tabled { IsTabled (certificate_view certificate.now) }
     requires opened { HasBudgets (network_of plan.now) (certificate_view certificate.now).rows budgets.now }
     ensures { result ≡ option_map_or (λ row. shows (network_of plan.now) (row_of row) bound.now.bound bound.now.reader bound.now.key) (slice_get (certificate_view certificate.now).rows bound.now.row) false }
 {
     match find_row(certificate, bound.row) {
-        Some(row) => shows(plan, row, budgets[bound.row], bound.bound, bound.reader, bound.key),
+        Some(row) => shows(
+            plan,
+            row,
+            budgets[bound.row],
+            bound.bound,
+            bound.reader,
+            bound.key,
+        ),
         None => false,
     }
 }
 
-fn bound_not_shown(plan: &Plan, certificate: &Certificate, budgets: &[u128; ROWS], i: usize, bound: &Bound) -> Option<No>
+fn bound_not_shown(
+    plan: &Plan,
+    certificate: &Certificate,
+    budgets: &[u128; ROWS],
+    i: usize,
+    bound: &Bound,
+) -> Option<No>
     requires tabled { IsTabled (certificate_view certificate.now) }
     requires opened { HasBudgets (network_of plan.now) (certificate_view certificate.now).rows budgets.now }
     ensures { result ≡ bound_not_shown (network_of plan.now) (certificate_view certificate.now).rows bound.now i }
@@ -125,7 +143,11 @@ fn bound_not_shown(plan: &Plan, certificate: &Certificate, budgets: &[u128; ROWS
     )
 }
 
-fn first_bound_not_shown(plan: &Plan, certificate: &Certificate, budgets: &[u128; ROWS]) -> Option<No>
+fn first_bound_not_shown(
+    plan: &Plan,
+    certificate: &Certificate,
+    budgets: &[u128; ROWS],
+) -> Option<No>
     requires tabled { IsTabled (certificate_view certificate.now) }
     requires opened { HasBudgets (network_of plan.now) (certificate_view certificate.now).rows budgets.now }
     ensures { result ≡ first_in (certificate_view certificate.now).bounds (bound_not_shown (network_of plan.now) (certificate_view certificate.now).rows) }
@@ -138,7 +160,12 @@ fn first_bound_not_shown(plan: &Plan, certificate: &Certificate, budgets: &[u128
     None
 }
 
-fn is_total_shown(plan: &Plan, certificate: &Certificate, budgets: &[u128; ROWS], total: &Total) -> bool
+fn is_total_shown(
+    plan: &Plan,
+    certificate: &Certificate,
+    budgets: &[u128; ROWS],
+    total: &Total,
+) -> bool
     requires tabled { IsTabled (certificate_view certificate.now) }
     requires opened { HasBudgets (network_of plan.now) (certificate_view certificate.now).rows budgets.now }
     ensures { result ≡ option_map_or (λ row. shows_all (network_of plan.now) (row_of row) total.now) (slice_get (certificate_view certificate.now).rows total.now.row) false }
@@ -152,7 +179,13 @@ fn is_total_shown(plan: &Plan, certificate: &Certificate, budgets: &[u128; ROWS]
     }
 }
 
-fn total_not_shown(plan: &Plan, certificate: &Certificate, budgets: &[u128; ROWS], i: usize, total: &Total) -> Option<No>
+fn total_not_shown(
+    plan: &Plan,
+    certificate: &Certificate,
+    budgets: &[u128; ROWS],
+    i: usize,
+    total: &Total,
+) -> Option<No>
     requires tabled { IsTabled (certificate_view certificate.now) }
     requires opened { HasBudgets (network_of plan.now) (certificate_view certificate.now).rows budgets.now }
     ensures { result ≡ total_not_shown (network_of plan.now) (certificate_view certificate.now).rows total.now i }
@@ -161,7 +194,11 @@ fn total_not_shown(plan: &Plan, certificate: &Certificate, budgets: &[u128; ROWS
     refusal_if(!shown, Number::BoundNotShown, Subject::Reader(total.reader))
 }
 
-fn first_total_not_shown(plan: &Plan, certificate: &Certificate, budgets: &[u128; ROWS]) -> Option<No>
+fn first_total_not_shown(
+    plan: &Plan,
+    certificate: &Certificate,
+    budgets: &[u128; ROWS],
+) -> Option<No>
     requires tabled { IsTabled (certificate_view certificate.now) }
     requires opened { HasBudgets (network_of plan.now) (certificate_view certificate.now).rows budgets.now }
     ensures { result ≡ first_in (certificate_view certificate.now).totals (total_not_shown (network_of plan.now) (certificate_view certificate.now).rows) }

@@ -5,11 +5,10 @@ ghost use Rattle.dds_cert.specs.Views.{row_view, certificate_view};
 ghost use Rattle.dds_check.specs.Accepted.{row_of};
 ghost use Rattle.dds_check.specs.Tables.{weight_by, weighed_by, IsWithin, ShowsWeights, IsRowWithin, IsTabled};
 
+use crate::sizes::{ENDPOINTS, KEYS};
 use dds_base::{Endpoint, KeyNo, Portion, ReaderNo, WriterNo};
 use dds_cert::{Certificate, Row, Weight};
 use std::marker::Model;
-
-use crate::sizes::{ENDPOINTS, KEYS};
 
 /// A place for each key of each endpoint.
 const CELLS: usize = 16384;
@@ -65,7 +64,11 @@ impl<'a, E: Endpoint> Table<'a, E> {
     {
         let e = endpoint.place();
         let k = key.number();
-        if e < ENDPOINTS && k < KEYS { self.cells[e * KEYS + k] } else { 0 }
+        if e < ENDPOINTS && k < KEYS {
+            self.cells[e * KEYS + k]
+        } else {
+            0
+        }
     }
 }
 

@@ -46,14 +46,37 @@ pub enum Number {
 /// What a refusal speaks of.
 #[derive(Clone, Copy, Debug, PartialEq, Eq)]
 pub enum Subject {
-    Pair { writer: WriterNo, reader: ReaderNo },
-    Instance { reader: ReaderNo, key: KeyNo },
+    /// A writer and a reader: of 10 and 11.
+    Pair {
+        writer: WriterNo,
+        reader: ReaderNo,
+    },
+    /// A key of a reader: of 21, 22 and 33.
+    Instance {
+        reader: ReaderNo,
+        key: KeyNo,
+    },
+    /// A reader: of 13 to 16, 20, 21, 23 and 33.
     Reader(ReaderNo),
+    /// A writer: of 12, 14, 17 and 24.
     Writer(WriterNo),
-    /// The row is its place in the certificate, from 0.
-    RowInstance { row: usize, reader: ReaderNo, key: KeyNo },
-    RowRule { row: usize, rule: RuleNo },
-    RowWriterKey { row: usize, writer: WriterNo, key: KeyNo },
+    /// A key of a reader by a row: of 30. A row is its place in the certificate, from 0.
+    RowInstance {
+        row: usize,
+        reader: ReaderNo,
+        key: KeyNo,
+    },
+    /// A rule by a row: of 31.
+    RowRule {
+        row: usize,
+        rule: RuleNo,
+    },
+    /// A key of a writer by a row: of 32.
+    RowWriterKey {
+        row: usize,
+        writer: WriterNo,
+        key: KeyNo,
+    },
 }
 
 /// A condition that fails, and where.
@@ -119,5 +142,9 @@ impl Number {
 pub(crate) fn refusal_if(test: bool, number: Number, subject: Subject) -> Option<No>
     ensures { result ≡ fails test number subject }
 {
-    if test { Some(No { number, subject }) } else { None }
+    if test {
+        Some(No { number, subject })
+    } else {
+        None
+    }
 }

@@ -24,7 +24,7 @@ use Rattle.dds_tool.specs.declared.report.Report.TheVariants as answer
 
 -- how the check ended that gave a report
 abbrev pub outcome_of : Report → Outcome
-outcome_of (answer.Yes checked) = accepted checked.plan (certificate_view checked.certificate)
+outcome_of (answer.Yes checked) = accepted checked.plan checked.certificate
 outcome_of (answer.Refused first lists cert) = refused first lists (certificate_view cert)
 
 -- how the check ended that gave this report or fault; want of memory says nothing of it

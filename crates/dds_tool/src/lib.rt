@@ -16,7 +16,7 @@ mod sources;
 pub use commands::{run_check, tell_fault, tool};
 pub use counted::Counted;
 pub use fault::{ToolFault, fault_status, fault_text};
-pub use memory::{Memory, check_text};
+pub use memory::{Memory, check_text, check_words};
 pub use reading::{MAX_FILE, read_all};
 pub use report::{Report, answer_check, report_text};
 pub use request::{NoRequest, Request, read_request};
