@@ -7,23 +7,51 @@ use crate::sample::{Arrival, Data, Sample};
 #[derive(Clone, Copy, Debug, PartialEq, Eq)]
 pub enum Event {
     /// A writer writes a sample of a key, which uses one permit.
-    Write { writer: WriterNo, key: KeyNo, payload: Data },
+    Write {
+        writer: WriterNo,
+        key: KeyNo,
+        payload: Data,
+    },
     /// A rule spends the takes that it needs and gives the permits of its writes.
-    Fire { rule: RuleNo },
+    Fire {
+        rule: RuleNo,
+    },
     /// A reader takes an available sample of a key.
-    Take { reader: ReaderNo, key: KeyNo },
+    Take {
+        reader: ReaderNo,
+        key: KeyNo,
+    },
     /// A writer sends the DATA of a number to a reader.
-    SendData { writer: WriterNo, reader: ReaderNo, sn: u64 },
+    SendData {
+        writer: WriterNo,
+        reader: ReaderNo,
+        sn: u64,
+    },
     /// A writer sends a reader the GAP that begins at a number.
-    SendGap { writer: WriterNo, reader: ReaderNo, start: u64 },
+    SendGap {
+        writer: WriterNo,
+        reader: ReaderNo,
+        start: u64,
+    },
     /// A writer sends a reader its HEARTBEAT.
-    SendHeartbeat { writer: WriterNo, reader: ReaderNo },
+    SendHeartbeat {
+        writer: WriterNo,
+        reader: ReaderNo,
+    },
     /// A reader sends a writer its ACKNACK.
-    SendAckNack { reader: ReaderNo, writer: WriterNo },
+    SendAckNack {
+        reader: ReaderNo,
+        writer: WriterNo,
+    },
     /// The packet at a place of the bus arrives. Where it is kept, it stays there too.
-    Deliver { place: usize, keep: bool },
+    Deliver {
+        place: usize,
+        keep: bool,
+    },
     /// The packet at a place of the bus is lost.
-    Lose { place: usize },
+    Lose {
+        place: usize,
+    },
 }
 
 /// Why an event is refused. A refusal changes nothing.

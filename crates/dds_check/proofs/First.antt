@@ -18,8 +18,8 @@ first_below_found f i j (suc n) e same none found h =
     ⊎_elim
     (λ (before : i < n). let earlier = first_below_found f i j n e same none found before in rw earlier refl)
     (λ (at : n ≤ i). let here : i ≡ n = omega arith in
-        let P : ℕ → Type 0 = λ m. first_below m f orElse f m ≡ Some e in
-        subst P here (rw (none, ap f (sym same), found) refl))
+    let P : ℕ → Type 0 = λ m. first_below m f orElse f m ≡ Some e in
+    subst P here (rw (none, ap f (sym same), found) refl))
     (cases_lt i n)
 
 -- the loop goes on

@@ -63,8 +63,8 @@ pairs_named n m d (x ∷ xs) h =
     let parts = pairs_add n m (λ i j. d i j * one_of x i j) (λ i j. d i j * named xs i j) in
     let place = h x (inl refl) in
     let one = pairs_at n m x.endpoint x.key (λ i j. d i j * one_of x i j) place.0 place.1
-        (λ p q ne. ap (λ y. d p q * y) (one_outside x p q ne) ∙ zeros (d p q))
-        (λ q ne. ap (λ y. d x.endpoint q * y) (one_beside x q ne) ∙ zeros (d x.endpoint q)) in
+    (λ p q ne. ap (λ y. d p q * y) (one_outside x p q ne) ∙ zeros (d p q))
+    (λ q ne. ap (λ y. d x.endpoint q * y) (one_beside x q ne) ∙ zeros (d x.endpoint q)) in
     let here = ap (λ y. d x.endpoint x.key * y) (one_here x) in
     let rest = pairs_named n m d xs (λ y i. h y (inr i)) in
     omega arith

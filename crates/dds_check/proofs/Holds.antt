@@ -95,9 +95,9 @@ each_row net rows known h row i =
     let y = orElse_none (first_in rows (row_rule_raises net)) (first_in rows (row_write_raises net)) x.1 in
     let from = mapped_from row_of row rows i in
     subst (RowHolds net) from.3 (row_holds net from.1 from.0 known
-        (first_in_none rows (row_take_raises net) x.0 from.0 from.1 from.2)
-        (first_in_none rows (row_rule_raises net) y.0 from.0 from.1 from.2)
-        (first_in_none rows (row_write_raises net) y.1 from.0 from.1 from.2))
+    (first_in_none rows (row_take_raises net) x.0 from.0 from.1 from.2)
+    (first_in_none rows (row_rule_raises net) y.0 from.0 from.1 from.2)
+    (first_in_none rows (row_write_raises net) y.1 from.0 from.1 from.2))
 
 -- ── what is shown
 not_false : (b : Bool) → not b ≡ false → b ≡ true
@@ -109,6 +109,7 @@ counts_of x y z h = (first_of x y z h, second_of x y z h)
   where
     first_of : (x y z : ℕ) → (nat_lt 0 x && nat_lt y z) ≡ true → 1 ≤ x
     first_of x y z h = grind (arith, nat_tests)
+
     second_of : (x y z : ℕ) → (nat_lt 0 x && nat_lt y z) ≡ true → y < z
     second_of x y z h = grind (arith, nat_tests)
 
@@ -133,6 +134,7 @@ total_shown net rows t known h = go (slice_get rows t.row) refl h
   where
     sent : ℕ → Bool
     sent k = any_below net.rules (λ u. list_any (λ (e : Portion ℕ). (e.key == k) && net.matched e.endpoint t.reader) (net.rule u).writes)
+
     go : (o : Option lists.Row) → slice_get rows t.row ≡ o → not (option_map_or (λ row. shows_all net (row_of row) t) o false) ≡ false →
         In (option_map_or row_of o no_row) (map row_of rows) × ((k : ℕ) → reach net t.reader k ≡ true → Shows net (option_map_or row_of o no_row) t.bound t.reader k)
     go None e f = absurd (grind arith)
@@ -241,8 +243,8 @@ keys_bounded net cert known limits r k m h l =
     let i = reached_in net r k known h in
     let stands = orElse_none (first_below net.keys (no_bound net cert.bounds r)) (no_total net cert.bounds cert.totals r) (limits.stand r i.0) in
     let b = key_within (reach net r k) (instance_limit (net.reader_limits r)) (bound_of cert.bounds r k) m
-        (passes _ _ _ (first_below_none (no_bound net cert.bounds r) net.keys stands.0 k i.1))
-        (passes _ _ _ (first_below_none (bound_over net cert.bounds r) net.keys (limits.within r i.0) k i.1)) h l in
+    (passes _ _ _ (first_below_none (no_bound net cert.bounds r) net.keys stands.0 k i.1))
+    (passes _ _ _ (first_below_none (bound_over net cert.bounds r) net.keys (limits.within r i.0) k i.1)) h l in
     (b.0, bound_found cert.rows cert.bounds r k b.0 b.1, b.2)
 
 samples_held : (net : Network) (cert : lists.Certificate) → IsKnown net → LimitsHold net cert → (r m : ℕ) → (net.reader_limits r).max_samples ≡ Some m →
@@ -252,16 +254,16 @@ samples_held net cert known limits r m h =
     let f : ℕ → ℕ = λ k. unwrap_or (bound_of cert.bounds r k) 0 in
     let sum = total net.keys (reached_bound net cert.bounds r) in
     elim (one_of (is_some limit) (is_within (total_of cert.totals r) limit) (bounds_within net cert.bounds r) (passes _ _ _ (limits.samples r (known.samples r m h))) (has_value limit m h)) [
-      inl x ↦ (let t = total_within (total_of cert.totals r) limit m x h in inl (t.0, total_found cert.rows cert.totals r t.0 t.1, t.2))
-    | inr y ↦ (let all = both_first (all_bounded net cert.bounds r) (not (is_past sum limit)) y in
-        let few = both_second (all_bounded net cert.bounds r) (not (is_past sum limit)) y in
-        inr (
-          f,
-          λ k reached. (let n = is_there (bound_of cert.bounds r k) (asked (reach net r k) (is_some (bound_of cert.bounds r k)) (all_below_at net.keys (is_bounded net cert.bounds r) all k (reached_in net r k known reached).1) reached) in
-              let same : f k ≡ n.0 = ap (λ o. unwrap_or o 0) n.1 in
-              bound_found cert.rows cert.bounds r k (f k) (n.1 ∙ ap Some (sym same))),
-          not_over sum m limit (not_not (is_past sum limit) few) h,
-        ))
+      | inl x ↦ (let t = total_within (total_of cert.totals r) limit m x h in inl (t.0, total_found cert.rows cert.totals r t.0 t.1, t.2))
+      | inr y ↦ (let all = both_first (all_bounded net cert.bounds r) (not (is_past sum limit)) y in
+          let few = both_second (all_bounded net cert.bounds r) (not (is_past sum limit)) y in
+          inr (
+            f,
+            λ k reached. (let n = is_there (bound_of cert.bounds r k) (asked (reach net r k) (is_some (bound_of cert.bounds r k)) (all_below_at net.keys (is_bounded net cert.bounds r) all k (reached_in net r k known reached).1) reached) in
+                let same : f k ≡ n.0 = ap (λ o. unwrap_or o 0) n.1 in
+                bound_found cert.rows cert.bounds r k (f k) (n.1 ∙ ap Some (sym same))),
+            not_over sum m limit (not_not (is_past sum limit) few) h,
+          ))
     ]
 
 pub accepted_of : (net : Network) (cert : lists.Certificate) → IsKnown net → pairs_no net ≡ None → limits_no net cert ≡ None → rows_no net cert.rows ≡ None → shown_no net cert ≡ None → Accepted net (certificate_of cert)

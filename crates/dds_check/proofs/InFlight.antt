@@ -68,7 +68,7 @@ module _ (net : Network) (known : IsNetwork net) (v : World) (sound : Sound net 
       silent : (w : ℕ) → net.matched w r ≡ true → count_key k (v.written w) ≡ 0
       silent w m =
           let none = total_zero (λ u. named (net.rule u).writes w k * ((net.rule u).start + v.fired u)) net.rules
-              (λ u c. rw (unnamed net r w k (net.rule u).writes m (any_below_at net.rules u (λ y. list_any (λ e. (e.key == k) && net.matched e.endpoint r) (net.rule y).writes) c none_writes)) (omega arith)) in
+          (λ u c. rw (unnamed net r w k (net.rule u).writes m (any_below_at net.rules u (λ y. list_any (λ e. (e.key == k) && net.matched e.endpoint r) (net.rule y).writes) c none_writes)) (omega arith)) in
           let within = sound.counts.given w k in
           omega arith
 

@@ -45,7 +45,7 @@ no_other x xs rows b once i reader key =
     let from = mapped_from (bound_with rows) b xs i in
     let y = from.1 in
     never (list_any (same_bound_place x) xs) once
-        (any_by (same_bound_place x) xs from.0 y from.2 (same_place y.reader y.key x.reader x.key (ap (λ (z : Bound). z.reader) from.3 ∙ reader) (ap (λ (z : Bound). z.key) from.3 ∙ key)))
+    (any_by (same_bound_place x) xs from.0 y from.2 (same_place y.reader y.key x.reader x.key (ap (λ (z : Bound). z.reader) from.3 ∙ reader) (ap (λ (z : Bound). z.key) from.3 ∙ key)))
 
 from_test : (m j r k : ℕ) → ((m == r) && (j == k)) ≡ true → (m ≡ r) × (j ≡ k)
 from_test m j r k h = (eqb-true m r (both_first (m == r) (j == k) h), eqb-true j k (both_second (m == r) (j == k) h))
@@ -57,8 +57,10 @@ only_bound (x ∷ xs) rows r k n b once h i reader key =
   where
     first : not (list_any (same_bound_place x) xs) ≡ true
     first = both_first (not (list_any (same_bound_place x) xs)) (is_distinct same_bound_place xs) once
+
     rest : is_distinct same_bound_place xs ≡ true
     rest = both_second (not (list_any (same_bound_place x) xs)) (is_distinct same_bound_place xs) once
+
     go : (is_distinct same_bound_place xs ≡ true → bound_of xs r k ≡ Some n → In b (map (bound_with rows) xs) → b.bound ≡ n) → (t : Bool) → ((x.reader == r) && (x.key == k)) ≡ t → cond t (Some x.bound) (bound_of xs r k) ≡ Some n → In b (map (bound_with rows) (x ∷ xs)) → b.bound ≡ n
     go more true e h (inl same) = ap (λ (z : Bound). z.bound) (sym same) ∙ same_Some x.bound n h
     go more true e h (inr later) = (let at = from_test x.reader x.key r k e in absurd (no_other x xs rows b first later (reader ∙ sym at.0) (key ∙ sym at.1)))
@@ -70,7 +72,7 @@ no_other_total x xs rows t once i reader =
     let from = mapped_from (total_with rows) t xs i in
     let y = from.1 in
     never (list_any (λ (z : TotalEntry). z.reader == x.reader) xs) once
-        (any_by (λ (z : TotalEntry). z.reader == x.reader) xs from.0 y from.2 (eq-eqb y.reader x.reader (ap (λ (z : Total). z.reader) from.3 ∙ reader)))
+    (any_by (λ (z : TotalEntry). z.reader == x.reader) xs from.0 y from.2 (eq-eqb y.reader x.reader (ap (λ (z : Total). z.reader) from.3 ∙ reader)))
 
 only_total : (ts : List TotalEntry) (rows : List lists.Row) (r n : ℕ) (t : Total) → is_distinct (λ (x y : TotalEntry). y.reader == x.reader) ts ≡ true → total_of ts r ≡ Some n → In t (map (total_with rows) ts) → t.reader ≡ r → t.bound ≡ n
 only_total [] rows r n t once h i reader = absurd (none-some n h)
@@ -79,8 +81,10 @@ only_total (x ∷ xs) rows r n t once h i reader =
   where
     first : not (list_any (λ (y : TotalEntry). y.reader == x.reader) xs) ≡ true
     first = both_first (not (list_any (λ (y : TotalEntry). y.reader == x.reader) xs)) (is_distinct (λ (x y : TotalEntry). y.reader == x.reader) xs) once
+
     rest : is_distinct (λ (x y : TotalEntry). y.reader == x.reader) xs ≡ true
     rest = both_second (not (list_any (λ (y : TotalEntry). y.reader == x.reader) xs)) (is_distinct (λ (x y : TotalEntry). y.reader == x.reader) xs) once
+
     go : (is_distinct (λ (x y : TotalEntry). y.reader == x.reader) xs ≡ true → total_of xs r ≡ Some n → In t (map (total_with rows) xs) → t.bound ≡ n) → (b : Bool) → (x.reader == r) ≡ b → cond b (Some x.bound) (total_of xs r) ≡ Some n → In t (map (total_with rows) (x ∷ xs)) → t.bound ≡ n
     go more true e h (inl same) = ap (λ (z : Total). z.bound) (sym same) ∙ same_Some x.bound n h
     go more true e h (inr later) = absurd (no_other_total x xs rows t first later (reader ∙ sym (eqb-true x.reader r e)))
@@ -92,14 +96,14 @@ unfolding fits
 bounds_once net cert h =
     let n = length cert.rows in
     both_second (list_all _ cert.bounds) (is_distinct same_bound_place cert.bounds)
-        (both_first (bounds_fit net n cert.bounds) (totals_fit net n cert.totals) (both_second (rows_fit net cert.rows) (bounds_fit net n cert.bounds && totals_fit net n cert.totals) h))
+    (both_first (bounds_fit net n cert.bounds) (totals_fit net n cert.totals) (both_second (rows_fit net cert.rows) (bounds_fit net n cert.bounds && totals_fit net n cert.totals) h))
 
 totals_once : (net : Network) (cert : lists.Certificate) → fits net cert ≡ true → is_distinct (λ (x y : TotalEntry). y.reader == x.reader) cert.totals ≡ true
 unfolding fits
 totals_once net cert h =
     let n = length cert.rows in
     both_second (list_all _ cert.totals) (is_distinct (λ (x y : TotalEntry). y.reader == x.reader) cert.totals)
-        (both_second (bounds_fit net n cert.bounds) (totals_fit net n cert.totals) (both_second (rows_fit net cert.rows) (bounds_fit net n cert.bounds && totals_fit net n cert.totals) h))
+    (both_second (bounds_fit net n cert.bounds) (totals_fit net n cert.totals) (both_second (rows_fit net cert.rows) (bounds_fit net n cert.bounds && totals_fit net n cert.totals) h))
 
 at_most : (m n : ℕ) → m ≡ n → n ≤ m
 at_most m n same = omega arith

@@ -48,7 +48,7 @@ sound_opening net = record {
 permits_opening : (net : Network) (w k : ℕ) → permits net opening w k ≡ opening_permits net w k
 permits_opening net w k =
     let all = total_ext (λ u. named (net.rule u).writes w k * ((net.rule u).start + 0)) (λ u. named (net.rule u).writes w k * (net.rule u).start) net.rules
-        (λ u b. let e : (net.rule u).start + 0 ≡ (net.rule u).start = omega arith in ap (λ n. named (net.rule u).writes w k * n) e) in
+    (λ u b. let e : (net.rule u).start + 0 ≡ (net.rule u).start = omega arith in ap (λ n. named (net.rule u).writes w k * n) e) in
     omega arith
 
 pub weight_opening : (net : Network) (row : Row) → weight net row opening ≡ budget net row
@@ -57,8 +57,8 @@ weight_opening net row =
     (let z : in_flight net opening r k ≡ 0 = cond_both (net.hears r k) (supply net opening r k - 0) 0 (λ x. x ≡ 0) (λ t. (let y = supply_opening net r k in omega arith)) (λ f. refl) in rw z (omega arith)))) in
     let spare = total_zero (λ r. total net.keys (λ k. row.takes r k * spare net opening r k)) net.readers (λ r b. total_zero (λ k. row.takes r k * spare net opening r k) net.keys (λ k c. (let z : spare net opening r k ≡ 0 = omega arith in rw z (omega arith)))) in
     let permitted = total_ext (λ w. total net.keys (λ k. row.permits w k * permits net opening w k)) (λ w. total net.keys (λ k. row.permits w k * opening_permits net w k)) net.writers
-        (λ w b. total_ext (λ k. row.permits w k * permits net opening w k) (λ k. row.permits w k * opening_permits net w k) net.keys
-            (λ k c. ap (λ n. row.permits w k * n) (permits_opening net w k))) in
+    (λ w b. total_ext (λ k. row.permits w k * permits net opening w k) (λ k. row.permits w k * opening_permits net w k) net.keys
+    (λ k c. ap (λ n. row.permits w k * n) (permits_opening net w k))) in
     omega arith
 
 pub healthy_opening : (net : Network) (cert : Certificate) → Healthy net cert opening

@@ -48,6 +48,7 @@ heard_in d r k s h = go (slice_get d.readers.entries r) refl h
   where
     none : list_any (λ y. y == k) [] ≡ true → ⊥
     none e = absurd (grind arith)
+
     go : (o : Option Reader) → slice_get d.readers.entries r ≡ o → list_any (λ y. y == k) (unwrap_or (option_map (λ (x : Reader). x.filter) o) []) ≡ true → (r < length d.readers.entries) × (k < 64)
     go None e l = absurd (none l)
     go (Some x) e l =

@@ -5,12 +5,11 @@ ghost use Rattle.dds_deploy.specs.Lists.{Lists, keys_at};
 ghost use Rattle.dds_deploy.specs.Views.{participant_view, writer_view, reader_view, application_view, rule_view};
 ghost use Rattle.dds_deploy.specs.WellFormed.{IsWellFormed, NamesOnce, IsConsistent, IsOwned};
 
+use crate::sections::{Application, Participant, Reader, Rule, Topic, Writer};
 use dds_base::{AppNo, Names, ParticipantNo, ReaderNo, RuleNo, TopicNo, WriterNo};
 use dds_fields::pairs::Pairs;
 use dds_fields::sections::Section;
 use std::marker::Model;
-
-use crate::sections::{Application, Participant, Reader, Rule, Topic, Writer};
 
 /// The lists of a deployment. Every value is well formed: the lists keep their limits, every number names what is there, nothing is
 /// named twice, each endpoint is consistent and has exactly one owner, at its participant, and rules keep to what their application
@@ -35,23 +34,23 @@ impl Model for Deployment {
     ghost Value = { Lists };
 
     ghost view = { λ d. record {
-        participants = listed participant_view d.participants;
-        topics = listed topic_view d.topics;
-        writers = listed writer_view d.writers;
-        readers = listed reader_view d.readers;
-        applications = listed application_view d.applications;
-        rules = listed rule_view d.rules;
-        connections = d.connections;
+      participants = listed participant_view d.participants;
+      topics = listed topic_view d.topics;
+      writers = listed writer_view d.writers;
+      readers = listed reader_view d.readers;
+      applications = listed application_view d.applications;
+      rules = listed rule_view d.rules;
+      connections = d.connections;
     } };
 
     ghost invariant = { λ d. IsDeployment (record {
-        participants = listed participant_view d.participants;
-        topics = listed topic_view d.topics;
-        writers = listed writer_view d.writers;
-        readers = listed reader_view d.readers;
-        applications = listed application_view d.applications;
-        rules = listed rule_view d.rules;
-        connections = d.connections;
+      participants = listed participant_view d.participants;
+      topics = listed topic_view d.topics;
+      writers = listed writer_view d.writers;
+      readers = listed reader_view d.readers;
+      applications = listed application_view d.applications;
+      rules = listed rule_view d.rules;
+      connections = d.connections;
     }) };
 }
 

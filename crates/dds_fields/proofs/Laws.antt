@@ -74,7 +74,6 @@ field_is key read path ms x e =
     let a = bind_ok (or_fault MissingKey (key_path path key) (get_member key ms)) (read (key_path path key)) x e in
     (a.0, a.2)
 
-
 pub all_push : {A : Type 0} (P : A → Type 0) (xs : List A) (x : A) → AllByRecursion P xs → P x → AllByRecursion P (xs ++ x ∷ [])
 all_push P [] x h p = (p, tt)
 all_push P (y ∷ ys) x h p = (h.0, all_push P ys x h.1 p)

@@ -28,7 +28,10 @@ fn version_of(alloc: Global, path: &Place, value: &Value) -> Result<i64, ReadFau
 pub fn version_field(alloc: Global, table: &Table) -> Result<i64, ReadFault>
     ensures { Gives (λ z. z) result (field (codes "version") version [] (table_view table.now)) }
 {
-    let at = Place::Key { parent: &Place::Root, key: "version" };
+    let at = Place::Key {
+        parent: &Place::Root,
+        key: "version",
+    };
     let value = required(alloc, &at, table, "version")?;
     version_of(alloc, &at, value)
 }

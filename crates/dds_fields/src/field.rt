@@ -59,7 +59,12 @@ pub fn name_of<'a>(alloc: Global, path: &Place, value: &'a Value) -> Result<&'a 
 }
 
 #[tactic(auto, unfolding(crate::specs::Reading::a_new_name))]
-pub fn new_name_of<'a>(alloc: Global, names: &Names, path: &Place, value: &'a Value) -> Result<&'a str, ReadFault>
+pub fn new_name_of<'a>(
+    alloc: Global,
+    names: &Names,
+    path: &Place,
+    value: &'a Value,
+) -> Result<&'a str, ReadFault>
     ensures gives { Gives (λ s. s.now) result (a_new_name names.now (place_text path.now) (view value.now)) }
     ensures new { IfOk result (λ s. names_number names.now s.now ≡ None) }
 {
@@ -71,7 +76,12 @@ pub fn new_name_of<'a>(alloc: Global, names: &Names, path: &Place, value: &'a Va
 }
 
 #[tactic(auto, unfolding(crate::specs::Reading::a_known_name))]
-pub fn known_name_of(alloc: Global, names: &Names, path: &Place, value: &Value) -> Result<usize, ReadFault>
+pub fn known_name_of(
+    alloc: Global,
+    names: &Names,
+    path: &Place,
+    value: &Value,
+) -> Result<usize, ReadFault>
     ensures gives { Gives (λ n. n) result (a_known_name names.now (place_text path.now) (view value.now)) }
     ensures within { IfOk result (λ n. n < length names.now) }
 {
@@ -83,7 +93,13 @@ pub fn known_name_of(alloc: Global, names: &Names, path: &Place, value: &Value) 
 }
 
 #[tactic(auto, unfolding(crate::specs::Reading::a_number))]
-pub fn number_of(alloc: Global, low: u32, high: u32, path: &Place, value: &Value) -> Result<u32, ReadFault>
+pub fn number_of(
+    alloc: Global,
+    low: u32,
+    high: u32,
+    path: &Place,
+    value: &Value,
+) -> Result<u32, ReadFault>
     ensures { Gives (λ n. n) result (a_number low high (place_text path.now) (view value.now)) }
 {
     match value.as_integer() {
@@ -96,7 +112,12 @@ pub fn number_of(alloc: Global, low: u32, high: u32, path: &Place, value: &Value
 }
 
 // The value at a key, whose path is `at`.
-pub fn required<'a>(alloc: Global, at: &Place, table: &'a Table, key: &str) -> Result<&'a Value, ReadFault>
+pub fn required<'a>(
+    alloc: Global,
+    at: &Place,
+    table: &'a Table,
+    key: &str,
+) -> Result<&'a Value, ReadFault>
     ensures { Gives (λ v. view v.now) result (or_fault MissingKey (place_text at.now) (get_member key.now (table_view table.now))) }
 {
     match value_at(table, key) {
@@ -106,7 +127,12 @@ pub fn required<'a>(alloc: Global, at: &Place, table: &'a Table, key: &str) -> R
 }
 
 #[tactic(auto, unfolding(crate::specs::Reading::field))]
-pub fn name_field<'a>(alloc: Global, path: &Place, table: &'a Table, key: &str) -> Result<&'a str, ReadFault>
+pub fn name_field<'a>(
+    alloc: Global,
+    path: &Place,
+    table: &'a Table,
+    key: &str,
+) -> Result<&'a str, ReadFault>
     ensures { Gives (λ s. s.now) result (field key.now a_name (place_text path.now) (table_view table.now)) }
 {
     let at = Place::Key { parent: path, key };
@@ -115,7 +141,13 @@ pub fn name_field<'a>(alloc: Global, path: &Place, table: &'a Table, key: &str) 
 }
 
 #[tactic(auto, unfolding(crate::specs::Reading::field))]
-pub fn new_name_field<'a>(alloc: Global, names: &Names, path: &Place, table: &'a Table, key: &str) -> Result<&'a str, ReadFault>
+pub fn new_name_field<'a>(
+    alloc: Global,
+    names: &Names,
+    path: &Place,
+    table: &'a Table,
+    key: &str,
+) -> Result<&'a str, ReadFault>
     ensures gives { Gives (λ s. s.now) result (field key.now (a_new_name names.now) (place_text path.now) (table_view table.now)) }
     ensures new { IfOk result (λ s. names_number names.now s.now ≡ None) }
 {
@@ -125,7 +157,13 @@ pub fn new_name_field<'a>(alloc: Global, names: &Names, path: &Place, table: &'a
 }
 
 #[tactic(auto, unfolding(crate::specs::Reading::field))]
-pub fn known_name_field(alloc: Global, names: &Names, path: &Place, table: &Table, key: &str) -> Result<usize, ReadFault>
+pub fn known_name_field(
+    alloc: Global,
+    names: &Names,
+    path: &Place,
+    table: &Table,
+    key: &str,
+) -> Result<usize, ReadFault>
     ensures gives { Gives (λ n. n) result (field key.now (a_known_name names.now) (place_text path.now) (table_view table.now)) }
     ensures within { IfOk result (λ n. n < length names.now) }
 {
@@ -135,7 +173,14 @@ pub fn known_name_field(alloc: Global, names: &Names, path: &Place, table: &Tabl
 }
 
 #[tactic(auto, unfolding(crate::specs::Reading::field))]
-pub fn number_field(alloc: Global, low: u32, high: u32, path: &Place, table: &Table, key: &str) -> Result<u32, ReadFault>
+pub fn number_field(
+    alloc: Global,
+    low: u32,
+    high: u32,
+    path: &Place,
+    table: &Table,
+    key: &str,
+) -> Result<u32, ReadFault>
     ensures { Gives (λ n. n) result (field key.now (a_number low high) (place_text path.now) (table_view table.now)) }
 {
     let at = Place::Key { parent: path, key };
@@ -180,7 +225,10 @@ pub fn only(alloc: Global, listed: &[&str], path: &Place, table: &Table) -> Resu
     for key in table.keys() {
         if !is_listed(key.as_str(), listed) {
             let shown = shown(alloc, key.as_str())?;
-            let at = Place::Key { parent: path, key: shown.as_str() };
+            let at = Place::Key {
+                parent: path,
+                key: shown.as_str(),
+            };
             return Err(refuse(alloc, FaultKind::UnknownKey, &at));
         }
     }
@@ -188,7 +236,12 @@ pub fn only(alloc: Global, listed: &[&str], path: &Place, table: &Table) -> Resu
 }
 
 #[tactic(auto, using(crate::proofs::Each::count_view), unfolding(crate::specs::Reading::an_array_of))]
-pub fn array_of_limit<'a>(alloc: Global, limit: usize, path: &Place, value: &'a Value) -> Result<&'a [Value], ReadFault>
+pub fn array_of_limit<'a>(
+    alloc: Global,
+    limit: usize,
+    path: &Place,
+    value: &'a Value,
+) -> Result<&'a [Value], ReadFault>
     ensures { Gives (λ v. items_view v.now) result (an_array_of limit (place_text path.now) (view value.now)) }
 {
     let values = array_of(alloc, path, value)?.as_slice();
@@ -206,12 +259,20 @@ pub fn value_at<'a>(table: &'a Table, key: &str) -> Option<&'a Value>
 }
 
 #[tactic(auto, unfolding(crate::specs::Reading::section, crate::specs::Paths::key_path))]
-pub fn section<'a>(alloc: Global, table: &'a Table, key: &str, limit: usize) -> Result<&'a [Value], ReadFault>
+pub fn section<'a>(
+    alloc: Global,
+    table: &'a Table,
+    key: &str,
+    limit: usize,
+) -> Result<&'a [Value], ReadFault>
     ensures { Gives (λ v. items_view v.now) result (section key.now limit (table_view table.now)) }
 {
     match value_at(table, key) {
         Some(value) => {
-            let at = Place::Key { parent: &Place::Root, key };
+            let at = Place::Key {
+                parent: &Place::Root,
+                key,
+            };
             array_of_limit(alloc, limit, &at, value)
         }
         None => Ok(&[]),
@@ -219,7 +280,12 @@ pub fn section<'a>(alloc: Global, table: &'a Table, key: &str, limit: usize) -> 
 }
 
 #[tactic(auto, unfolding(crate::specs::Reading::entry))]
-pub fn entry<'a>(alloc: Global, listed: &[&str], path: &Place, value: &'a Value) -> Result<&'a Table, ReadFault>
+pub fn entry<'a>(
+    alloc: Global,
+    listed: &[&str],
+    path: &Place,
+    value: &'a Value,
+) -> Result<&'a Table, ReadFault>
     ensures { Gives (λ t. table_view t.now) result (entry (map (λ l. l.now) listed.now) (place_text path.now) (view value.now)) }
 {
     let table = table_of(alloc, path, value)?;
@@ -228,7 +294,12 @@ pub fn entry<'a>(alloc: Global, listed: &[&str], path: &Place, value: &'a Value)
 }
 
 #[tactic(auto, unfolding(crate::specs::Reading::field))]
-pub fn text_field<'a>(alloc: Global, path: &Place, table: &'a Table, key: &str) -> Result<&'a str, ReadFault>
+pub fn text_field<'a>(
+    alloc: Global,
+    path: &Place,
+    table: &'a Table,
+    key: &str,
+) -> Result<&'a str, ReadFault>
     ensures { Gives (λ s. s.now) result (field key.now a_text (place_text path.now) (table_view table.now)) }
 {
     let at = Place::Key { parent: path, key };
@@ -237,7 +308,15 @@ pub fn text_field<'a>(alloc: Global, path: &Place, table: &'a Table, key: &str) 
 }
 
 #[tactic(auto, unfolding(crate::specs::Reading::optional))]
-pub fn optional_number(alloc: Global, low: u32, high: u32, absent: u32, path: &Place, table: &Table, key: &str) -> Result<u32, ReadFault>
+pub fn optional_number(
+    alloc: Global,
+    low: u32,
+    high: u32,
+    absent: u32,
+    path: &Place,
+    table: &Table,
+    key: &str,
+) -> Result<u32, ReadFault>
     ensures { Gives (λ n. n) result (optional key.now absent (a_number low high) (place_text path.now) (table_view table.now)) }
 {
     match value_at(table, key) {
@@ -251,7 +330,13 @@ pub fn optional_number(alloc: Global, low: u32, high: u32, absent: u32, path: &P
 
 /// A whole number from `low` to `high`: WrongKind where it is none, OutOfRange where it lies outside.
 #[tactic(auto, unfolding(crate::specs::Reading::a_number))]
-pub fn short_number_of(alloc: Global, low: u16, high: u16, path: &Place, value: &Value) -> Result<u16, ReadFault>
+pub fn short_number_of(
+    alloc: Global,
+    low: u16,
+    high: u16,
+    path: &Place,
+    value: &Value,
+) -> Result<u16, ReadFault>
     ensures { Gives (λ n. n) result (a_number low high (place_text path.now) (view value.now)) }
 {
     match value.as_integer() {
@@ -265,7 +350,14 @@ pub fn short_number_of(alloc: Global, low: u16, high: u16, path: &Place, value: 
 
 /// The whole number from `low` to `high` at a key: MissingKey where the key is absent, WrongKind and OutOfRange as above.
 #[tactic(auto, unfolding(crate::specs::Reading::field))]
-pub fn short_number_field(alloc: Global, low: u16, high: u16, path: &Place, table: &Table, key: &str) -> Result<u16, ReadFault>
+pub fn short_number_field(
+    alloc: Global,
+    low: u16,
+    high: u16,
+    path: &Place,
+    table: &Table,
+    key: &str,
+) -> Result<u16, ReadFault>
     ensures { Gives (λ n. n) result (field key.now (a_number low high) (place_text path.now) (table_view table.now)) }
 {
     let at = Place::Key { parent: path, key };
@@ -275,7 +367,15 @@ pub fn short_number_field(alloc: Global, low: u16, high: u16, path: &Place, tabl
 
 /// The whole number from `low` to `high` at a key, `absent` where the key is absent.
 #[tactic(auto, unfolding(crate::specs::Reading::optional))]
-pub fn optional_short_number(alloc: Global, low: u16, high: u16, absent: u16, path: &Place, table: &Table, key: &str) -> Result<u16, ReadFault>
+pub fn optional_short_number(
+    alloc: Global,
+    low: u16,
+    high: u16,
+    absent: u16,
+    path: &Place,
+    table: &Table,
+    key: &str,
+) -> Result<u16, ReadFault>
     ensures { Gives (λ n. n) result (optional key.now absent (a_number low high) (place_text path.now) (table_view table.now)) }
 {
     match value_at(table, key) {

@@ -24,7 +24,12 @@ fn worded<T: Copy>(words: &[(&str, T)], text: &str) -> Option<T>
 }
 
 #[tactic(auto, unfolding(crate::specs::Words::a_word))]
-pub fn word_of<T: Copy>(alloc: Global, words: &[(&str, T)], path: &Place, value: &Value) -> Result<T, ReadFault>
+pub fn word_of<T: Copy>(
+    alloc: Global,
+    words: &[(&str, T)],
+    path: &Place,
+    value: &Value,
+) -> Result<T, ReadFault>
     ensures { Gives (λ x. x) result (a_word (words_view words.now) (place_text path.now) (view value.now)) }
 {
     let text = text_of(alloc, path, value)?;
@@ -35,7 +40,14 @@ pub fn word_of<T: Copy>(alloc: Global, words: &[(&str, T)], path: &Place, value:
 }
 
 #[tactic(auto, unfolding(crate::specs::Reading::optional))]
-pub fn optional_word<T: Copy>(alloc: Global, words: &[(&str, T)], absent: T, path: &Place, table: &Table, key: &str) -> Result<T, ReadFault>
+pub fn optional_word<T: Copy>(
+    alloc: Global,
+    words: &[(&str, T)],
+    absent: T,
+    path: &Place,
+    table: &Table,
+    key: &str,
+) -> Result<T, ReadFault>
     ensures { Gives (λ x. x) result (optional key.now absent (a_word (words_view words.now)) (place_text path.now) (table_view table.now)) }
 {
     match value_at(table, key) {
@@ -58,7 +70,13 @@ pub fn flag_of(alloc: Global, path: &Place, value: &Value) -> Result<bool, ReadF
 }
 
 #[tactic(auto, unfolding(crate::specs::Reading::optional))]
-pub fn optional_flag(alloc: Global, absent: bool, path: &Place, table: &Table, key: &str) -> Result<bool, ReadFault>
+pub fn optional_flag(
+    alloc: Global,
+    absent: bool,
+    path: &Place,
+    table: &Table,
+    key: &str,
+) -> Result<bool, ReadFault>
     ensures { Gives (λ x. x) result (optional key.now absent a_flag (place_text path.now) (table_view table.now)) }
 {
     match value_at(table, key) {
@@ -99,7 +117,13 @@ pub fn duration_of(alloc: Global, path: &Place, value: &Value) -> Result<Option<
 }
 
 #[tactic(auto, unfolding(crate::specs::Reading::optional))]
-pub fn optional_duration(alloc: Global, absent: Option<u64>, path: &Place, table: &Table, key: &str) -> Result<Option<u64>, ReadFault>
+pub fn optional_duration(
+    alloc: Global,
+    absent: Option<u64>,
+    path: &Place,
+    table: &Table,
+    key: &str,
+) -> Result<Option<u64>, ReadFault>
     ensures { Gives (λ n. n) result (optional key.now absent a_duration (place_text path.now) (table_view table.now)) }
 {
     match value_at(table, key) {
@@ -127,7 +151,13 @@ pub fn limit_of(alloc: Global, path: &Place, value: &Value) -> Result<Option<u32
 }
 
 #[tactic(auto, unfolding(crate::specs::Reading::optional))]
-pub fn optional_limit(alloc: Global, absent: Option<u32>, path: &Place, table: &Table, key: &str) -> Result<Option<u32>, ReadFault>
+pub fn optional_limit(
+    alloc: Global,
+    absent: Option<u32>,
+    path: &Place,
+    table: &Table,
+    key: &str,
+) -> Result<Option<u32>, ReadFault>
     ensures { Gives (λ n. n) result (optional key.now absent a_limit (place_text path.now) (table_view table.now)) }
 {
     match value_at(table, key) {

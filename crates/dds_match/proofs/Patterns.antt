@@ -207,6 +207,21 @@ tries m n (Some star) = (m - star.after) * (n + 1) + (n - star.tried)
 abbrev pub steps_left : ℕ → ℕ → ℕ → Option Star → ℕ
 steps_left m n at star = tries m n star * (m + 1) + (m - at)
 
+lexicographic : (x y c d p : ℕ) → x < y → c ≤ p → x * (p + 1) + c < y * (p + 1) + d
+lexicographic x y c d p less within = let grows : (x + 1) * (p + 1) ≤ y * (p + 1) = mul-le-mul_right (p + 1) (omega arith) in omega arith
+
+-- passing a `*` leaves fewer
+pub fewer_steps : (pattern name : List ℕ) (at place : ℕ) (star : Option Star) → at < length pattern → place < length name → IsScan pattern name at place star
+    → steps_left (length pattern) (length name) (at + 1) (Some (record { after = at + 1; tried = place })) < steps_left (length pattern) (length name) at star
+fewer_steps pattern name at place None within inside scan =
+    lexicographic ((length pattern - (at + 1)) * (length name + 1) + (length name - place)) (length pattern * (length name + 1) + length name) (length pattern - (at + 1)) (length pattern - at) (length pattern)
+    (lexicographic (length pattern - (at + 1)) (length pattern) (length name - place) (length name) (length name) (omega arith) (omega arith)) (omega arith)
+fewer_steps pattern name at place (Some star) within inside scan =
+    let tried : IsTried pattern name at place star = scan.answer in
+    let after = tried.after in
+    lexicographic ((length pattern - (at + 1)) * (length name + 1) + (length name - place)) ((length pattern - star.after) * (length name + 1) + (length name - star.tried)) (length pattern - (at + 1)) (length pattern - at) (length pattern)
+    (lexicographic (length pattern - (at + 1)) (length pattern - star.after) (length name - place) (length name - star.tried) (length name) (omega arith) (omega arith)) (omega arith)
+
 -- ── names and lists of names
 -- a pattern without a wildcard has itself alone
 pub plain_matches : (pattern name : List ℕ) → is_pattern pattern ≡ false → name_matches pattern name ≡ bytes_eq name pattern

@@ -10,7 +10,8 @@ use crate::naming::{name_at, reader_key, row_name, writer_key};
 use dds_cert::{Bound, CertFault, Certificate, Total, read_certificate};
 use dds_check::{Checked, No, Subject, check};
 use dds_deploy::{DeployFault, Deployment, read_deployment};
-use dds_match::{Plan, plan};
+use dds_match::Plan;
+use dds_match::planning::plan;
 use std::alloc::{AllocError, Global};
 
 /// What a check of two files that could be read answers.

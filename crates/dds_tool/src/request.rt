@@ -87,7 +87,11 @@ fn top_command<'a>(alloc: Global) -> Command<'a>
 fn whole_command<'a>(alloc: Global) -> Result<Command<'a>, AllocError>
     ensures { IfOk result (λ c. app_of c ≡ whole) }
 {
-    let matching = one_file_command(alloc, "match", "Tells which endpoints match")?;
+    let matching = one_file_command(
+        alloc,
+        "match",
+        "Tells which endpoints match (not built yet)",
+    )?;
     let checking = two_files_command(alloc, "check", "Checks a certificate of a deployment")?;
     let command = with_command(top_command(alloc), matching)?;
     with_command(command, checking)

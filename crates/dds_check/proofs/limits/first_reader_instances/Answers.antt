@@ -8,5 +8,5 @@ returns-in-Some c =
     sym (first_below_found _ c.loop-r.r c.new.result ((network_of c.args.plan.now).readers) _ (omega arith) c.loop-r.invariant (sym c.in-Some.ensures) (omega arith))
 
 pub loop-r-preserved : goal.loop-r-preserved
-loop-r-preserved c = 
+loop-r-preserved c =
     first_below_next _ c.loop-r.r c.new.result c.new.ensures c.loop-r.invariant (sym c.reader_instances.ensures ∙ c.in_default.is)

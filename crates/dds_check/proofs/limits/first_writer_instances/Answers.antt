@@ -8,5 +8,5 @@ returns-in-Some c =
     sym (first_below_found _ c.loop-w.w c.new.result ((network_of c.args.plan.now).writers) _ (omega arith) c.loop-w.invariant (sym c.in-Some.ensures) (omega arith))
 
 pub loop-w-preserved : goal.loop-w-preserved
-loop-w-preserved c = 
+loop-w-preserved c =
     first_below_next _ c.loop-w.w c.new.result c.new.ensures c.loop-w.invariant (sym c.writer_instances.ensures ∙ c.in_default.is)

@@ -4,12 +4,15 @@ use Rattle.std.proofs.lemmas.List.{take_rest}
 use Rattle.std.proofs.Common.{ap, ◌≡◌, false, get_or, inl, inr, sym, ◌∙◌, arith, ◌⊎◌, subst, drop}
 use Rattle.std.proofs.lemmas.Bool.{both_ways, eqb-true, eqb-false, eq-eqb}
 use Rattle.dds_match.specs.Partitions.{name_matches}
-use Rattle.dds_match.proofs.Patterns.{IsScan, passes_star, passes_byte, tries_again, gives_up, ends, stuck_at, stuck_past, stars_only}
+use Rattle.dds_match.proofs.Patterns.{fewer_steps, IsScan, passes_star, passes_byte, tries_again, gives_up, ends, stuck_at, stuck_past, stars_only}
 use Rattle.dds_match.proofs.partitions.bytes_match.Goals as goal
 use Rattle.dds_match.proofs.partitions.bytes_match.Goals.{else-at-pattern-via-then-at-pattern+else-pattern-at-eq42, else-at-pattern-via-else-at-pattern, then-pattern-at-eq63, else-pattern-at-eq63, else-at-pattern-2-via-then-at-pattern-2+else-pattern-at, else-at-pattern-2-via-else-at-pattern-2}
 
 pub loop-place-preserved-then-pattern-at-eq42 : goal.loop-place-preserved-then-pattern-at-eq42
 loop-place-preserved-then-pattern-at-eq42 c = passes_star _ _ _ _ c.loop-place.star c.if-at-pattern.true c.if-pattern-at-eq42.true c.loop-place.invariant
+
+pub loop-place-smaller-then-pattern-at-eq42 : goal.loop-place-smaller-then-pattern-at-eq42
+loop-place-smaller-then-pattern-at-eq42 c = fewer_steps _ _ _ _ c.loop-place.star c.if-at-pattern.true c.loop-place-test.true c.loop-place.invariant
 
 pub loop-place-preserved-then-pattern-at : goal.loop-place-preserved-then-pattern-at
 loop-place-preserved-then-pattern-at c =

@@ -8,4 +8,4 @@ use Rattle.dds_check.proofs.checked.Checked.bound.Goals as goal
 pub returns-clause-least : goal.returns-clause-least
 returns-clause-least c =
     rw (← c.self.view_is) (least_bound (network_of c.self.inside.plan) (certificate_view c.self.inside.certificate) c.args.reader c.args.key _ c.self.invariant.fits
-        (c.find_bound.ensures ∙ ap (λ xs. bound_of xs c.args.reader c.args.key) c.deref.ensures.value))
+    (c.find_bound.ensures ∙ ap (λ xs. bound_of xs c.args.reader c.args.key) c.deref.ensures.value))

@@ -1,0 +1,4 @@
+pub mod KeyLaws
+pub mod StoredLaws
+pub mod TakeLaws
+pub mod ReleasedLaws

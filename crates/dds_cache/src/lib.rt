@@ -1,0 +1,14 @@
+//! The bounded cache of one reader: which samples it stores within the limits of HISTORY and RESOURCE_LIMITS, and which of them it
+//! gives.
+//!
+//! The layer above sees four things (`specs/Cache.antt`): the limits, the list of stored samples in order of admission, the set of
+//! known keys, and for each writer the number up to which its samples are available, which never falls. A call changes what its
+//! contract names and nothing else; a call that answers `Err` found no memory, and changed nothing.
+#![tactic(auto)]
+
+pub mod cache;
+mod contents;
+pub mod released;
+
+pub use cache::Cache;
+pub use released::Released;

@@ -1,0 +1,5 @@
+pub mod Marks
+pub mod Notes
+pub mod Held
+pub mod Reader
+pub mod View

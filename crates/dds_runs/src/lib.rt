@@ -1,0 +1,5 @@
+//! Worked rows over the parts of a running deployment.
+#![tactic(auto)]
+
+#[cfg(test)]
+mod writers;

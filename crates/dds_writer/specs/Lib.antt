@@ -1,0 +1,4 @@
+pub mod Proxies
+pub mod History
+pub mod Writer
+pub mod View

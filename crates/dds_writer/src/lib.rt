@@ -1,0 +1,16 @@
+//! The reliable stateful writer (DDSI-RTPS 2.5, clause 8.4.9). It numbers what is written, keeps each sample until every matched
+//! reader acknowledged it, answers DATA, GAP and HEARTBEAT messages, and notes what is to be sent to each reader next.
+//!
+//! The layer above sees a writer as one state: the matched readers with their filters, acknowledged bases and notes, the kept
+//! samples in order of number, the written keys and the count of written numbers. Each call is one change of that state, in the
+//! words that runs are defined by.
+#![tactic(auto)]
+
+mod history;
+pub mod proxies;
+pub mod refused;
+pub mod writer;
+
+pub use proxies::Proxy;
+pub use refused::WriteRefused;
+pub use writer::Writer;
