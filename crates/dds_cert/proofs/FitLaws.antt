@@ -51,7 +51,7 @@ at_place P xs i x all e =
     let within : i < length xs = slice_get_within xs i x e in
     (within, subst P (get_or_from_slice_get xs i x x e) (all i x within))
 
-keys_few : (d : Lists) (t : ℕ) → IsWellFormed d → length (keys_at d.topics t) ≤ 64
+pub keys_few : (d : Lists) (t : ℕ) → IsWellFormed d → length (keys_at d.topics t) ≤ 64
 keys_few d t w = by (slice_get d.topics.entries t) refl
   where
     by : (o : Option Topic) → slice_get d.topics.entries t ≡ o → length (unwrap_or (option_map (λ (x : Topic). x.keys) o) []) ≤ 64

@@ -12,7 +12,8 @@ use Rattle.dds_cert.specs.declared.certificate.Weight.{Weight}
 use Rattle.dds_cert.specs.declared.certificate.Bound.{Bound}
 use Rattle.dds_cert.specs.declared.certificate.Total.{Total}
 use Rattle.dds_cert.specs.Lists.{Row}
-use Rattle.dds_cert.specs.Sections.{writer_keys, heard_key, a_heard_key, reader_and_key, writer_and_key, weight_number, bound_number, weight_place, reader_weight_entry, reader_weight, reader_weights, writer_weight_entry, writer_weight, writer_weights, row_names, row_entry, row_lists, row, rows, bound_place, bound_entry, row_and_bound, bound, bounds, total_entry, has_total, total, totals, head, certificate, read}
+use Rattle.dds_cert.specs.Naming.{writer_keys}
+use Rattle.dds_cert.specs.Sections.{heard_key, a_heard_key, reader_and_key, writer_and_key, weight_number, bound_number, weight_place, reader_weight_entry, reader_weight, reader_weights, writer_weight_entry, writer_weight, writer_weights, row_names, row_entry, row_lists, row, rows, bound_place, bound_entry, row_and_bound, bound, bounds, total_entry, has_total, total, totals, head, certificate, read}
 
 heard_key_common : (d : Lists) (r : ℕ) (path : List ℕ) (x : Data) → FaultsAre is_common (a_heard_key d r path x)
 unfolding a_heard_key

@@ -4,3 +4,5 @@ pub mod NamedLaws
 pub mod FitLaws
 pub mod ReadLaws
 pub mod WorkedFiles
+pub mod WeighingLaws
+pub mod TextLaws

@@ -24,7 +24,8 @@ use Rattle.dds_cert.specs.declared.certificate.Bound.{Bound}
 use Rattle.dds_cert.specs.declared.certificate.Total.{Total}
 use Rattle.dds_cert.specs.Lists.{Row, Certificate}
 use Rattle.dds_cert.specs.Fits.{is_distinct, same_weight_place, weights_fit, row_fits, names_differ, rows_fit, same_bound_place, bounds_fit, totals_fit, fits}
-use Rattle.dds_cert.specs.Sections.{writer_keys, reader_keys, passing, heard_key, a_heard_key, reader_and_key, writer_and_key, weight_number, weight_place, and_weight, reader_weight_entry, reader_weight, reader_weights, writer_weight_entry, writer_weight, writer_weights, row_names, row_entry, row_lists, row, rows, bound_place, bound_entry, row_and_bound, bound_number, bound, bounds, total_entry, has_total, total, totals, head, certificate, read}
+use Rattle.dds_cert.specs.Naming.{writer_keys, reader_keys}
+use Rattle.dds_cert.specs.Sections.{passing, heard_key, a_heard_key, reader_and_key, writer_and_key, weight_number, weight_place, and_weight, reader_weight_entry, reader_weight, reader_weights, writer_weight_entry, writer_weight, writer_weights, row_names, row_entry, row_lists, row, rows, bound_place, bound_entry, row_and_bound, bound_number, bound, bounds, total_entry, has_total, total, totals, head, certificate, read}
 use Rattle.dds_cert.proofs.DistinctLaws.{is_distinct-push}
 use Rattle.dds_cert.proofs.FitLaws.{first_of_both, second_of_both}
 

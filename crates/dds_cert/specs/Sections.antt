@@ -1,5 +1,5 @@
 -- The sections of a certificate file, each with the fields of its entries in the order in which they are read.
-use Rattle.std.specs.Prelude.{codes, ℕ, Bool, List, [], ◌∷◌, ◌++◌, Option, Some, None, Ok, not, ◌==◌, map, unwrap_or, option_map, option_and_then, slice_get, if◌then◌else◌}
+use Rattle.std.specs.Prelude.{codes, ℕ, Bool, List, [], ◌∷◌, ◌++◌, Option, Some, None, Ok, not, ◌==◌, map, option_and_then, if◌then◌else◌}
 use Rattle.std.specs.List.{list_any}
 use Rattle.toml.specs.Data.{Data, Members}
 use Rattle.dds_base.specs.Names.{number_of}
@@ -7,19 +7,13 @@ use Rattle.dds_fields.specs.declared.fault.FaultKind.TheVariants.{Duplicate, Not
 use Rattle.dds_fields.specs.Reading.{◌>>=◌, Read, unless, or_fault, a_number, a_name, a_new_name, a_known_name, field, optional, each, only, entry, an_array_of, section}
 use Rattle.dds_fields.specs.Lists.{version, document}
 use Rattle.dds_fields.specs.Pairs.{stands}
-use Rattle.dds_deploy.specs.Lists.{Writer, Reader, Lists, keys_at}
+use Rattle.dds_deploy.specs.Lists.{Lists}
 use Rattle.dds_match.specs.Plan.{hears}
 use Rattle.dds_cert.specs.declared.certificate.Weight.{Weight}
 use Rattle.dds_cert.specs.declared.certificate.Bound.{Bound}
 use Rattle.dds_cert.specs.declared.certificate.Total.{Total}
 use Rattle.dds_cert.specs.Lists.{Row, Certificate}
-
--- the keys of the topic of a reader, and of a writer
-abbrev pub reader_keys : Lists → ℕ → List (List ℕ)
-reader_keys d r = unwrap_or (option_map (λ (x : Reader). keys_at d.topics x.topic) (slice_get d.readers.entries r)) []
-
-abbrev pub writer_keys : Lists → ℕ → List (List ℕ)
-writer_keys d w = unwrap_or (option_map (λ (x : Writer). keys_at d.topics x.topic) (slice_get d.writers.entries w)) []
+use Rattle.dds_cert.specs.Naming.{reader_keys, writer_keys}
 
 -- the number that passes the test
 abbrev pub passing : (ℕ → Bool) → Option ℕ → Option ℕ

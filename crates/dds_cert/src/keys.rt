@@ -6,7 +6,8 @@ ghost use Rattle.dds_fields.specs.Reading.{field, a_known_name};
 ghost use Rattle.dds_fields.specs.Gives.{Gives};
 ghost use Rattle.dds_fields.specs.Places.{place_text};
 ghost use Rattle.dds_deploy.specs.WellFormed.{IsWellFormed};
-ghost use Rattle.dds_cert.specs.Sections.{reader_keys, writer_keys, heard_key, a_heard_key, reader_and_key, writer_and_key};
+ghost use Rattle.dds_cert.specs.Naming.{reader_keys, writer_keys};
+ghost use Rattle.dds_cert.specs.Sections.{heard_key, a_heard_key, reader_and_key, writer_and_key};
 
 use dds_base::{KeyNo, Names, ReaderNo, WriterNo};
 use dds_deploy::Deployment;
@@ -16,7 +17,8 @@ use dds_fields::place::Place;
 use std::alloc::Global;
 use toml::{Table, Value};
 
-fn keys_of_reader(lists: &Deployment, reader: ReaderNo) -> &Names
+/// The keys of the topic of a reader.
+pub(crate) fn keys_of_reader(lists: &Deployment, reader: ReaderNo) -> &Names
     requires { reader < length lists.now.readers.entries }
     ensures { result.now ≡ reader_keys lists.now reader }
 {
@@ -25,7 +27,8 @@ fn keys_of_reader(lists: &Deployment, reader: ReaderNo) -> &Names
     lists.keys(lists.reader(reader).topic)
 }
 
-fn keys_of_writer(lists: &Deployment, writer: WriterNo) -> &Names
+/// The keys of the topic of a writer.
+pub(crate) fn keys_of_writer(lists: &Deployment, writer: WriterNo) -> &Names
     requires { writer < length lists.now.writers.entries }
     ensures { result.now ≡ writer_keys lists.now writer }
 {

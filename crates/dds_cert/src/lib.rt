@@ -10,10 +10,14 @@ pub mod fault;
 mod fit;
 mod keys;
 mod named;
+pub mod naming;
 mod rows;
+pub mod text;
 mod totals;
+mod weighing;
 mod weights;
 
 pub use certificate::{Bound, Certificate, Row, Total, Weight};
 pub use document::read_certificate;
 pub use fault::{CertFault, CertFlaw, CertKind};
+pub use text::certificate_text;

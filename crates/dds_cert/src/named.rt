@@ -5,12 +5,8 @@ ghost use Rattle.dds_cert.specs.Named.{IsWithin};
 ghost use Rattle.dds_cert.specs.Sections.{bound_place};
 
 use crate::certificate::{Bound, Weight};
+use crate::weighing::{KEYS, PLACES};
 use dds_base::Endpoint;
-
-// A topic has at most so many keys.
-const KEYS: usize = 64;
-// A place for each key of each of 256 endpoints.
-const PLACES: usize = 16384;
 
 /// Whether no two of the weights are of one endpoint and key.
 pub(crate) fn weights_name_nothing_twice<E: Endpoint>(weights: &[Weight<E>]) -> bool

@@ -2,7 +2,7 @@ use Rattle.std.proofs.Common.{◌≡◌, inl, inr, ℕ, ◌≤◌, ◌<◌, Bool
 use Rattle.std.proofs.lemmas.Bool.{leb-true, ltb-true, and_left, and_right, and_parts, or_cases, false≢true, or_parts, or_from, or_left, or_right, not_from_true}
 use Rattle.dds_base.specs.Sums.{In, put}
 use Rattle.dds_match.specs.Network.{Network, IsNetwork}
-use Rattle.dds_check.specs.World.{World, Sample, NumberSet, holds, has_number, marked, base}
+use Rattle.dds_check.specs.World.{World, Sample, holds, has_number, marked, base}
 use Rattle.dds_base.specs.declared.messages.Packet.TheVariants.{Gap}
 use Rattle.dds_check.specs.Steps.{GapFor, HeartbeatFor, covers, new_by_gap, new_by_heartbeat, store, after_gap, after_heartbeat}
 use Rattle.dds_base.proofs.SumLaws.{put_all}

@@ -1,5 +1,5 @@
 -- Tables of bounds and totals: a table of nothing, and what is past the limits.
-use Rattle.std.proofs.Common.{ℕ, ◌≡◌, ◌⊎◌, ◌+◌, ◌*◌, ◌<◌, ◌≤◌, List, [], ◌∷◌, All, refl, ap, arith, ◌==◌, ◌&&◌, false, true, Bool, length, replicate, drop, sym, ◌∙◌, Option, None}
+use Rattle.std.proofs.Common.{ℕ, ◌≡◌, ◌⊎◌, ◌+◌, ◌*◌, ◌<◌, ◌≤◌, List, [], ◌∷◌, All, refl, ap, arith, ◌==◌, ◌&&◌, false, length, replicate, drop, sym, ◌∙◌, None}
 use Rattle.std.specs.List.{AllByRecursion}
 use Rattle.std.proofs.lemmas.List.{get_or-replicate, length-replicate, drop_all}
 use Rattle.std.proofs.lemmas.List.Elements.{recursion_from_All}

@@ -45,6 +45,12 @@ first_below_none f (suc n) none k h =
     (λ (at : n ≤ k). let same : k ≡ n = omega arith in rw same parts.1)
     (cases_lt k n)
 
+-- each of them is none
+pub first_below_all : {A : Type 0} (f : ℕ → Option A) (n : ℕ) → ((i : ℕ) → i < n → f i ≡ None) → first_below n f ≡ None
+unfolding first_below
+first_below_all f zero none = refl
+first_below_all f (suc n) none = let earlier = first_below_all f n (λ i l. none i (omega arith)) in rw earlier (none n (omega arith))
+
 -- the same for the elements of a list
 pub first_in_found : {X A : Type 0} (xs : List X) (f : X → ℕ → Option A) (i j : ℕ) (x : X) (e : A) → j ≡ i → slice_get xs j ≡ Some x → first_below i (at_item xs f) ≡ None → f x j ≡ Some e → first_in xs f ≡ Some e
 first_in_found xs f i j x e same here none found =

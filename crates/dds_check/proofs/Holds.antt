@@ -1,5 +1,5 @@
 -- Where no condition fails, each holds: the certificate is accepted.
-use Rattle.std.proofs.Common.{ℕ, zero, suc, inl, inr, ◌⊎◌, ◌≡◌, ◌+◌, ◌*◌, ◌<◌, ◌≤◌, ◌&&◌, ◌||◌, ◌==◌, Bool, true, false, cond, not, if◌then◌else◌, nat_lt, List, [], ◌∷◌, map, length, slice_get, Option, Some, None, is_some, is_none, unwrap_or, refl, sym, ap, ◌∙◌, subst, arith}
+use Rattle.std.proofs.Common.{ℕ, suc, inl, inr, ◌⊎◌, ◌≡◌, ◌*◌, ◌<◌, ◌≤◌, ◌&&◌, ◌||◌, ◌==◌, Bool, true, false, cond, not, if◌then◌else◌, nat_lt, List, [], ◌∷◌, map, length, slice_get, Option, Some, None, is_some, is_none, unwrap_or, refl, sym, ap, ◌∙◌, subst, arith}
 use Rattle.std.specs.Option.{option_map_or}
 use Rattle.std.specs.List.{list_any}
 use Rattle.std.proofs.lemmas.Bool.{eqb-true}
@@ -15,9 +15,9 @@ use Rattle.dds_cert.specs.declared.certificate.Total.{Total as TotalEntry}
 use Rattle.dds_check.specs.declared.verdict.No.{No}
 use Rattle.dds_check.specs.declared.verdict.Number.{Number}
 use Rattle.dds_check.specs.declared.verdict.Subject.{Subject}
-use Rattle.dds_check.specs.First.{◌orElse◌, first_below, first_in, all_below}
+use Rattle.dds_check.specs.First.{◌orElse◌, first_below, first_in}
 use Rattle.dds_check.specs.Verdict.{fails}
-use Rattle.dds_check.specs.Accepted.{Row, Bound, Total, Certificate, RowHolds, Shows, IsBound, IsTotal, Accepted, budget, spread, instance_limit, row_of, no_row, row_at, bound_with, total_with, certificate_of}
+use Rattle.dds_check.specs.Accepted.{Row, Bound, Total, RowHolds, Shows, IsBound, IsTotal, Accepted, budget, spread, instance_limit, row_of, no_row, row_at, bound_with, total_with, certificate_of}
 use Rattle.dds_check.specs.Tables.{bound_of, total_of}
 use Rattle.dds_check.specs.Pairs.{not_matched, not_intended, first_pair, pairs_no}
 use Rattle.dds_check.specs.Limits.{reader_instances, no_bound, is_bounded, all_bounded, no_total, no_bounds, is_over, bound_over, reader_bound_over, reached_bound, bounds_within, is_within, samples_over, writer_instances, limits_no}

@@ -1,15 +1,15 @@
 -- The lemmas that join two forms of one thing: a test over the whole history and over the kept samples; a sample found in a list and the entry under its number.
-use Rattle.std.proofs.Common.{◌≡◌, ℕ, zero, suc, ◌+◌, ◌-◌, ◌≤◌, ◌<◌, Bool, true, false, cond, eqb, leb, ltb, not, ◌&&◌, ◌||◌, ◌==◌, List, [], ◌∷◌, Option, Some, None, refl, sym, ap, subst, ◌∙◌, arith, inl, inr}
-use Rattle.std.specs.Prelude.{filter, length}
-use Rattle.std.specs.List.{list_any, remove, position_or_len}
-use Rattle.std.proofs.lemmas.Bool.{cases_eq, eq-eqb, eqb-true, ne_eqb, and_left, and_right, and_parts, or_parts, cases_Bool}
+use Rattle.std.proofs.Common.{◌≡◌, ℕ, zero, suc, ◌+◌, ◌-◌, ◌<◌, Bool, true, false, cond, eqb, not, ◌&&◌, ◌||◌, List, [], ◌∷◌, refl, sym, ap, subst, ◌∙◌, arith, inl, inr}
+use Rattle.std.specs.Prelude.{filter}
+use Rattle.std.specs.List.{remove, position_or_len}
+use Rattle.std.proofs.lemmas.Bool.{cases_eq, eq-eqb, eqb-true, ne_eqb, and_left, and_right, and_parts, or_parts}
 use Rattle.dds_base.specs.Sums.{count_below, bit, total}
 use Rattle.dds_base.specs.Counts.{count_from, count_between}
 use Rattle.dds_qos.specs.Samples.{is_numbered, is_same, has_number, holds, without}
 use Rattle.dds_check.proofs.Places.{Distinct}
 use Rattle.dds_qos.specs.Writing.{is_awaited, still_kept, is_relevant_in}
 use Rattle.dds_match.specs.Network.{Network}
-use Rattle.dds_check.specs.World.{World, Sample, entry_at, samples_from, history, bases, kept, hears_entry, is_relevant}
+use Rattle.dds_check.specs.World.{World, Sample, entry_at, samples_from, history, hears_entry, is_relevant}
 
 -- a number's relevance by the kept samples: kept, and relevant by all of them
 pub relevant_kept : (hears : ℕ → Bool) (bs : List ℕ) (ss : List Sample) (w n : ℕ) → is_relevant_in hears (still_kept bs ss) w n ≡ (is_awaited bs n && is_relevant_in hears ss w n)

@@ -1,5 +1,5 @@
 -- A certificate that fits names a bound or a total at most once, so what is found first is the least.
-use Rattle.std.proofs.Common.{ℕ, zero, suc, inl, inr, ◌≡◌, ◌≤◌, ◌&&◌, ◌||◌, ◌==◌, Bool, true, false, cond, not, List, [], ◌∷◌, map, length, slice_get, Option, Some, None, IfSome, refl, sym, ap, ◌∙◌, subst, arith}
+use Rattle.std.proofs.Common.{ℕ, zero, suc, inl, inr, ◌≡◌, ◌≤◌, ◌&&◌, ◌||◌, ◌==◌, Bool, true, false, cond, not, List, [], ◌∷◌, map, length, slice_get, Option, Some, None, IfSome, refl, sym, ap, ◌∙◌, arith}
 use Rattle.std.specs.List.{list_any, list_all}
 use Rattle.std.proofs.lemmas.Bool.{eq-eqb, eqb-true, both_ways}
 use Rattle.std.proofs.lemmas.Option.{none-some, same_Some}
@@ -9,7 +9,7 @@ use Rattle.dds_cert.specs.Lists as lists
 use Rattle.dds_cert.specs.declared.certificate.Bound.{Bound as BoundEntry}
 use Rattle.dds_cert.specs.declared.certificate.Total.{Total as TotalEntry}
 use Rattle.dds_cert.specs.Fits.{is_distinct, same_bound_place, rows_fit, bounds_fit, totals_fit, fits}
-use Rattle.dds_check.specs.Accepted.{Bound, Total, bound_with, total_with, IsBound, IsTotal, certificate_of}
+use Rattle.dds_check.specs.Accepted.{Bound, Total, bound_with, total_with}
 use Rattle.dds_check.specs.Checked.{IsLeastBound, IsLeastTotal}
 use Rattle.dds_check.specs.Tables.{bound_of, total_of}
 use Rattle.dds_check.proofs.First.{both_first, both_second}

@@ -1,4 +1,5 @@
 pub mod First
+pub mod FirstBefore
 pub mod Sums
 pub mod Outside
 pub mod Mapped
@@ -7,6 +8,7 @@ pub mod Plans
 pub mod Empty
 pub mod Fitting
 pub mod Holds
+pub mod Unshown
 pub mod Whole
 pub mod Least
 pub mod Keys
@@ -27,5 +29,6 @@ pub mod Vectors
 pub mod Ledgers
 pub mod Views
 pub mod Small
+pub mod Overflows
 pub mod Longer
 pub mod Joins

@@ -1,12 +1,12 @@
 -- Each move of a wide run keeps what holds of its worlds, and its reply is good.
-use Rattle.std.proofs.Common.{◌≡◌, ◌≢◌, ◌⊎◌, inl, inr, ℕ, zero, suc, ◌+◌, ◌≤◌, ◌<◌, Bool, true, false, cond, eqb, leb, ltb, not, ◌&&◌, List, [], ◌∷◌, Option, Some, None, refl, sym, ap, subst, arith}
+use Rattle.std.proofs.Common.{◌≡◌, ◌≢◌, ◌⊎◌, inl, inr, ℕ, suc, ◌+◌, ◌≤◌, ◌<◌, Bool, true, false, cond, eqb, leb, ltb, not, ◌&&◌, List, [], ◌∷◌, Option, Some, None, refl, sym, ap, subst, arith}
 use Rattle.std.specs.Prelude.{count_by, length}
 use Rattle.std.proofs.lemmas.Bool.{eqb-true, eqb-false, eq-eqb, leb-true, leb-false, ltb-false, cond_both, and_parts, true≢false, or_parts, not-true, not-false}
 use Rattle.std.proofs.lemmas.Option.{none-some}
-use Rattle.dds_base.specs.Sums.{In, put}
+use Rattle.dds_base.specs.Sums.{In}
 use Rattle.dds_match.specs.Network.{Network, IsNetwork, named}
 use Rattle.dds_base.specs.declared.portion.Portion.{Portion}
-use Rattle.dds_check.specs.World.{World, Sample, Packet, holds, has_key, marked, permits, spare, in_flight, stored, unread, base, kept, written_keys, is_kept, is_relevant, last_number}
+use Rattle.dds_check.specs.World.{World, Sample, Packet, holds, has_key, marked, permits, spare, in_flight, stored, unread, base, kept, written_keys, is_kept, is_relevant}
 use Rattle.dds_base.specs.declared.messages.Packet.TheVariants.{Data, Gap, Heartbeat, AckNack}
 use Rattle.dds_base.proofs.CountLaws.{count_none}
 use Rattle.dds_qos.specs.Reading.{arrival_of}

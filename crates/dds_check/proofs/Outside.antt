@@ -1,5 +1,5 @@
 -- Past the limits no weight is named, and numbers that are numbers already change nothing.
-use Rattle.std.proofs.Common.{ℕ, ◌≡◌, ◌⊎◌, ◌+◌, ◌*◌, ◌<◌, ◌≤◌, List, [], ◌∷◌, All, refl, ap, arith, ◌==◌, ◌&&◌, false, true, Bool, cond, length, replicate, drop, sym, ◌∙◌}
+use Rattle.std.proofs.Common.{ℕ, ◌≡◌, ◌⊎◌, ◌+◌, ◌*◌, ◌<◌, ◌≤◌, List, [], ◌∷◌, refl, ap, arith, ◌==◌, ◌&&◌, false, cond, length, replicate, drop, sym, ◌∙◌}
 use Rattle.std.specs.List.{AllByRecursion}
 use Rattle.std.proofs.lemmas.List.{get_or-replicate, length-replicate, drop_all}
 use Rattle.std.proofs.lemmas.List.Elements.{recursion_from_All}

@@ -1,5 +1,5 @@
 -- What the network of a well-formed deployment keeps.
-use Rattle.std.proofs.Common.{ℕ, zero, suc, ◌≡◌, ◌<◌, ◌≤◌, ◌==◌, ◌&&◌, Bool, true, false, List, [], ◌∷◌, All, Contains, inl, inr, length, slice_get, Option, Some, None, option_map, unwrap_or, nat_lt, refl, sym, ap, ◌∙◌, subst, arith}
+use Rattle.std.proofs.Common.{ℕ, ◌≡◌, ◌<◌, ◌≤◌, ◌==◌, ◌&&◌, true, List, [], ◌∷◌, All, inl, inr, length, slice_get, Option, Some, None, option_map, unwrap_or, nat_lt, refl, sym, ◌∙◌, subst, arith}
 use Rattle.std.specs.List.{AllByRecursion, list_any}
 use Rattle.std.proofs.lemmas.Bool.{eqb-true, ltb-true}
 use Rattle.std.specs.Prelude.{is_none}
@@ -9,9 +9,8 @@ use Rattle.std.proofs.lemmas.List.Elements.{recursion_from_All}
 use Rattle.std.specs.Option.{option_map_or}
 use Rattle.std.proofs.lemmas.Option.{slice_get_within, none-some}
 use Rattle.dds_base.specs.Sums.{In}
-use Rattle.dds_base.specs.declared.portion.Portion.{Portion}
 use Rattle.dds_deploy.specs.Lists.{Lists, Topic, Writer, Reader, Rule, keys_at}
-use Rattle.dds_deploy.specs.WellFormed.{IsWellFormed, IsRuleOf, IsReaderOf, IsWriteOf, IsConnectionOf, writer_key_count, filter_at}
+use Rattle.dds_deploy.specs.WellFormed.{IsWellFormed, IsRuleOf, IsReaderOf, IsWriteOf, IsConnectionOf, writer_key_count}
 use Rattle.dds_match.specs.Plan.{network_of, no_rule, hears, writes_key, matched, intended}
 use Rattle.dds_qos.specs.Limits.{reader_limits_of, no_reader_limits}
 use Rattle.dds_qos.specs.declared.limits.ReaderLimits.{ReaderLimits}

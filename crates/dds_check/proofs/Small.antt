@@ -7,7 +7,6 @@ use Rattle.dds_match.specs.Network.{IsNetwork}
 use Rattle.dds_base.specs.declared.portion.Portion.{Portion}
 use Rattle.std.specs.List.{list_any}
 use Rattle.std.specs.Prelude.{◌==◌}
-use Rattle.dds_match.specs.Network.{is_named}
 use Rattle.dds_check.specs.Accepted.{Row, RowHolds, Bound, Certificate, Accepted, Shows}
 use Rattle.dds_check.specs.Certified.{Safe}
 use Rattle.dds_base.specs.Sums.{any_below}

@@ -34,16 +34,16 @@ small n keys most = record {
   rule = λ u. record { application = 0; takes = []; writes = record { endpoint = 0; key = 0; count = 1 } ∷ record { endpoint = 0; key = 1; count = 2 } ∷ []; start = n };
 }
 
-abbrev all_at_least : ℕ → List Sample → Bool
+abbrev pub all_at_least : ℕ → List Sample → Bool
 all_at_least n [] = true
 all_at_least n (t ∷ ts) = leb n t.sn && all_at_least n ts
 
-at_least : (n : ℕ) (ts : List Sample) → all_at_least n ts ≡ true → (t : Sample) → In t ts → n ≤ t.sn
+pub at_least : (n : ℕ) (ts : List Sample) → all_at_least n ts ≡ true → (t : Sample) → In t ts → n ≤ t.sn
 at_least n [] h t i = absurd i
 at_least n (x ∷ ts) h t (inl e) = let a = leb-true n x.sn (and_parts (leb n x.sn) (all_at_least n ts) h).0 in subst (λ (y : Sample). n ≤ y.sn) e a
 at_least n (x ∷ ts) h t (inr i) = at_least n ts (and_parts (leb n x.sn) (all_at_least n ts) h).1 t i
 
-abbrev sample : ℕ → List ℕ → Sample
+abbrev pub sample : ℕ → List ℕ → Sample
 sample n d = record { writer = 0; sn = n; key = 0; payload = d }
 
 abbrev run_nine : List (Event × Reply)

@@ -1,11 +1,11 @@
 -- How what a reader shows of a world changes: its base, its marks, its stored samples. For the code's steps.
-use Rattle.std.proofs.Common.{◌≡◌, ◌⊎◌, inl, inr, ℕ, ◌+◌, ◌≤◌, ◌<◌, Bool, true, false, cond, eqb, not, ◌&&◌, ◌||◌, List, [], ◌∷◌, ◌++◌, refl, sym, ap, subst, ◌∙◌, arith}
+use Rattle.std.proofs.Common.{◌≡◌, inl, inr, ℕ, Bool, true, false, cond, eqb, not, ◌&&◌, ◌||◌, List, [], ◌∷◌, ◌++◌, refl, sym, ap, subst, ◌∙◌}
 use Rattle.std.specs.Prelude.{filter}
-use Rattle.std.proofs.lemmas.Bool.{and_from, not_from_true, not_from_false, both_ways}
+use Rattle.std.proofs.lemmas.Bool.{and_from, not_from_false, both_ways}
 use Rattle.std.proofs.lemmas.List.Elements.{filter-append}
 use Rattle.dds_base.specs.Sums.{put, In}
 use Rattle.dds_match.specs.Network.{Network}
-use Rattle.dds_check.specs.World.{World, Sample, last_number, base_of, has_number, holds, is_same, marked, stored, is_stored}
+use Rattle.dds_check.specs.World.{World, Sample, has_number, holds, is_same, marked, stored, is_stored}
 use Rattle.dds_check.specs.Steps.{GapFor, store, after_gap, covers, new_by_gap}
 use Rattle.dds_base.proofs.SumLaws.{put_at}
 use Rattle.dds_check.proofs.Places.{holds_in}

@@ -8,6 +8,7 @@ use Rattle.dds_check.specs.Accepted.{Accepted, certificate_of, IsBound, IsTotal}
 use Rattle.dds_check.specs.Accepts.{first_no}
 use Rattle.dds_check.specs.Certified.{Safe}
 
+-- the lists of a plan, and a certificate for it
 pub record Judged : Type 0 where
   pub plan : Lists
   pub certificate : Certificate
@@ -19,12 +20,12 @@ pub record IsAccepted (d : Lists) (cert : Certificate) : Type 0 where
   pub holds : Accepted (network_of d) (certificate_of cert)
   pub safe : Safe (network_of d) (certificate_of cert)
 
--- the least bound of the key of the reader by the certificate
+-- n is the least of the bounds that the certificate gives for the key of the reader
 pub record IsLeastBound (cert : Certificate) (r k n : ℕ) : Type 0 where
   pub given : IsBound (certificate_of cert) r k n
   pub least : (m : ℕ) → IsBound (certificate_of cert) r k m → n ≤ m
 
--- the least total of the reader by the certificate
+-- n is the least of the totals that the certificate gives for the reader
 pub record IsLeastTotal (cert : Certificate) (r n : ℕ) : Type 0 where
   pub given : IsTotal (certificate_of cert) r n
   pub least : (m : ℕ) → IsTotal (certificate_of cert) r m → n ≤ m

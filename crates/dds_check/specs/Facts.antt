@@ -5,23 +5,25 @@ use Rattle.dds_check.specs.World.{World, Sample, Packet, entry_at, count_key, ha
 use Rattle.dds_base.specs.declared.messages.Packet.TheVariants.{Data, Gap, Heartbeat, AckNack}
 use Rattle.dds_base.specs.Messages.{covers}
 
--- no count is below 0
+-- no count is below 0, so that the differences of counts in a world are exact
 pub record CountsOk (net : Network) (v : World) : Type 0 where
+  -- no more is written than permitted, no more takes are spent than made, and no more is taken than written
   pub given : (w k : ℕ) → count_key k (v.written w) ≤ given net v w k
   pub taken : (r k : ℕ) → spent net v r k ≤ count_by (has_key k) (v.taken r)
   pub supply : (r k : ℕ) → net.hears r k ≡ true → count_by (has_key k) (v.taken r) ≤ supply net v r k
 
--- s is a sample that a matched writer has written, and the reader hears it
+-- a matched writer has written the sample s, under its number and with its data, and its key is in the reader's filter
 pub record IsWrittenFor (net : Network) (v : World) (r : ℕ) (s : Sample) : Type 0 where
   pub matched : net.matched s.writer r ≡ true
   pub hears : net.hears r s.key ≡ true
   pub entry : entry_at (v.written s.writer) s.sn ≡ Some (s.key, s.payload)
 
--- the number is written, and the reader does not hear its key
+-- the number is written, and its key isn't in the reader's filter
 abbrev pub IsSilent : Network → World → ℕ → ℕ → ℕ → Type 0
 IsSilent net v w r n = (e : ℕ × List ℕ) × (entry_at (v.written w) n ≡ Some e) × (net.hears r e.0 ≡ false)
 
--- every DATA is its place in the history, every GAP covers written irrelevant numbers alone, every first and every ACKNACK's base is at most the reader's base
+-- the fact of a packet: it is of a pair that matches; a DATA is its place in the writer's history; a GAP covers written irrelevant numbers alone; a
+-- HEARTBEAT's first and an ACKNACK's base are at most the reader's base
 abbrev pub FactOf : Network → World → Packet → Type 0
 FactOf net v (Data d) = IsWrittenFor net v d.reader d.sample
 FactOf net v (Gap g) = (net.matched g.writer g.reader ≡ true) × ((n : ℕ) → covers g n ≡ true → IsSilent net v g.writer g.reader n)

@@ -1,5 +1,5 @@
 -- The first of several that is there, and tests of every number below a bound.
-use Rattle.std.specs.Prelude.{ℕ, zero, suc, Bool, true, ◌&&◌, Option, Some, None, List, length, slice_get}
+use Rattle.std.specs.Prelude.{◌≡◌, ◌<◌, ◌≤◌, ℕ, zero, suc, Bool, true, false, ◌&&◌, Option, Some, None, List, length, slice_get}
 use Rattle.std.specs.Option.{option_map_or}
 
 -- the first, and else the second
@@ -25,3 +25,13 @@ first_in xs f = first_below (length xs) (at_item xs f)
 unfoldable pub all_below : ℕ → (ℕ → Bool) → Bool
 all_below zero f = true
 all_below (suc n) f = all_below n f && f n
+
+-- no element of the list before place n passes
+abbrev pub NoneBefore : {X : Type 0} → List X → (X → Bool) → ℕ → Type 0
+NoneBefore {X} xs passes n = (i : ℕ) (x : X) → i < n → slice_get xs i ≡ Some x → passes x ≡ false
+
+-- n is the place of the first element before `end` that passes, or `end` where none does
+pub record IsFirstBefore {X : Type 0} (xs : List X) (passes : X → Bool) (end n : ℕ) : Type 0 where
+  pub within : n ≤ end
+  pub before : NoneBefore xs passes n
+  pub here : (x : X) → n < end → slice_get xs n ≡ Some x → passes x ≡ true

@@ -1,4 +1,4 @@
--- The laws of runs.
+-- The laws of every wide run of an accepted certificate.
 use Rattle.std.specs.Prelude.{◌≡◌, ◌≤◌, ◌+◌, ℕ, true, false, List}
 use Rattle.dds_base.specs.Sums.{In}
 use Rattle.dds_match.specs.Network.{Network, IsNetwork}
@@ -9,27 +9,27 @@ use Rattle.dds_check.specs.Accepted.{Row, budget, Certificate, Accepted}
 use Rattle.dds_check.specs.Certified.{weight, Safe, IsPrefix, took, wrote}
 use Rattle.dds_check.specs.Facts.{CountsOk, IsWrittenFor, FactOf}
 
--- in each world of a wide run of an accepted certificate
+-- P holds of each world of each wide run of each accepted certificate
 abbrev pub InEachWorld : (Network → Certificate → World → Type 0) → Type 0
 InEachWorld P = (net : Network) (cert : Certificate) (ms : List (Move × Reply)) → IsNetwork net → Accepted net cert → IsWideRun net ms → P net cert (replay net opening ms)
 
--- counts: no row's weight is above its budget, and no count is below 0
+-- no row's weighted sum is above that of the opening, and no count is below 0
 abbrev pub Counts : Type 0
 Counts = InEachWorld (λ net cert v. ((row : Row) → In row cert.rows → weight net row v ≤ budget net row) × CountsOk net v)
 
--- packets: the facts of every packet that was ever sent
+-- every packet that was ever sent has its fact, also long after it was sent
 abbrev pub Packets : Type 0
 Packets = InEachWorld (λ net cert v. (p : Packet) → In p v.sent → FactOf net v p)
 
--- stored: what is unread is in flight, an arriving sample included
+-- what is unread is in flight, and so it is with one arriving sample more
 abbrev pub Stored : Type 0
 Stored = InEachWorld (λ net cert v. ((r k : ℕ) → unread v r k ≤ in_flight net v r k)
     × ((r : ℕ) (s : Sample) → IsWrittenFor net v r s → marked v r s.writer s.sn ≡ false → unread v r s.key + 1 ≤ in_flight net v r s.key))
 
--- order: what was taken of a writer and key is a prefix of what was written
+-- what a reader took of a writer and key is a prefix of what was written, in order, once
 abbrev pub Order : Type 0
 Order = (net : Network) (cert : Certificate) (ms : List (Move × Reply)) → IsNetwork net → Accepted net cert → IsWideRun net ms → (w r k : ℕ) → net.hears r k ≡ true → IsPrefix (took w r k ms) (wrote w k ms)
 
--- the headline
+-- an accepted certificate is safe
 abbrev pub Headline : Type 0
 Headline = (net : Network) (cert : Certificate) → IsNetwork net → Accepted net cert → Safe net cert

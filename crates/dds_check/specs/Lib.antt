@@ -15,6 +15,7 @@ pub mod Runs
 pub mod Certified
 pub mod Facts
 pub mod Laws
+pub mod Unsafe
 pub mod CountRuns
 pub mod Noted
 pub mod Standing

@@ -1,5 +1,5 @@
 -- Numbers 20 to 24: instances and bounds are within the limits of the endpoints.
-use Rattle.std.specs.Prelude.{ℕ, Bool, true, false, ◌&&◌, ◌||◌, ◌==◌, not, List, [], ◌∷◌, Option, Some, None, is_some, is_none, unwrap_or, if◌then◌else◌}
+use Rattle.std.specs.Prelude.{ℕ, Bool, false, ◌&&◌, ◌||◌, not, List, Option, Some, None, is_some, is_none, unwrap_or, if◌then◌else◌}
 use Rattle.dds_base.specs.Sums.{total, count_below}
 use Rattle.dds_qos.specs.Limits.{is_past}
 use Rattle.dds_match.specs.Network.{Network, reach, is_written}
@@ -23,10 +23,11 @@ abbrev pub no_bound : Network → List Bound → ℕ → ℕ → Option No
 no_bound net bounds r k =
     fails (reach net r k && (is_some (instance_limit (net.reader_limits r)) && is_none (bound_of bounds r k))) NoBound (Instance r k)
 
--- a key that can reach the reader has a bound
+-- the key can't reach the reader, or it has a bound
 abbrev pub is_bounded : Network → List Bound → ℕ → ℕ → Bool
 is_bounded net bounds r k = not (reach net r k) || is_some (bound_of bounds r k)
 
+-- each key that can reach the reader has a bound
 abbrev pub all_bounded : Network → List Bound → ℕ → Bool
 all_bounded net bounds r = all_below net.keys (is_bounded net bounds r)
 
@@ -35,7 +36,7 @@ abbrev pub no_total : Network → List Bound → List Total → ℕ → Option N
 no_total net bounds totals r =
     fails (is_some (net.reader_limits r).max_samples && (is_none (total_of totals r) && not (all_bounded net bounds r))) NoBound (Reader r)
 
--- the keys of a reader first, then the reader
+-- the first refusal for want of a bound at a reader: its keys come first, then the reader
 abbrev pub no_bounds : Network → List Bound → List Total → ℕ → Option No
 no_bounds net bounds totals r = first_below net.keys (no_bound net bounds r) orElse no_total net bounds totals r
 
@@ -49,7 +50,7 @@ abbrev pub bound_over : Network → List Bound → ℕ → ℕ → Option No
 bound_over net bounds r k =
     fails (reach net r k && is_over (bound_of bounds r k) (instance_limit (net.reader_limits r))) BoundOverInstanceLimit (Instance r k)
 
--- the first such key of a reader
+-- the first key of a reader whose bound is above a finite limit
 abbrev pub reader_bound_over : Network → List Bound → ℕ → Option No
 reader_bound_over net bounds r = first_below net.keys (bound_over net bounds r)
 

@@ -15,7 +15,7 @@ not_matched net w r = fails (net.intended w r && not (net.matched w r)) Intended
 abbrev pub not_intended : Network → ℕ → ℕ → Option No
 not_intended net w r = fails (net.matched w r && not (net.intended w r)) UnintendedMatch (Pair w r)
 
--- the first by writer, then by reader
+-- the first refusal of a pair, by writer and then by reader
 abbrev pub first_pair : Network → (ℕ → ℕ → Option No) → Option No
 first_pair net f = first_below net.writers (λ w. first_below net.readers (f w))
 

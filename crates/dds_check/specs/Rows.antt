@@ -9,25 +9,28 @@ use Rattle.dds_check.specs.First.{◌orElse◌, first_below, first_in}
 use Rattle.dds_check.specs.Verdict.{fails}
 use Rattle.dds_check.specs.Accepted.{Row, row_of, spread}
 
--- an unspent take weighs more than a sample in flight
+-- an unspent take of the key weighs more than a sample in flight, so that a take raises the sum of row n
 abbrev pub take_raises : Network → Row → ℕ → ℕ → ℕ → Option No
 take_raises net row n r k = fails (net.hears r k && nat_lt (row.samples r k) (row.takes r k)) TakeRaises (RowInstance n r k)
 
+-- the first reader and key of a row of which that is so
 abbrev pub row_take_raises : Network → lists.Row → ℕ → Option No
 row_take_raises net row n = first_below net.readers (λ r. first_below net.keys (take_raises net (row_of row) n r))
 
--- what a rule with needs writes weighs more than what it takes
+-- what a rule with needs gives weighs more than what it needs, so that its firing raises the sum of row n
 abbrev pub rule_raises : Network → Row → ℕ → ℕ → Option No
 rule_raises net row n u =
     fails (nat_lt 0 (length (net.rule u).takes) && nat_lt (weighed (net.rule u).takes row.takes) (weighed (net.rule u).writes row.permits)) RuleRaises (RowRule n u)
 
+-- the first rule of which that is so by a row
 abbrev pub row_rule_raises : Network → lists.Row → ℕ → Option No
 row_rule_raises net row n = first_below net.rules (rule_raises net (row_of row) n)
 
--- the samples of a write weigh more than its permit
+-- the samples that a write puts in flight weigh more than its permit, so that the write raises the sum of row n
 abbrev pub write_raises : Network → Row → ℕ → ℕ → ℕ → Option No
 write_raises net row n w k = fails (net.writes_key w k && nat_lt (row.permits w k) (spread net row w k)) WriteRaises (RowWriterKey n w k)
 
+-- the first writer and key of a row of which that is so
 abbrev pub row_write_raises : Network → lists.Row → ℕ → Option No
 row_write_raises net row n = first_below net.writers (λ w. first_below net.keys (write_raises net (row_of row) n w))
 

@@ -1,21 +1,31 @@
--- What a writer, a reader, a ledger and a bus keep of a world. A domain stands for the world when it keeps these.
+-- What a writer, a reader, a ledger and a bus keep of a world. A domain that keeps these stands for the world.
 use Rattle.std.specs.Prelude.{◌≡◌, ℕ, Bool, true, List, length, Option}
 use Rattle.dds_match.specs.Network.{Network}
 use Rattle.dds_check.specs.World.{World, Sample, Packet, Keys, permits, spare, bases, kept, written_keys, marked, stored, known_keys}
 
+-- what a writer keeps
 pub record WriterView : Type 0 where
+  -- how many samples it has written
   pub written : ℕ
-  pub bases : List ℕ  -- of the matched readers, in their order
-  pub kept : List Sample  -- in order of number
+  -- the bases that its matched readers acknowledged, in the order of the readers
+  pub bases : List ℕ
+  -- its kept samples, in order of number
+  pub kept : List Sample
+  -- its instances
   pub keys : Keys
 
+-- what a reader keeps
 pub record ReaderView : Type 0 where
-  pub marks : ℕ → ℕ → Bool  -- by writer
+  -- by writer: which numbers are marked
+  pub marks : ℕ → ℕ → Bool
+  -- by writer: the greatest last number heard
   pub heard : ℕ → ℕ
-  pub stored : List Sample  -- in order of storing
+  -- its stored samples, in the order of storing
+  pub stored : List Sample
+  -- its instances
   pub keys : Keys
 
--- by what it keeps: permits, unspent takes, writers, readers and bus
+-- the permits, unspent takes, writers, readers and places that a domain keeps are those of the world, for the keys and pairs of the network
 pub record Stands (net : Network) (v : World) (permits' spare' : ℕ → ℕ → ℕ) (writer : ℕ → WriterView) (reader : ℕ → ReaderView) (places : ℕ → Option Packet) : Type 0 where
   pub permits : (w k : ℕ) → net.writes_key w k ≡ true → permits' w k ≡ permits net v w k
   pub spare : (r k : ℕ) → net.hears r k ≡ true → spare' r k ≡ spare net v r k

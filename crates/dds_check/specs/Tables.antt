@@ -1,17 +1,17 @@
 -- Look-ups in the lists of a certificate, and tables that answer them at once.
-use Rattle.std.specs.Prelude.{ℕ, ◌≡◌, ◌+◌, ◌*◌, ◌<◌, ◌≤◌, ◌==◌, ◌&&◌, List, [], ◌∷◌, All, length, map, slice_index, slice_index_or, Option, Some, None, if◌then◌else◌}
+use Rattle.std.specs.Prelude.{ℕ, ◌≡◌, ◌+◌, ◌*◌, ◌<◌, ◌≤◌, ◌==◌, ◌&&◌, List, [], ◌∷◌, All, length, slice_index, slice_index_or, Option, Some, None, if◌then◌else◌}
 use Rattle.dds_base.specs.declared.portion.Portion.{Portion}
-use Rattle.dds_cert.specs.Lists.{Row, Certificate, weight_of}
+use Rattle.dds_cert.specs.Lists.{Row, Certificate}
 use Rattle.dds_cert.specs.declared.certificate.Weight.{Weight}
 use Rattle.dds_cert.specs.declared.certificate.Bound.{Bound}
 use Rattle.dds_cert.specs.declared.certificate.Total.{Total}
 
--- the bound of a key of a reader, if the list names one
+-- the bound of a key of a reader, if the list names one: the first
 abbrev pub bound_of : List Bound → ℕ → ℕ → Option ℕ
 bound_of [] r k = None
 bound_of (b ∷ bs) r k = if (b.reader == r) && (b.key == k) then Some b.bound else bound_of bs r k
 
--- the total of a reader, if the list names one
+-- the total of a reader, if the list names one: the first
 abbrev pub total_of : List Total → ℕ → Option ℕ
 total_of [] r = None
 total_of (t ∷ ts) r = if t.reader == r then Some t.bound else total_of ts r
@@ -35,18 +35,21 @@ pub record ShowsWeights {E : Type 0} (number : E → ℕ) (cells : List ℕ) (en
   pub len : length cells ≡ 16384
   pub shown : (e k : ℕ) → e < 256 → k < 64 → slice_index cells (e * 64 + k) ≡ weight_by number entries e k
 
+-- the entries of all lists of a row are within a table
 pub record IsRowWithin (row : Row) : Type 0 where
   pub samples : IsWithin (λ n. n) row.samples
   pub takes : IsWithin (λ n. n) row.takes
   pub permits : IsWithin (λ n. n) row.permits
 
+-- a bound names a reader below 256 and a key below 64
 abbrev pub IsBoundWithin : Bound → Type 0
 IsBoundWithin b = (b.reader < 256) × (b.key < 64)
 
+-- a total names a reader below 256
 abbrev pub IsTotalWithin : Total → Type 0
 IsTotalWithin t = t.reader < 256
 
--- what the tables need of a certificate
+-- a certificate has at most 64 rows, and all that it names is within a table
 pub record IsTabled (cert : Certificate) : Type 0 where
   pub few_rows : length cert.rows ≤ 64
   pub rows : All IsRowWithin cert.rows

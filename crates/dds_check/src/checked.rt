@@ -1,5 +1,5 @@
 //! A plan with a certificate that was accepted for it.
-ghost use Rattle.std.specs.Prelude.{◌≡◌, true, Some, None, IfSome, IfOk, IfErr};
+ghost use Rattle.std.specs.Prelude.{◌≡◌, ℕ, true, Some, None, IfSome, IfOk, IfErr};
 ghost use Rattle.dds_match.specs.Plan.{network_of};
 ghost use Rattle.dds_cert.specs.Fits.{fits};
 ghost use Rattle.dds_cert.specs.Views.{certificate_view};
@@ -10,7 +10,7 @@ ghost use Rattle.dds_check.specs.Checked.{IsAccepted, IsLeastBound, IsLeastTotal
 ghost use Rattle.dds_check.specs.Tables.{bound_of, total_of};
 
 use crate::accepts::accepts;
-use crate::bounds::{find_bound, find_total};
+use crate::bounds::{Bounds, Totals, find_bound, find_total};
 use crate::verdict::No;
 use dds_base::{KeyNo, ReaderNo};
 use dds_cert::Certificate;
@@ -52,7 +52,7 @@ impl Checked {
     }
 
     /// At most so many samples of the key are unread at the reader, where the certificate gives a bound: 0 to
-    /// 4,294,967,295, and the least that it gives.
+    /// 4,294,967,295, and the least that it gives. Each call goes over the certificate: a caller that asks for many takes `bounds`.
     pub fn bound(&self, reader: ReaderNo, key: KeyNo) -> Option<u64>
         ensures value { result ≡ bound_of self.now.certificate.bounds reader key }
         ensures least { IfSome result (IsLeastBound self.now.certificate reader key) }
@@ -61,12 +61,32 @@ impl Checked {
     }
 
     /// At most so many samples are stored at the reader, where the certificate gives a total: 0 to 4,294,967,295, and the
-    /// least that it gives.
+    /// least that it gives. Each call goes over the certificate: a caller that asks for many takes `totals`.
     pub fn total(&self, reader: ReaderNo) -> Option<u64>
         ensures value { result ≡ total_of self.now.certificate.totals reader }
         ensures least { IfSome result (IsLeastTotal self.now.certificate reader) }
     {
         find_total(&self.certificate.totals, reader)
+    }
+
+    /// What `bound` answers, as a table: it is made in one pass over the certificate, and each look-up takes constant time. It takes no
+    /// memory, and stands on the caller's stack with 128 KiB.
+    pub fn bounds<'a>(&'a self) -> Bounds<'a>
+        ensures value { result ≡ self.now.certificate.bounds }
+        ensures least { (r k : ℕ) → IfSome (bound_of result r k) (IsLeastBound self.now.certificate r k) }
+    {
+        let _lists = self.plan.lists();
+        Bounds::new(&self.certificate.bounds)
+    }
+
+    /// What `total` answers, as a table: it is made in one pass over the certificate, and each look-up takes constant time. It takes no
+    /// memory, and stands on the caller's stack with 2 KiB.
+    pub fn totals<'a>(&'a self) -> Totals<'a>
+        ensures value { result ≡ self.now.certificate.totals }
+        ensures least { (r : ℕ) → IfSome (total_of result r) (IsLeastTotal self.now.certificate r) }
+    {
+        let _lists = self.plan.lists();
+        Totals::new(&self.certificate.totals)
     }
 
     /// The plan and the certificate, as they were handed in.

@@ -2,6 +2,7 @@
 
 ghost use Rattle.dds_check.specs.CountRuns.{CountRuns};
 ghost use Rattle.dds_check.specs.Laws.{Counts, Headline, Order, Packets, Stored};
+ghost use Rattle.dds_check.specs.Unsafe.{EqualBoundOverflows, ForgottenReaderOverflows};
 
 /// Over writes, firings and takes alone, for every list of them for which permits and unspent takes suffice: no row's weight is above its
 /// budget, and no count is below 0.
@@ -33,4 +34,16 @@ pub fn order()
 /// What they come to: an accepted certificate is safe in every wide run.
 pub fn headline()
     ensures { Headline }
+{}
+
+/// A write puts a sample in flight for every matched reader: a rule that forgets one of two accepts a deployment in which a reader
+/// rejects a sample, so that it isn't safe.
+pub fn forgotten_reader()
+    ensures { ForgottenReaderOverflows }
+{}
+
+/// A bound must be strict: a rule by which the opening permits may weigh as much as one sample more accepts a deployment in which a
+/// reader rejects a sample, so that it isn't safe.
+pub fn equal_bound()
+    ensures { EqualBoundOverflows }
 {}

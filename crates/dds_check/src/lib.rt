@@ -2,7 +2,7 @@
 #![tactic(auto, using(crate::proofs::First::first_below_start, crate::proofs::First::first_below_more, crate::proofs::First::first_below_found, crate::proofs::Sums::total_start, crate::proofs::Sums::total_more, crate::proofs::First::all_below_start, crate::proofs::First::all_below_more))]
 
 pub mod accepts;
-mod bounds;
+pub mod bounds;
 mod budget;
 pub mod checked;
 pub mod laws;
@@ -15,5 +15,6 @@ mod sizes;
 mod tables;
 pub mod verdict;
 
+pub use bounds::{Bounds, Totals};
 pub use checked::{Checked, check};
 pub use verdict::{No, Number, Subject};

@@ -1,21 +1,20 @@
 //! Number 33: each bound and each total is shown by its row.
-ghost use Rattle.std.specs.Prelude.{◌≡◌, ◌&&◌, ◌||◌, ◌*◌, ℕ, suc, not, nat_lt, false, slice_get, ◌<◌, Some, option_map, vec_len};
+ghost use Rattle.std.specs.Prelude.{◌≡◌, ◌&&◌, ◌||◌, ◌*◌, ℕ, suc, not, nat_lt, false, slice_get, ◌<◌, ◌≤◌, Some, option_map, vec_len, length};
 ghost use Rattle.std.specs.Option.{option_map_or};
 ghost use Rattle.dds_match.specs.Network.{reach};
 ghost use Rattle.dds_match.specs.Plan.{network_of};
-ghost use Rattle.dds_cert.specs.Lists.{weight_of};
 ghost use Rattle.dds_cert.specs.Views.{row_view, certificate_view};
-ghost use Rattle.dds_check.specs.First.{first_in};
+ghost use Rattle.dds_check.specs.First.{first_in, IsFirstBefore};
 ghost use Rattle.dds_check.specs.Accepted.{row_of, budget};
 ghost use Rattle.dds_check.specs.Tables.{IsTabled};
-ghost use Rattle.dds_check.specs.Shown.{shows, bound_not_shown, shows_all, total_not_shown, HasBudgets, shown_no};
+ghost use Rattle.dds_check.specs.Shown.{shows, is_unshown, is_unshown_by, names_no_row, bound_not_shown, shows_all, total_not_shown, HasBudgets, shown_no};
 
 use crate::budget::budget;
 use crate::sizes::KEYS;
 use crate::tables::{Tables, tables_of};
 use crate::verdict::{No, Number, Subject, refusal_if};
 use dds_base::{KeyNo, ReaderNo};
-use dds_cert::{Bound, Certificate, Row, Total, Weight};
+use dds_cert::{Bound, Certificate, Row, Total};
 use dds_match::Plan;
 
 /// No certificate has more rows.
@@ -33,17 +32,6 @@ fn budgets_of(plan: &Plan, certificate: &Certificate) -> [u128; ROWS]
     budgets
 }
 
-fn weight_of(weights: &[Weight<ReaderNo>], reader: ReaderNo, key: KeyNo) -> u32
-    ensures { result ≡ weight_of weights.now reader key }
-{
-    for x in weights {
-        if x.endpoint == reader && x.key == key {
-            return x.weight;
-        }
-    }
-    0
-}
-
 fn is_enough(weight: u32, opening: u128, bound: u32) -> bool
     ensures { result ≡ (nat_lt 0 weight && nat_lt opening (suc bound * weight)) }
 {
@@ -51,11 +39,18 @@ fn is_enough(weight: u32, opening: u128, bound: u32) -> bool
     0 < weight && opening < (u128::from(bound) + 1) * weight
 }
 
-fn shows(plan: &Plan, row: &Row, opening: u128, bound: u32, reader: ReaderNo, key: KeyNo) -> bool
-    requires { opening ≡ budget (network_of plan.now) (row_of (row_view row.now)) }
-    ensures { result ≡ shows (network_of plan.now) (row_of (row_view row.now)) bound reader key }
+fn shows(
+    plan: &Plan,
+    weights: &Tables,
+    opening: u128,
+    bound: u32,
+    reader: ReaderNo,
+    key: KeyNo,
+) -> bool
+    requires { opening ≡ budget (network_of plan.now) (row_of weights.now) }
+    ensures { result ≡ shows (network_of plan.now) (row_of weights.now) bound reader key }
 {
-    is_enough(weight_of(&row.samples, reader, key), opening, bound)
+    is_enough(weights.sample(reader, key), opening, bound)
 }
 
 fn shows_reached(plan: &Plan, weights: &Tables, opening: u128, total: &Total, key: KeyNo) -> bool
@@ -63,7 +58,7 @@ fn shows_reached(plan: &Plan, weights: &Tables, opening: u128, total: &Total, ke
     ensures { result ≡ (not (reach (network_of plan.now) total.now.reader key) || shows (network_of plan.now) (row_of weights.now) total.now.bound total.now.reader key) }
 {
     !plan.reaches(total.reader, key)
-        || is_enough(weights.sample(total.reader, key), opening, total.bound)
+        || shows(plan, weights, opening, total.bound, total.reader, key)
 }
 
 fn shows_all(plan: &Plan, weights: &Tables, opening: u128, total: &Total) -> bool
@@ -98,49 +93,59 @@ fn total_at(certificate: &Certificate, i: usize) -> &Total
     &certificate.totals[i]
 }
 
-fn is_bound_shown(
-    plan: &Plan,
-    certificate: &Certificate,
-    budgets: &[u128; ROWS],
-    bound: &Bound,
-) -> bool
-    requires tabled { IsTabled (certificate_view certificate.now) }
-    requires opened { HasBudgets (network_of plan.now) (certificate_view certificate.now).rows budgets.now }
-    ensures { result ≡ option_map_or (λ row. shows (network_of plan.now) (row_of row) bound.now.bound bound.now.reader bound.now.key) (slice_get (certificate_view certificate.now).rows bound.now.row) false }
+/// Whether the bound names row n, and the row doesn't show it.
+fn is_unshown_by(plan: &Plan, weights: &Tables, opening: u128, n: usize, bound: &Bound) -> bool
+    requires { opening ≡ budget (network_of plan.now) (row_of weights.now) }
+    ensures { result ≡ is_unshown_by (network_of plan.now) weights.now n bound.now }
 {
-    match find_row(certificate, bound.row) {
-        Some(row) => shows(
-            plan,
-            row,
-            budgets[bound.row],
-            bound.bound,
-            bound.reader,
-            bound.key,
-        ),
-        None => false,
-    }
+    bound.row == n && !shows(plan, weights, opening, bound.bound, bound.reader, bound.key)
 }
 
-fn bound_not_shown(
+/// The place of the first bound before `end` that names row n and that the row doesn't show, else `end`.
+fn first_unshown_by(
     plan: &Plan,
     certificate: &Certificate,
-    budgets: &[u128; ROWS],
-    i: usize,
-    bound: &Bound,
-) -> Option<No>
+    weights: &Tables,
+    opening: u128,
+    n: usize,
+    end: usize,
+) -> usize
+    requires weighed { opening ≡ budget (network_of plan.now) (row_of weights.now) }
+    requires there { end ≤ length (certificate_view certificate.now).bounds }
+    ensures { IsFirstBefore (certificate_view certificate.now).bounds (is_unshown_by (network_of plan.now) weights.now n) end result }
+{
+    for i in 0..end {
+        if is_unshown_by(plan, weights, opening, n, bound_at(certificate, i)) {
+            return i;
+        }
+    }
+    end
+}
+
+/// The place of the first bound that names no row, else how many bounds there are.
+fn first_without_row(certificate: &Certificate) -> usize
+    ensures { IsFirstBefore (certificate_view certificate.now).bounds (names_no_row (certificate_view certificate.now).rows) (length (certificate_view certificate.now).bounds) result }
+{
+    for i in 0..certificate.bounds.len() {
+        if bound_at(certificate, i).row >= certificate.rows.len() {
+            return i;
+        }
+    }
+    certificate.bounds.len()
+}
+
+/// The place of the first bound that its row doesn't show, else how many bounds there are. It fills the tables of each row once.
+fn first_unshown(plan: &Plan, certificate: &Certificate, budgets: &[u128; ROWS]) -> usize
     requires tabled { IsTabled (certificate_view certificate.now) }
     requires opened { HasBudgets (network_of plan.now) (certificate_view certificate.now).rows budgets.now }
-    ensures { result ≡ bound_not_shown (network_of plan.now) (certificate_view certificate.now).rows bound.now i }
+    ensures { IsFirstBefore (certificate_view certificate.now).bounds (is_unshown (network_of plan.now) (certificate_view certificate.now).rows) (length (certificate_view certificate.now).bounds) result }
 {
-    let shown = is_bound_shown(plan, certificate, budgets, bound);
-    refusal_if(
-        !shown,
-        Number::BoundNotShown,
-        Subject::Instance {
-            reader: bound.reader,
-            key: bound.key,
-        },
-    )
+    let mut end = first_without_row(certificate);
+    for n in 0..certificate.rows.len() {
+        let weights = tables_of(certificate, n);
+        end = first_unshown_by(plan, certificate, &weights, budgets[n], n, end);
+    }
+    end
 }
 
 fn first_bound_not_shown(
@@ -152,10 +157,13 @@ fn first_bound_not_shown(
     requires opened { HasBudgets (network_of plan.now) (certificate_view certificate.now).rows budgets.now }
     ensures { result ≡ first_in (certificate_view certificate.now).bounds (bound_not_shown (network_of plan.now) (certificate_view certificate.now).rows) }
 {
-    for i in 0..certificate.bounds.len() {
-        if let Some(no) = bound_not_shown(plan, certificate, budgets, i, bound_at(certificate, i)) {
-            return Some(no);
-        }
+    let first = first_unshown(plan, certificate, budgets);
+    if first < certificate.bounds.len() {
+        let Bound { reader, key, .. } = *bound_at(certificate, first);
+        return Some(No {
+            number: Number::BoundNotShown,
+            subject: Subject::Instance { reader, key },
+        });
     }
     None
 }

@@ -11,6 +11,7 @@ pub(crate) const ENDPOINTS: usize = 256;
 /// No topic has more keys. A key that a topic doesn't have is neither heard nor written.
 pub(crate) const KEYS: usize = 64;
 
+/// How many writers the plan has, at most 256.
 pub(crate) fn writers_of(plan: &Plan) -> usize
     ensures count { result ≡ (network_of plan.now).writers }
     ensures few { result ≤ 256 }
@@ -19,6 +20,7 @@ pub(crate) fn writers_of(plan: &Plan) -> usize
     plan.lists().writers()
 }
 
+/// How many readers the plan has, at most 256.
 pub(crate) fn readers_of(plan: &Plan) -> usize
     ensures count { result ≡ (network_of plan.now).readers }
     ensures few { result ≤ 256 }
@@ -27,6 +29,7 @@ pub(crate) fn readers_of(plan: &Plan) -> usize
     plan.lists().readers()
 }
 
+/// How many rules the plan has, at most 256.
 pub(crate) fn rules_of(plan: &Plan) -> usize
     ensures count { result ≡ (network_of plan.now).rules }
     ensures few { result ≤ 256 }

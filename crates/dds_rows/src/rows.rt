@@ -8,7 +8,7 @@ use std::test::Fail;
 
 /// A text that the rows change.
 #[derive(Clone, Copy)]
-enum Text {
+pub enum Text {
     Empty,
     OpenBracket,
     Ping,
@@ -22,7 +22,7 @@ enum Text {
 }
 
 /// The text itself.
-fn bytes_of(text: Text) -> &'static str {
+pub fn bytes_of(text: Text) -> &'static str {
     match text {
         Text::Empty => "",
         Text::OpenBracket => "[[topics",
@@ -38,7 +38,7 @@ fn bytes_of(text: Text) -> &'static str {
 }
 
 /// What stands in a text, and what is put in place of each of it.
-type Edit = (&'static str, &'static str);
+pub type Edit = (&'static str, &'static str);
 
 /// A deployment and a certificate, each a text with some changes, and what `check` of them answers.
 struct Row {
@@ -53,7 +53,7 @@ struct Row {
 }
 
 /// The text with its changes. Each has to find what it changes.
-fn changed(
+pub fn changed(
     rt: &impl Abort,
     alloc: Global,
     text: &str,

@@ -7,9 +7,11 @@ use std::test::Fail;
 #[test]
 fn tells_usage_faults(rt: HostRuntime) -> Result<(), Fail> {
     let alloc = rt.alloc();
-    let rows: [&[&str]; 8] = [
+    let rows: [&[&str]; 10] = [
         &["ddscheck"],
         &["ddscheck", "frob"],
+        &["ddscheck", "match"],
+        &["ddscheck", "match", "d", "c"],
         &["ddscheck", "check"],
         &["ddscheck", "check", "d"],
         &["ddscheck", "check", "d", "c", "e"],
@@ -33,12 +35,13 @@ fn tells_usage_faults(rt: HostRuntime) -> Result<(), Fail> {
 #[test]
 fn helps(rt: HostRuntime) -> Result<(), Fail> {
     let alloc = rt.alloc();
-    let rows: [&[&str]; 6] = [
+    let rows: [&[&str]; 7] = [
         &["ddscheck", "--help"],
         &["ddscheck", "-h"],
         &["ddscheck", "help"],
         &["ddscheck", "help", "check"],
         &["ddscheck", "check", "--help"],
+        &["ddscheck", "match", "--help"],
         &["ddscheck", "--version"],
     ];
     for words in rows {

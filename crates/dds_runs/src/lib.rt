@@ -2,4 +2,12 @@
 #![tactic(auto)]
 
 #[cfg(test)]
+mod admissions;
+#[cfg(test)]
+mod caches;
+#[cfg(test)]
+mod ledger;
+#[cfg(test)]
+mod readers;
+#[cfg(test)]
 mod writers;

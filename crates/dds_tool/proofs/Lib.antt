@@ -1,2 +1,3 @@
 mod Telling
 mod Requests
+pub mod Names

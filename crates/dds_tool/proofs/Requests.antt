@@ -1,13 +1,15 @@
--- What a check that was run says of the request for it.
-use Rattle.std.proofs.Common.{◌≡◌, ◌⊎◌, ℕ, List, [], Option, Some, None, Result, Ok, Err, IfOk, IfErr, Bor, inl, inr, sym, ◌∙◌, append-nil}
+-- What is said of a request whose answer was written, or that met a fault.
+use Rattle.std.proofs.Common.{◌≡◌, ◌⊎◌, ℕ, List, [], Option, Some, None, Result, Ok, Err, IfOk, IfErr, inl, inr, sym, ◌∙◌, append-nil}
 use Rattle.std.specs.Io.KnownBytes.{Appends, Keeps}
 use Rattle.dds_tool.specs.declared.fault.ToolFault.{ToolFault}
 use Rattle.dds_tool.specs.declared.fault.ToolFault.TheVariants as fault
 use Rattle.dds_tool.specs.declared.request.Request.{Request}
 use Rattle.dds_tool.specs.declared.request.Request.TheVariants as asked
-use Rattle.dds_tool.specs.Asking.{Answers}
+use Rattle.dds_tool.specs.declared.answer.Answer.{Answer}
+use Rattle.dds_tool.specs.Answers.{Gives}
+use Rattle.dds_tool.specs.Asking.{Answers, GivesTo, Said}
 use Rattle.dds_tool.specs.Fault.{fault_status}
-use Rattle.dds_tool.specs.Outcome.{Outcome, file_outcome}
+use Rattle.dds_tool.specs.Outcome.{Outcome, file_outcome, match_file_outcome}
 use Rattle.dds_tool.specs.Report.{Ends, output_of, status_of}
 
 -- known bytes that stay grow by nothing
@@ -15,10 +17,6 @@ appends_nothing : (old new : Option (List ℕ)) → Keeps old new → Appends ol
 appends_nothing None new h = tt
 appends_nothing (Some xs) None h = absurd h
 appends_nothing (Some xs) (Some ys) h = h ∙ sym (append-nil xs)
-
--- the status and what is added to the output are those of this end, or memory or a device failed
-abbrev Said : Outcome → ℕ → Option (List ℕ) → Option (List ℕ) → Type 0
-Said end status old new = ((status ≡ status_of end) × Appends old new (output_of end)) ⊎ (status ≡ 3)
 
 -- a status that is 3 either way
 three : (status : ℕ) → (status ≡ 3) ⊎ (status ≡ 3) → status ≡ 3
@@ -34,6 +32,7 @@ bad f status old new other (inr keeps) (inr h) = inr h
 
 fault_said : (end : Outcome) (f : ToolFault) (status : ℕ) (old new : Option (List ℕ)) → Ends f end → (f ≡ fault.Write) ⊎ Keeps old new
     → (status ≡ fault_status f) ⊎ (status ≡ 3) → Said end status old new
+unfolding output_of status_of
 fault_said end (fault.Deployment flaw) status old new is nothing told = rw is (bad (fault.Deployment flaw) status old new (λ e. cc) nothing told)
 fault_said end (fault.Certificate flaw) status old new is nothing told = rw is (bad (fault.Certificate flaw) status old new (λ e. cc) nothing told)
 fault_said end fault.TooLarge status old new is nothing told = rw is (bad fault.TooLarge status old new (λ e. cc) nothing told)
@@ -43,21 +42,25 @@ fault_said end fault.NoMemory status old new is nothing told = inr (three status
 fault_said end (fault.Usage text) status old new is nothing told = absurd is
 fault_said end fault.Run status old new is nothing told = absurd is
 
--- a check that gave a status answers the request for it
-pub check_answers : (holds : List ℕ → Option (List ℕ)) (request : Request) (d b : Bor (List ℕ)) (r : Result ℕ ToolFault) (old new : Option (List ℕ))
-    → request ≡ asked.Check d b
-    → ((x y : List ℕ) → holds d.now ≡ Some x → holds b.now ≡ Some y
-    → IfOk r (λ status. (status ≡ status_of (file_outcome x y)) × Appends old new (output_of (file_outcome x y))))
+-- an answer that was written is what is said of the request
+pub answered : (holds : List ℕ → Option (List ℕ)) (request : Request) (given : Result Answer ToolFault) (r : Result ℕ ToolFault) (old new : Option (List ℕ))
+    → GivesTo holds request given
+    → ((end : Outcome) → Gives given end → IfOk r (λ status. (status ≡ status_of end) × Appends old new (output_of end)))
     → IfOk r (λ status. Answers holds request status old new)
-check_answers holds request d b (Ok status) old new is answer = rw is (λ x y hx hy. inl (answer x y hx hy))
-check_answers holds request d b (Err f) old new is answer = tt
+answered holds (asked.Check d b) given (Ok status) old new gives written = λ x y hx hy. inl (written (file_outcome x y) (gives x y hx hy))
+answered holds (asked.Match d) given (Ok status) old new gives written = λ x hx. inl (written (match_file_outcome x) (gives x hx))
+answered holds (asked.Check d b) given (Err f) old new gives written = tt
+answered holds (asked.Match d) given (Err f) old new gives written = tt
 
--- a check that gave a fault answers the request for it by the status of the fault, or by 3
-pub check_faults : (holds : List ℕ → Option (List ℕ)) (request : Request) (d b : Bor (List ℕ)) (r : Result ℕ ToolFault) (old new : Option (List ℕ))
-    → request ≡ asked.Check d b
-    → ((x y : List ℕ) → holds d.now ≡ Some x → holds b.now ≡ Some y → IfErr r (λ f. Ends f (file_outcome x y)))
+-- a fault is said of the request by its status, or by 3
+pub faulted : (holds : List ℕ → Option (List ℕ)) (request : Request) (given : Result Answer ToolFault) (r : Result ℕ ToolFault) (old new : Option (List ℕ))
+    → GivesTo holds request given
+    → ((end : Outcome) → Gives given end → IfErr r (λ f. Ends f end))
     → IfErr r (λ f. (f ≡ fault.Write) ⊎ Keeps old new)
     → IfErr r (λ f. (status : ℕ) → (status ≡ fault_status f) ⊎ (status ≡ 3) → Answers holds request status old new)
-check_faults holds request d b (Ok status) old new is ends nothing = tt
-check_faults holds request d b (Err f) old new is ends nothing =
-    λ status told. rw is (λ x y hx hy. fault_said (file_outcome x y) f status old new (ends x y hx hy) nothing told)
+faulted holds (asked.Check d b) given (Err f) old new gives ends nothing =
+    λ status told x y hx hy. fault_said (file_outcome x y) f status old new (ends (file_outcome x y) (gives x y hx hy)) nothing told
+faulted holds (asked.Match d) given (Err f) old new gives ends nothing =
+    λ status told x hx. fault_said (match_file_outcome x) f status old new (ends (match_file_outcome x) (gives x hx)) nothing told
+faulted holds (asked.Check d b) given (Ok status) old new gives ends nothing = tt
+faulted holds (asked.Match d) given (Ok status) old new gives ends nothing = tt

@@ -1,5 +1,5 @@
 -- What the words of a command line ask for, by clap's own account of a command and its words.
-use Rattle.std.specs.Prelude.{ℕ, ◌≡◌, ◌⊎◌, List, Option, Some, true, codes}
+use Rattle.std.specs.Prelude.{ℕ, ◌≡◌, ◌⊎◌, List, Option, Some, Result, true, codes}
 use Rattle.std.specs.Io.KnownBytes.{Appends}
 use Rattle.clap.specs.Words.{App, Row, Rule, Text, new_app, new_rule, with_rule, with_subcommand, subcommand_of, first_of}
 use Rattle.clap.specs.declared.builder.ArgAction.TheVariants.{Set}
@@ -8,7 +8,10 @@ use Rattle.dds_tool.specs.declared.request.Request.{Request}
 use Rattle.dds_tool.specs.declared.request.Request.TheVariants as asked
 use Rattle.dds_tool.specs.declared.request.NoRequest.{NoRequest}
 use Rattle.dds_tool.specs.declared.request.NoRequest.TheVariants as none
-use Rattle.dds_tool.specs.Outcome.{file_outcome}
+use Rattle.dds_tool.specs.declared.answer.Answer.{Answer}
+use Rattle.dds_tool.specs.declared.fault.ToolFault.{ToolFault}
+use Rattle.dds_tool.specs.Answers.{Gives}
+use Rattle.dds_tool.specs.Outcome.{Outcome, file_outcome, match_file_outcome}
 use Rattle.dds_tool.specs.Report.{output_of, status_of}
 
 -- a file that has to be named
@@ -46,9 +49,16 @@ IsHelp (none.Help text) = Unit {0}
 IsHelp (none.Usage text) = ⊥
 IsHelp none.NoMemory = ⊥
 
--- Where a check of two files is asked for whose bytes are known, the status and what is added to the output are those of how that check ends.
--- Otherwise memory or a device failed, and the status is 3.
+-- what a request is answered whose files hold bytes that are known
+abbrev pub GivesTo : (List ℕ → Option (List ℕ)) → Request → Result Answer ToolFault → Type 0
+GivesTo holds (asked.Check d c) result = (x y : List ℕ) → holds d.now ≡ Some x → holds c.now ≡ Some y → Gives result (file_outcome x y)
+GivesTo holds (asked.Match d) result = (x : List ℕ) → holds d.now ≡ Some x → Gives result (match_file_outcome x)
+
+-- the status and what is added to the output are those of this end, or memory or a device failed, and the status is 3
+abbrev pub Said : Outcome → ℕ → Option (List ℕ) → Option (List ℕ) → Type 0
+Said end status old new = ((status ≡ status_of end) × Appends old new (output_of end)) ⊎ (status ≡ 3)
+
+-- where a command on files is asked for whose bytes are known, what is said is how that command ends
 abbrev pub Answers : (List ℕ → Option (List ℕ)) → Request → ℕ → Option (List ℕ) → Option (List ℕ) → Type 0
-Answers holds (asked.Check d c) status old new = (x y : List ℕ) → holds d.now ≡ Some x → holds c.now ≡ Some y
-    → ((status ≡ status_of (file_outcome x y)) × Appends old new (output_of (file_outcome x y))) ⊎ (status ≡ 3)
-Answers holds (asked.Match d) status old new = Unit {0}
+Answers holds (asked.Check d c) status old new = (x y : List ℕ) → holds d.now ≡ Some x → holds c.now ≡ Some y → Said (file_outcome x y) status old new
+Answers holds (asked.Match d) status old new = (x : List ℕ) → holds d.now ≡ Some x → Said (match_file_outcome x) status old new

@@ -34,14 +34,3 @@ fault_status fault.Read = 3
 fault_status fault.Write = 3
 fault_status fault.NoMemory = 3
 fault_status fault.Run = 3
-
--- a usage fault, or want of memory for its text
-abbrev pub IsUnbuilt : ToolFault → Type 0
-IsUnbuilt (fault.Usage text) = Unit {0}
-IsUnbuilt fault.NoMemory = Unit {0}
-IsUnbuilt (fault.Deployment flaw) = ⊥
-IsUnbuilt (fault.Certificate flaw) = ⊥
-IsUnbuilt fault.TooLarge = ⊥
-IsUnbuilt fault.Read = ⊥
-IsUnbuilt fault.Write = ⊥
-IsUnbuilt fault.Run = ⊥

@@ -1,6 +1,7 @@
 pub mod Fault
 pub mod Reading
-pub mod Naming
+pub mod Matches
 pub mod Outcome
 pub mod Report
+pub mod Answers
 pub mod Asking

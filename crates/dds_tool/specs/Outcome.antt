@@ -1,4 +1,4 @@
--- How a check of two files ends.
+-- How a command on files ends.
 use Rattle.std.specs.Prelude.{ℕ, List, length, nat_le, ◌&&◌, Option, Some, None, Ok, Err, if◌then◌else◌}
 use Rattle.dds_fields.specs.Reading.{Read, Flaw}
 use Rattle.dds_deploy.specs.Lists.{Lists}
@@ -8,10 +8,11 @@ use Rattle.dds_cert.specs.Sections as certificate
 use Rattle.dds_check.specs.Accepts.{first_no}
 use Rattle.dds_check.specs.declared.verdict.No.{No}
 
--- the certificate is accepted, or a condition fails, or a file has a flaw, or a file has too many bytes
+-- the certificate is accepted, or a condition fails, or the endpoints are compared, or a file has a flaw, or a file has too many bytes
 pub data Outcome : Type 0 where
   accepted : Lists → Certificate → Outcome
   refused : No → Lists → Certificate → Outcome
+  compared : Lists → Outcome
   bad_deployment : Flaw → Outcome
   bad_certificate : Flaw → Outcome
   too_large : Outcome
@@ -33,9 +34,22 @@ planned (Err flaw) bytes = bad_deployment flaw
 
 -- how a check of the bytes of a deployment and of a certificate ends: the deployment is read, then the certificate for its lists, then the
 -- conditions are asked in order
-abbrev pub outcome : List ℕ → List ℕ → Outcome
+unfoldable pub outcome : List ℕ → List ℕ → Outcome
 outcome d c = planned (deployment.read d) c
 
 -- how a check of two files with these bytes ends: both are read whole before either is parsed
-abbrev pub file_outcome : List ℕ → List ℕ → Outcome
+unfoldable pub file_outcome : List ℕ → List ℕ → Outcome
 file_outcome d c = if nat_le (length d) 1048576 && nat_le (length c) 1048576 then outcome d c else too_large
+
+-- the endpoints are compared, if the deployment has some
+abbrev pub comparison : Read Lists → Outcome
+comparison (Ok lists) = compared lists
+comparison (Err flaw) = bad_deployment flaw
+
+-- how a comparison of the endpoints of a deployment with these bytes ends
+unfoldable pub match_outcome : List ℕ → Outcome
+match_outcome d = comparison (deployment.read d)
+
+-- how a comparison of the endpoints of a file with these bytes ends: it is read whole before it is parsed
+unfoldable pub match_file_outcome : List ℕ → Outcome
+match_file_outcome d = if nat_le (length d) 1048576 then match_outcome d else too_large

@@ -1,5 +1,5 @@
 -- What a check answers, and the lines that tell it.
-use Rattle.std.specs.Prelude.{ℕ, List, [], ◌++◌, ◌≡◌, codes, flat_map, string_bytes, Result, Ok, Err}
+use Rattle.std.specs.Prelude.{ℕ, List, [], ◌++◌, ◌≡◌, length, if◌then◌else◌, codes, flat_map, string_bytes, Result, Ok, Err}
 use Rattle.std.specs.Fmt.{decimal}
 use Rattle.dds_fields.specs.declared.fault.ReadFault.{ReadFault}
 use Rattle.dds_fields.specs.declared.fault.ReadFault.TheVariants as unread
@@ -15,8 +15,10 @@ use Rattle.dds_check.specs.Verdict.{number_of, name_of}
 use Rattle.dds_check.specs.declared.verdict.No.{No}
 use Rattle.dds_check.specs.declared.verdict.Subject.{Subject}
 use Rattle.dds_check.specs.declared.verdict.Subject.TheVariants as subject
-use Rattle.dds_tool.specs.Naming.{name_at, reader_key, writer_key, row_name}
-use Rattle.dds_tool.specs.Outcome.{Outcome, accepted, refused, bad_deployment, bad_certificate, too_large}
+use Rattle.dds_match.specs.Plan.{network_of}
+use Rattle.dds_tool.specs.Matches.{is_as_intended, lines_of}
+use Rattle.dds_cert.specs.Naming.{name_at, reader_key, writer_key, row_name}
+use Rattle.dds_tool.specs.Outcome.{Outcome, accepted, refused, bad_deployment, bad_certificate, too_large, compared}
 use Rattle.dds_tool.specs.declared.fault.ToolFault.{ToolFault}
 use Rattle.dds_tool.specs.declared.fault.ToolFault.TheVariants as fault
 use Rattle.dds_tool.specs.declared.report.Report.{Report}
@@ -75,10 +77,11 @@ total_line d t = codes "total " ++ (name_at d.readers.names t.reader ++ (codes "
 abbrev pub acceptance_lines : Lists → Certificate → List ℕ
 acceptance_lines d c = (codes "yes\n" ++ flat_map (bound_line d) c.bounds) ++ flat_map (total_line d) c.totals
 
--- what a check writes to its output; of a bad file nothing
-abbrev pub output_of : Outcome → List ℕ
+-- what a command writes to its output; of a bad file nothing
+unfoldable pub output_of : Outcome → List ℕ
 output_of (accepted d c) = acceptance_lines d c
 output_of (refused first d c) = refusal_line d c first
+output_of (compared d) = lines_of d (length d.writers.entries) (length d.readers.entries)
 output_of (bad_deployment flaw) = []
 output_of (bad_certificate flaw) = []
 output_of too_large = []
@@ -88,14 +91,15 @@ abbrev pub report_text_of : Report → List ℕ
 report_text_of report = output_of (outcome_of report)
 
 -- the exit status: 0 yes, 1 no, 2 a bad file
-abbrev pub status_of : Outcome → ℕ
+unfoldable pub status_of : Outcome → ℕ
 status_of (accepted d c) = 0
 status_of (refused first d c) = 1
+status_of (compared d) = if is_as_intended (network_of d) then 0 else 1
 status_of (bad_deployment flaw) = 2
 status_of (bad_certificate flaw) = 2
 status_of too_large = 2
 
--- the fault with which a check of two files ends that ends so, or a fault of memory or of a device
+-- the fault with which a command ends that ends so, or a fault of memory or of a device
 abbrev pub Ends : ToolFault → Outcome → Type 0
 Ends (fault.Deployment flaw) end = end ≡ bad_deployment (flaw.kind, string_bytes flaw.path)
 Ends (fault.Certificate flaw) end = end ≡ bad_certificate (kind_of flaw.kind, string_bytes flaw.path)
@@ -115,14 +119,3 @@ IsDeploymentFault unread.NoMemory told = told ≡ fault.NoMemory
 abbrev pub IsCertificateFault : CertFault → ToolFault → Type 0
 IsCertificateFault (uncertified.At flaw) told = told ≡ fault.Certificate flaw
 IsCertificateFault uncertified.NoMemory told = told ≡ fault.NoMemory
-
--- the faults that the writing of a report can end in
-abbrev pub IsPrintFault : ToolFault → Type 0
-IsPrintFault fault.Write = Unit {0}
-IsPrintFault fault.NoMemory = Unit {0}
-IsPrintFault (fault.Usage text) = ⊥
-IsPrintFault (fault.Deployment flaw) = ⊥
-IsPrintFault (fault.Certificate flaw) = ⊥
-IsPrintFault fault.TooLarge = ⊥
-IsPrintFault fault.Read = ⊥
-IsPrintFault fault.Run = ⊥

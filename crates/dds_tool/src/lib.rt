@@ -3,20 +3,23 @@
 //! yes. What the words of a command line ask for, the text of every answer and its exit status are stated functions of words and files.
 #![tactic(auto)]
 
+mod answer;
 mod commands;
 mod counted;
 mod fault;
+mod matches;
 mod memory;
-mod naming;
 mod reading;
 mod report;
 mod request;
 mod sources;
 
-pub use commands::{run_check, tell_fault, tool};
+pub use answer::{Answer, check_answer, match_answer};
+pub use commands::{tell_fault, tool};
 pub use counted::Counted;
 pub use fault::{ToolFault, fault_status, fault_text};
-pub use memory::{Memory, check_text, check_words};
+pub use matches::{is_as_intended, match_text};
+pub use memory::{Memory, check_words};
 pub use reading::{MAX_FILE, read_all};
 pub use report::{Report, answer_check, report_text};
 pub use request::{NoRequest, Request, read_request};

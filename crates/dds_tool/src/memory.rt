@@ -1,11 +1,10 @@
 //! Two files in memory.
-ghost use Rattle.std.specs.Prelude.{◌≡◌, MatchResult, IfOk, Some, codes, if◌then◌else◌};
+ghost use Rattle.std.specs.Prelude.{◌≡◌, IfOk, Some, codes, if◌then◌else◌};
 ghost use Rattle.std.specs.Str.{bytes_eq};
 ghost use Rattle.dds_tool.specs.Outcome.{file_outcome};
-ghost use Rattle.dds_tool.specs.Report.{Ends, output_of, status_of};
+ghost use Rattle.dds_tool.specs.Report.{output_of, status_of};
 
-use crate::commands::{run_check, tool};
-use crate::fault::ToolFault;
+use crate::commands::tool;
 use crate::sources::Sources;
 use std::alloc::Global;
 
@@ -28,26 +27,6 @@ impl<'a> Sources for Memory<'a> {
             Some(self.certificate)
         }
     }
-}
-
-/// What `check` writes for a deployment and a certificate with these bytes, and its status: 0 yes, 1 no. Every fault is that of how the check of these
-/// bytes ends, or want of memory.
-pub fn check_text(
-    alloc: Global,
-    deployment: &[u8],
-    certificate: &[u8],
-) -> Result<(u8, Vec<u8>), ToolFault>
-    ensures { MatchResult result
-        (λ r. (r.0 ≡ status_of (file_outcome deployment.now certificate.now)) × (r.1.items ≡ output_of (file_outcome deployment.now certificate.now)))
-        (λ e. Ends e (file_outcome deployment.now certificate.now)) }
-{
-    let mut out = Vec::new(alloc);
-    let mut files = Memory {
-        deployment,
-        certificate,
-    };
-    let status = run_check(alloc, "d", "c", &mut files, &mut out)?;
-    Ok((status, out))
 }
 
 static CHECK: [&str; 4] = ["ddscheck", "check", "d", "c"];

@@ -1,12 +1,15 @@
 //! The answer to two files, and its text.
-ghost use Rattle.std.specs.Prelude.{◌≡◌, ◌++◌, IfOk, IfErr, flat_map, string_bytes};
+ghost use Rattle.std.specs.Prelude.{◌≡◌, ◌++◌, IfOk, flat_map, string_bytes, true};
+ghost use Rattle.dds_match.specs.Plan.{network_of};
+ghost use Rattle.dds_cert.specs.Fits.{fits};
 ghost use Rattle.dds_cert.specs.Views.{certificate_view};
-ghost use Rattle.dds_tool.specs.Outcome.{judged, outcome};
+ghost use Rattle.dds_check.specs.Accepts.{first_no};
+ghost use Rattle.dds_tool.specs.Outcome.{judged, outcome, verdict};
 ghost use Rattle.dds_cert.specs.Sections.{read as certificate_read};
-ghost use Rattle.dds_tool.specs.Report.{IsCertificateFault, IsDeploymentFault, Tells, acceptance_lines, bound_line, refusal_line, report_text_of, subject_text, total_line};
+ghost use Rattle.dds_tool.specs.Report.{IsCertificateFault, IsDeploymentFault, Tells, acceptance_lines, bound_line, refusal_line, outcome_of, report_text_of, subject_text, total_line};
 
 use crate::fault::ToolFault;
-use crate::naming::{name_at, reader_key, row_name, writer_key};
+use dds_cert::naming::{name_at, reader_key, row_name, writer_key};
 use dds_cert::{Bound, CertFault, Certificate, Total, read_certificate};
 use dds_check::{Checked, No, Subject, check};
 use dds_deploy::{DeployFault, Deployment, read_deployment};
@@ -23,7 +26,7 @@ pub enum Report {
     Refused(No, Plan, Certificate),
 }
 
-fn deployment_fault(fault: DeployFault) -> ToolFault
+pub(crate) fn deployment_fault(fault: DeployFault) -> ToolFault
     ensures { IsDeploymentFault fault result }
 {
     match fault {
@@ -32,7 +35,7 @@ fn deployment_fault(fault: DeployFault) -> ToolFault
     }
 }
 
-fn certificate_fault(fault: CertFault) -> ToolFault
+pub(crate) fn certificate_fault(fault: CertFault) -> ToolFault
     ensures { IsCertificateFault fault result }
 {
     match fault {
@@ -41,21 +44,33 @@ fn certificate_fault(fault: CertFault) -> ToolFault
     }
 }
 
+/// The report on a plan and a certificate that fits it.
+fn verdict(plan: Plan, certificate: Certificate) -> Report
+    requires { fits (network_of plan) (certificate_view certificate) ≡ true }
+    ensures { outcome_of result ≡ verdict (first_no plan (certificate_view certificate)) plan (certificate_view certificate) }
+{
+    match check(plan, certificate) {
+        Ok(checked) => Report::Yes(checked),
+        Err((no, plan, certificate)) => Report::Refused(no, plan, certificate),
+    }
+}
+
 /// The report on a plan and the bytes of a certificate.
 fn judge(alloc: Global, plan: Plan, certificate: &[u8]) -> Result<Report, ToolFault>
     ensures { Tells result (judged plan (certificate_read plan certificate.now)) }
 {
     match read_certificate(alloc, &plan, certificate) {
-        Ok(certificate) => match check(plan, certificate) {
-            Ok(checked) => Ok(Report::Yes(checked)),
-            Err((no, plan, certificate)) => Ok(Report::Refused(no, plan, certificate)),
-        },
-        Err(fault) => Err(certificate_fault(fault)),
+        Ok(certificate) => Ok(verdict(plan, certificate)),
+        Err(fault) => {
+            drop(plan);
+            Err(certificate_fault(fault))
+        }
     }
 }
 
 /// The report on the bytes of a deployment and of a certificate. The deployment is read, then the certificate for its lists, then the conditions of
 /// the checker are asked in their order. The first fault of a file is `Deployment` or `Certificate`, and `NoMemory` comes where memory ran out.
+#[tactic(auto, unfolding(crate::specs::Outcome::outcome))]
 pub fn answer_check(
     alloc: Global,
     deployment: &[u8],
@@ -69,7 +84,10 @@ pub fn answer_check(
     };
     match plan(alloc, lists) {
         Ok(plan) => judge(alloc, plan, certificate),
-        Err(_) => Err(ToolFault::NoMemory),
+        Err((_, lists)) => {
+            drop(lists);
+            Err(ToolFault::NoMemory)
+        }
     }
 }
 
@@ -122,7 +140,7 @@ fn subject_text(
 }
 
 /// The line of a refusal.
-fn refusal_text(
+pub(crate) fn refusal_text(
     alloc: Global,
     no: No,
     lists: &Deployment,
@@ -188,7 +206,7 @@ fn push_totals(
 }
 
 /// The lines of an acceptance.
-fn acceptance_text(
+pub(crate) fn acceptance_text(
     alloc: Global,
     lists: &Deployment,
     certificate: &Certificate,
@@ -202,6 +220,7 @@ fn acceptance_text(
 }
 
 /// The lines of a report. Only want of memory is an error.
+#[tactic(auto, unfolding(crate::specs::Report::output_of))]
 pub fn report_text(alloc: Global, report: &Report) -> Result<String, AllocError>
     ensures { IfOk result (λ text. string_bytes text ≡ report_text_of report.now) }
 {

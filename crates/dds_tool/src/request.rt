@@ -90,7 +90,7 @@ fn whole_command<'a>(alloc: Global) -> Result<Command<'a>, AllocError>
     let matching = one_file_command(
         alloc,
         "match",
-        "Tells which endpoints match (not built yet)",
+        "Tells which writers and readers match, and why others don't",
     )?;
     let checking = two_files_command(alloc, "check", "Checks a certificate of a deployment")?;
     let command = with_command(top_command(alloc), matching)?;
@@ -130,7 +130,7 @@ fn argument<'a>(matches: &ArgMatches<'a>, id: &str) -> Option<&'a str>
 
 /// The name and the arguments of the subcommand.
 fn part<'a, 'm>(matches: &'m ArgMatches<'a>) -> Option<(&'a str, &'m ArgMatches<'a>)>
-    ensures { IfSome result (λ p. subcommand_rows_of matches.now ≡ Some (p.0.now, rows_of (found_of p.1.now))) }
+    ensures { option_map (λ p. (p.0.now, rows_of (found_of p.1.now))) result ≡ subcommand_rows_of matches.now }
 {
     matches.subcommand()
 }
@@ -139,6 +139,7 @@ fn part<'a, 'm>(matches: &'m ArgMatches<'a>) -> Option<(&'a str, &'m ArgMatches<
 fn matches_of<'a, S: AsStr>(alloc: Global, words: &'a [S]) -> Result<ArgMatches<'a>, NoRequest>
     ensures rows { IfOk result (λ m. subcommand_rows_of m ≡ subcommand_of whole (map S.text words.entry.now)) }
     ensures taken { IfErr result (λ e. takes whole (map S.text words.entry.now) ≡ true → ¬ IsHelp e) }
+    ensures memory { IfErr result (λ e. takes whole (map S.text words.entry.now) ≡ true → e ≡ NoRequest.NoMemory) }
 {
     let Ok(command) = whole_command(alloc) else {
         return Err(NoRequest::NoMemory);
@@ -152,6 +153,7 @@ fn matches_of<'a, S: AsStr>(alloc: Global, words: &'a [S]) -> Result<ArgMatches<
 fn check_request<'a>(alloc: Global, matches: &ArgMatches<'a>) -> Result<Request<'a>, NoRequest>
     ensures asked { (words : List Text) → subcommand_of whole words ≡ Some (codes "check", rows_of (found_of matches.now)) → IfOk result (Asks words) }
     ensures fault { IfErr result (λ e. ¬ IsHelp e) }
+    ensures unasked { (words : List Text) → subcommand_of whole words ≡ Some (codes "check", rows_of (found_of matches.now)) → (r : _) → Asks words r → IfErr result (λ _. ⊥) }
 {
     match (
         argument(matches, "deployment"),
@@ -168,6 +170,7 @@ fn check_request<'a>(alloc: Global, matches: &ArgMatches<'a>) -> Result<Request<
 fn match_request<'a>(alloc: Global, matches: &ArgMatches<'a>) -> Result<Request<'a>, NoRequest>
     ensures asked { (words : List Text) → subcommand_of whole words ≡ Some (codes "match", rows_of (found_of matches.now)) → IfOk result (Asks words) }
     ensures fault { IfErr result (λ e. ¬ IsHelp e) }
+    ensures unasked { (words : List Text) → subcommand_of whole words ≡ Some (codes "match", rows_of (found_of matches.now)) → (r : _) → Asks words r → IfErr result (λ _. ⊥) }
 {
     match argument(matches, "deployment") {
         Some(deployment) => Ok(Request::Match { deployment }),
@@ -180,6 +183,7 @@ fn match_request<'a>(alloc: Global, matches: &ArgMatches<'a>) -> Result<Request<
 pub fn read_request<'a, S: AsStr>(alloc: Global, words: &'a [S]) -> Result<Request<'a>, NoRequest>
     ensures asked { IfOk result (Asks (map S.text words.entry.now)) }
     ensures taken { IfErr result (λ e. takes whole (map S.text words.entry.now) ≡ true → ¬ IsHelp e) }
+    ensures unasked { takes whole (map S.text words.entry.now) ≡ true → (r : _) → Asks (map S.text words.entry.now) r → IfErr result (λ e. e ≡ NoRequest.NoMemory) }
 {
     let matches = matches_of(alloc, words)?;
     match part(&matches) {

@@ -1,5 +1,5 @@
 use Rattle.std.proofs.Common.{◌≡◌, drop}
-use Rattle.dds_check.specs.Tables.{bound_of, total_of}
+use Rattle.dds_check.specs.Tables.{bound_of}
 use Rattle.dds_check.proofs.bounds.find_bound.Given as goal
 
 abbrev pub invariant-loop-b : goal.invariant-loop-b

@@ -1,5 +1,5 @@
 use Rattle.std.proofs.Common.{◌≡◌, drop}
-use Rattle.dds_check.specs.Tables.{bound_of, total_of}
+use Rattle.dds_check.specs.Tables.{total_of}
 use Rattle.dds_check.proofs.bounds.find_total.Given as goal
 
 abbrev pub invariant-loop-t : goal.invariant-loop-t

@@ -1,4 +1,4 @@
-use Rattle.std.proofs.Common.{ℕ, ◌≡◌, ◌*◌, sym, ap, ◌∙◌, arith}
+use Rattle.std.proofs.Common.{◌≡◌, ◌*◌, sym, ap, ◌∙◌, arith}
 use Rattle.dds_base.specs.Sums.{total}
 use Rattle.dds_match.specs.Network.{weighed}
 use Rattle.dds_match.specs.Plan.{network_of}

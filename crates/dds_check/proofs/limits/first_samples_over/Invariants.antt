@@ -1,9 +1,7 @@
-use Rattle.std.proofs.Common.{◌≡◌, ◌≤◌, ◌*◌, ◌^◌, None}
-use Rattle.dds_base.specs.Sums.{total, count_below}
-use Rattle.dds_match.specs.Network.{reach, is_written}
+use Rattle.std.proofs.Common.{◌≡◌, None}
 use Rattle.dds_match.specs.Plan.{network_of}
-use Rattle.dds_check.specs.First.{first_below, all_below}
-use Rattle.dds_check.specs.Limits.{reader_instances, no_bound, is_bounded, no_bounds, bound_over, reached_bound, samples_over, writer_instances}
+use Rattle.dds_check.specs.First.{first_below}
+use Rattle.dds_check.specs.Limits.{samples_over}
 use Rattle.dds_check.proofs.limits.first_samples_over.Given as goal
 
 abbrev pub invariant-loop-r : goal.invariant-loop-r

@@ -1,5 +1,4 @@
 use Rattle.std.proofs.Common.{sym, arith}
-use Rattle.dds_match.specs.Plan.{network_of}
 use Rattle.dds_check.proofs.First.{first_below_found}
 use Rattle.dds_check.proofs.rows.reader_take_raises.Goals as goal
 

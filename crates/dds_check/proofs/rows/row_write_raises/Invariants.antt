@@ -1,10 +1,8 @@
-use Rattle.std.proofs.Common.{◌≡◌, ◌≤◌, ◌*◌, ◌^◌, ◌&&◌, None, if◌then◌else◌}
-use Rattle.dds_base.specs.Sums.{total}
+use Rattle.std.proofs.Common.{◌≡◌, None}
 use Rattle.dds_match.specs.Plan.{network_of}
-use Rattle.dds_cert.specs.Views.{certificate_view}
-use Rattle.dds_check.specs.First.{first_below, at_item}
+use Rattle.dds_check.specs.First.{first_below}
 use Rattle.dds_check.specs.Accepted.{row_of}
-use Rattle.dds_check.specs.Rows.{take_raises, row_take_raises, rule_raises, row_rule_raises, write_raises, row_write_raises}
+use Rattle.dds_check.specs.Rows.{write_raises}
 use Rattle.dds_check.proofs.rows.row_write_raises.Given as goal
 
 abbrev pub invariant-loop-w : goal.invariant-loop-w

@@ -1,11 +1,10 @@
-use Rattle.std.proofs.Common.{sym, refl}
-use Rattle.dds_check.proofs.First.{first_in_found, first_in_more}
+use Rattle.std.proofs.Common.{sym, arith}
+use Rattle.dds_match.specs.Plan.{network_of}
+use Rattle.dds_check.proofs.Unshown.{unshown_found, none_unshown}
 use Rattle.dds_check.proofs.shown.first_bound_not_shown.Goals as goal
 
-pub returns-in-Some : goal.returns-in-Some
-returns-in-Some c =
-    sym (first_in_found _ _ c.loop-i.i c.loop-i.i _ _ refl c.bound_at.ensures c.loop-i.invariant (sym c.in-Some.ensures))
+pub returns-then-first-len : goal.returns-then-first-len
+returns-then-first-len c = sym (unshown_found (network_of c.args.plan.now) _ _ c.first_unshown-first.result c.bound_at.result.now c.first_unshown-first.ensures c.bound_at.ensures)
 
-pub loop-i-preserved : goal.loop-i-preserved
-loop-i-preserved c =
-    first_in_more _ _ c.loop-i.i c.loop-i.i _ refl c.bound_at.ensures c.loop-i.invariant (sym c.in_default.ensures)
+pub returns : goal.returns
+returns c = sym (none_unshown (network_of c.args.plan.now) _ _ c.first_unshown-first.result c.first_unshown-first.ensures (omega arith))

@@ -1,11 +1,9 @@
-use Rattle.std.proofs.Common.{ℕ, ◌≡◌, ◌<◌, ◌&&◌, ◌||◌, not, None, Some, drop, length, slice_get, slice_index}
+use Rattle.std.proofs.Common.{◌≡◌, ◌||◌, not}
 use Rattle.dds_match.specs.Network.{reach}
 use Rattle.dds_match.specs.Plan.{network_of}
-use Rattle.dds_cert.specs.Lists.{Row, weight_of}
-use Rattle.dds_cert.specs.Views.{row_view, certificate_view}
-use Rattle.dds_check.specs.First.{first_below, at_item, all_below}
-use Rattle.dds_check.specs.Accepted.{row_of, budget}
-use Rattle.dds_check.specs.Shown.{shows, bound_not_shown, total_not_shown}
+use Rattle.dds_check.specs.First.{all_below}
+use Rattle.dds_check.specs.Accepted.{row_of}
+use Rattle.dds_check.specs.Shown.{shows}
 use Rattle.dds_check.proofs.shown.shows_all.Given as goal
 
 abbrev pub invariant-loop-k : goal.invariant-loop-k

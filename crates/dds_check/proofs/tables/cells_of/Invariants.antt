@@ -1,4 +1,4 @@
-use Rattle.std.proofs.Common.{ℕ, ◌≡◌, ◌+◌, ◌*◌, ◌<◌, ◌≤◌, drop, length, slice_index}
+use Rattle.std.proofs.Common.{◌≤◌, drop, length}
 use Rattle.dds_check.specs.Tables.{ShowsWeights}
 use Rattle.dds_check.proofs.tables.cells_of.Given as goal
 

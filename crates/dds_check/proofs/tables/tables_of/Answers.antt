@@ -1,4 +1,4 @@
-use Rattle.std.proofs.Common.{◌≡◌, Some, slice_get, map, option_map, ap, sym, ◌∙◌}
+use Rattle.std.proofs.Common.{Some, map, option_map, ap, sym, ◌∙◌}
 use Rattle.std.proofs.lemmas.Option.{slice_get-map}
 use Rattle.dds_cert.specs.Views.{row_view}
 use Rattle.dds_check.specs.Tables.{IsRowWithin}

@@ -1,12 +1,12 @@
-use Rattle.dds_tool.proofs.Requests.{check_answers, check_faults}
+use Rattle.dds_tool.proofs.Requests.{answered, faulted}
 use Rattle.dds_tool.proofs.commands.run_request.Goals as goal
 
-pub returns-in-Check-clause-answer : goal.returns-in-Check-clause-answer
-returns-in-Check-clause-answer g c =
-    check_answers (g.S.Sources.holds c.args.files.now) c.args.request c.in-Check.deployment c.in-Check.certificate c.run_check.result
-    (g.O.Write.contents c.args.out.now) (g.O.Write.contents c.run_check.new.out) c.in-Check.is c.run_check.ensures.answer
+pub returns-clause-answer : goal.returns-clause-answer
+returns-clause-answer g c =
+    answered (g.S.Sources.holds c.args.files.now) c.args.request c.answer_of.result c.give.result (g.O.Write.contents c.args.out.now) _
+    c.answer_of.ensures.gives c.give.ensures.answer
 
-pub returns-in-Check-clause-fault : goal.returns-in-Check-clause-fault
-returns-in-Check-clause-fault g c =
-    check_faults (g.S.Sources.holds c.args.files.now) c.args.request c.in-Check.deployment c.in-Check.certificate c.run_check.result
-    (g.O.Write.contents c.args.out.now) (g.O.Write.contents c.run_check.new.out) c.in-Check.is c.run_check.ensures.fault c.run_check.ensures.nothing
+pub returns-clause-fault : goal.returns-clause-fault
+returns-clause-fault g c =
+    faulted (g.S.Sources.holds c.args.files.now) c.args.request c.answer_of.result c.give.result (g.O.Write.contents c.args.out.now) (g.O.Write.contents c.give.new.out)
+    c.answer_of.ensures.gives c.give.ensures.fault c.give.ensures.nothing

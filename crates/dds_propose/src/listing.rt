@@ -1,0 +1,69 @@
+//! The lists of a certificate from tables.
+
+use crate::sizes::KEYS;
+use crate::weights::{Table, Weights};
+use dds_base::{Endpoint, KeyNo, ReaderNo, WriterNo};
+use dds_cert::{Row, Weight};
+use dds_match::Plan;
+use std::alloc::{AllocError, Global};
+
+/// Adds the weights of an endpoint's keys, in the order of the topic, without zeros.
+fn add_weights<E: Endpoint>(
+    list: &mut Vec<Weight<E>>,
+    table: &Table,
+    endpoint: E,
+) -> Result<(), AllocError> {
+    for k in 0..KEYS {
+        let key = KeyNo::new(k);
+        let weight = table.at(endpoint, key);
+        if weight > 0 {
+            list.push(Weight {
+                endpoint,
+                key,
+                weight,
+            })?;
+        }
+    }
+    Ok(())
+}
+
+/// The weights of the readers, in file order.
+fn reader_weights(
+    alloc: Global,
+    plan: &Plan,
+    table: &Table,
+) -> Result<Vec<Weight<ReaderNo>>, AllocError> {
+    let mut list = Vec::new(alloc);
+    for r in 0..plan.lists().readers() {
+        add_weights(&mut list, table, ReaderNo::new(r))?;
+    }
+    Ok(list)
+}
+
+/// The weights of the writers, in file order.
+fn writer_weights(
+    alloc: Global,
+    plan: &Plan,
+    table: &Table,
+) -> Result<Vec<Weight<WriterNo>>, AllocError> {
+    let mut list = Vec::new(alloc);
+    for w in 0..plan.lists().writers() {
+        add_weights(&mut list, table, WriterNo::new(w))?;
+    }
+    Ok(list)
+}
+
+/// The row of some weights, by its place in the certificate, from 0.
+pub(crate) fn listed_row(
+    alloc: Global,
+    plan: &Plan,
+    place: usize,
+    weights: &Weights,
+) -> Result<Row, AllocError> {
+    Ok(Row {
+        name: format!(in alloc; "w{place}")?,
+        samples: reader_weights(alloc, plan, &weights.samples)?,
+        takes: reader_weights(alloc, plan, &weights.takes)?,
+        permits: writer_weights(alloc, plan, &weights.permits)?,
+    })
+}

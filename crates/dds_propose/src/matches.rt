@@ -1,0 +1,42 @@
+//! Which writers match each reader, found once for all rounds.
+
+use dds_base::{ReaderNo, WriterNo};
+use dds_match::Plan;
+use std::alloc::{AllocError, Global};
+
+/// The writers that match each reader, in file order.
+#[derive(Drop)]
+pub(crate) struct Matches {
+    writers: Vec<Vec<WriterNo>>,
+}
+
+/// The writers that match a reader.
+fn writers_of(alloc: Global, plan: &Plan, reader: ReaderNo) -> Result<Vec<WriterNo>, AllocError> {
+    let mut writers = Vec::new(alloc);
+    for w in 0..plan.lists().writers() {
+        let writer = WriterNo::new(w);
+        if plan.matched(writer, reader) {
+            writers.push(writer)?;
+        }
+    }
+    Ok(writers)
+}
+
+impl Matches {
+    /// The matches of a plan.
+    pub(crate) fn of(alloc: Global, plan: &Plan) -> Result<Matches, AllocError> {
+        let mut writers = Vec::new(alloc);
+        for r in 0..plan.lists().readers() {
+            writers.push(writers_of(alloc, plan, ReaderNo::new(r))?)?;
+        }
+        Ok(Matches { writers })
+    }
+
+    /// The writers that match a reader, none where there is no such reader.
+    pub(crate) fn writers(&self, reader: ReaderNo) -> &[WriterNo] {
+        match self.writers.get(reader.number()) {
+            Some(writers) => writers.as_slice(),
+            None => &[],
+        }
+    }
+}

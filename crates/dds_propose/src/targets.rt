@@ -1,0 +1,84 @@
+//! What needs a bound: the finite limits of the readers.
+ghost use Rattle.std.specs.Prelude.{◌<◌};
+ghost use Rattle.dds_match.specs.Plan.{network_of};
+
+use crate::sizes::KEYS;
+use dds_base::{KeyNo, ReaderNo};
+use dds_match::Plan;
+use dds_qos::ReaderLimits;
+use std::alloc::{AllocError, Global};
+
+/// A limit that a row has to show a bound for.
+#[derive(Clone, Copy, Debug, PartialEq, Eq)]
+pub(crate) enum Target {
+    /// The unread samples of a key at a reader.
+    Instance { reader: ReaderNo, key: KeyNo },
+    /// All stored samples of a reader.
+    Reader(ReaderNo),
+}
+
+impl Target {
+    /// Whose limit it is.
+    pub(crate) fn reader(&self) -> ReaderNo {
+        match self {
+            Target::Instance { reader, .. } => *reader,
+            Target::Reader(reader) => *reader,
+        }
+    }
+
+    /// Whether samples of the key count: of a reader's limit, those of each key that can reach it.
+    pub(crate) fn counts(&self, plan: &Plan, key: KeyNo) -> bool {
+        match self {
+            Target::Instance { key: counted, .. } => key == *counted,
+            Target::Reader(reader) => plan.reaches(*reader, key),
+        }
+    }
+}
+
+/// Whether a reader keeps only so many samples of an instance: the depth by KEEP_LAST, else max_samples_per_instance.
+fn limits_instances(limits: &ReaderLimits) -> bool {
+    limits.keep_last.is_some() || limits.max_samples_per_instance.is_some()
+}
+
+/// Adds a target for each key that can reach the reader, in the order of the topic.
+fn add_instances(
+    targets: &mut Vec<Target>,
+    plan: &Plan,
+    reader: ReaderNo,
+) -> Result<(), AllocError> {
+    for k in 0..KEYS {
+        let key = KeyNo::new(k);
+        if plan.reaches(reader, key) {
+            targets.push(Target::Instance { reader, key })?;
+        }
+    }
+    Ok(())
+}
+
+/// Whether some key can reach the reader.
+fn is_reached(plan: &Plan, reader: ReaderNo) -> bool {
+    (0..KEYS).any(|k| plan.reaches(reader, KeyNo::new(k)))
+}
+
+/// Adds the targets of a reader: its keys first, then the reader itself.
+fn add_reader(targets: &mut Vec<Target>, plan: &Plan, reader: ReaderNo) -> Result<(), AllocError>
+    requires { reader < (network_of plan.now).readers }
+{
+    let limits = plan.reader_limits(reader);
+    if limits_instances(&limits) {
+        add_instances(targets, plan, reader)?;
+    }
+    if limits.max_samples.is_some() && is_reached(plan, reader) {
+        targets.push(Target::Reader(reader))?;
+    }
+    Ok(())
+}
+
+/// The targets of a plan, readers in file order.
+pub(crate) fn targets(alloc: Global, plan: &Plan) -> Result<Vec<Target>, AllocError> {
+    let mut targets = Vec::new(alloc);
+    for r in 0..plan.lists().readers() {
+        add_reader(&mut targets, plan, ReaderNo::new(r))?;
+    }
+    Ok(targets)
+}

@@ -1,0 +1,87 @@
+//! The weights of a row while it is made, each found in one step.
+ghost use Rattle.std.specs.Prelude.{◌≡◌, ◌*◌, ◌^◌, ◌≤◌, ◌<◌, length};
+
+use crate::sizes::{CELLS, ENDPOINTS, KEYS};
+use dds_base::{Endpoint, KeyNo, Portion, ReaderNo, WriterNo};
+use std::alloc::{AllocError, Global};
+use std::marker::Model;
+
+/// A number for each key of each endpoint of one kind, 0 to 4,294,967,295.
+#[derive(Drop)]
+pub(crate) struct Table {
+    cells: Vec<u32>,
+}
+
+impl Model for Table {
+    ghost use Rattle.std.specs.Prelude.{◌≡◌, ℕ, List, length};
+
+    ghost Value = { List ℕ };
+
+    ghost view = { λ t. t.cells.items };
+
+    ghost invariant = { λ t. length t.cells.items ≡ 16384 };
+}
+
+impl Table {
+    /// The table of zeros.
+    fn zero(alloc: Global) -> Result<Table, AllocError> {
+        let cells = vec![in alloc; 0; CELLS]?;
+        Ok(Table { cells })
+    }
+
+    /// The number of a key of an endpoint, 0 where there is no such place.
+    pub(crate) fn at<E: Endpoint>(&self, endpoint: E, key: KeyNo) -> u32 {
+        let e = endpoint.place();
+        let k = key.number();
+        if e < ENDPOINTS && k < KEYS {
+            self.cells[e * KEYS + k]
+        } else {
+            0
+        }
+    }
+
+    /// Puts a number at a key of an endpoint. Nothing changes where there is no such place.
+    pub(crate) fn put<E: Endpoint>(&mut self, endpoint: E, key: KeyNo, number: u32) {
+        let e = endpoint.place();
+        let k = key.number();
+        if e < ENDPOINTS && k < KEYS {
+            self.cells[e * KEYS + k] = number;
+        }
+    }
+
+    /// The sum of count times weight over what a rule takes or writes.
+    pub(crate) fn weighed<E: Endpoint>(&self, portions: &[Portion<E>]) -> u128
+        ensures { result ≤ length portions.now * 2 ^ 48 }
+    {
+        let mut total: u128 = 0;
+        for portion in portions {
+            total += u128::from(portion.count) * u128::from(self.at(portion.endpoint, portion.key));
+        }
+        total
+    }
+}
+
+/// The weights of a row.
+#[derive(Drop)]
+pub(crate) struct Weights {
+    /// On samples that were written for a reader and not taken.
+    pub(crate) samples: Table,
+    /// What the weight of a sample has risen by since the permits last followed it.
+    pub(crate) risen: Table,
+    /// On takes that no rule has spent.
+    pub(crate) takes: Table,
+    /// On writes that are permitted and not made.
+    pub(crate) permits: Table,
+}
+
+impl Weights {
+    /// All weights are 0.
+    pub(crate) fn zero(alloc: Global) -> Result<Weights, AllocError> {
+        Ok(Weights {
+            samples: Table::zero(alloc)?,
+            risen: Table::zero(alloc)?,
+            takes: Table::zero(alloc)?,
+            permits: Table::zero(alloc)?,
+        })
+    }
+}

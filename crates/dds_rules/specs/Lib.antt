@@ -1,0 +1,4 @@
+pub mod Counts
+pub mod Exchange
+pub mod Ledger
+pub mod Standing

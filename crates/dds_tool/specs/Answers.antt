@@ -1,0 +1,18 @@
+-- What a command gives to the output.
+use Rattle.std.specs.Prelude.{ℕ, ◌≡◌, Bool, Result, MatchResult, string_bytes, if◌then◌else◌}
+use Rattle.dds_tool.specs.declared.answer.Answer.{Answer}
+use Rattle.dds_tool.specs.declared.fault.ToolFault.{ToolFault}
+use Rattle.dds_tool.specs.Outcome.{Outcome}
+use Rattle.dds_tool.specs.Report.{Ends, output_of, status_of}
+
+-- the exit status of an answer: 0 yes, 1 no
+abbrev pub answer_status : Bool → ℕ
+answer_status is_yes = if is_yes then 0 else 1
+
+-- the text and the status are those of this end
+abbrev pub IsAnswer : Answer → Outcome → Type 0
+IsAnswer answer end = (string_bytes answer.text ≡ output_of end) × (answer_status answer.is_yes ≡ status_of end)
+
+-- the answer of this end, or the fault with which it ends, or a fault of memory or of a device
+abbrev pub Gives : Result Answer ToolFault → Outcome → Type 0
+Gives result end = MatchResult result (λ answer. IsAnswer answer end) (λ e. Ends e end)

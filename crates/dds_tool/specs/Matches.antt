@@ -1,0 +1,48 @@
+-- The lines that tell which endpoints match, and whether these are the connections.
+use Rattle.std.specs.Prelude.{ℕ, Bool, not, if◌then◌else◌, List, ◌++◌, codes, filter, Option, Some, None}
+use Rattle.std.specs.List.{join_by}
+use Rattle.dds_qos.specs.Compatibility.{contains, name_of, policies}
+use Rattle.dds_deploy.specs.Lists.{Lists}
+use Rattle.dds_match.specs.Matching.{why_not}
+use Rattle.dds_match.specs.Network.{Network}
+use Rattle.dds_match.specs.declared.matching.WhyNot.{WhyNot}
+use Rattle.dds_match.specs.declared.matching.WhyNot.TheVariants.{OtherDomain, OtherTopic, Partitions, Policies}
+use Rattle.dds_check.specs.First.{all_below}
+use Rattle.dds_cert.specs.Naming.{name_at}
+use Rattle.dds_cert.specs.Text.{each_below}
+
+-- a reason in words; of incompatible policies their names, with commas between them
+abbrev pub reason_words : WhyNot → List ℕ
+reason_words OtherDomain = codes "domain"
+reason_words OtherTopic = codes "topic"
+reason_words Partitions = codes "partition"
+reason_words (Policies set) = codes "policies " ++ join_by name_of (codes ",") (filter (contains set) policies)
+
+-- the line of a pair with these names that matches, or doesn't for this reason
+abbrev pub line_of : List ℕ → List ℕ → Option WhyNot → List ℕ
+line_of w r None = codes "match " ++ (w ++ (codes " " ++ (r ++ codes "\n")))
+line_of w r (Some reason) = codes "none " ++ (w ++ (codes " " ++ (r ++ (codes " " ++ (reason_words reason ++ codes "\n")))))
+
+-- the line of the writer and the reader with these numbers
+abbrev pub pair_line : Lists → ℕ → ℕ → List ℕ
+pair_line d w r = line_of (name_at d.writers.names w) (name_at d.readers.names r) (why_not d w r)
+
+-- the lines of a writer, by readers in file order
+abbrev pub writer_lines : Lists → ℕ → ℕ → List ℕ
+writer_lines d readers w = each_below readers (pair_line d w)
+
+-- the lines of the first so many writers, in file order
+abbrev pub lines_of : Lists → ℕ → ℕ → List ℕ
+lines_of d writers readers = each_below writers (writer_lines d readers)
+
+-- both or neither
+abbrev pub is_same : Bool → Bool → Bool
+is_same x y = if x then y else not y
+
+-- the writer matches exactly the readers to which a connection joins it
+abbrev pub is_writer_as_intended : Network → ℕ → Bool
+is_writer_as_intended net w = all_below net.readers (λ r. is_same (net.matched w r) (net.intended w r))
+
+-- exactly the pairs of the connections match
+abbrev pub is_as_intended : Network → Bool
+is_as_intended net = all_below net.writers (is_writer_as_intended net)

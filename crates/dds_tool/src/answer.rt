@@ -1,0 +1,151 @@
+//! What each command answers to the bytes of its files.
+ghost use Rattle.std.specs.Prelude.{◌≡◌, ◌≤◌, IfErr, IfOk, IsOk, OnOk, true};
+ghost use Rattle.dds_match.specs.Plan.{network_of};
+ghost use Rattle.dds_cert.specs.Fits.{fits};
+ghost use Rattle.dds_cert.specs.Sections.{read as certificate_read};
+ghost use Rattle.dds_cert.specs.Views.{certificate_view};
+ghost use Rattle.dds_check.specs.Accepts.{first_no};
+ghost use Rattle.dds_tool.specs.Answers.{Gives, answer_status};
+ghost use Rattle.dds_tool.specs.Fault.{fault_status};
+ghost use Rattle.dds_tool.specs.Outcome.{compared, judged, match_outcome, outcome, verdict};
+
+use crate::fault::ToolFault;
+use crate::matches::{is_as_intended, match_text};
+use crate::report::{acceptance_text, certificate_fault, deployment_fault, refusal_text};
+use dds_cert::{Certificate, read_certificate};
+use dds_check::No;
+use dds_check::accepts::accepts;
+use dds_deploy::{Deployment, read_deployment};
+use dds_match::Plan;
+use dds_match::planning::plan;
+use std::alloc::{AllocError, Global};
+
+/// A text for the output, and whether the answer is yes. The exit status is 0 for yes and 1 for no.
+#[derive(Drop)]
+pub struct Answer {
+    pub text: String,
+    pub is_yes: bool,
+}
+
+impl Answer {
+    /// The exit status: 0 yes, 1 no.
+    pub fn status(&self) -> u8
+        ensures { result ≡ answer_status self.now.is_yes }
+    {
+        if self.is_yes { 0 } else { 1 }
+    }
+}
+
+/// The first condition that refuses a certificate that fits the plan.
+fn refusal(plan: &Plan, certificate: &Certificate) -> Option<No>
+    requires { fits (network_of plan.now) (certificate_view certificate.now) ≡ true }
+    ensures { result ≡ first_no plan.now (certificate_view certificate.now) }
+{
+    match accepts(plan, certificate) {
+        Ok(()) => None,
+        Err(no) => Some(no),
+    }
+}
+
+/// The answer with a text, if there was memory for it.
+fn answered(text: Result<String, AllocError>, is_yes: bool) -> Result<Answer, ToolFault>
+    ensures answer { IfOk result (λ a. (a.is_yes ≡ is_yes) × IfOk text (λ t. a.text ≡ t)) }
+    ensures text { OnOk result (IsOk text) }
+    ensures memory { IfErr result (λ e. e ≡ ToolFault.NoMemory) }
+{
+    match text {
+        Ok(text) => Ok(Answer { text, is_yes }),
+        Err(_) => Err(ToolFault::NoMemory),
+    }
+}
+
+/// The answer to a certificate that fits the plan.
+#[tactic(auto, unfolding(crate::specs::Report::output_of, crate::specs::Report::status_of))]
+fn judged(alloc: Global, plan: &Plan, certificate: &Certificate) -> Result<Answer, ToolFault>
+    requires { fits (network_of plan.now) (certificate_view certificate.now) ≡ true }
+    ensures gives { Gives result (verdict (first_no plan.now (certificate_view certificate.now)) plan.now (certificate_view certificate.now)) }
+    ensures no_usage { IfErr result (λ e. fault_status e ≤ 3) }
+{
+    match refusal(plan, certificate) {
+        None => answered(acceptance_text(alloc, plan.lists(), certificate), true),
+        Some(no) => answered(refusal_text(alloc, no, plan.lists(), certificate), false),
+    }
+}
+
+/// The answer to the bytes of a certificate, for a plan that is needed no longer.
+fn read_and_judged(alloc: Global, plan: Plan, certificate: &[u8]) -> Result<Answer, ToolFault>
+    ensures gives { Gives result (judged plan (certificate_read plan certificate.now)) }
+    ensures no_usage { IfErr result (λ e. fault_status e ≤ 3) }
+{
+    let answer = match read_certificate(alloc, &plan, certificate) {
+        Ok(certificate) => judged(alloc, &plan, &certificate),
+        Err(fault) => Err(certificate_fault(fault)),
+    };
+    drop(plan);
+    answer
+}
+
+/// The answer to the bytes of a certificate, for the lists of a deployment.
+fn lists_judged(alloc: Global, lists: Deployment, certificate: &[u8]) -> Result<Answer, ToolFault>
+    ensures gives { Gives result (judged lists (certificate_read lists certificate.now)) }
+    ensures no_usage { IfErr result (λ e. fault_status e ≤ 3) }
+{
+    match plan(alloc, lists) {
+        Ok(plan) => read_and_judged(alloc, plan, certificate),
+        Err((_, lists)) => {
+            drop(lists);
+            Err(ToolFault::NoMemory)
+        }
+    }
+}
+
+/// The answer of `check` to the bytes of a deployment and of a certificate: yes where the certificate is accepted. It is that of the report on them.
+pub fn check_answer(
+    alloc: Global,
+    deployment: &[u8],
+    certificate: &[u8],
+) -> Result<Answer, ToolFault>
+    ensures gives { Gives result (outcome deployment.now certificate.now) }
+    ensures no_usage { IfErr result (λ e. fault_status e ≤ 3) }
+{
+    match read_deployment(alloc, deployment) {
+        Ok(lists) => lists_judged(alloc, lists, certificate),
+        Err(fault) => Err(deployment_fault(fault)),
+    }
+}
+
+/// The answer to which endpoints of a plan match, which is needed no longer.
+#[tactic(auto, unfolding(crate::specs::Report::output_of, crate::specs::Report::status_of))]
+fn compared(alloc: Global, plan: Plan) -> Result<Answer, ToolFault>
+    ensures gives { Gives result (compared plan) }
+    ensures no_usage { IfErr result (λ e. fault_status e ≤ 3) }
+{
+    let answer = answered(match_text(alloc, &plan), is_as_intended(&plan));
+    drop(plan);
+    answer
+}
+
+/// The answer to which endpoints of the lists of a deployment match.
+fn lists_compared(alloc: Global, lists: Deployment) -> Result<Answer, ToolFault>
+    ensures gives { Gives result (compared lists) }
+    ensures no_usage { IfErr result (λ e. fault_status e ≤ 3) }
+{
+    match plan(alloc, lists) {
+        Ok(plan) => compared(alloc, plan),
+        Err((_, lists)) => {
+            drop(lists);
+            Err(ToolFault::NoMemory)
+        }
+    }
+}
+
+/// The answer of `match` to the bytes of a deployment: yes where exactly the pairs of the connections match.
+pub fn match_answer(alloc: Global, deployment: &[u8]) -> Result<Answer, ToolFault>
+    ensures gives { Gives result (match_outcome deployment.now) }
+    ensures no_usage { IfErr result (λ e. fault_status e ≤ 3) }
+{
+    match read_deployment(alloc, deployment) {
+        Ok(lists) => lists_compared(alloc, lists),
+        Err(fault) => Err(deployment_fault(fault)),
+    }
+}

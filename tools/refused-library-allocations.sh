@@ -1,0 +1,74 @@
+#!/bin/sh
+# Runs the tests of cache, reader and writer with each of their allocations refused in turn. Each makes a refused call once more, after it saw
+# that nothing changed, and has to pass as with ample memory. The last line is 'N passed, M failed'; the status is 1 if one failed.
+here=$(CDPATH='' cd -- "$(dirname -- "$0")/.." && pwd)
+tests=$here/crates/dds_runs/out/dds_runs_tests
+room=$(mktemp -d) || exit 1
+trap 'rm -rf "$room"' EXIT
+passed=0
+failed=0
+
+pass() { passed=$((passed + 1)); }
+
+fail() {
+    failed=$((failed + 1))
+    echo "failed: $*"
+}
+
+finish() {
+    echo "$passed passed, $failed failed"
+    [ "$failed" = 0 ]
+    exit
+}
+
+# The library that refuses, built with the first compiler that is there: the caller's, those on PATH, the toolchain's.
+build_library() {
+    toolchain=$(readlink -f "$(command -v rt)")
+    for compiler in "$CC" clang gcc cc "$(dirname "$toolchain")/../toolchain/bin/clang"; do
+        if [ -n "$compiler" ] && "$compiler" -shared -fPIC -O1 -fno-builtin -nostdlib -o "$room/refuse.so" "$here/tools/refuse.c" 2>>"$room/compilers"; then
+            return 0
+        fi
+    done
+    cat "$room/compilers"
+    return 1
+}
+
+# Runs one test with its allocation number $2 refused. Answers whether there was such an allocation.
+run_refused() {
+    rm -f "$room/seen"
+    REFUSE=$2 REFUSE_SEEN=$room/seen LD_PRELOAD=$room/refuse.so "$tests" "$1" >"$room/got" 2>&1 </dev/null
+    echo $? >"$room/status"
+    [ -s "$room/seen" ]
+}
+
+has_passed() { [ "$(cat "$room/status")" = 0 ]; }
+
+# Refuses each allocation of one test. A test that makes none shows nothing, and fails.
+sweep() {
+    number=1
+    while run_refused "$1" "$number"; do
+        if has_passed; then pass; else fail "$1 with allocation $number refused: $(cat "$room/got")"; fi
+        number=$((number + 1))
+    done
+    if has_passed && [ "$number" -gt 1 ]; then pass; else fail "$1 with no allocation refused: $(cat "$room/got")"; fi
+    echo "$1: $((number - 1)) allocations, each refused once"
+}
+
+# The gate leaves the built tests behind; they are built here where they are missing or older than a source.
+is_built() {
+    [ -x "$tests" ] && [ -z "$(find "$here"/crates/*/src "$here/crates.txt" -type f -newer "$tests" -print | head -n 1)" ]
+}
+
+if ! is_built && ! (cd "$here/crates/dds_runs" && rt test) >"$room/built" 2>&1; then
+    tail -n 20 "$room/built"
+    fail "the tests of dds_runs were not built, or one failed"
+    finish
+fi
+if ! build_library; then
+    fail "no compiler built tools/refuse.c"
+    finish
+fi
+sweep caches::caches_call_by_call
+sweep readers::readers_call_by_call
+sweep writers::two_readers_call_by_call
+finish
