@@ -94,6 +94,11 @@ sweep check "$loop/loop.toml" "$loop/loop.cert.toml"
 sweep check "$loop/loop.toml" "$ping/ping.cert.toml"
 sweep check "$room/empty.toml" "$ping/ping.cert.toml"
 sweep check "$room/missing.toml" "$ping/ping.cert.toml"
+sweep match "$ping/ping.toml"
+sweep match "$loop/loop.toml"
+sweep match "$room/empty.toml"
+sweep match "$room/missing.toml"
 sweep check "$ping/ping.toml"
+sweep match
 sweep --help
 finish
