@@ -14,6 +14,8 @@ mod policies;
 #[cfg(test)]
 mod proposals;
 #[cfg(test)]
+mod proposed_texts;
+#[cfg(test)]
 mod ranges;
 #[cfg(test)]
 mod rows;

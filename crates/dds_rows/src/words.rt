@@ -7,7 +7,7 @@ use std::test::Fail;
 #[test]
 fn tells_usage_faults(rt: HostRuntime) -> Result<(), Fail> {
     let alloc = rt.alloc();
-    let rows: [&[&str]; 10] = [
+    let rows: [&[&str]; 11] = [
         &["ddscheck"],
         &["ddscheck", "frob"],
         &["ddscheck", "match"],
@@ -16,7 +16,8 @@ fn tells_usage_faults(rt: HostRuntime) -> Result<(), Fail> {
         &["ddscheck", "check", "d"],
         &["ddscheck", "check", "d", "c", "e"],
         &["ddscheck", "check", "d", "c", "--fast"],
-        &["ddscheck", "propose", "d"],
+        &["ddscheck", "propose"],
+        &["ddscheck", "propose", "d", "c"],
         &["ddscheck", "run", "d", "c"],
     ];
     for words in rows {
@@ -35,13 +36,14 @@ fn tells_usage_faults(rt: HostRuntime) -> Result<(), Fail> {
 #[test]
 fn helps(rt: HostRuntime) -> Result<(), Fail> {
     let alloc = rt.alloc();
-    let rows: [&[&str]; 7] = [
+    let rows: [&[&str]; 8] = [
         &["ddscheck", "--help"],
         &["ddscheck", "-h"],
         &["ddscheck", "help"],
         &["ddscheck", "help", "check"],
         &["ddscheck", "check", "--help"],
         &["ddscheck", "match", "--help"],
+        &["ddscheck", "propose", "--help"],
         &["ddscheck", "--version"],
     ];
     for words in rows {

@@ -1,3 +1,4 @@
 mod Telling
+mod Proposals
 mod Requests
 pub mod Names

@@ -1,5 +1,5 @@
 -- Names with commas between them.
-use Rattle.std.proofs.Common.{ℕ, suc, ◌≡◌, ◌+◌, ◌<◌, List, [], ◌∷◌, ◌++◌, Bool, filter, flat_map, get_or, length, map, take, refl, sym, ap, ◌∙◌, add-one}
+use Rattle.std.proofs.Common.{ℕ, ◌≡◌, ◌+◌, ◌<◌, List, [], ◌∷◌, ◌++◌, Bool, filter, get_or, length, map, take, refl, sym, ap, ◌∙◌, add-one}
 use Rattle.std.specs.List.{join_by}
 use Rattle.std.proofs.Math.Seq.{take-suc}
 use Rattle.std.proofs.lemmas.List.{map-append}

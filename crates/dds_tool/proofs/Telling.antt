@@ -1,5 +1,5 @@
 -- How a check ends, and what is told of it.
-use Rattle.std.proofs.Common.{◌≡◌, ◌≤◌, ℕ, List, Err, arith}
+use Rattle.std.proofs.Common.{◌≤◌, ℕ, List, Err, arith}
 use Rattle.dds_fields.specs.Reading.{Read}
 use Rattle.dds_fields.specs.Gives.{Fails, FailsAs}
 use Rattle.dds_fields.specs.declared.fault.ReadFault.{ReadFault}

@@ -12,6 +12,7 @@ use Rattle.dds_tool.specs.declared.answer.Answer.{Answer}
 use Rattle.dds_tool.specs.declared.fault.ToolFault.{ToolFault}
 use Rattle.dds_tool.specs.Answers.{Gives}
 use Rattle.dds_tool.specs.Outcome.{Outcome, file_outcome, match_file_outcome}
+use Rattle.dds_tool.specs.Proposals.{MayProposeFor}
 use Rattle.dds_tool.specs.Report.{output_of, status_of}
 
 -- a file that has to be named
@@ -32,7 +33,7 @@ top_app = on_top (λ s. record s { subcommand_required = true; has_version = tru
 
 -- the command with its subcommands
 abbrev pub whole : App
-whole = with_subcommand (with_subcommand top_app (one_file (codes "match")).top) (two_files (codes "check")).top
+whole = with_subcommand (with_subcommand (with_subcommand top_app (one_file (codes "match")).top) (two_files (codes "check")).top) (one_file (codes "propose")).top
 
 -- the words name the subcommand, and the argument has this text
 abbrev pub Names : List Text → Text → Text → Text → Type 0
@@ -41,6 +42,7 @@ Names words name id text = (rows : List Row) × (subcommand_of whole words ≡ S
 -- the words ask for this, by clap's own account of the command
 abbrev pub Asks : List Text → Request → Type 0
 Asks words (asked.Match d) = Names words (codes "match") (codes "deployment") d.now
+Asks words (asked.Propose d) = Names words (codes "propose") (codes "deployment") d.now
 Asks words (asked.Check d c) = Names words (codes "check") (codes "deployment") d.now × Names words (codes "check") (codes "certificate") c.now
 
 -- help or the version was asked for
@@ -53,12 +55,14 @@ IsHelp none.NoMemory = ⊥
 abbrev pub GivesTo : (List ℕ → Option (List ℕ)) → Request → Result Answer ToolFault → Type 0
 GivesTo holds (asked.Check d c) result = (x y : List ℕ) → holds d.now ≡ Some x → holds c.now ≡ Some y → Gives result (file_outcome x y)
 GivesTo holds (asked.Match d) result = (x : List ℕ) → holds d.now ≡ Some x → Gives result (match_file_outcome x)
+GivesTo holds (asked.Propose d) result = (x : List ℕ) → holds d.now ≡ Some x → (end : Outcome) × MayProposeFor x end × Gives result end
 
 -- the status and what is added to the output are those of this end, or memory or a device failed, and the status is 3
 abbrev pub Said : Outcome → ℕ → Option (List ℕ) → Option (List ℕ) → Type 0
 Said end status old new = ((status ≡ status_of end) × Appends old new (output_of end)) ⊎ (status ≡ 3)
 
--- where a command on files is asked for whose bytes are known, what is said is how that command ends
+-- where a command on files is asked for whose bytes are known, what is said is how that command ends, or may end
 abbrev pub Answers : (List ℕ → Option (List ℕ)) → Request → ℕ → Option (List ℕ) → Option (List ℕ) → Type 0
 Answers holds (asked.Check d c) status old new = (x y : List ℕ) → holds d.now ≡ Some x → holds c.now ≡ Some y → Said (file_outcome x y) status old new
 Answers holds (asked.Match d) status old new = (x : List ℕ) → holds d.now ≡ Some x → Said (match_file_outcome x) status old new
+Answers holds (asked.Propose d) status old new = (x : List ℕ) → holds d.now ≡ Some x → (end : Outcome) × MayProposeFor x end × Said end status old new

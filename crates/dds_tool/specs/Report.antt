@@ -18,7 +18,8 @@ use Rattle.dds_check.specs.declared.verdict.Subject.TheVariants as subject
 use Rattle.dds_match.specs.Plan.{network_of}
 use Rattle.dds_tool.specs.Matches.{is_as_intended, lines_of}
 use Rattle.dds_cert.specs.Naming.{name_at, reader_key, writer_key, row_name}
-use Rattle.dds_tool.specs.Outcome.{Outcome, accepted, refused, bad_deployment, bad_certificate, too_large, compared}
+use Rattle.dds_cert.specs.Text.{certificate_text}
+use Rattle.dds_tool.specs.Outcome.{Outcome, accepted, refused, bad_deployment, bad_certificate, too_large, compared, proposed, unproposed}
 use Rattle.dds_tool.specs.declared.fault.ToolFault.{ToolFault}
 use Rattle.dds_tool.specs.declared.fault.ToolFault.TheVariants as fault
 use Rattle.dds_tool.specs.declared.report.Report.{Report}
@@ -82,6 +83,8 @@ unfoldable pub output_of : Outcome → List ℕ
 output_of (accepted d c) = acceptance_lines d c
 output_of (refused first d c) = refusal_line d c first
 output_of (compared d) = lines_of d (length d.writers.entries) (length d.readers.entries)
+output_of (proposed d c) = certificate_text d c
+output_of unproposed = codes "none\n"
 output_of (bad_deployment flaw) = []
 output_of (bad_certificate flaw) = []
 output_of too_large = []
@@ -95,6 +98,8 @@ unfoldable pub status_of : Outcome → ℕ
 status_of (accepted d c) = 0
 status_of (refused first d c) = 1
 status_of (compared d) = if is_as_intended (network_of d) then 0 else 1
+status_of (proposed d c) = 0
+status_of unproposed = 1
 status_of (bad_deployment flaw) = 2
 status_of (bad_certificate flaw) = 2
 status_of too_large = 2

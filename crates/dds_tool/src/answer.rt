@@ -1,5 +1,5 @@
 //! What each command answers to the bytes of its files.
-ghost use Rattle.std.specs.Prelude.{◌≡◌, ◌≤◌, IfErr, IfOk, IsOk, OnOk, true};
+ghost use Rattle.std.specs.Prelude.{◌≡◌, ◌≤◌, IfErr, IfOk, IsOk, Ok, OnOk, true};
 ghost use Rattle.dds_match.specs.Plan.{network_of};
 ghost use Rattle.dds_cert.specs.Fits.{fits};
 ghost use Rattle.dds_cert.specs.Sections.{read as certificate_read};
@@ -7,17 +7,20 @@ ghost use Rattle.dds_cert.specs.Views.{certificate_view};
 ghost use Rattle.dds_check.specs.Accepts.{first_no};
 ghost use Rattle.dds_tool.specs.Answers.{Gives, answer_status};
 ghost use Rattle.dds_tool.specs.Fault.{fault_status};
-ghost use Rattle.dds_tool.specs.Outcome.{compared, judged, match_outcome, outcome, verdict};
+ghost use Rattle.dds_tool.specs.Outcome.{Outcome, compared, judged, match_outcome, outcome, proposed, unproposed, verdict};
+ghost use Rattle.dds_tool.specs.Proposals.{IsAccepted, MayPropose};
+ghost use Rattle.dds_deploy.specs.Sections.{read as deployment_read};
 
 use crate::fault::ToolFault;
 use crate::matches::{is_as_intended, match_text};
 use crate::report::{acceptance_text, certificate_fault, deployment_fault, refusal_text};
-use dds_cert::{Certificate, read_certificate};
+use dds_cert::{Certificate, certificate_text, read_certificate};
 use dds_check::No;
 use dds_check::accepts::accepts;
 use dds_deploy::{Deployment, read_deployment};
 use dds_match::Plan;
 use dds_match::planning::plan;
+use dds_propose::propose;
 use std::alloc::{AllocError, Global};
 
 /// A text for the output, and whether the answer is yes. The exit status is 0 for yes and 1 for no.
@@ -146,6 +149,68 @@ pub fn match_answer(alloc: Global, deployment: &[u8]) -> Result<Answer, ToolFaul
 {
     match read_deployment(alloc, deployment) {
         Ok(lists) => lists_compared(alloc, lists),
+        Err(fault) => Err(deployment_fault(fault)),
+    }
+}
+
+/// The answer with the text of a certificate that was proposed.
+#[tactic(auto, unfolding(crate::specs::Report::output_of, crate::specs::Report::status_of))]
+fn certified(alloc: Global, plan: &Plan, certificate: &Certificate) -> Result<Answer, ToolFault>
+    ensures gives { Gives result (proposed plan.now (certificate_view certificate.now)) }
+    ensures no_usage { IfErr result (λ e. fault_status e ≤ 3) }
+{
+    match certificate_text(alloc, plan, certificate) {
+        Ok(text) => Ok(Answer { text, is_yes: true }),
+        Err(_) => Err(ToolFault::NoMemory),
+    }
+}
+
+/// The answer where no certificate was found.
+#[tactic(auto, unfolding(crate::specs::Report::output_of, crate::specs::Report::status_of))]
+fn unproposed(alloc: Global) -> Result<Answer, ToolFault>
+    ensures gives { Gives result unproposed }
+    ensures no_usage { IfErr result (λ e. fault_status e ≤ 3) }
+{
+    answered(String::from_str(alloc, "none\n"), false)
+}
+
+/// The answer to what is proposed for a plan.
+fn sought(alloc: Global, plan: &Plan) -> Result<Answer, ToolFault>
+    ensures gives { (end : Outcome) × MayPropose (Ok plan.now) end × Gives result end }
+    ensures no_usage { IfErr result (λ e. fault_status e ≤ 3) }
+{
+    match propose(alloc, plan) {
+        Ok(Some(certificate)) => certified(alloc, plan, &certificate),
+        Ok(None) => unproposed(alloc),
+        Err(_) => Err(ToolFault::NoMemory),
+    }
+}
+
+/// The answer to what is proposed for the lists of a deployment.
+fn lists_sought(alloc: Global, lists: Deployment) -> Result<Answer, ToolFault>
+    ensures gives { (end : Outcome) × MayPropose (Ok lists) end × Gives result end }
+    ensures no_usage { IfErr result (λ e. fault_status e ≤ 3) }
+{
+    match plan(alloc, lists) {
+        Ok(plan) => {
+            let answer = sought(alloc, &plan);
+            drop(plan);
+            answer
+        }
+        Err((_, lists)) => {
+            drop(lists);
+            Err(ToolFault::NoMemory)
+        }
+    }
+}
+
+/// The answer of `propose` to the bytes of a deployment: yes with the text of a certificate that is accepted, or no where none was found.
+pub fn propose_answer(alloc: Global, deployment: &[u8]) -> Result<Answer, ToolFault>
+    ensures gives { (end : Outcome) × MayPropose (deployment_read deployment.now) end × Gives result end }
+    ensures no_usage { IfErr result (λ e. fault_status e ≤ 3) }
+{
+    match read_deployment(alloc, deployment) {
+        Ok(lists) => lists_sought(alloc, lists),
         Err(fault) => Err(deployment_fault(fault)),
     }
 }

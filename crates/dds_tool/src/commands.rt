@@ -6,10 +6,11 @@ ghost use Rattle.dds_tool.specs.Answers.{Gives};
 ghost use Rattle.dds_tool.specs.Asking.{Answers, Asks, GivesTo, IsHelp, whole};
 ghost use Rattle.dds_tool.specs.Fault.{fault_line, fault_status};
 ghost use Rattle.dds_tool.specs.Outcome.{Outcome, file_outcome, match_file_outcome};
+ghost use Rattle.dds_tool.specs.Proposals.{MayProposeFor};
 ghost use Rattle.dds_tool.specs.Reading.{IsReadingFault};
 ghost use Rattle.dds_tool.specs.Report.{Ends, output_of, status_of};
 
-use crate::answer::{Answer, check_answer, match_answer};
+use crate::answer::{Answer, check_answer, match_answer, propose_answer};
 use crate::counted::Counted;
 use crate::fault::{NO_MEMORY, ToolFault, fault_status, fault_text};
 use crate::reading::read_all;
@@ -76,6 +77,21 @@ fn match_file<S: Sources>(
 {
     let deployment = read_file(alloc, files, deployment)?;
     match_answer(alloc, deployment.as_slice())
+}
+
+/// The answer of `propose` to a file, which is read whole before it is parsed.
+fn propose_file<S: Sources>(
+    alloc: Global,
+    deployment: &str,
+    files: &mut S,
+) -> Result<Answer, ToolFault>
+    ensures gives { (d : List ℕ) → S.holds files.old deployment.now ≡ Some d → (end : Outcome) × MayProposeFor d end × Gives result end }
+    ensures no_usage { IfErr result (λ e. fault_status e ≤ 3) }
+{
+    match read_file(alloc, files, deployment) {
+        Ok(bytes) => propose_answer(alloc, bytes.as_slice()),
+        Err(fault) => Err(fault),
+    }
 }
 
 /// Writes the text of an answer and nothing else, and answers its status: 0 yes, 1 no. Only a failed write can leave a part of the text written.
@@ -156,6 +172,7 @@ fn answer_of<S: Sources>(
             certificate,
         } => check_files(alloc, deployment, certificate, files),
         Request::Match { deployment } => match_file(alloc, deployment, files),
+        Request::Propose { deployment } => propose_file(alloc, deployment, files),
     }
 }
 

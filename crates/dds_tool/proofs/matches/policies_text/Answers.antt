@@ -1,5 +1,4 @@
-use Rattle.std.proofs.Common.{rules, arith, ◌≡◌, ◌∙◌, ◌≤◌, ap, codes, filter, length, map, string_bytes, take, List, ℕ}
-use Rattle.std.specs.List.{join_by}
+use Rattle.std.proofs.Common.{rules, ◌≡◌, ◌∙◌, ap, codes, filter, map, take}
 use Rattle.std.proofs.lemmas.Result.{IfOk-weaker}
 use Rattle.dds_qos.specs.Compatibility.{contains, name_of, policies}
 use Rattle.dds_tool.proofs.Names.{one_more_name, same_joined}

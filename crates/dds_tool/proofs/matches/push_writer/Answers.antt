@@ -1,4 +1,4 @@
-use Rattle.std.proofs.Common.{◌≡◌, ◌∙◌, ◌++◌, ap, string_bytes}
+use Rattle.std.proofs.Common.{◌∙◌, ◌++◌, ap, string_bytes}
 use Rattle.dds_cert.proofs.TextLaws.{and_next}
 use Rattle.dds_tool.specs.Matches.{pair_line}
 use Rattle.dds_tool.proofs.matches.push_writer.Goals as goal

@@ -9,4 +9,5 @@ joined a b = with_subcommand a b.top
 pub returns : goal.returns
 returns c =
     let first = c.in_ok-command.ensures ∙ ap₂ joined c.top_command.ensures c.in_ok-matching.ensures.app in
-    IfOk-weaker c.with_command-2.result _ _ (λ r h. h ∙ ap₂ joined first c.in_ok-checking.ensures.app) c.with_command-2.ensures
+    let second = c.in_ok-command-2.ensures ∙ ap₂ joined first c.in_ok-checking.ensures.app in
+    IfOk-weaker c.with_command-3.result _ _ (λ r h. h ∙ ap₂ joined second c.in_ok-proposing.ensures.app) c.with_command-3.ensures
