@@ -98,7 +98,11 @@ sweep match "$ping/ping.toml"
 sweep match "$loop/loop.toml"
 sweep match "$room/empty.toml"
 sweep match "$room/missing.toml"
+sweep propose "$ping/ping.toml"
+sweep propose "$loop/loop.toml"
+sweep propose "$room/empty.toml"
 sweep check "$ping/ping.toml"
 sweep match
+sweep propose
 sweep --help
 finish
