@@ -1,0 +1,7 @@
+mod Entries
+mod Tables
+mod KeyTargets
+mod Matching
+mod Flags
+mod Weighed
+mod Least

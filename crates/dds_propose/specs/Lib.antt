@@ -1,0 +1,5 @@
+pub mod Tables
+pub mod Listing
+pub mod Targets
+pub mod Matches
+pub mod Bounds

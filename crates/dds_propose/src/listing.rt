@@ -1,4 +1,9 @@
 //! The lists of a certificate from tables.
+ghost use Rattle.std.specs.Prelude.{◌≡◌, ◌++◌, IfOk};
+ghost use Rattle.dds_match.specs.Plan.{network_of};
+ghost use Rattle.dds_cert.specs.Views.{row_view};
+ghost use Rattle.dds_propose.specs.Listing.{entries, entries_of, listed};
+ghost use Rattle.dds_propose.specs.Tables.{cell, row_of};
 
 use crate::sizes::KEYS;
 use crate::weights::{Table, Weights};
@@ -12,7 +17,9 @@ fn add_weights<E: Endpoint>(
     list: &mut Vec<Weight<E>>,
     table: &Table,
     endpoint: E,
-) -> Result<(), AllocError> {
+) -> Result<(), AllocError>
+    ensures { IfOk result (λ _. list.new.items ≡ list.old.items ++ entries_of endpoint (cell table.now (E.number_of endpoint)) 64) }
+{
     for k in 0..KEYS {
         let key = KeyNo::new(k);
         let weight = table.at(endpoint, key);
@@ -32,7 +39,9 @@ fn reader_weights(
     alloc: Global,
     plan: &Plan,
     table: &Table,
-) -> Result<Vec<Weight<ReaderNo>>, AllocError> {
+) -> Result<Vec<Weight<ReaderNo>>, AllocError>
+    ensures { IfOk result (λ list. list.items ≡ entries (cell table.now) (network_of plan.now).readers) }
+{
     let mut list = Vec::new(alloc);
     for r in 0..plan.lists().readers() {
         add_weights(&mut list, table, ReaderNo::new(r))?;
@@ -45,7 +54,9 @@ fn writer_weights(
     alloc: Global,
     plan: &Plan,
     table: &Table,
-) -> Result<Vec<Weight<WriterNo>>, AllocError> {
+) -> Result<Vec<Weight<WriterNo>>, AllocError>
+    ensures { IfOk result (λ list. list.items ≡ entries (cell table.now) (network_of plan.now).writers) }
+{
     let mut list = Vec::new(alloc);
     for w in 0..plan.lists().writers() {
         add_weights(&mut list, table, WriterNo::new(w))?;
@@ -59,7 +70,9 @@ pub(crate) fn listed_row(
     plan: &Plan,
     place: usize,
     weights: &Weights,
-) -> Result<Row, AllocError> {
+) -> Result<Row, AllocError>
+    ensures { IfOk result (λ made. row_view made ≡ listed (network_of plan.now) place (row_of weights.now)) }
+{
     Ok(Row {
         name: format!(in alloc; "w{place}")?,
         samples: reader_weights(alloc, plan, &weights.samples)?,

@@ -1,4 +1,7 @@
 //! Which writers match each reader, found once for all rounds.
+ghost use Rattle.std.specs.Prelude.{◌≡◌, IfOk};
+ghost use Rattle.dds_match.specs.Plan.{network_of};
+ghost use Rattle.dds_propose.specs.Matches.{matched_writers, writers_at, ShowsMatches};
 
 use dds_base::{ReaderNo, WriterNo};
 use dds_match::Plan;
@@ -11,7 +14,9 @@ pub(crate) struct Matches {
 }
 
 /// The writers that match a reader.
-fn writers_of(alloc: Global, plan: &Plan, reader: ReaderNo) -> Result<Vec<WriterNo>, AllocError> {
+fn writers_of(alloc: Global, plan: &Plan, reader: ReaderNo) -> Result<Vec<WriterNo>, AllocError>
+    ensures { IfOk result (λ list. list.items ≡ matched_writers (network_of plan.now) reader) }
+{
     let mut writers = Vec::new(alloc);
     for w in 0..plan.lists().writers() {
         let writer = WriterNo::new(w);
@@ -24,7 +29,9 @@ fn writers_of(alloc: Global, plan: &Plan, reader: ReaderNo) -> Result<Vec<Writer
 
 impl Matches {
     /// The matches of a plan.
-    pub(crate) fn of(alloc: Global, plan: &Plan) -> Result<Matches, AllocError> {
+    pub(crate) fn of(alloc: Global, plan: &Plan) -> Result<Matches, AllocError>
+        ensures { IfOk result (ShowsMatches (network_of plan.now)) }
+    {
         let mut writers = Vec::new(alloc);
         for r in 0..plan.lists().readers() {
             writers.push(writers_of(alloc, plan, ReaderNo::new(r))?)?;
@@ -33,7 +40,9 @@ impl Matches {
     }
 
     /// The writers that match a reader, none where there is no such reader.
-    pub(crate) fn writers(&self, reader: ReaderNo) -> &[WriterNo] {
+    pub(crate) fn writers(&self, reader: ReaderNo) -> &[WriterNo]
+        ensures { result.now ≡ writers_at self.now reader }
+    {
         match self.writers.get(reader.number()) {
             Some(writers) => writers.as_slice(),
             None => &[],

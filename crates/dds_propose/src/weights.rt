@@ -1,5 +1,7 @@
 //! The weights of a row while it is made, each found in one step.
-ghost use Rattle.std.specs.Prelude.{◌≡◌, ◌*◌, ◌^◌, ◌≤◌, ◌<◌, length};
+ghost use Rattle.std.specs.Prelude.{◌≡◌, ◌*◌, ◌^◌, ◌≤◌, ◌<◌, ◌==◌, ◌&&◌, ℕ, length, IfOk, if◌then◌else◌};
+ghost use Rattle.dds_check.specs.Tables.{weighed_by};
+ghost use Rattle.dds_propose.specs.Tables.{cell, is_place};
 
 use crate::sizes::{CELLS, ENDPOINTS, KEYS};
 use dds_base::{Endpoint, KeyNo, Portion, ReaderNo, WriterNo};
@@ -24,13 +26,19 @@ impl Model for Table {
 
 impl Table {
     /// The table of zeros.
-    fn zero(alloc: Global) -> Result<Table, AllocError> {
+    #[tactic(auto, unfolding(crate::specs::Tables::cell))]
+    fn zero(alloc: Global) -> Result<Table, AllocError>
+        ensures { IfOk result (λ t. (e k : ℕ) → cell t e k ≡ 0) }
+    {
         let cells = vec![in alloc; 0; CELLS]?;
         Ok(Table { cells })
     }
 
     /// The number of a key of an endpoint, 0 where there is no such place.
-    pub(crate) fn at<E: Endpoint>(&self, endpoint: E, key: KeyNo) -> u32 {
+    #[tactic(auto, unfolding(crate::specs::Tables::cell))]
+    pub(crate) fn at<E: Endpoint>(&self, endpoint: E, key: KeyNo) -> u32
+        ensures { result ≡ cell self.now (E.number_of endpoint) key }
+    {
         let e = endpoint.place();
         let k = key.number();
         if e < ENDPOINTS && k < KEYS {
@@ -41,7 +49,10 @@ impl Table {
     }
 
     /// Puts a number at a key of an endpoint. Nothing changes where there is no such place.
-    pub(crate) fn put<E: Endpoint>(&mut self, endpoint: E, key: KeyNo, number: u32) {
+    #[tactic(auto, unfolding(crate::specs::Tables::cell))]
+    pub(crate) fn put<E: Endpoint>(&mut self, endpoint: E, key: KeyNo, number: u32)
+        ensures { (e k : ℕ) → cell self.new e k ≡ if is_place e k && ((e == E.number_of endpoint) && (k == key)) then number else cell self.old e k }
+    {
         let e = endpoint.place();
         let k = key.number();
         if e < ENDPOINTS && k < KEYS {
@@ -51,7 +62,8 @@ impl Table {
 
     /// The sum of count times weight over what a rule takes or writes.
     pub(crate) fn weighed<E: Endpoint>(&self, portions: &[Portion<E>]) -> u128
-        ensures { result ≤ length portions.now * 2 ^ 48 }
+        ensures value { result ≡ weighed_by E.number_of portions.now (cell self.now) }
+        ensures small { result ≤ length portions.now * 2 ^ 48 }
     {
         let mut total: u128 = 0;
         for portion in portions {
