@@ -1,4 +1,4 @@
-//! Files that are cut, too large or not text, readers that fail, and an output that fails.
+//! Files that are cut, too large or not text, readers that are slow or fail, and an output that fails, by each command.
 use crate::files::{Pair, readable, text_of};
 use crate::texts::{PING, PING_CERT};
 use dds_tool::{MAX_FILE, tool};
@@ -7,45 +7,73 @@ use std::io::{self, ErrorKind, Write};
 use std::process::Abort;
 use std::test::Fail;
 
+/// The words of a command, and what it answers to PING.
+struct Command {
+    words: &'static [&'static str],
+    answer: &'static str,
+}
+
 static CHECK: [&str; 4] = ["ddscheck", "check", "d", "c"];
 
-static YES: &str = "yes\nbound ping_r k 3\nbound pong_r k 3\n";
+static COMMANDS: [Command; 2] = [
+    Command {
+        words: &["ddscheck", "check", "d", "c"],
+        answer: "yes\nbound ping_r k 3\nbound pong_r k 3\n",
+    },
+    Command {
+        words: &["ddscheck", "match", "d"],
+        answer: "match ping_w ping_r\nnone ping_w pong_r topic\nnone pong_w ping_r topic\nmatch pong_w pong_r\n",
+    },
+];
 
-/// Checks two files, and compares the status and what is written.
-fn expect(rt: &impl Abort, alloc: Global, mut files: Pair, status: u8, output: &str, errors: &str) {
+/// Compares the status and what is written.
+fn expect(
+    rt: &impl Abort,
+    alloc: Global,
+    words: &[&str],
+    mut files: Pair,
+    status: u8,
+    output: &str,
+    errors: &str,
+) {
     let mut out = Vec::new(alloc);
     let mut err = Vec::new(alloc);
-    let answer = tool(alloc, CHECK.as_slice(), &mut files, &mut out, &mut err);
-    assert_eq!(rt; text_of(out.as_slice()), output);
-    assert_eq!(rt; text_of(err.as_slice()), errors);
-    assert_eq!(rt; answer, status, "{output}{errors}");
+    let answer = tool(alloc, words, &mut files, &mut out, &mut err);
+    assert_eq!(rt; text_of(out.as_slice()), output, "{words:?}");
+    assert_eq!(rt; text_of(err.as_slice()), errors, "{words:?}");
+    assert_eq!(rt; answer, status, "{words:?}");
+}
+
+/// Each command answers these files as it answers PING.
+fn expect_answers(rt: &impl Abort, alloc: Global, files: Pair) {
+    for command in &COMMANDS {
+        expect(rt, alloc, command.words, files, 0, command.answer, "");
+    }
+}
+
+/// Each command answers these files with this status and this text on the error output, and nothing else.
+fn expect_fault(rt: &impl Abort, alloc: Global, files: Pair, status: u8, errors: &str) {
+    for command in &COMMANDS {
+        expect(rt, alloc, command.words, files, status, "", errors);
+    }
 }
 
 #[test]
 fn tells_cut_files(rt: HostRuntime) -> Result<(), Fail> {
     let alloc = rt.alloc();
     let Some((head, _)) = PING.split_once("[[applications]]") else {
-        assert!(rt; false, "PING has no applications");
-        return Ok(());
+        panic!(rt; "PING has no applications");
     };
     let cut = readable(head.as_bytes(), PING_CERT.as_bytes());
-    expect(
+    expect_fault(
         &rt,
         alloc,
         cut,
         2,
-        "",
         "ddscheck: deployment 12 EndpointOwner writers[0]\n",
     );
     let no_text = readable(&[255], PING_CERT.as_bytes());
-    expect(
-        &rt,
-        alloc,
-        no_text,
-        2,
-        "",
-        "ddscheck: deployment 1 NotToml\n",
-    );
+    expect_fault(&rt, alloc, no_text, 2, "ddscheck: deployment 1 NotToml\n");
     Ok(())
 }
 
@@ -57,7 +85,7 @@ fn tells_deep_brackets(rt: HostRuntime) -> Result<(), Fail> {
         deep.push_str("[")?;
     }
     let files = readable(deep.as_bytes(), PING_CERT.as_bytes());
-    expect(&rt, alloc, files, 2, "", "ddscheck: deployment 1 NotToml\n");
+    expect_fault(&rt, alloc, files, 2, "ddscheck: deployment 1 NotToml\n");
     Ok(())
 }
 
@@ -76,12 +104,11 @@ fn tells_too_many(rt: HostRuntime) -> Result<(), Fail> {
     let alloc = rt.alloc();
     let text = crowded(alloc)?;
     let files = readable(text.as_bytes(), PING_CERT.as_bytes());
-    expect(
+    expect_fault(
         &rt,
         alloc,
         files,
         2,
-        "",
         "ddscheck: deployment 11 TooMany participants\n",
     );
     Ok(())
@@ -105,83 +132,99 @@ fn takes_the_largest_file(rt: HostRuntime) -> Result<(), Fail> {
     let alloc = rt.alloc();
     let largest = padded(alloc, MAX_FILE)?;
     assert_eq!(rt; largest.len(), MAX_FILE);
-    expect(
-        &rt,
-        alloc,
-        readable(largest.as_bytes(), PING_CERT.as_bytes()),
-        0,
-        YES,
-        "",
-    );
+    let files = readable(largest.as_bytes(), PING_CERT.as_bytes());
+    expect_answers(&rt, alloc, files);
+    Ok(())
+}
+
+#[test]
+fn tells_a_file_that_is_too_large(rt: HostRuntime) -> Result<(), Fail> {
+    let alloc = rt.alloc();
     let larger = padded(alloc, MAX_FILE + 1)?;
     assert_eq!(rt; larger.len(), MAX_FILE + 1);
-    expect(
-        &rt,
-        alloc,
-        readable(larger.as_bytes(), PING_CERT.as_bytes()),
-        2,
-        "",
-        "ddscheck: 4 TooLarge\n",
-    );
-    expect(
-        &rt,
-        alloc,
-        readable(b"", larger.as_bytes()),
-        2,
-        "",
-        "ddscheck: 4 TooLarge\n",
-    );
+    let too_large = "ddscheck: 4 TooLarge\n";
+    let first = readable(larger.as_bytes(), PING_CERT.as_bytes());
+    expect_fault(&rt, alloc, first, 2, too_large);
+    let second = readable(b"", larger.as_bytes());
+    expect(&rt, alloc, CHECK.as_slice(), second, 2, "", too_large);
+    Ok(())
+}
+
+/// PING in files that are interrupted so often, give at most so many bytes at a time, and fail after so many.
+fn rough(interruptions: u32, chunk: usize, fails_after: usize) -> Pair<'static> {
+    Pair {
+        deployment: PING.as_bytes(),
+        certificate: PING_CERT.as_bytes(),
+        interruptions,
+        chunk,
+        fails_after,
+        opened: 0,
+    }
+}
+
+#[test]
+fn reads_slow_files(rt: HostRuntime) -> Result<(), Fail> {
+    let rows: [(u32, usize); 6] = [
+        (0, 1),
+        (0, 2),
+        (0, 7),
+        (1, usize::MAX),
+        (1000, usize::MAX),
+        (1000, 1),
+    ];
+    for (interruptions, chunk) in rows {
+        let files = rough(interruptions, chunk, usize::MAX);
+        expect_answers(&rt, rt.alloc(), files);
+    }
     Ok(())
 }
 
 #[test]
 fn tells_failed_reads(rt: HostRuntime) -> Result<(), Fail> {
-    let alloc = rt.alloc();
-    let rows: [(u32, usize, u8, &str, &str); 4] = [
-        (0, usize::MAX, 0, YES, ""),
-        (1000, usize::MAX, 0, YES, ""),
-        (1001, usize::MAX, 3, "", "ddscheck: 5 Read\n"),
-        (0, 10, 3, "", "ddscheck: 5 Read\n"),
+    let rows: [(u32, usize, usize); 6] = [
+        (1001, usize::MAX, usize::MAX),
+        (1001, 1, usize::MAX),
+        (0, usize::MAX, 0),
+        (0, usize::MAX, 10),
+        (0, 1, 10),
+        (0, usize::MAX, PING.len()),
     ];
-    for (interruptions, fails_after, status, output, errors) in rows {
-        let files = Pair {
-            deployment: PING.as_bytes(),
-            certificate: PING_CERT.as_bytes(),
-            interruptions,
-            fails_after,
-            opened: 0,
-        };
-        expect(&rt, alloc, files, status, output, errors);
+    for (interruptions, chunk, fails_after) in rows {
+        let files = rough(interruptions, chunk, fails_after);
+        expect_fault(&rt, rt.alloc(), files, 3, "ddscheck: 5 Read\n");
     }
     Ok(())
 }
 
 #[test]
 fn tells_files_that_do_not_open(rt: HostRuntime) -> Result<(), Fail> {
-    let alloc = rt.alloc();
-    let rows: [[&str; 4]; 2] = [
-        ["ddscheck", "check", "e", "c"],
-        ["ddscheck", "check", "d", "e"],
+    let rows: [&[&str]; 4] = [
+        &["ddscheck", "check", "e", "c"],
+        &["ddscheck", "check", "d", "e"],
+        &["ddscheck", "check", "e", "e"],
+        &["ddscheck", "match", "e"],
     ];
     for words in rows {
-        let mut files = readable(PING.as_bytes(), PING_CERT.as_bytes());
-        let mut out = Vec::new(alloc);
-        let mut err = Vec::new(alloc);
-        let status = tool(alloc, words.as_slice(), &mut files, &mut out, &mut err);
-        assert_eq!(rt; status, 3);
-        assert_eq!(rt; out.len(), 0);
-        assert_eq!(rt; text_of(err.as_slice()), "ddscheck: 5 Read\n");
+        let files = readable(PING.as_bytes(), PING_CERT.as_bytes());
+        expect(&rt, rt.alloc(), words, files, 3, "", "ddscheck: 5 Read\n");
     }
     Ok(())
 }
 
-/// An output that takes nothing.
+/// An output that takes so many bytes, and then none.
 #[derive(Drop)]
-struct Closed;
+struct Full {
+    room: usize,
+}
 
-impl Write for Closed {
-    fn write(&mut self, _buf: &[u8]) -> io::Result<usize> {
-        Err(io::Error::from(ErrorKind::BrokenPipe))
+impl Write for Full {
+    fn write(&mut self, buf: &[u8]) -> io::Result<usize> {
+        if self.room == 0 {
+            return Err(io::Error::from(ErrorKind::BrokenPipe));
+        }
+        let count = buf.len().min(self.room);
+        self.room -= count;
+        Ok(count)
     }
 
     fn flush(&mut self) -> io::Result<()> {
@@ -189,37 +232,66 @@ impl Write for Closed {
     }
 }
 
-#[test]
-fn tells_a_failed_write(rt: HostRuntime) -> Result<(), Fail> {
-    let alloc = rt.alloc();
+/// What a command tells where its output takes so many bytes.
+fn expect_write_fault(rt: &impl Abort, alloc: Global, words: &[&str], room: usize) {
     let mut files = readable(PING.as_bytes(), PING_CERT.as_bytes());
     let mut err = Vec::new(alloc);
-    let status = tool(alloc, CHECK.as_slice(), &mut files, &mut Closed, &mut err);
-    assert_eq!(rt; status, 3);
-    assert_eq!(rt; text_of(err.as_slice()), "ddscheck: 6 Write\n");
-    let mut files = readable(b"", PING_CERT.as_bytes());
+    let status = tool(alloc, words, &mut files, &mut Full { room }, &mut err);
+    assert_eq!(rt; status, 3, "{words:?}");
+    assert_eq!(rt; text_of(err.as_slice()), "ddscheck: 6 Write\n", "{words:?}");
+}
+
+#[test]
+fn tells_a_failed_write(rt: HostRuntime) -> Result<(), Fail> {
+    for command in &COMMANDS {
+        for room in [0, 1, 5] {
+            expect_write_fault(&rt, rt.alloc(), command.words, room);
+        }
+    }
+    Ok(())
+}
+
+// Where the error output takes nothing, the status is told alone.
+#[test]
+fn answers_the_status_without_an_error_output(rt: HostRuntime) -> Result<(), Fail> {
+    let alloc = rt.alloc();
+    for command in &COMMANDS {
+        let mut files = readable(b"", PING_CERT.as_bytes());
+        let mut out = Vec::new(alloc);
+        let mut err = Full { room: 0 };
+        let status = tool(alloc, command.words, &mut files, &mut out, &mut err);
+        assert_eq!(rt; status, 2, "{:?}", command.words);
+        assert_eq!(rt; out.len(), 0, "{:?}", command.words);
+    }
+    Ok(())
+}
+
+/// Runs a command on two files, whatever it answers of them.
+fn expect_an_answer(rt: &impl Abort, alloc: Global, words: &[&str], mut files: Pair, end: usize) {
     let mut out = Vec::new(alloc);
-    let status = tool(alloc, CHECK.as_slice(), &mut files, &mut out, &mut Closed);
-    assert_eq!(rt; status, 2);
-    assert_eq!(rt; out.len(), 0);
+    let mut err = Vec::new(alloc);
+    let status = tool(alloc, words, &mut files, &mut out, &mut err);
+    assert!(rt; status <= 2, "{words:?} {end}");
+}
+
+#[test]
+fn reads_every_beginning_of_a_deployment(rt: HostRuntime) -> Result<(), Fail> {
+    let (deployment, certificate) = (PING.as_bytes(), PING_CERT.as_bytes());
+    for end in 0..deployment.len() {
+        for command in &COMMANDS {
+            let files = readable(&deployment[..end], certificate);
+            expect_an_answer(&rt, rt.alloc(), command.words, files, end);
+        }
+    }
     Ok(())
 }
 
 #[test]
-fn reads_every_beginning(rt: HostRuntime) -> Result<(), Fail> {
-    let alloc = rt.alloc();
+fn reads_every_beginning_of_a_certificate(rt: HostRuntime) -> Result<(), Fail> {
     let (deployment, certificate) = (PING.as_bytes(), PING_CERT.as_bytes());
-    for end in 0..deployment.len() {
-        let mut files = readable(&deployment[..end], certificate);
-        let (mut out, mut err) = (Vec::new(alloc), Vec::new(alloc));
-        let status = tool(alloc, CHECK.as_slice(), &mut files, &mut out, &mut err);
-        assert!(rt; status <= 2, "{end}");
-    }
     for end in 0..certificate.len() {
-        let mut files = readable(deployment, &certificate[..end]);
-        let (mut out, mut err) = (Vec::new(alloc), Vec::new(alloc));
-        let status = tool(alloc, CHECK.as_slice(), &mut files, &mut out, &mut err);
-        assert!(rt; status <= 2, "{end}");
+        let files = readable(deployment, &certificate[..end]);
+        expect_an_answer(&rt, rt.alloc(), CHECK.as_slice(), files, end);
     }
     Ok(())
 }

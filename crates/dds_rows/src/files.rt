@@ -3,11 +3,12 @@ use dds_tool::Sources;
 use std::io::{self, ErrorKind, Read};
 use std::str;
 
-/// A file that is interrupted for a while before it gives its bytes, and fails after some of them.
+/// A file that is interrupted for a while before it gives its bytes, gives at most `chunk` of them at a time, and fails after some.
 #[derive(Drop)]
 pub struct Rough<'a> {
     pub bytes: &'a [u8],
     pub interruptions: u32,
+    pub chunk: usize,
     pub fails_after: usize,
 }
 
@@ -24,6 +25,9 @@ impl<'a> Read for Rough<'a> {
         if first.len() > self.fails_after {
             first = &first[..self.fails_after];
         }
+        if first.len() > self.chunk {
+            first = &first[..self.chunk];
+        }
         let count = first.read(buf)?;
         if count <= self.bytes.len() && count <= self.fails_after {
             self.bytes = &self.bytes[count..];
@@ -34,11 +38,12 @@ impl<'a> Read for Rough<'a> {
 }
 
 /// A deployment at the path `d` and a certificate at the path `c`, and no other file. It counts the files that were opened.
-#[derive(Drop)]
+#[derive(Clone, Copy)]
 pub struct Pair<'a> {
     pub deployment: &'a [u8],
     pub certificate: &'a [u8],
     pub interruptions: u32,
+    pub chunk: usize,
     pub fails_after: usize,
     pub opened: u64,
 }
@@ -49,6 +54,7 @@ pub fn readable<'a>(deployment: &'a [u8], certificate: &'a [u8]) -> Pair<'a> {
         deployment,
         certificate,
         interruptions: 0,
+        chunk: usize::MAX,
         fails_after: usize::MAX,
         opened: 0,
     }
@@ -67,6 +73,7 @@ impl<'a> Sources for Pair<'a> {
         Some(Rough {
             bytes,
             interruptions: self.interruptions,
+            chunk: self.chunk,
             fails_after: self.fails_after,
         })
     }

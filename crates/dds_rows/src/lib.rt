@@ -1,27 +1,22 @@
-//! Worked rows over the whole tool, with files in memory, and tables over the libraries below it.
+//! Worked rows over the whole tool, with files in memory, and what is proposed for them.
 #![tactic(auto)]
 
 #[cfg(test)]
-mod deployments;
+use dds_files::texts;
+
 #[cfg(test)]
 mod devices;
 #[cfg(test)]
 mod files;
 #[cfg(test)]
-mod matches;
+mod help;
 #[cfg(test)]
-mod policies;
+mod matches;
 #[cfg(test)]
 mod proposals;
 #[cfg(test)]
 mod proposed_texts;
 #[cfg(test)]
-mod ranges;
-#[cfg(test)]
 mod rows;
-#[cfg(test)]
-mod texts;
-#[cfg(test)]
-mod vectors;
 #[cfg(test)]
 mod words;

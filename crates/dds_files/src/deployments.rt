@@ -1,7 +1,6 @@
 //! Deployment files with one fault, and which is told where.
-//!
-//! A case is a line: the lines that the file begins with, its other lines joined by `;;`, and after `=>` what is told, or `ok`.
 
+use crate::lines::{case_of, file_of, repeated};
 use dds_deploy::{DeployFault, Deployment, read_deployment};
 use std::alloc::{AllocError, Global};
 use std::process::Abort;
@@ -365,7 +364,10 @@ fn read(alloc: Global, bytes: &[u8]) -> Result<Deployment, DeployFault> {
 /// What is told of a file: the number and the name of the fault and its path, or `ok`.
 fn told(alloc: Global, bytes: &[u8]) -> Result<String, AllocError> {
     match read(alloc, bytes) {
-        Ok(_deployment) => String::from_str(alloc, "ok"),
+        Ok(deployment) => {
+            drop(deployment);
+            String::from_str(alloc, "ok")
+        }
         Err(DeployFault::NoMemory) => String::from_str(alloc, "14 NoMemory"),
         Err(DeployFault::At(fault)) => {
             let kind = fault.kind;
@@ -376,17 +378,15 @@ fn told(alloc: Global, bytes: &[u8]) -> Result<String, AllocError> {
 
 /// Reads the file of a case, and compares what is told. The line of an empty path ends after the name.
 fn expect(rt: &impl Abort, alloc: Global, line: &str) -> Result<(), AllocError> {
-    let (name, rest) = line.split_once(":").unwrap_or(("", ""));
-    let (lines, wanted) = rest.split_once(" => ").unwrap_or(("", ""));
-    let frame = frame(name);
-    assert!(rt; frame.is_some() && !wanted.is_empty(), "{line}");
-    let (start, end) = frame.unwrap_or(("", ""));
-    let mut text = String::from_str(alloc, start)?;
-    let lines = lines.replace(alloc, ";;", "\n")?;
-    text.push_str(lines.as_str())?;
-    text.push_str(end)?;
+    let Some(case) = case_of(line) else {
+        panic!(rt; "no case: {line}");
+    };
+    let Some((start, end)) = frame(case.frame) else {
+        panic!(rt; "no such beginning: {line}");
+    };
+    let text = file_of(alloc, start, case.lines, end)?;
     let answer = told(alloc, text.as_bytes())?;
-    assert_eq!(rt; answer.as_str().trim_end(), wanted, "{line}");
+    assert_eq!(rt; answer.as_str().trim_end(), case.wanted, "{line}");
     Ok(())
 }
 
@@ -411,132 +411,126 @@ fn tells_the_first_fault(rt: HostRuntime) -> Result<(), Fail> {
     Ok(())
 }
 
-/// A text, so many times another one, and a third.
-fn repeated(
-    alloc: Global,
-    start: &str,
-    part: &str,
-    times: u32,
-    end: &str,
-) -> Result<String, AllocError> {
-    let mut text = String::from_str(alloc, start)?;
-    for _ in 0..times {
-        text.push_str(part)?;
-    }
-    text.push_str(end)?;
-    Ok(text)
+/// A file of a repeated part: its beginning, the part, how often it comes, its end, and what is told.
+type Crowd = (&'static str, &'static str, u32, &'static str, &'static str);
+
+static CROWDS: [Crowd; 17] = [
+    (
+        "version = 1\nparticipants = [",
+        "0,",
+        64,
+        "]",
+        "5 WrongKind participants[0]",
+    ),
+    (
+        "version = 1\nparticipants = [",
+        "0,",
+        65,
+        "]",
+        "11 TooMany participants",
+    ),
+    (
+        "version = 1\ntopics = [",
+        "0,",
+        256,
+        "]",
+        "5 WrongKind topics[0]",
+    ),
+    (
+        "version = 1\ntopics = [",
+        "0,",
+        257,
+        "]",
+        "11 TooMany topics",
+    ),
+    (
+        "version = 1\nwriters = [",
+        "0,",
+        256,
+        "]",
+        "5 WrongKind writers[0]",
+    ),
+    (
+        "version = 1\nwriters = [",
+        "0,",
+        257,
+        "]",
+        "11 TooMany writers",
+    ),
+    (
+        "version = 1\nreaders = [",
+        "0,",
+        256,
+        "]",
+        "5 WrongKind readers[0]",
+    ),
+    (
+        "version = 1\nreaders = [",
+        "0,",
+        257,
+        "]",
+        "11 TooMany readers",
+    ),
+    (
+        "version = 1\napplications = [",
+        "0,",
+        64,
+        "]",
+        "5 WrongKind applications[0]",
+    ),
+    (
+        "version = 1\napplications = [",
+        "0,",
+        65,
+        "]",
+        "11 TooMany applications",
+    ),
+    (
+        "version = 1\nrules = [",
+        "0,",
+        256,
+        "]",
+        "5 WrongKind rules[0]",
+    ),
+    ("version = 1\nrules = [", "0,", 257, "]", "11 TooMany rules"),
+    (
+        "version = 1\nconnections = [",
+        "0,",
+        65536,
+        "]",
+        "5 WrongKind connections[0]",
+    ),
+    (
+        "version = 1\nconnections = [",
+        "0,",
+        65537,
+        "]",
+        "11 TooMany connections",
+    ),
+    ("version = 1\nzone = [", "[],", 40, "]", "3 UnknownKey zone"),
+    (
+        "version = 1\nzone = [[[[[[[[[[",
+        "",
+        0,
+        "]]]]]]]]]]",
+        "3 UnknownKey zone",
+    ),
+    ("version = 1\nzone = ", "[", 81, NESTED_END, "1 NotToml"),
+];
+
+/// Compares what is told of a crowd.
+fn expect_crowd(rt: &impl Abort, alloc: Global, crowd: &Crowd) -> Result<(), AllocError> {
+    let (start, part, times, end, wanted) = *crowd;
+    let text = repeated(alloc, start, part, times, end)?;
+    let answer = told(alloc, text.as_bytes())?;
+    assert_eq!(rt; answer.as_str().trim_end(), wanted, "{start} {times}");
+    Ok(())
 }
 
 #[test]
 fn tells_crowds_and_deep_nesting(rt: HostRuntime) -> Result<(), Fail> {
-    let alloc = rt.alloc();
-    let rows: [(&str, &str, u32, &str, &str); 17] = [
-        (
-            "version = 1\nparticipants = [",
-            "0,",
-            64,
-            "]",
-            "5 WrongKind participants[0]",
-        ),
-        (
-            "version = 1\nparticipants = [",
-            "0,",
-            65,
-            "]",
-            "11 TooMany participants",
-        ),
-        (
-            "version = 1\ntopics = [",
-            "0,",
-            256,
-            "]",
-            "5 WrongKind topics[0]",
-        ),
-        (
-            "version = 1\ntopics = [",
-            "0,",
-            257,
-            "]",
-            "11 TooMany topics",
-        ),
-        (
-            "version = 1\nwriters = [",
-            "0,",
-            256,
-            "]",
-            "5 WrongKind writers[0]",
-        ),
-        (
-            "version = 1\nwriters = [",
-            "0,",
-            257,
-            "]",
-            "11 TooMany writers",
-        ),
-        (
-            "version = 1\nreaders = [",
-            "0,",
-            256,
-            "]",
-            "5 WrongKind readers[0]",
-        ),
-        (
-            "version = 1\nreaders = [",
-            "0,",
-            257,
-            "]",
-            "11 TooMany readers",
-        ),
-        (
-            "version = 1\napplications = [",
-            "0,",
-            64,
-            "]",
-            "5 WrongKind applications[0]",
-        ),
-        (
-            "version = 1\napplications = [",
-            "0,",
-            65,
-            "]",
-            "11 TooMany applications",
-        ),
-        (
-            "version = 1\nrules = [",
-            "0,",
-            256,
-            "]",
-            "5 WrongKind rules[0]",
-        ),
-        ("version = 1\nrules = [", "0,", 257, "]", "11 TooMany rules"),
-        (
-            "version = 1\nconnections = [",
-            "0,",
-            65536,
-            "]",
-            "5 WrongKind connections[0]",
-        ),
-        (
-            "version = 1\nconnections = [",
-            "0,",
-            65537,
-            "]",
-            "11 TooMany connections",
-        ),
-        ("version = 1\nzone = [", "[],", 40, "]", "3 UnknownKey zone"),
-        (
-            "version = 1\nzone = [[[[[[[[[[",
-            "",
-            0,
-            "]]]]]]]]]]",
-            "3 UnknownKey zone",
-        ),
-        ("version = 1\nzone = ", "[", 81, NESTED_END, "1 NotToml"),
-    ];
-    for (start, part, times, end, wanted) in rows {
-        let text = repeated(alloc, start, part, times, end)?;
-        let answer = told(alloc, text.as_bytes())?;
-        assert_eq!(rt; answer.as_str().trim_end(), wanted, "{start} {times}");
+    for crowd in &CROWDS {
+        expect_crowd(&rt, rt.alloc(), crowd)?;
     }
     Ok(())
 }

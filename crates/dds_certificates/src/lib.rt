@@ -1,0 +1,15 @@
+//! Tests of certificate files: what is read from them, which fault is told where, the text of a certificate, and what is read of it again.
+#![tactic(auto)]
+
+#[cfg(test)]
+mod faults;
+#[cfg(test)]
+mod plans;
+#[cfg(test)]
+mod read;
+#[cfg(test)]
+mod rereading;
+#[cfg(test)]
+mod weights;
+#[cfg(test)]
+mod written;

@@ -1,0 +1,49 @@
+//! Plans of deployment files, and certificates that are read for them. The functions have no clauses: what they give is compared when the
+//! tests run, and nothing of it is to be proved.
+
+use dds_cert::{CertFault, Certificate, read_certificate};
+use dds_deploy::{DeployFault, Deployment, read_deployment};
+use dds_match::Plan;
+use dds_match::planning::plan;
+use std::alloc::Global;
+use std::test::Fail;
+
+/// Two topics, of the keys `a`, `b`, `c` and of the key `d`, each with a writer. The reader `r` takes all keys of the first, `s` two of them, which
+/// it names in another order, and `o` is of the second topic.
+pub(crate) const FILTERS: &str = r#"version = 1
+participants = [{ name = "p", domain = 0 }]
+topics = [{ name = "t", type = "T", keys = ["a", "b", "c"] }, { name = "u", type = "T", keys = ["d"] }]
+writers = [{ name = "w", participant = "p", topic = "t" }, { name = "v", participant = "p", topic = "u" }]
+readers = [
+  { name = "r", participant = "p", topic = "t" },
+  { name = "s", participant = "p", topic = "t", filter = ["c", "a"] },
+  { name = "o", participant = "p", topic = "u" },
+]
+applications = [{ name = "x", participant = "p", writers = ["w", "v"], readers = ["r", "s", "o"] }]
+"#;
+
+/// Reads a deployment.
+pub(crate) fn read(alloc: Global, bytes: &[u8]) -> Result<Deployment, DeployFault> {
+    read_deployment(alloc, bytes)
+}
+
+/// The plan of a deployment without a fault.
+pub(crate) fn plan_of(alloc: Global, text: &str) -> Result<Plan, Fail> {
+    let lists = read(alloc, text.as_bytes())?;
+    match plan(alloc, lists) {
+        Ok(plan) => Ok(plan),
+        Err((fault, lists)) => {
+            drop(lists);
+            Err(Fail::from(fault))
+        }
+    }
+}
+
+/// Reads a certificate for a plan.
+pub(crate) fn certificate_of(
+    alloc: Global,
+    plan: &Plan,
+    bytes: &[u8],
+) -> Result<Certificate, CertFault> {
+    read_certificate(alloc, plan, bytes)
+}

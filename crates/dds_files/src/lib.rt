@@ -1,0 +1,7 @@
+//! The files of the tests, and tests of deployment files: which fault is told where.
+#![tactic(auto)]
+
+#[cfg(test)]
+mod deployments;
+pub mod lines;
+pub mod texts;
