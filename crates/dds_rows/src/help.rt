@@ -7,12 +7,15 @@ use std::process::Abort;
 use std::test::Fail;
 
 const TOP_HELP: &str = "\
+Shows before a launch that the bounds of a DDS deployment suffice
+
 Usage: ddscheck <COMMAND>
 
 Commands:
-  match  Tells which writers and readers match, and why others don't
-  check  Checks a certificate of a deployment
-  help   Print this message or the help of the given subcommand(s)
+  match    Tells which writers and readers match, and why others don't
+  check    Checks a certificate of a deployment
+  propose  Looks for a certificate of a deployment
+  help     Print this message or the help of the given subcommand(s)
 
 Options:
   -h, --help     Print help
@@ -25,7 +28,7 @@ Tells which writers and readers match, and why others don't
 Usage: ddscheck match <deployment>
 
 Arguments:
-  <deployment>  
+  <deployment>  A TOML file: participants, topics, writers, readers, applications, rules, connections
 
 Options:
   -h, --help  Print help
@@ -37,8 +40,20 @@ Checks a certificate of a deployment
 Usage: ddscheck check <deployment> <certificate>
 
 Arguments:
-  <deployment>   
-  <certificate>  
+  <deployment>   A TOML file: participants, topics, writers, readers, applications, rules, connections
+  <certificate>  A TOML file: rows of weights, and the bounds and totals that they show
+
+Options:
+  -h, --help  Print help
+";
+
+const PROPOSE_HELP: &str = "\
+Looks for a certificate of a deployment
+
+Usage: ddscheck propose <deployment>
+
+Arguments:
+  <deployment>  A TOML file: participants, topics, writers, readers, applications, rules, connections
 
 Options:
   -h, --help  Print help
@@ -46,7 +61,7 @@ Options:
 
 const NO_COMMAND: &str = "\
 error: 'ddscheck' requires a subcommand but one was not provided
-  [subcommands: match, check, help]
+  [subcommands: match, check, propose, help]
 
 Usage: ddscheck <COMMAND>
 
@@ -74,6 +89,39 @@ const MATCH_WITH_TWO_FILES: &str = "\
 error: unexpected argument 'c' found
 
 Usage: ddscheck match <deployment>
+
+For more information, try '--help'.
+";
+
+const NO_RUN: &str = "\
+error: unrecognized subcommand 'run'
+
+Usage: ddscheck <COMMAND>
+
+For more information, try '--help'.
+";
+
+const PROPOSE_WITHOUT_FILE: &str = "\
+error: the following required arguments were not provided:
+  <deployment>
+
+Usage: ddscheck propose <deployment>
+
+For more information, try '--help'.
+";
+
+const PROPOSE_WITH_TWO_FILES: &str = "\
+error: unexpected argument 'c' found
+
+Usage: ddscheck propose <deployment>
+
+For more information, try '--help'.
+";
+
+const CHECK_WITH_THREE_FILES: &str = "\
+error: unexpected argument 'e' found
+
+Usage: ddscheck check <deployment> <certificate>
 
 For more information, try '--help'.
 ";
@@ -114,7 +162,7 @@ struct Line {
 }
 
 /// What is told where it was asked for: on the output, with the status 0.
-static HELP: [Line; 10] = [
+static HELP: [Line; 12] = [
     Line {
         words: &["ddscheck", "--help"],
         text: TOP_HELP,
@@ -148,6 +196,14 @@ static HELP: [Line; 10] = [
         text: CHECK_HELP,
     },
     Line {
+        words: &["ddscheck", "propose", "--help"],
+        text: PROPOSE_HELP,
+    },
+    Line {
+        words: &["ddscheck", "help", "propose"],
+        text: PROPOSE_HELP,
+    },
+    Line {
         words: &["ddscheck", "--version"],
         text: "ddscheck 0.1.0\n",
     },
@@ -158,7 +214,7 @@ static HELP: [Line; 10] = [
 ];
 
 /// What is told of words that ask for nothing: on the error output, with the status 4.
-static USAGE: [Line; 8] = [
+static USAGE: [Line; 12] = [
     Line {
         words: &["ddscheck"],
         text: NO_COMMAND,
@@ -178,6 +234,22 @@ static USAGE: [Line; 8] = [
     Line {
         words: &["ddscheck", "match", "d", "c"],
         text: MATCH_WITH_TWO_FILES,
+    },
+    Line {
+        words: &["ddscheck", "run", "d", "c"],
+        text: NO_RUN,
+    },
+    Line {
+        words: &["ddscheck", "propose"],
+        text: PROPOSE_WITHOUT_FILE,
+    },
+    Line {
+        words: &["ddscheck", "propose", "d", "c"],
+        text: PROPOSE_WITH_TWO_FILES,
+    },
+    Line {
+        words: &["ddscheck", "check", "d", "c", "e"],
+        text: CHECK_WITH_THREE_FILES,
     },
     Line {
         words: &["ddscheck", "check"],

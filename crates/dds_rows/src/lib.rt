@@ -18,5 +18,3 @@ mod proposals;
 mod proposed_texts;
 #[cfg(test)]
 mod rows;
-#[cfg(test)]
-mod words;

@@ -9,6 +9,13 @@ use clap::{Arg, ArgAction, ArgMatches, Command};
 use std::alloc::{AllocError, Global};
 use std::convert::AsStr;
 
+/// What help says of the argument that names a deployment.
+const DEPLOYMENT: &str =
+    "A TOML file: participants, topics, writers, readers, applications, rules, connections";
+
+/// What help says of the argument that names a certificate.
+const CERTIFICATE: &str = "A TOML file: rows of weights, and the bounds and totals that they show";
+
 /// What is asked for. The texts are those of the command line.
 #[derive(Drop)]
 pub enum Request<'a> {
@@ -38,11 +45,14 @@ pub enum NoRequest {
     NoMemory,
 }
 
-fn file<'a>(alloc: Global, id: &'a str) -> Arg<'a>
+fn file<'a>(alloc: Global, id: &'a str, help: &'a str) -> Arg<'a>
     ensures rule { rule_of result ≡ file_rule id.entry.now }
     ensures local { result.global ≡ false }
 {
-    Arg::new(alloc, id).required(true).action(ArgAction::Set)
+    Arg::new(alloc, id)
+        .help(help)
+        .required(true)
+        .action(ArgAction::Set)
 }
 
 fn one_file_command<'a>(
@@ -55,7 +65,7 @@ fn one_file_command<'a>(
 {
     Command::new(alloc, name)
         .about(about)
-        .arg(file(alloc, "deployment"))
+        .arg(file(alloc, "deployment", DEPLOYMENT))
 }
 
 fn two_files_command<'a>(
@@ -68,8 +78,8 @@ fn two_files_command<'a>(
 {
     Command::new(alloc, name)
         .about(about)
-        .arg(file(alloc, "deployment"))?
-        .arg(file(alloc, "certificate"))
+        .arg(file(alloc, "deployment", DEPLOYMENT))?
+        .arg(file(alloc, "certificate", CERTIFICATE))
 }
 
 /// The command, and a subcommand more that has no global argument.
@@ -85,6 +95,7 @@ fn top_command<'a>(alloc: Global) -> Command<'a>
 {
     Command::new(alloc, "ddscheck")
         .version("0.1.0")
+        .about("Shows before a launch that the bounds of a DDS deployment suffice")
         .subcommand_required(true)
 }
 
