@@ -1,0 +1,135 @@
+//! The worked runs, made by the parts of a plan and in the plain world.
+
+use crate::comparing::{Both, expect_same};
+use crate::plans::plan_of;
+use crate::texts::{LOOP, SMALL};
+use dds_base::ReaderNo;
+use dds_match::Plan;
+use dds_oracle::worked::{Move, RUNS, Run, Stage, Told, event_of, told_of_packet};
+use std::alloc::{AllocError, Global};
+use std::process::Abort;
+use std::test::Fail;
+
+/// What stands in a text, and what is put in its place.
+type Edit = (&'static str, &'static str);
+
+const LIMIT: &str = "max_samples_per_instance = 2";
+
+const START: &str = "start = 200";
+
+const WRITER: &str = "topic = \"t\", history = \"KEEP_ALL\"";
+
+const KEYS: &str = "keys = [\"k\"]";
+
+const WRITES: &str = "writes = [{ writer = \"w\", key = \"k\", count = 1 }]";
+
+const READER: &str = "name = \"r\"\nparticipant = \"q\"\n";
+
+/// The changes that make the deployment of a stage from that of one writer and one reader, or from that of two of each.
+fn edits_of(stage: Stage) -> &'static [Edit] {
+    match stage {
+        Stage::Small(1) => &[
+            (LIMIT, "max_samples_per_instance = 1"),
+            (START, "start = 1"),
+        ],
+        Stage::Small(2) => &[(START, "start = 2")],
+        Stage::Small(_) => &[
+            (LIMIT, "max_samples_per_instance = 3"),
+            (START, "start = 3"),
+        ],
+        Stage::Filtered => &[
+            (LIMIT, "max_samples_per_instance = 3"),
+            (START, "start = 1"),
+            (KEYS, "keys = [\"a\", \"b\"]"),
+            (
+                READER,
+                "name = \"r\"\nparticipant = \"q\"\nfilter = [\"a\"]\n",
+            ),
+            (
+                WRITES,
+                "writes = [{ writer = \"w\", key = \"a\", count = 1 }, { writer = \"w\", key = \"b\", count = 2 }]",
+            ),
+        ],
+        Stage::Narrow => &[
+            (START, "start = 2"),
+            (
+                WRITER,
+                "topic = \"t\", history = \"KEEP_ALL\", max_samples = 1",
+            ),
+        ],
+        Stage::Loop => &[],
+    }
+}
+
+/// The deployment of a stage. Each change has to find what it changes.
+fn text_of(rt: &impl Abort, alloc: Global, stage: Stage) -> Result<String, AllocError> {
+    let first = if stage == Stage::Loop { LOOP } else { SMALL };
+    let mut all = String::from_str(alloc, first)?;
+    for (old, new) in edits_of(stage) {
+        assert!(rt; all.as_str().contains(*old), "{old}");
+        all = all.as_str().replace(alloc, *old, new)?;
+    }
+    Ok(all)
+}
+
+/// What the parts answer to a question.
+fn answer(both: &Both, asked: Move) -> Told {
+    match asked {
+        Move::Look(place) => told_of_packet(&both.peers.at(place)),
+        Move::Kept(w) => match both.peers.writers.get(w) {
+            Some(speaker) => Told::Number(speaker.writer.kept() as u64),
+            None => Told::Wrong,
+        },
+        Move::Stored(r) => match both.peers.readers.get(r) {
+            Some(listener) => Told::Number(listener.reader.stored() as u64),
+            None => Told::Wrong,
+        },
+        Move::Acked(w, r) => match both.peers.writers.get(w) {
+            Some(speaker) => match speaker.base(ReaderNo::new(r)) {
+                Some(base) => Told::Number(base),
+                None => Told::Wrong,
+            },
+            None => Told::Wrong,
+        },
+        _ => Told::Wrong,
+    }
+}
+
+/// Makes a move on both sides, and tells what the parts reply.
+fn make(rt: &impl Abort, both: &mut Both, plan: &Plan, asked: Move) -> Result<Told, AllocError> {
+    match event_of(asked) {
+        Some(event) => both.told_by_both(rt, plan, &event),
+        None => Ok(answer(both, asked)),
+    }
+}
+
+fn over_plan(rt: &impl Abort, alloc: Global, plan: &Plan, run: &Run) -> Result<(), AllocError> {
+    let mut both = Both::open(alloc, plan)?;
+    for (asked, told) in run.moves {
+        assert_eq!(rt;
+            make(rt, &mut both, plan, *asked)?,
+            *told,
+            "{}: {asked:?}",
+            run.about
+        );
+        expect_same(rt, &both)?;
+    }
+    drop(both);
+    Ok(())
+}
+
+fn expect(rt: &impl Abort, alloc: Global, run: &Run) -> Result<(), AllocError> {
+    let text = text_of(rt, alloc, run.stage)?;
+    let plan = plan_of(rt, alloc, text.as_str());
+    let done = over_plan(rt, alloc, &plan, run);
+    drop(plan);
+    done
+}
+
+#[test]
+fn worked_runs(rt: HostRuntime) -> Result<(), Fail> {
+    for run in &RUNS {
+        expect(&rt, rt.alloc(), run)?;
+    }
+    Ok(())
+}

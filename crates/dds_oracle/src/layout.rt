@@ -1,0 +1,104 @@
+//! What a run sees of a deployment, as plain lists. An endpoint's or a rule's number is its place in its list.
+
+ghost use Rattle.std.specs.Prelude.{◌≡◌};
+ghost use Rattle.dds_qos.specs.Admission.{is_reached};
+
+use dds_base::{KeyNo, Portion, ReaderNo, WriterNo};
+use dds_qos::{ReaderLimits, WriterLimits};
+
+/// A writer.
+#[derive(Drop)]
+pub struct WriterLayout {
+    /// The keys of its topic are the numbers below this.
+    pub keys: usize,
+    pub limits: WriterLimits,
+    /// The readers that match it. Each is in the list of readers.
+    pub readers: Vec<ReaderNo>,
+}
+
+/// A reader.
+#[derive(Drop)]
+pub struct ReaderLayout {
+    /// The keys that it takes.
+    pub filter: Vec<KeyNo>,
+    pub limits: ReaderLimits,
+}
+
+/// A rule. Without needs it is never fired, and has its start alone.
+#[derive(Drop)]
+pub struct RuleLayout {
+    /// The takes that a firing spends.
+    pub needs: Vec<Portion<ReaderNo>>,
+    /// The permits that each start and each firing gives.
+    pub gives: Vec<Portion<WriterNo>>,
+    pub start: u16,
+}
+
+/// A deployment.
+#[derive(Drop)]
+pub struct Layout {
+    pub writers: Vec<WriterLayout>,
+    pub readers: Vec<ReaderLayout>,
+    pub rules: Vec<RuleLayout>,
+}
+
+impl Layout {
+    /// Whether there are such a writer and such a reader, and they match.
+    pub fn matched(&self, writer: WriterNo, reader: ReaderNo) -> bool {
+        match self.writers.get(writer.number()) {
+            Some(layout) => layout.readers.iter().any(|r| *r == reader),
+            None => false,
+        }
+    }
+
+    /// Whether there is such a writer, and the key is in its topic.
+    pub fn writes_key(&self, writer: WriterNo, key: KeyNo) -> bool {
+        match self.writers.get(writer.number()) {
+            Some(layout) => key.number() < layout.keys,
+            None => false,
+        }
+    }
+
+    /// Whether there is such a reader, and the key is in its filter.
+    pub fn hears(&self, reader: ReaderNo, key: KeyNo) -> bool {
+        match self.readers.get(reader.number()) {
+            Some(layout) => layout.filter.iter().any(|k| *k == key),
+            None => false,
+        }
+    }
+
+    /// The limits of a writer, none where there is no such writer.
+    pub fn writer_limits(&self, writer: WriterNo) -> WriterLimits {
+        match self.writers.get(writer.number()) {
+            Some(layout) => layout.limits,
+            None => WriterLimits {
+                max_samples: None,
+                max_instances: None,
+                max_samples_per_instance: None,
+            },
+        }
+    }
+
+    /// The limits of a reader, none where there is no such reader.
+    pub fn reader_limits(&self, reader: ReaderNo) -> ReaderLimits {
+        match self.readers.get(reader.number()) {
+            Some(layout) => layout.limits,
+            None => ReaderLimits {
+                keep_last: None,
+                max_samples: None,
+                max_instances: None,
+                max_samples_per_instance: None,
+            },
+        }
+    }
+}
+
+/// Whether a finite limit is reached by so many. An unlimited one never is.
+pub(crate) fn is_reached(limit: Option<u32>, count: usize) -> bool
+    ensures { result ≡ is_reached limit count }
+{
+    match limit {
+        Some(limit) => limit as usize <= count,
+        None => false,
+    }
+}

@@ -1,0 +1,96 @@
+//! What endpoints note beside the world: which numbers a writer sent and was asked for, and whether a reader owes an ACKNACK. No reply
+//! depends on it.
+
+use crate::reading::has;
+use crate::sends::gap_end;
+use crate::world::World;
+use dds_base::{Event, ReaderNo, WriterNo};
+use dds_qos::Due;
+use std::alloc::AllocError;
+
+impl World {
+    /// Whether a number is kept, and its key isn't in the reader's filter.
+    fn is_silent(&self, writer: WriterNo, reader: ReaderNo, sn: u64) -> bool {
+        self.is_kept(writer, sn) && !self.is_relevant(writer, reader, sn)
+    }
+
+    /// Whether all numbers from one to another are silent.
+    fn is_silent_run(&self, writer: WriterNo, reader: ReaderNo, from: u64, to: u64) -> bool {
+        from <= to && (from..=to).all(|n| self.is_silent(writer, reader, n))
+    }
+
+    /// Whether a reader owes a writer an ACKNACK: a HEARTBEAT came since the last one was sent.
+    pub fn owes(&self, reader: ReaderNo, writer: WriterNo) -> bool {
+        match self.from_writer(reader, writer) {
+            Some(held) => held.owes,
+            None => false,
+        }
+    }
+
+    /// Whether a number is to be sent: kept, not acknowledged, and asked for or never sent.
+    fn is_due(&self, writer: WriterNo, reader: ReaderNo, sn: u64) -> bool {
+        match self.for_reader(writer, reader) {
+            Some(held) => {
+                self.is_kept(writer, sn)
+                    && held.acked <= sn
+                    && (held.sent < sn || has(&held.asked, sn))
+            }
+            None => false,
+        }
+    }
+
+    /// What a writer is to send a reader next: the least number that is due, as a DATA or as a GAP.
+    pub fn due(&self, writer: WriterNo, reader: ReaderNo) -> Option<Due> {
+        for sn in 1..=self.written(writer) {
+            if self.is_due(writer, reader, sn) {
+                if self.is_relevant(writer, reader, sn) {
+                    return Some(Due::Data(sn));
+                }
+                return Some(Due::Gap(sn));
+            }
+        }
+        None
+    }
+}
+
+/// A DATA of this number was sent to a reader, or a GAP with this number below the base of its set. The greatest number sent grows, and
+/// what the reader asked for loses the number and the unbroken run of silent numbers that ends with it.
+fn note_sent(
+    world: &mut World,
+    writer: WriterNo,
+    reader: ReaderNo,
+    sn: u64,
+) -> Result<(), AllocError> {
+    let mut asked = match world.for_reader(writer, reader) {
+        Some(held) => Vec::from_slice(world.alloc, &held.asked)?,
+        None => Vec::new(world.alloc),
+    };
+    asked.retain(|n| *n != sn && !world.is_silent_run(writer, reader, *n, sn));
+    if let Some(held) = world.for_reader_mut(writer, reader) {
+        held.sent = held.sent.max(sn);
+        held.asked = asked;
+    }
+    Ok(())
+}
+
+/// Notes an event that sent a packet, on a full bus too.
+pub(crate) fn note(world: &mut World, event: &Event) -> Result<(), AllocError> {
+    match *event {
+        Event::SendData { writer, reader, sn } => note_sent(world, writer, reader, sn),
+        Event::SendGap {
+            writer,
+            reader,
+            start,
+        } => {
+            let end = gap_end(world, writer, reader, start);
+            note_sent(world, writer, reader, end.saturating_sub(1))
+        }
+        Event::SendAckNack { reader, writer } => {
+            if let Some(held) = world.from_writer_mut(reader, writer) {
+                held.owes = false;
+            }
+            Ok(())
+        }
+        _ => Ok(()),
+    }
+}

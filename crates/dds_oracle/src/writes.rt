@@ -1,0 +1,56 @@
+//! A write.
+
+use crate::layout::is_reached;
+use crate::world::{Entry, LAST_NUMBER, World};
+use crate::writing::{count_of, keys_of};
+use dds_base::{Data, KeyNo, Refusal, Reply, WriterNo};
+use std::alloc::AllocError;
+
+/// Whether the key is new to the writer while max_instances keys are written.
+fn is_one_key_too_many(world: &World, writer: WriterNo, key: KeyNo) -> Result<bool, AllocError> {
+    let history = world.history(writer)?;
+    let keys = keys_of(world, &history)?;
+    let limit = world.layout.writer_limits(writer).max_instances;
+    Ok(is_reached(limit, keys.len()) && !keys.iter().any(|k| *k == key))
+}
+
+/// Why a write is refused: the first reason.
+fn refusal(world: &World, writer: WriterNo, key: KeyNo) -> Result<Option<Refusal>, AllocError> {
+    if !world.layout.writes_key(writer, key) {
+        return Ok(Some(Refusal::Foreign));
+    }
+    if world.permits(writer, key) == 0 {
+        return Ok(Some(Refusal::NoPermit));
+    }
+    if world.written(writer) >= LAST_NUMBER {
+        return Ok(Some(Refusal::SequenceEnd));
+    }
+    if is_one_key_too_many(world, writer, key)? {
+        return Ok(Some(Refusal::InstanceLimit));
+    }
+    let limits = world.layout.writer_limits(writer);
+    let kept = world.kept(writer)?;
+    if is_reached(limits.max_samples, kept.len()) {
+        return Ok(Some(Refusal::Full));
+    }
+    if is_reached(limits.max_samples_per_instance, count_of(&kept, key)) {
+        return Ok(Some(Refusal::InstanceFull));
+    }
+    Ok(None)
+}
+
+/// A writer writes a sample, whose number is the next one.
+pub(crate) fn write(
+    world: &mut World,
+    writer: WriterNo,
+    key: KeyNo,
+    payload: Data,
+) -> Result<Reply, AllocError> {
+    if let Some(why) = refusal(world, writer, key)? {
+        return Ok(Reply::Refused(why));
+    }
+    if let Some(past) = world.writers.get_mut(writer.number()) {
+        past.written.push(Entry { key, payload })?;
+    }
+    Ok(Reply::Written(world.written(writer)))
+}

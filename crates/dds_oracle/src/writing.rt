@@ -1,0 +1,86 @@
+//! What a writer has written and keeps, worked out from its past.
+
+ghost use Rattle.std.specs.Prelude.{◌≡◌};
+ghost use Rattle.dds_qos.specs.Samples.{in_instance};
+
+use crate::world::World;
+use dds_base::{KeyNo, ReaderNo, Sample, WriterNo};
+use std::alloc::AllocError;
+
+/// The keys of some samples, none twice.
+pub(crate) fn keys_of(world: &World, samples: &[Sample]) -> Result<Vec<KeyNo>, AllocError> {
+    let mut keys: Vec<KeyNo> = Vec::new(world.alloc);
+    for sample in samples {
+        if !keys.iter().any(|k| *k == sample.key) {
+            keys.push(sample.key)?;
+        }
+    }
+    Ok(keys)
+}
+
+/// How many of the samples have the key.
+pub(crate) fn count_of(samples: &[Sample], key: KeyNo) -> usize
+    ensures { result ≡ in_instance key samples.now }
+{
+    samples.iter().filter(|s| s.key == key).count()
+}
+
+impl World {
+    /// How many samples a writer has written: the greatest number written.
+    pub fn written(&self, writer: WriterNo) -> u64 {
+        self.entries(writer).len() as u64
+    }
+
+    /// The sample under a number of a writer, if it is written.
+    pub fn sample(&self, writer: WriterNo, sn: u64) -> Option<Sample> {
+        if sn < 1 {
+            return None;
+        }
+        let entry = self.entries(writer).get((sn - 1) as usize)?;
+        Some(Sample {
+            writer,
+            sn,
+            key: entry.key,
+            payload: entry.payload,
+        })
+    }
+
+    /// Whether some reader that matches the writer has not acknowledged the number.
+    fn is_awaited(&self, writer: WriterNo, sn: u64) -> bool {
+        match self.layout.writers.get(writer.number()) {
+            Some(layout) => layout.readers.iter().any(|r| self.acked(writer, *r) <= sn),
+            None => false,
+        }
+    }
+
+    /// Whether a number is written, and some matched reader has not acknowledged it.
+    pub(crate) fn is_kept(&self, writer: WriterNo, sn: u64) -> bool {
+        1 <= sn && sn <= self.written(writer) && self.is_awaited(writer, sn)
+    }
+
+    /// All samples that a writer has written, in order of number.
+    pub(crate) fn history(&self, writer: WriterNo) -> Result<Vec<Sample>, AllocError> {
+        let mut history = Vec::new(self.alloc);
+        for sn in 1..=self.written(writer) {
+            if let Some(sample) = self.sample(writer, sn) {
+                history.push(sample)?;
+            }
+        }
+        Ok(history)
+    }
+
+    /// The samples that a writer keeps, in order of number.
+    pub fn kept(&self, writer: WriterNo) -> Result<Vec<Sample>, AllocError> {
+        let mut kept = self.history(writer)?;
+        kept.retain(|s| self.is_awaited(writer, s.sn));
+        Ok(kept)
+    }
+
+    /// Whether a number is written, and its key is in the reader's filter.
+    pub(crate) fn is_relevant(&self, writer: WriterNo, reader: ReaderNo, sn: u64) -> bool {
+        match self.sample(writer, sn) {
+            Some(sample) => self.layout.hears(reader, sample.key),
+            None => false,
+        }
+    }
+}
