@@ -165,13 +165,13 @@ fn made(alloc: Global, number: u32) -> Result<Certificate, AllocError> {
 
 /// The weight of an endpoint and a key, 0 where the list does not name them.
 fn weight_of(list: &[PlainWeight], place: Place) -> u32 {
-    let mut found = 0;
-    for (endpoint, key, weight) in list {
-        if *endpoint == place.0 && *key == place.1 {
-            found = *weight;
-        }
+    let found = list
+        .iter()
+        .find(|entry| entry.0 == place.0 && entry.1 == place.1);
+    match found {
+        Some(entry) => entry.2,
+        None => 0,
     }
-    found
 }
 
 /// The weights that are not zero, in the order of the places.

@@ -239,11 +239,11 @@ fn expect_text_for(
 fn writes_a_certificate_of_two_rows(rt: HostRuntime) -> Result<(), Fail> {
     let alloc = rt.alloc();
     let all = [(0, 0, 5040), (1, 0, 5040)];
+    let mut rows = Vec::new(alloc);
+    rows.push(row(alloc, "w0", &all, &all, &all)?)?;
+    rows.push(row(alloc, "w1", &all, &all, &all)?)?;
     let certificate = Certificate {
-        rows: vec![in alloc;
-            row(alloc, "w0", &all, &all, &all)?,
-            row(alloc, "w1", &all, &all, &all)?,
-        ]?,
+        rows,
         bounds: vec![in alloc; bound(0, 0, 0, 3), bound(1, 0, 1, 3)]?,
         totals: Vec::new(alloc),
     };
@@ -256,8 +256,10 @@ fn writes_empty_lists(rt: HostRuntime) -> Result<(), Fail> {
     let one = [(0, 0, 5040)];
     let none = [(0, 0, 0)];
     for takes in [&none[..0], none.as_slice()] {
+        let mut rows = Vec::new(alloc);
+        rows.push(row(alloc, "w0", &one, takes, &one)?)?;
         let certificate = Certificate {
-            rows: vec![in alloc; row(alloc, "w0", &one, takes, &one)?]?,
+            rows,
             bounds: vec![in alloc; bound(0, 0, 0, 2)]?,
             totals: Vec::new(alloc),
         };
@@ -270,11 +272,11 @@ fn writes_empty_lists(rt: HostRuntime) -> Result<(), Fail> {
 fn writes_totals_after_bounds(rt: HostRuntime) -> Result<(), Fail> {
     let alloc = rt.alloc();
     let samples = [(0, 1, 4294967295), (0, 0, 1)];
+    let mut rows = Vec::new(alloc);
+    rows.push(row(alloc, "m", &samples, &[], &[(0, 0, 0)])?)?;
+    rows.push(row(alloc, "n", &[], &[], &[])?)?;
     let certificate = Certificate {
-        rows: vec![in alloc;
-            row(alloc, "m", &samples, &[], &[(0, 0, 0)])?,
-            row(alloc, "n", &[], &[], &[])?,
-        ]?,
+        rows,
         bounds: vec![in alloc; bound(0, 1, 1, 0)]?,
         totals: vec![in alloc; total(0, 0, 4294967295)]?,
     };
@@ -294,8 +296,10 @@ fn writes_endpoints_and_keys_in_file_order(rt: HostRuntime) -> Result<(), Fail> 
     ];
     let takes = [(1, 2, 0), (0, 0, 0)];
     let permits = [(1, 0, 9), (0, 2, 0), (0, 1, 8), (0, 0, 7)];
+    let mut rows = Vec::new(alloc);
+    rows.push(row(alloc, "m", &samples, &takes, &permits)?)?;
     let certificate = Certificate {
-        rows: vec![in alloc; row(alloc, "m", &samples, &takes, &permits)?]?,
+        rows,
         bounds: vec![in alloc; bound(2, 0, 0, 2), bound(1, 2, 0, 1)]?,
         totals: vec![in alloc; total(1, 0, 2), total(0, 0, 1)]?,
     };

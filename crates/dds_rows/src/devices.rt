@@ -274,15 +274,24 @@ fn expect_an_answer(rt: &impl Abort, alloc: Global, words: &[&str], mut files: P
     assert!(rt; status <= 2, "{words:?} {end}");
 }
 
-#[test]
-fn reads_every_beginning_of_a_deployment(rt: HostRuntime) -> Result<(), Fail> {
+/// A command reads every beginning of a deployment.
+fn over_beginnings(rt: &impl Abort, alloc: Global, words: &[&str]) {
     let (deployment, certificate) = (PING.as_bytes(), PING_CERT.as_bytes());
     for end in 0..deployment.len() {
-        for command in &COMMANDS {
-            let files = readable(&deployment[..end], certificate);
-            expect_an_answer(&rt, rt.alloc(), command.words, files, end);
-        }
+        let files = readable(&deployment[..end], certificate);
+        expect_an_answer(rt, alloc, words, files, end);
     }
+}
+
+#[test]
+fn reads_every_beginning_by_check(rt: HostRuntime) -> Result<(), Fail> {
+    over_beginnings(&rt, rt.alloc(), CHECK.as_slice());
+    Ok(())
+}
+
+#[test]
+fn reads_every_beginning_by_match(rt: HostRuntime) -> Result<(), Fail> {
+    over_beginnings(&rt, rt.alloc(), &["ddscheck", "match", "d"]);
     Ok(())
 }
 
