@@ -1,5 +1,5 @@
 //! Entries under names.
-ghost use Rattle.std.specs.Prelude.{◌≡◌, ◌++◌, ◌∷◌, [], length, vec_len, None, OnOk};
+ghost use Rattle.std.specs.Prelude.{◌≡◌, ◌++◌, ◌∷◌, [], length, vec_len, None, OnErr, OnOk};
 ghost use Rattle.dds_base.specs.Names.{number_of};
 
 use dds_base::Names;
@@ -24,20 +24,18 @@ impl<T: Drop> Section<T> {
         }
     }
 
-    /// Adds an entry under a new name.
+    /// Adds an entry under a new name. Fails only where no memory is left, and then nothing changes.
     pub fn push(&mut self, alloc: Global, name: &str, entry: T) -> Result<(), AllocError>
         requires { number_of self.old.names name.now ≡ None }
         ensures names { OnOk result (self.new.names ≡ self.old.names ++ name.now ∷ []) }
         ensures entries { OnOk result (self.new.entries.items ≡ self.old.entries.items ++ entry ∷ []) }
+        ensures same_names { OnErr result (self.new.names ≡ self.old.names) }
+        ensures same_entries { OnErr result (self.new.entries.items ≡ self.old.entries.items) }
     {
         let name = String::from_str(alloc, name)?;
-        self.entries.push(entry)?;
-        match self.names.push(name) {
-            Ok(()) => Ok(()),
-            Err(error) => {
-                self.entries.pop();
-                Err(error)
-            }
-        }
+        self.entries.reserve(1)?;
+        self.names.push(name)?;
+        self.entries.push_reserved(entry);
+        Ok(())
     }
 }
