@@ -8,7 +8,7 @@ use Rattle.dds_cert.specs.declared.certificate.Weight.{Weight}
 use Rattle.dds_propose.specs.Listing.{entry}
 
 -- what the numbers below n + 1 give
-more_below : {X : Type 0} (f : ℕ → List X) (n : ℕ) → flat_map f (range_with_len 0 (n + 1)) ≡ flat_map f (range_with_len 0 n) ++ f n
+pub more_below : {X : Type 0} (f : ℕ → List X) (n : ℕ) → flat_map f (range_with_len 0 (n + 1)) ≡ flat_map f (range_with_len 0 n) ++ f n
 more_below f n = ap (flat_map f) (range_push n) ∙ (flat_map-append f (range_with_len 0 n) (n ∷ []) ∙ ap (λ xs. flat_map f (range_with_len 0 n) ++ xs) (append-nil (f n)))
 
 -- what the next number gives is added

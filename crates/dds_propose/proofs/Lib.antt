@@ -5,3 +5,12 @@ mod Matching
 mod Flags
 mod Weighed
 mod Least
+mod Raising
+mod Spreads
+mod Followed
+mod Outcomes
+mod Takes
+mod Samples
+mod OneRound
+mod Reached
+mod Proposals

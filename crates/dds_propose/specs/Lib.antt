@@ -3,3 +3,6 @@ pub mod Listing
 pub mod Targets
 pub mod Matches
 pub mod Bounds
+pub mod Relaxation
+pub mod Following
+pub mod Proposal

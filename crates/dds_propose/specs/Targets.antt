@@ -1,5 +1,5 @@
 -- What needs a bound: the finite limits of the readers that a sample can reach.
-use Rattle.std.specs.Prelude.{ℕ, Bool, ◌&&◌, ◌==◌, List, [], ◌∷◌, ◌++◌, is_some, flat_map, if◌then◌else◌}
+use Rattle.std.specs.Prelude.{ℕ, ◌≡◌, Bool, true, ◌&&◌, ◌==◌, List, [], ◌∷◌, ◌++◌, is_some, flat_map, if◌then◌else◌}
 use Rattle.std.specs.List.{range_with_len}
 use Rattle.dds_base.specs.Sums.{any_below}
 use Rattle.dds_match.specs.Network.{Network, reach}
@@ -16,6 +16,10 @@ reader_of (Reader r) = r
 abbrev pub counts : Network → Target → ℕ → Bool
 counts net (Instance r k) j = j == k
 counts net (Reader r) j = reach net r j
+
+-- samples of each key that counts can reach the reader
+abbrev pub IsReached : Network → Target → Type 0
+IsReached net target = (k : ℕ) → counts net target k ≡ true → reach net (reader_of target) k ≡ true
 
 -- the limit of a key, where it can reach the reader
 abbrev pub key_target : Network → ℕ → ℕ → List Target

@@ -1,11 +1,14 @@
 //! Proposes a certificate of a plan.
-ghost use Rattle.std.specs.Prelude.{◌≡◌, true, None, IfOk, IfSome};
+ghost use Rattle.std.specs.Prelude.{◌≡◌, ◌++◌, true, None, IfOk, IfSome};
 ghost use Rattle.dds_match.specs.Plan.{network_of};
 ghost use Rattle.dds_cert.specs.Fits.{fits};
 ghost use Rattle.dds_cert.specs.Views.{certificate_view};
 ghost use Rattle.dds_check.specs.Accepted.{Accepted, certificate_of};
 ghost use Rattle.dds_check.specs.Accepts.{first_no};
 ghost use Rattle.dds_check.specs.Certified.{Safe};
+ghost use Rattle.dds_propose.specs.Matches.{ShowsMatches};
+ghost use Rattle.dds_propose.specs.Proposal.{AddsTarget, IsProposal, bound_entry, total_entry};
+ghost use Rattle.dds_propose.specs.Targets.{IsReached};
 
 use crate::bounds::bound_of;
 use crate::listing::listed_row;
@@ -26,7 +29,11 @@ fn add_bound(
     target: &Target,
     row: usize,
     bound: u32,
-) -> Result<(), AllocError> {
+) -> Result<(), AllocError>
+    ensures rows { IfOk result (λ _. certificate.new.rows ≡ certificate.old.rows) }
+    ensures bounds { IfOk result (λ _. certificate.new.bounds.items ≡ certificate.old.bounds.items ++ bound_entry target.now row bound) }
+    ensures totals { IfOk result (λ _. certificate.new.totals.items ≡ certificate.old.totals.items ++ total_entry target.now row bound) }
+{
     match target {
         Target::Instance { reader, key } => certificate.bounds.push(Bound {
             reader: *reader,
@@ -51,7 +58,11 @@ fn add_target(
     matches: &Matches,
     certificate: &mut Certificate,
     target: &Target,
-) -> Result<bool, AllocError> {
+) -> Result<bool, AllocError>
+    requires matches { ShowsMatches (network_of plan.now) matches.now }
+    requires reached { IsReached (network_of plan.now) target.now }
+    ensures { IfOk result (λ added. added ≡ true → AddsTarget (network_of plan.now) target.now (certificate_view certificate.old) (certificate_view certificate.new)) }
+{
     let Some(weights) = row_weights(alloc, plan, matches, target)? else {
         return Ok(false);
     };
@@ -68,7 +79,9 @@ fn add_target(
 
 /// A certificate that may be accepted, with a row and a bound for each target. `None` where there are more than 64 targets, or one has no
 /// row or no bound.
-fn candidate(alloc: Global, plan: &Plan) -> Result<Option<Certificate>, AllocError> {
+fn candidate(alloc: Global, plan: &Plan) -> Result<Option<Certificate>, AllocError>
+    ensures { IfOk result (λ made. IfSome made (λ c. IsProposal (network_of plan.now) (certificate_view c))) }
+{
     let targets = targets(alloc, plan)?;
     if targets.len() > ROWS {
         return Ok(None);
@@ -89,6 +102,7 @@ fn candidate(alloc: Global, plan: &Plan) -> Result<Option<Certificate>, AllocErr
 
 /// The certificate, where it fits the plan and is accepted.
 fn accepted(plan: &Plan, certificate: Certificate) -> Option<Certificate>
+    ensures same { IfSome result (λ c. c ≡ certificate) }
     ensures fits { IfSome result (λ c. fits (network_of plan.now) (certificate_view c) ≡ true) }
     ensures accepted { IfSome result (λ c. first_no plan.now (certificate_view c) ≡ None) }
     ensures holds { IfSome result (λ c. Accepted (network_of plan.now) (certificate_of (certificate_view c))) }
@@ -118,6 +132,7 @@ pub fn propose(alloc: Global, plan: &Plan) -> Result<Option<Certificate>, NoMemo
     ensures accepted { IfOk result (λ found. IfSome found (λ c. first_no plan.now (certificate_view c) ≡ None)) }
     ensures holds { IfOk result (λ found. IfSome found (λ c. Accepted (network_of plan.now) (certificate_of (certificate_view c)))) }
     ensures safe { IfOk result (λ found. IfSome found (λ c. Safe (network_of plan.now) (certificate_of (certificate_view c)))) }
+    ensures proposal { IfOk result (λ found. IfSome found (λ c. IsProposal (network_of plan.now) (certificate_view c))) }
 {
     match candidate(alloc, plan) {
         Ok(Some(certificate)) => Ok(accepted(plan, certificate)),

@@ -1,6 +1,16 @@
 //! The rounds that raise the weights of a row until no event can raise its sum.
-ghost use Rattle.std.specs.Prelude.{◌<◌, ◌≤◌, All, length};
+ghost use Rattle.std.specs.Prelude.{◌≡◌, ◌<◌, ◌≤◌, ◌==◌, ◌&&◌, ℕ, true, false, All, List, [], ◌∷◌, length, max, IfOk, IfSome, if◌then◌else◌};
+ghost use Rattle.dds_base.specs.declared.portion.Portion.{Portion};
+ghost use Rattle.dds_deploy.specs.Views.{rule_view};
 ghost use Rattle.dds_deploy.specs.WellFormed.{IsCounted};
+ghost use Rattle.dds_match.specs.Network.{weighed};
+ghost use Rattle.dds_match.specs.Plan.{network_of};
+ghost use Rattle.dds_check.specs.Accepted.{Row};
+ghost use Rattle.dds_propose.specs.Following.{IsMade, IsNeed, IsRisenHeard, IsRound, RaisesPermits, Follows, RaisesTakes, RaisesSamples};
+ghost use Rattle.dds_propose.specs.Matches.{ShowsMatches};
+ghost use Rattle.dds_propose.specs.Relaxation.{IsRest, IsSame, first_risen, opening, takes_risen};
+ghost use Rattle.dds_propose.specs.Tables.{cell, is_place, row_of};
+ghost use Rattle.dds_propose.specs.Targets.{IsReached, counts, reader_of};
 
 use crate::matches::Matches;
 use crate::sizes::KEYS;
@@ -27,7 +37,10 @@ fn raise_permits(
     writers: &[WriterNo],
     key: KeyNo,
     rise: u32,
-) -> Result<bool, NoRow> {
+) -> Result<bool, NoRow>
+    ensures raised { IfOk result (λ _. RaisesPermits writers.now key rise weights.old weights.new) }
+    ensures none { IfOk result (λ some. some ≡ false → writers.now ≡ []) }
+{
     for writer in writers {
         let Some(weight) = weights.permits.at(*writer, key).checked_add(rise) else {
             return Err(NoRow);
@@ -40,11 +53,18 @@ fn raise_permits(
 /// Lets the permits of the matched writers follow the samples of a key of a reader. A permit weighs what the samples of its key weigh at
 /// all matched readers together; weights never fall, so it rises by as much as they have risen. Tells whether a permit rose.
 fn follow_samples(
-    weights: &mut Weights,
+    plan: &Plan,
     matches: &Matches,
+    weights: &mut Weights,
     reader: ReaderNo,
     key: KeyNo,
-) -> Result<bool, NoRow> {
+) -> Result<bool, NoRow>
+    requires matches { ShowsMatches (network_of plan.now) matches.now }
+    requires heard { IsRisenHeard (network_of plan.now) weights.old }
+    ensures followed { IfOk result (Follows (network_of plan.now) weights.old weights.new) }
+    ensures done { IfOk result (λ _. cell weights.new.risen reader key ≡ 0) }
+{
+    let _lists = plan.lists();
     let rise = weights.risen.at(reader, key);
     if rise == 0 {
         return Ok(false);
@@ -59,26 +79,53 @@ fn follow_target(
     matches: &Matches,
     target: &Target,
     weights: &mut Weights,
-) -> Result<bool, NoRow> {
+) -> Result<bool, NoRow>
+    requires matches { ShowsMatches (network_of plan.now) matches.now }
+    requires heard { IsRisenHeard (network_of plan.now) weights.old }
+    ensures followed { IfOk result (Follows (network_of plan.now) weights.old weights.new) }
+    ensures done { IfOk result (λ _. (k : ℕ) → counts (network_of plan.now) target.now k ≡ true → cell weights.new.risen (reader_of target.now) k ≡ 0) }
+{
     let mut changed = false;
     for k in 0..KEYS {
         let key = KeyNo::new(k);
-        if target.counts(plan, key) && follow_samples(weights, matches, target.reader(), key)? {
-            changed = true;
+        if target.counts(plan, key) {
+            let raised = follow_samples(plan, matches, weights, target.reader(), key)?;
+            changed |= raised;
         }
     }
     Ok(changed)
 }
 
+/// Lets the permits follow the sample that a rule needs first. Tells whether a permit rose.
+fn follow_need(
+    plan: &Plan,
+    matches: &Matches,
+    weights: &mut Weights,
+    u: RuleNo,
+) -> Result<bool, NoRow>
+    requires there { u < (network_of plan.now).rules }
+    requires matches { ShowsMatches (network_of plan.now) matches.now }
+    requires heard { IsRisenHeard (network_of plan.now) weights.old }
+    ensures followed { IfOk result (Follows (network_of plan.now) weights.old weights.new) }
+    ensures done { IfOk result (λ _. (e : Portion ℕ) (es : List (Portion ℕ)) → ((network_of plan.now).rule u).takes ≡ e ∷ es → cell weights.new.risen e.endpoint e.key ≡ 0) }
+{
+    match plan.rule(u).takes.first() {
+        Some(need) => follow_samples(plan, matches, weights, need.endpoint, need.key),
+        None => Ok(false),
+    }
+}
+
 /// Lets the permits follow the samples that rules need first. No other sample but a target's has a weight.
-fn follow_needs(plan: &Plan, matches: &Matches, weights: &mut Weights) -> Result<bool, NoRow> {
+fn follow_needs(plan: &Plan, matches: &Matches, weights: &mut Weights) -> Result<bool, NoRow>
+    requires matches { ShowsMatches (network_of plan.now) matches.now }
+    requires heard { IsRisenHeard (network_of plan.now) weights.old }
+    ensures followed { IfOk result (Follows (network_of plan.now) weights.old weights.new) }
+    ensures done { IfOk result (λ _. (r k : ℕ) → IsNeed (network_of plan.now) r k → cell weights.new.risen r k ≡ 0) }
+{
     let mut changed = false;
     for u in 0..plan.lists().rules() {
-        if let Some(need) = plan.rule(RuleNo::new(u)).takes.first() {
-            if follow_samples(weights, matches, need.endpoint, need.key)? {
-                changed = true;
-            }
-        }
+        let raised = follow_need(plan, matches, weights, RuleNo::new(u))?;
+        changed |= raised;
     }
     Ok(changed)
 }
@@ -86,7 +133,9 @@ fn follow_needs(plan: &Plan, matches: &Matches, weights: &mut Weights) -> Result
 /// Raises the take of a rule's first need to the least weight at which what the rule writes weighs no more than what it needs. Tells
 /// whether it rose. A rule without needs is never fired.
 fn raise_take(weights: &mut Weights, rule: &Rule) -> Result<bool, NoRow>
-    requires { All IsCounted rule.now.takes.items }
+    requires counted { All IsCounted rule.now.takes.items }
+    requires known { (e : Portion ℕ) (es : List (Portion ℕ)) → rule.now.takes.items ≡ e ∷ es → is_place e.endpoint e.key ≡ true }
+    ensures { IfOk result (RaisesTakes (first_risen rule.now.takes.items (weighed rule.now.writes.items (cell weights.old.permits)) (cell weights.old.takes)) weights.old weights.new) }
 {
     let Some(need) = rule.takes.first() else {
         return Ok(false);
@@ -109,27 +158,34 @@ fn raise_take(weights: &mut Weights, rule: &Rule) -> Result<bool, NoRow>
 
 /// A rule whose counts are above 0.
 fn counted_rule(plan: &Plan, u: RuleNo) -> &Rule
-    requires { u < length plan.now.rules.entries }
-    ensures { All IsCounted result.now.takes.items }
+    requires { u < (network_of plan.now).rules }
+    ensures value { rule_view result.now ≡ (network_of plan.now).rule u }
+    ensures counted { All IsCounted result.now.takes.items }
+    ensures known { (e : Portion ℕ) (es : List (Portion ℕ)) → result.now.takes.items ≡ e ∷ es → is_place e.endpoint e.key ≡ true }
 {
-    // What is known of every deployment: its counts are 1 to 65,535.
+    // What is known of every deployment: its counts are 1 to 65,535, and its rules take what is there.
     let _applications = plan.lists().applications();
-    plan.lists().rule(u)
+    plan.rule(u)
 }
 
 /// Raises the takes, rules in file order. Tells whether one rose.
-fn raise_takes(plan: &Plan, weights: &mut Weights) -> Result<bool, NoRow> {
+fn raise_takes(plan: &Plan, weights: &mut Weights) -> Result<bool, NoRow>
+    ensures { IfOk result (RaisesTakes (takes_risen (network_of plan.now) (cell weights.old.permits) (cell weights.old.takes) (network_of plan.now).rules) weights.old weights.new) }
+{
     let mut changed = false;
     for u in 0..plan.lists().rules() {
-        if raise_take(weights, counted_rule(plan, RuleNo::new(u)))? {
-            changed = true;
-        }
+        let raised = raise_take(weights, counted_rule(plan, RuleNo::new(u)))?;
+        changed |= raised;
     }
     Ok(changed)
 }
 
 /// Raises a sample to the weight of its take. Tells whether it rose.
-fn raise_sample(weights: &mut Weights, reader: ReaderNo, key: KeyNo) -> bool {
+fn raise_sample(weights: &mut Weights, reader: ReaderNo, key: KeyNo) -> bool
+    requires { cell weights.old.samples reader key < cell weights.old.takes reader key → cell weights.old.risen reader key ≡ 0 }
+    ensures raised { RaisesSamples weights.old weights.new result }
+    ensures done { cell weights.new.takes reader key ≤ cell weights.new.samples reader key }
+{
     let sample = weights.samples.at(reader, key);
     let take = weights.takes.at(reader, key);
     if take <= sample {
@@ -140,15 +196,29 @@ fn raise_sample(weights: &mut Weights, reader: ReaderNo, key: KeyNo) -> bool {
     true
 }
 
+/// Raises the sample that a rule needs first to the weight of its take. Tells whether it rose.
+fn raise_need(plan: &Plan, weights: &mut Weights, u: RuleNo) -> bool
+    requires there { u < (network_of plan.now).rules }
+    requires fresh { (r k : ℕ) → cell weights.old.samples r k < cell weights.old.takes r k → cell weights.old.risen r k ≡ 0 }
+    ensures raised { RaisesSamples weights.old weights.new result }
+    ensures done { (e : Portion ℕ) (es : List (Portion ℕ)) → ((network_of plan.now).rule u).takes ≡ e ∷ es → cell weights.new.takes e.endpoint e.key ≤ cell weights.new.samples e.endpoint e.key }
+{
+    match plan.rule(u).takes.first() {
+        Some(need) => raise_sample(weights, need.endpoint, need.key),
+        None => false,
+    }
+}
+
 /// Raises the samples to the weights of their takes. Only a first need of a rule has a take with a weight. Tells whether one rose.
-fn raise_samples(plan: &Plan, weights: &mut Weights) -> bool {
+fn raise_samples(plan: &Plan, weights: &mut Weights) -> bool
+    requires { (r k : ℕ) → cell weights.old.risen r k ≡ 0 }
+    ensures raised { RaisesSamples weights.old weights.new result }
+    ensures done { (r k : ℕ) → IsNeed (network_of plan.now) r k → cell weights.new.takes r k ≤ cell weights.new.samples r k }
+{
     let mut changed = false;
     for u in 0..plan.lists().rules() {
-        if let Some(need) = plan.rule(RuleNo::new(u)).takes.first() {
-            if raise_sample(weights, need.endpoint, need.key) {
-                changed = true;
-            }
-        }
+        let raised = raise_need(plan, weights, RuleNo::new(u));
+        changed |= raised;
     }
     changed
 }
@@ -159,12 +229,17 @@ fn round(
     matches: &Matches,
     target: &Target,
     weights: &mut Weights,
-) -> Result<bool, NoRow> {
+) -> Result<bool, NoRow>
+    requires matches { ShowsMatches (network_of plan.now) matches.now }
+    requires made { IsMade (network_of plan.now) target.now weights.old }
+    ensures { IfOk result (IsRound (network_of plan.now) target.now weights.old weights.new) }
+{
+    let _lists = plan.lists();
     let by_target = follow_target(plan, matches, target, weights)?;
     let by_needs = follow_needs(plan, matches, weights)?;
     let takes = raise_takes(plan, weights)?;
     let samples = raise_samples(plan, weights);
-    Ok(by_target || by_needs || takes || samples)
+    Ok(by_target | by_needs | takes | samples)
 }
 
 /// Rounds until one changes nothing.
@@ -173,8 +248,13 @@ fn come_to_rest(
     matches: &Matches,
     target: &Target,
     weights: &mut Weights,
-) -> Result<(), NoRow> {
-    for _ in 0..ROUNDS {
+) -> Result<(), NoRow>
+    requires matches { ShowsMatches (network_of plan.now) matches.now }
+    requires made { IsMade (network_of plan.now) target.now weights.old }
+    requires opened { IsSame (row_of weights.old) (opening (network_of plan.now) target.now) }
+    ensures { IfOk result (λ _. IsRest (network_of plan.now) target.now (row_of weights.new)) }
+{
+    for count in 0..ROUNDS {
         if !round(plan, matches, target, weights)? {
             return Ok(());
         }
@@ -183,7 +263,12 @@ fn come_to_rest(
 }
 
 /// The weights before the first round: the samples of the target weigh a unit.
-fn opening_weights(alloc: Global, plan: &Plan, target: &Target) -> Result<Weights, AllocError> {
+fn opening_weights(alloc: Global, plan: &Plan, target: &Target) -> Result<Weights, AllocError>
+    requires { IsReached (network_of plan.now) target.now }
+    ensures made { IfOk result (IsMade (network_of plan.now) target.now) }
+    ensures opened { IfOk result (λ weights. IsSame (row_of weights) (opening (network_of plan.now) target.now)) }
+{
+    let _lists = plan.lists();
     let mut weights = Weights::zero(alloc)?;
     for k in 0..KEYS {
         let key = KeyNo::new(k);
@@ -202,7 +287,11 @@ pub(crate) fn row_weights(
     plan: &Plan,
     matches: &Matches,
     target: &Target,
-) -> Result<Option<Weights>, AllocError> {
+) -> Result<Option<Weights>, AllocError>
+    requires matches { ShowsMatches (network_of plan.now) matches.now }
+    requires reached { IsReached (network_of plan.now) target.now }
+    ensures { IfOk result (λ made. IfSome made (λ weights. IsRest (network_of plan.now) target.now (row_of weights))) }
+{
     let mut weights = opening_weights(alloc, plan, target)?;
     match come_to_rest(plan, matches, target, &mut weights) {
         Ok(()) => Ok(Some(weights)),

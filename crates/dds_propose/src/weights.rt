@@ -1,6 +1,7 @@
 //! The weights of a row while it is made, each found in one step.
 ghost use Rattle.std.specs.Prelude.{◌≡◌, ◌*◌, ◌^◌, ◌≤◌, ◌<◌, ◌==◌, ◌&&◌, ℕ, length, IfOk, if◌then◌else◌};
 ghost use Rattle.dds_check.specs.Tables.{weighed_by};
+ghost use Rattle.dds_propose.specs.Following.{IsZero};
 ghost use Rattle.dds_propose.specs.Tables.{cell, is_place};
 
 use crate::sizes::{CELLS, ENDPOINTS, KEYS};
@@ -88,7 +89,9 @@ pub(crate) struct Weights {
 
 impl Weights {
     /// All weights are 0.
-    pub(crate) fn zero(alloc: Global) -> Result<Weights, AllocError> {
+    pub(crate) fn zero(alloc: Global) -> Result<Weights, AllocError>
+        ensures { IfOk result IsZero }
+    {
         Ok(Weights {
             samples: Table::zero(alloc)?,
             risen: Table::zero(alloc)?,
