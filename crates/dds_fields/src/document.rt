@@ -24,6 +24,8 @@ fn version_of(alloc: Global, path: &Place, value: &Value) -> Result<i64, ReadFau
     }
 }
 
+/// The version of a document, which is 1: MissingKey where it is absent, WrongKind where it is no whole number,
+/// WrongVersion where it is another one.
 #[tactic(auto, unfolding(crate::specs::Reading::field, crate::specs::Paths::key_path))]
 pub fn version_field(alloc: Global, table: &Table) -> Result<i64, ReadFault>
     ensures { Gives (λ z. z) result (field (codes "version") version [] (table_view table.now)) }
@@ -36,7 +38,7 @@ pub fn version_field(alloc: Global, table: &Table) -> Result<i64, ReadFault>
     version_of(alloc, &at, value)
 }
 
-// The table that the bytes are.
+/// The table that the bytes of a document are: NotToml, at the empty path, where they are no TOML.
 pub fn document_of(alloc: Global, bytes: &[u8]) -> Result<Table, ReadFault>
     ensures { Gives table_view result (or_fault NotToml [] (document bytes.now)) }
 {

@@ -19,6 +19,8 @@ use std::alloc::{AllocError, Global};
 use toml::value::Array;
 use toml::{Table, Value};
 
+/// The text that a value is: WrongKind where it is none. `NoMemory`, here as in every reader of a field, where memory
+/// ran out for the path of a fault.
 pub fn text_of<'a>(alloc: Global, path: &Place, value: &'a Value) -> Result<&'a str, ReadFault>
     ensures { Gives (λ s. s.now) result (a_text (place_text path.now) (view value.now)) }
 {
@@ -28,6 +30,7 @@ pub fn text_of<'a>(alloc: Global, path: &Place, value: &'a Value) -> Result<&'a 
     }
 }
 
+/// The table that a value is: WrongKind where it is none.
 pub fn table_of<'a>(alloc: Global, path: &Place, value: &'a Value) -> Result<&'a Table, ReadFault>
     ensures { Gives (λ t. table_view t.now) result (a_table (place_text path.now) (view value.now)) }
 {
@@ -37,6 +40,7 @@ pub fn table_of<'a>(alloc: Global, path: &Place, value: &'a Value) -> Result<&'a
     }
 }
 
+/// The list that a value is: WrongKind where it is none.
 pub fn array_of<'a>(alloc: Global, path: &Place, value: &'a Value) -> Result<&'a Array, ReadFault>
     ensures { Gives (λ v. array_view v.now) result (an_array (place_text path.now) (view value.now)) }
 {
@@ -46,6 +50,8 @@ pub fn array_of<'a>(alloc: Global, path: &Place, value: &'a Value) -> Result<&'a
     }
 }
 
+/// The name that a value is: WrongKind where it is no text, BadName where the text is no name (1 to 64 letters, digits,
+/// `_`, `.`, `/`, `-`).
 #[tactic(auto, unfolding(crate::specs::Reading::a_name))]
 pub fn name_of<'a>(alloc: Global, path: &Place, value: &'a Value) -> Result<&'a str, ReadFault>
     ensures { Gives (λ s. s.now) result (a_name (place_text path.now) (view value.now)) }
@@ -58,6 +64,7 @@ pub fn name_of<'a>(alloc: Global, path: &Place, value: &'a Value) -> Result<&'a 
     }
 }
 
+/// A name that isn't there yet: WrongKind and BadName as for a name, then Duplicate where it is one of `names`.
 #[tactic(auto, unfolding(crate::specs::Reading::a_new_name))]
 pub fn new_name_of<'a>(
     alloc: Global,
@@ -75,6 +82,8 @@ pub fn new_name_of<'a>(
     }
 }
 
+/// The number of a name that is there, its place in `names`: WrongKind and BadName as for a name, then UnknownName
+/// where it is none of them.
 #[tactic(auto, unfolding(crate::specs::Reading::a_known_name))]
 pub fn known_name_of(
     alloc: Global,
@@ -92,6 +101,7 @@ pub fn known_name_of(
     }
 }
 
+/// A whole number from `low` to `high`: WrongKind where it is none, OutOfRange where it lies outside.
 #[tactic(auto, unfolding(crate::specs::Reading::a_number))]
 pub fn number_of(
     alloc: Global,
@@ -111,7 +121,7 @@ pub fn number_of(
     }
 }
 
-// The value at a key, whose path is `at`.
+/// The value at a key, whose path is `at`: MissingKey where the key is absent.
 pub fn required<'a>(
     alloc: Global,
     at: &Place,
@@ -126,6 +136,7 @@ pub fn required<'a>(
     }
 }
 
+/// The name at a key: MissingKey where the key is absent, else as for a name. `path` is that of the table.
 #[tactic(auto, unfolding(crate::specs::Reading::field))]
 pub fn name_field<'a>(
     alloc: Global,
@@ -140,6 +151,7 @@ pub fn name_field<'a>(
     name_of(alloc, &at, value)
 }
 
+/// The name at a key that isn't one of `names` yet: MissingKey where the key is absent, else as for a new name.
 #[tactic(auto, unfolding(crate::specs::Reading::field))]
 pub fn new_name_field<'a>(
     alloc: Global,
@@ -156,6 +168,7 @@ pub fn new_name_field<'a>(
     new_name_of(alloc, names, &at, value)
 }
 
+/// The number of the name at a key: MissingKey where the key is absent, else as for a known name.
 #[tactic(auto, unfolding(crate::specs::Reading::field))]
 pub fn known_name_field(
     alloc: Global,
@@ -172,6 +185,7 @@ pub fn known_name_field(
     known_name_of(alloc, names, &at, value)
 }
 
+/// The whole number from `low` to `high` at a key: MissingKey where the key is absent, else as for a number.
 #[tactic(auto, unfolding(crate::specs::Reading::field))]
 pub fn number_field(
     alloc: Global,
@@ -218,6 +232,8 @@ fn is_listed(key: &str, listed: &[&str]) -> bool
     listed.iter().any(|l| key == *l)
 }
 
+/// Whether a table has no key but the listed ones: UnknownKey at the least other key in byte order. Of that key the
+/// path shows at most 64 characters, and `?` for each that no name has.
 #[tactic(auto, unfolding(crate::specs::Reading::only))]
 pub fn only(alloc: Global, listed: &[&str], path: &Place, table: &Table) -> Result<(), ReadFault>
     ensures { Gives (λ u. u) result (only (map (λ l. l.now) listed.now) (place_text path.now) (table_view table.now)) }
@@ -235,6 +251,7 @@ pub fn only(alloc: Global, listed: &[&str], path: &Place, table: &Table) -> Resu
     Ok(())
 }
 
+/// The elements of a list that has at most so many: WrongKind where it is no list, TooMany where it is longer.
 #[tactic(auto, using(crate::proofs::Each::count_view), unfolding(crate::specs::Reading::an_array_of))]
 pub fn array_of_limit<'a>(
     alloc: Global,
@@ -251,13 +268,15 @@ pub fn array_of_limit<'a>(
     Ok(values)
 }
 
-// The value at a key, if it is there.
+/// The value at a key, if it is there.
 pub fn value_at<'a>(table: &'a Table, key: &str) -> Option<&'a Value>
     ensures { option_map (λ v. view v.now) result ≡ get_member key.now (table_view table.now) }
 {
     table.get(key)
 }
 
+/// The entries of a section of the document, none where it is absent: WrongKind where it is no list, TooMany where it
+/// has more than `limit` entries.
 #[tactic(auto, unfolding(crate::specs::Reading::section, crate::specs::Paths::key_path))]
 pub fn section<'a>(
     alloc: Global,
@@ -279,6 +298,8 @@ pub fn section<'a>(
     }
 }
 
+/// The table that an entry of a section is: WrongKind where it is none, then UnknownKey where it has a key that isn't
+/// listed.
 #[tactic(auto, unfolding(crate::specs::Reading::entry))]
 pub fn entry<'a>(
     alloc: Global,
@@ -293,6 +314,7 @@ pub fn entry<'a>(
     Ok(table)
 }
 
+/// The text at a key: MissingKey where the key is absent, WrongKind where the value is no text.
 #[tactic(auto, unfolding(crate::specs::Reading::field))]
 pub fn text_field<'a>(
     alloc: Global,
@@ -307,6 +329,8 @@ pub fn text_field<'a>(
     text_of(alloc, &at, value)
 }
 
+/// The whole number from `low` to `high` at a key, `absent` where the key is absent: WrongKind and OutOfRange as for a
+/// number.
 #[tactic(auto, unfolding(crate::specs::Reading::optional))]
 pub fn optional_number(
     alloc: Global,

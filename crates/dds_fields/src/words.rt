@@ -23,6 +23,7 @@ fn worded<T: Copy>(words: &[(&str, T)], text: &str) -> Option<T>
     None
 }
 
+/// What the word that a value is means: WrongKind where it is no text, OutOfRange where it is none of the words.
 #[tactic(auto, unfolding(crate::specs::Words::a_word))]
 pub fn word_of<T: Copy>(
     alloc: Global,
@@ -39,6 +40,7 @@ pub fn word_of<T: Copy>(
     }
 }
 
+/// What the word at a key means, `absent` where the key is absent: WrongKind and OutOfRange as for a word.
 #[tactic(auto, unfolding(crate::specs::Reading::optional))]
 pub fn optional_word<T: Copy>(
     alloc: Global,
@@ -59,6 +61,7 @@ pub fn optional_word<T: Copy>(
     }
 }
 
+/// The truth value that a value is: WrongKind where it is none.
 #[tactic(auto, unfolding(crate::specs::Words::a_flag))]
 pub fn flag_of(alloc: Global, path: &Place, value: &Value) -> Result<bool, ReadFault>
     ensures { Gives (λ x. x) result (a_flag (place_text path.now) (view value.now)) }
@@ -69,6 +72,7 @@ pub fn flag_of(alloc: Global, path: &Place, value: &Value) -> Result<bool, ReadF
     }
 }
 
+/// The truth value at a key, `absent` where the key is absent: WrongKind where the value is none.
 #[tactic(auto, unfolding(crate::specs::Reading::optional))]
 pub fn optional_flag(
     alloc: Global,
@@ -116,6 +120,8 @@ pub fn duration_of(alloc: Global, path: &Place, value: &Value) -> Result<Option<
     }
 }
 
+/// The duration at a key in nanoseconds, `None` where it is infinite, and `absent` where the key is absent: WrongKind
+/// and OutOfRange as for a duration.
 #[tactic(auto, unfolding(crate::specs::Reading::optional))]
 pub fn optional_duration(
     alloc: Global,
@@ -150,6 +156,8 @@ pub fn limit_of(alloc: Global, path: &Place, value: &Value) -> Result<Option<u32
     }
 }
 
+/// The limit at a key, 1 to 2,147,483,647, `None` where it is unlimited, and `absent` where the key is absent:
+/// WrongKind and OutOfRange as for a limit.
 #[tactic(auto, unfolding(crate::specs::Reading::optional))]
 pub fn optional_limit(
     alloc: Global,

@@ -7,15 +7,16 @@ use Rattle.dds_match.specs.Plan.{network_of}
 use Rattle.dds_cert.specs.Fits.{fits}
 use Rattle.dds_cert.specs.Lists.{Certificate}
 use Rattle.dds_check.specs.Accepts.{first_no}
+use Rattle.dds_propose.specs.Proposal.{IsProposal}
 use Rattle.dds_tool.specs.Outcome.{Outcome, bad_deployment, proposed, too_large, unproposed}
 
--- the certificate fits the lists, and no condition refuses it
-abbrev pub IsAccepted : Lists → Certificate → Type 0
-IsAccepted lists cert = (fits (network_of lists) cert ≡ true) × (first_no lists cert ≡ None)
+-- the certificate fits the lists, no condition refuses it, and it is the one that the rounds give
+abbrev pub IsProposed : Lists → Certificate → Type 0
+IsProposed lists cert = (fits (network_of lists) cert ≡ true) × (first_no lists cert ≡ None) × IsProposal (network_of lists) cert
 
--- of a deployment that can be read a certificate is proposed that is accepted, or none is found; a flaw of the deployment is told
+-- of a deployment that can be read the certificate of the rounds is proposed, which is accepted, or none; a flaw of the deployment is told
 abbrev pub MayPropose : Read Lists → Outcome → Type 0
-MayPropose (Ok lists) end = (end ≡ unproposed) ⊎ ((cert : Certificate) × IsAccepted lists cert × (end ≡ proposed lists cert))
+MayPropose (Ok lists) end = (end ≡ unproposed) ⊎ ((cert : Certificate) × IsProposed lists cert × (end ≡ proposed lists cert))
 MayPropose (Err flaw) end = end ≡ bad_deployment flaw
 
 -- of bytes that are few enough to be a file, and of too many

@@ -8,7 +8,7 @@ ghost use Rattle.dds_check.specs.Accepts.{first_no};
 ghost use Rattle.dds_tool.specs.Answers.{Gives, answer_status};
 ghost use Rattle.dds_tool.specs.Fault.{fault_status};
 ghost use Rattle.dds_tool.specs.Outcome.{Outcome, compared, judged, match_outcome, outcome, proposed, unproposed, verdict};
-ghost use Rattle.dds_tool.specs.Proposals.{IsAccepted, MayPropose};
+ghost use Rattle.dds_tool.specs.Proposals.{IsProposed, MayPropose};
 ghost use Rattle.dds_deploy.specs.Sections.{read as deployment_read};
 
 use crate::fault::ToolFault;
