@@ -117,7 +117,7 @@ fn accepted(plan: &Plan, certificate: Certificate) -> Option<Certificate>
     }
 }
 
-/// Looks for a certificate of a plan. What it gives fits the plan and is accepted, so the deployment is safe.
+/// Looks for a certificate of a plan. What it gives fits the plan and is accepted, so the deployment is safe, and it is the one that follows.
 ///
 /// It has a row `w0`, `w1`, .. for each finite limit of a reader: readers in file order, the keys that can reach the reader in the order of
 /// its topic, and then the reader itself where max_samples is finite. The samples that the limit counts weigh 5040 at first. In a round

@@ -1,11 +1,10 @@
 //! The rounds that raise the weights of a row until no event can raise its sum.
-ghost use Rattle.std.specs.Prelude.{◌≡◌, ◌<◌, ◌≤◌, ◌==◌, ◌&&◌, ℕ, true, false, All, List, [], ◌∷◌, length, max, IfOk, IfSome, if◌then◌else◌};
+ghost use Rattle.std.specs.Prelude.{◌≡◌, ◌<◌, ◌≤◌, ℕ, true, false, All, List, [], ◌∷◌, IfOk, IfSome};
 ghost use Rattle.dds_base.specs.declared.portion.Portion.{Portion};
 ghost use Rattle.dds_deploy.specs.Views.{rule_view};
 ghost use Rattle.dds_deploy.specs.WellFormed.{IsCounted};
 ghost use Rattle.dds_match.specs.Network.{weighed};
 ghost use Rattle.dds_match.specs.Plan.{network_of};
-ghost use Rattle.dds_check.specs.Accepted.{Row};
 ghost use Rattle.dds_propose.specs.Following.{IsMade, IsNeed, IsRisenHeard, IsRound, RaisesPermits, Follows, RaisesTakes, RaisesSamples};
 ghost use Rattle.dds_propose.specs.Matches.{ShowsMatches};
 ghost use Rattle.dds_propose.specs.Relaxation.{IsRest, IsSame, first_risen, opening, takes_risen};

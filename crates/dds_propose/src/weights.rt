@@ -1,5 +1,5 @@
 //! The weights of a row while it is made, each found in one step.
-ghost use Rattle.std.specs.Prelude.{◌≡◌, ◌*◌, ◌^◌, ◌≤◌, ◌<◌, ◌==◌, ◌&&◌, ℕ, length, IfOk, if◌then◌else◌};
+ghost use Rattle.std.specs.Prelude.{◌≡◌, ◌*◌, ◌^◌, ◌≤◌, ◌==◌, ◌&&◌, ℕ, length, IfOk, if◌then◌else◌};
 ghost use Rattle.dds_check.specs.Tables.{weighed_by};
 ghost use Rattle.dds_propose.specs.Following.{IsZero};
 ghost use Rattle.dds_propose.specs.Tables.{cell, is_place};

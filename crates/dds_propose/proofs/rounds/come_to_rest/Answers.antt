@@ -1,7 +1,7 @@
 use Rattle.dds_match.specs.Plan.{network_of}
-use Rattle.dds_propose.specs.Relaxation.{opening}
+use Rattle.dds_propose.specs.Relaxation.{opening, round, rounds}
 use Rattle.dds_propose.specs.Tables.{row_of}
-use Rattle.dds_propose.proofs.OneRound.{rounds_none, rounds_more}
+use Rattle.dds_propose.proofs.OneRound.{rounds_none, rounds_more, round_same, same_back, same_then}
 use Rattle.dds_propose.proofs.rounds.come_to_rest.Goals as goal
 
 pub loop-count-init : goal.loop-count-init
@@ -17,4 +17,18 @@ loop-count-preserved c =
     record {
       made = round.made;
       same = rounds_more net (opening net c.args.target.now) (row_of c.loop-count.weights) (row_of c.round.new.weights) c.loop-count.count c.loop-count.invariant.same round.same;
+    }
+
+pub returns-then-not-branch : goal.returns-then-not-branch
+returns-then-not-branch c =
+    let net = network_of c.args.plan.now in
+    let old = row_of c.loop-count.weights in
+    let new = row_of c.round.new.weights in
+    let made = c.in_ok-round.ensures in
+    let back = made.still c.if-not-branch.true in
+    record {
+      count = c.loop-count.count;
+      few = c.loop-count-test.true;
+      reached = same_then new old (rounds net (opening net c.args.target.now) c.loop-count.count) back c.loop-count.invariant.same;
+      still = same_then (round net new) (round net old) new (round_same net new old back) (same_back new (round net old) made.same);
     }
