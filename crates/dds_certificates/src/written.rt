@@ -4,77 +4,12 @@ use crate::plans::{FILTERS, certificate_of, plan_of};
 use crate::weights::PlainWeight;
 use dds_base::{KeyNo, ReaderNo, WriterNo};
 use dds_cert::{Bound, Certificate, Row, Total, Weight, certificate_text};
+use dds_files::proposed::{PING_PROPOSED, SMALL_PROPOSED};
 use dds_files::texts::{PING, SMALL, TWO};
 use dds_match::Plan;
 use std::alloc::{AllocError, Global};
 use std::process::Abort;
 use std::test::Fail;
-
-/// A certificate with a row for each of PING's readers, in which all that is under way weighs 5040.
-const PING_TEXT: &str = r#"version = 1
-
-[[rows]]
-name = "w0"
-samples = [
-  { reader = "ping_r", key = "k", weight = 5040 },
-  { reader = "pong_r", key = "k", weight = 5040 },
-]
-takes = [
-  { reader = "ping_r", key = "k", weight = 5040 },
-  { reader = "pong_r", key = "k", weight = 5040 },
-]
-permits = [
-  { writer = "ping_w", key = "k", weight = 5040 },
-  { writer = "pong_w", key = "k", weight = 5040 },
-]
-
-[[rows]]
-name = "w1"
-samples = [
-  { reader = "ping_r", key = "k", weight = 5040 },
-  { reader = "pong_r", key = "k", weight = 5040 },
-]
-takes = [
-  { reader = "ping_r", key = "k", weight = 5040 },
-  { reader = "pong_r", key = "k", weight = 5040 },
-]
-permits = [
-  { writer = "ping_w", key = "k", weight = 5040 },
-  { writer = "pong_w", key = "k", weight = 5040 },
-]
-
-[[bounds]]
-reader = "ping_r"
-key = "k"
-row = "w0"
-bound = 3
-
-[[bounds]]
-reader = "pong_r"
-key = "k"
-row = "w1"
-bound = 3
-"#;
-
-/// A certificate of SMALL, where no take weighs anything.
-const SMALL_TEXT: &str = r#"version = 1
-
-[[rows]]
-name = "w0"
-samples = [
-  { reader = "r", key = "k", weight = 5040 },
-]
-takes = []
-permits = [
-  { writer = "w", key = "k", weight = 5040 },
-]
-
-[[bounds]]
-reader = "r"
-key = "k"
-row = "w0"
-bound = 2
-"#;
 
 /// A certificate of TWO with a total and an empty row.
 const TWO_TEXT: &str = r#"version = 1
@@ -247,7 +182,7 @@ fn writes_a_certificate_of_two_rows(rt: HostRuntime) -> Result<(), Fail> {
         bounds: vec![in alloc; bound(0, 0, 0, 3), bound(1, 0, 1, 3)]?,
         totals: Vec::new(alloc),
     };
-    expect_text_for(&rt, alloc, PING, &certificate, PING_TEXT)
+    expect_text_for(&rt, alloc, PING, &certificate, PING_PROPOSED)
 }
 
 #[test]
@@ -263,7 +198,7 @@ fn writes_empty_lists(rt: HostRuntime) -> Result<(), Fail> {
             bounds: vec![in alloc; bound(0, 0, 0, 2)]?,
             totals: Vec::new(alloc),
         };
-        expect_text_for(&rt, alloc, SMALL, &certificate, SMALL_TEXT)?;
+        expect_text_for(&rt, alloc, SMALL, &certificate, SMALL_PROPOSED)?;
     }
     Ok(())
 }

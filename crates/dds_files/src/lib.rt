@@ -4,4 +4,5 @@
 #[cfg(test)]
 mod deployments;
 pub mod lines;
+pub mod proposed;
 pub mod texts;

@@ -1,6 +1,7 @@
 //! Files that are cut, too large or not text, readers that are slow or fail, and an output that fails, by each command.
 use crate::files::{Pair, readable, text_of};
 use crate::texts::{PING, PING_CERT};
+use dds_files::proposed::PING_PROPOSED;
 use dds_tool::{MAX_FILE, tool};
 use std::alloc::{AllocError, Global};
 use std::io::{self, ErrorKind, Write};
@@ -15,7 +16,7 @@ struct Command {
 
 static CHECK: [&str; 4] = ["ddscheck", "check", "d", "c"];
 
-static COMMANDS: [Command; 2] = [
+static COMMANDS: [Command; 3] = [
     Command {
         words: &["ddscheck", "check", "d", "c"],
         answer: "yes\nbound ping_r k 3\nbound pong_r k 3\n",
@@ -23,6 +24,10 @@ static COMMANDS: [Command; 2] = [
     Command {
         words: &["ddscheck", "match", "d"],
         answer: "match ping_w ping_r\nnone ping_w pong_r topic\nnone pong_w ping_r topic\nmatch pong_w pong_r\n",
+    },
+    Command {
+        words: &["ddscheck", "propose", "d"],
+        answer: PING_PROPOSED,
     },
 ];
 
@@ -198,11 +203,12 @@ fn tells_failed_reads(rt: HostRuntime) -> Result<(), Fail> {
 
 #[test]
 fn tells_files_that_do_not_open(rt: HostRuntime) -> Result<(), Fail> {
-    let rows: [&[&str]; 4] = [
+    let rows: [&[&str]; 5] = [
         &["ddscheck", "check", "e", "c"],
         &["ddscheck", "check", "d", "e"],
         &["ddscheck", "check", "e", "e"],
         &["ddscheck", "match", "e"],
+        &["ddscheck", "propose", "e"],
     ];
     for words in rows {
         let files = readable(PING.as_bytes(), PING_CERT.as_bytes());
@@ -292,6 +298,12 @@ fn reads_every_beginning_by_check(rt: HostRuntime) -> Result<(), Fail> {
 #[test]
 fn reads_every_beginning_by_match(rt: HostRuntime) -> Result<(), Fail> {
     over_beginnings(&rt, rt.alloc(), &["ddscheck", "match", "d"]);
+    Ok(())
+}
+
+#[test]
+fn reads_every_beginning_by_propose(rt: HostRuntime) -> Result<(), Fail> {
+    over_beginnings(&rt, rt.alloc(), &["ddscheck", "propose", "d"]);
     Ok(())
 }
 

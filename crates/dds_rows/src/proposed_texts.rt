@@ -1,6 +1,7 @@
 //! What `propose` answers: the text of a certificate, which `check` then accepts, or `none`.
 use crate::files::{readable, text_of};
 use crate::rows::{Edit, Text, bytes_of, changed};
+use dds_files::proposed::{PING_PROPOSED, SMALL_PROPOSED};
 use dds_tool::tool;
 use std::alloc::{AllocError, Global};
 use std::process::Abort;
@@ -49,50 +50,7 @@ static CIRCLE: Row = Row {
     deployment: Text::Ping,
     edits: &[],
     status: 0,
-    output: r#"version = 1
-
-[[rows]]
-name = "w0"
-samples = [
-  { reader = "ping_r", key = "k", weight = 5040 },
-  { reader = "pong_r", key = "k", weight = 5040 },
-]
-takes = [
-  { reader = "ping_r", key = "k", weight = 5040 },
-  { reader = "pong_r", key = "k", weight = 5040 },
-]
-permits = [
-  { writer = "ping_w", key = "k", weight = 5040 },
-  { writer = "pong_w", key = "k", weight = 5040 },
-]
-
-[[rows]]
-name = "w1"
-samples = [
-  { reader = "ping_r", key = "k", weight = 5040 },
-  { reader = "pong_r", key = "k", weight = 5040 },
-]
-takes = [
-  { reader = "ping_r", key = "k", weight = 5040 },
-  { reader = "pong_r", key = "k", weight = 5040 },
-]
-permits = [
-  { writer = "ping_w", key = "k", weight = 5040 },
-  { writer = "pong_w", key = "k", weight = 5040 },
-]
-
-[[bounds]]
-reader = "ping_r"
-key = "k"
-row = "w0"
-bound = 3
-
-[[bounds]]
-reader = "pong_r"
-key = "k"
-row = "w1"
-bound = 3
-"#,
+    output: PING_PROPOSED,
     errors: "",
 };
 
@@ -102,27 +60,13 @@ static TWICE: Row = Row {
     deployment: Text::Small,
     edits: &[
         ("start = 3", "start = 2"),
-        ("max_samples_per_instance = 3", "max_samples_per_instance = 2"),
+        (
+            "max_samples_per_instance = 3",
+            "max_samples_per_instance = 2",
+        ),
     ],
     status: 0,
-    output: r#"version = 1
-
-[[rows]]
-name = "w0"
-samples = [
-  { reader = "r", key = "k", weight = 5040 },
-]
-takes = []
-permits = [
-  { writer = "w", key = "k", weight = 5040 },
-]
-
-[[bounds]]
-reader = "r"
-key = "k"
-row = "w0"
-bound = 2
-"#,
+    output: SMALL_PROPOSED,
     errors: "",
 };
 
@@ -207,7 +151,10 @@ static NONE: [Row; 6] = [
                 "takes = [{ reader = \"ra\", key = \"k\", count = 2 }]",
                 "takes = [{ reader = \"ra\", key = \"k\", count = 1 }]",
             ),
-            ("max_samples_per_instance = 2", "max_samples_per_instance = 4"),
+            (
+                "max_samples_per_instance = 2",
+                "max_samples_per_instance = 4",
+            ),
         ],
         status: 1,
         output: "none\n",
@@ -224,7 +171,10 @@ static NONE: [Row; 6] = [
     Row {
         about: "the endpoints of a connection don't match",
         deployment: Text::Small,
-        edits: &[("{ name = \"q\", domain = 0 }", "{ name = \"q\", domain = 1 }")],
+        edits: &[(
+            "{ name = \"q\", domain = 0 }",
+            "{ name = \"q\", domain = 1 }",
+        )],
         status: 1,
         output: "none\n",
         errors: "",
