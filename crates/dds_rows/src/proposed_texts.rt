@@ -34,7 +34,8 @@ fn expect(rt: &impl Abort, alloc: Global, row: &Row) -> Result<(), AllocError> {
 /// Checks the certificate of a row.
 fn accepts(rt: &impl Abort, alloc: Global, row: &Row, answer: &str) -> Result<(), AllocError> {
     let deployment = changed(rt, alloc, bytes_of(row.deployment), row.edits)?;
-    let mut files = readable(deployment.as_bytes(), row.output.as_bytes());
+    let certificate = String::from_str(alloc, row.output)?;
+    let mut files = readable(deployment.as_bytes(), certificate.as_bytes());
     let (mut out, mut err) = (Vec::new(alloc), Vec::new(alloc));
     let words = ["ddscheck", "check", "d", "c"];
     let status = tool(alloc, words.as_slice(), &mut files, &mut out, &mut err);
