@@ -18,4 +18,3 @@ pub mod Laws
 pub mod Unsafe
 pub mod CountRuns
 pub mod Noted
-pub mod Standing

@@ -7,6 +7,8 @@ mod chance;
 #[cfg(test)]
 mod comparing;
 #[cfg(test)]
+mod domains;
+#[cfg(test)]
 mod mixed;
 #[cfg(test)]
 mod peers;

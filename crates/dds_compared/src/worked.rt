@@ -3,8 +3,9 @@
 use crate::comparing::{Both, expect_same};
 use crate::plans::plan_of;
 use crate::texts::{LOOP, SMALL};
-use dds_base::ReaderNo;
+use dds_base::{ReaderNo, Refusal};
 use dds_match::Plan;
+use dds_oracle::PLACES;
 use dds_oracle::worked::{Move, RUNS, Run, Stage, Told, event_of, told_of_packet};
 use std::alloc::{AllocError, Global};
 use std::process::Abort;
@@ -62,7 +63,7 @@ fn edits_of(stage: Stage) -> &'static [Edit] {
 }
 
 /// The deployment of a stage. Each change has to find what it changes.
-fn text_of(rt: &impl Abort, alloc: Global, stage: Stage) -> Result<String, AllocError> {
+pub(crate) fn text_of(rt: &impl Abort, alloc: Global, stage: Stage) -> Result<String, AllocError> {
     let first = if stage == Stage::Loop { LOOP } else { SMALL };
     let mut all = String::from_str(alloc, first)?;
     for (old, new) in edits_of(stage) {
@@ -131,5 +132,60 @@ fn worked_runs(rt: HostRuntime) -> Result<(), Fail> {
     for run in &RUNS {
         expect(&rt, rt.alloc(), run)?;
     }
+    Ok(())
+}
+
+fn expect_move(
+    rt: &impl Abort,
+    both: &mut Both,
+    plan: &Plan,
+    asked: Move,
+    told: Told,
+) -> Result<(), AllocError> {
+    assert_eq!(rt; make(rt, both, plan, asked)?, told, "{asked:?}");
+    Ok(())
+}
+
+/// Sends a HEARTBEAT to each place of the bus.
+fn fill(rt: &impl Abort, both: &mut Both, plan: &Plan) -> Result<(), AllocError> {
+    for place in 0..PLACES {
+        expect_move(rt, both, plan, Move::SendHeartbeat(0, 0), Told::Sent(place))?;
+    }
+    Ok(())
+}
+
+/// What is asked of a full bus, and what is told.
+const ON_A_FULL_BUS: [(Move, Told); 4] = [
+    (Move::SendHeartbeat(0, 0), Told::NotSent),
+    (Move::Lose(7), Told::Dropped),
+    (Move::SendHeartbeat(0, 0), Told::Sent(7)),
+    (
+        Move::Deliver(PLACES, false),
+        Told::Refused(Refusal::NoPacket),
+    ),
+];
+
+fn over_full_bus(rt: &impl Abort, alloc: Global, plan: &Plan) -> Result<(), AllocError> {
+    let mut both = Both::open(alloc, plan)?;
+    fill(rt, &mut both, plan)?;
+    for (asked, told) in &ON_A_FULL_BUS {
+        expect_move(rt, &mut both, plan, *asked, *told)?;
+    }
+    expect_same(rt, &both)?;
+    drop(both);
+    Ok(())
+}
+
+fn expect_full_bus(rt: &impl Abort, alloc: Global) -> Result<(), AllocError> {
+    let text = text_of(rt, alloc, Stage::Small(1))?;
+    let plan = plan_of(rt, alloc, text.as_str());
+    let done = over_full_bus(rt, alloc, &plan);
+    drop(plan);
+    done
+}
+
+#[test]
+fn a_full_bus_loses_what_is_sent(rt: HostRuntime) -> Result<(), Fail> {
+    expect_full_bus(&rt, rt.alloc())?;
     Ok(())
 }

@@ -3,9 +3,6 @@ ghost use Rattle.std.specs.Prelude.{◌≡◌, ◌==◌, ◌||◌, map, string_b
 ghost use Rattle.std.specs.List.{list_all, list_any};
 ghost use Rattle.dds_match.specs.Partitions.{is_pattern, lists_match, name_matches, names_match, partition_names};
 
-#[cfg(test)]
-mod tests;
-
 /// The `*` that was passed last, for another try.
 #[derive(Clone, Copy)]
 struct Star {

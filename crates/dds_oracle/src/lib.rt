@@ -23,8 +23,3 @@ mod writing;
 pub use layout::{Layout, ReaderLayout, RuleLayout, WriterLayout};
 pub use stepping::{step, step_as};
 pub use world::{PLACES, World};
-
-#[cfg(test)]
-mod runs;
-#[cfg(test)]
-mod worlds;

@@ -2,6 +2,8 @@
 #![tactic(auto)]
 
 #[cfg(test)]
+mod patterns;
+#[cfg(test)]
 mod policies;
 #[cfg(test)]
 mod ranges;

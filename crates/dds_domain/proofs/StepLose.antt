@@ -1,0 +1,33 @@
+-- A packet is lost.
+use Rattle.std.proofs.Common.{◌≡◌, ℕ, false, None, set, refl, sym, ap, ◌∙◌}
+use Rattle.dds_base.specs.declared.events.Event.TheVariants.{Lose}
+use Rattle.dds_base.specs.declared.events.Reply.TheVariants.{Refused, Dropped}
+use Rattle.dds_base.specs.declared.events.Refusal.TheVariants.{NoPacket}
+use Rattle.dds_match.specs.Network.{Network}
+use Rattle.dds_check.specs.World.{World}
+use Rattle.dds_check.specs.Steps.{is_none_of, take_away}
+use Rattle.dds_domain.specs.Bus.{at_place}
+use Rattle.dds_domain.specs.Standing.{DomainState, Stands, StepsTo}
+use Rattle.dds_domain.proofs.Buses.{clear_stands}
+use Rattle.dds_domain.proofs.Worlds.{refused, may}
+
+-- a place that is freed
+pub taken_away : (net : Network) (v : World) (d : DomainState) (i : ℕ) → Stands net v d → Stands net (take_away v i) (record d { bus = set d.bus i None })
+taken_away net v d i s = record {
+  plan = s.plan;
+  writer_count = s.writer_count;
+  reader_count = s.reader_count;
+  writers = s.writers;
+  readers = s.readers;
+  ledger = record { of = s.ledger.of; permits = s.ledger.permits; spare = s.ledger.spare };
+  bus = clear_stands v.bus d.bus i s.bus;
+}
+
+module _ (d : DomainState) (i : ℕ) where
+  pub lose_none : at_place d.bus i ≡ None → StepsTo d (Lose i) (Refused NoPacket) d
+  unfolding StepsTo
+  lose_none e net cert v known accepted reached s = refused net v d (Lose i) NoPacket (rw (sym (s.bus.same i) ∙ e) refl) s
+
+  pub lose_done : is_none_of (at_place d.bus i) ≡ false → StepsTo d (Lose i) Dropped (record d { bus = set d.bus i None })
+  unfolding StepsTo
+  lose_done e net cert v known accepted reached s = (may net v (Lose i) Dropped (rw (ap is_none_of (sym (s.bus.same i)) ∙ e) refl) refl, taken_away net v d i s)

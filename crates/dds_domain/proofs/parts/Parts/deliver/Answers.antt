@@ -1,0 +1,44 @@
+use Rattle.std.proofs.Common.{◌≡◌, ℕ, None, Some, true, false, set, sym, subst, ◌∙◌, rules}
+use Rattle.dds_base.specs.declared.events.Event.TheVariants.{Deliver}
+use Rattle.dds_base.specs.declared.events.Reply.TheVariants.{Refused}
+use Rattle.dds_base.specs.declared.events.Refusal.TheVariants.{NoPacket}
+use Rattle.dds_base.specs.declared.messages.Packet.{Packet}
+use Rattle.dds_domain.specs.Bus.{at_place}
+use Rattle.dds_domain.specs.Standing.{DomainState, StepsTo, Receives}
+use Rattle.dds_domain.specs.View.{view_of}
+use Rattle.dds_domain.proofs.StepDeliver.{sent_at, deliver_none, deliver_kept, deliver_gone}
+use Rattle.dds_domain.proofs.parts.Parts.deliver.Goals as goal
+use Rattle.dds_domain.proofs.parts.Parts.deliver.Goals.{then-not-keep, else-not-keep}
+
+-- the packet is the one at the place
+there : (d e : DomainState) (i : ℕ) (p : Packet) → e ≡ d → at_place e.bus i ≡ Some p → at_place d.bus i ≡ Some p
+there d e i p same h = subst (λ (z : DomainState). at_place z.bus i ≡ Some p) same h
+
+pub receive-requires : goal.receive-requires
+receive-requires c =
+    let at = there c.args.self.now (view_of c.self.inside) c.args.place c.in-Some.packet c.self.view_is (sym c.at.ensures ∙ c.in-Some.is) in
+    sent_at c.args.self.now c.args.place c.in-Some.packet at c.requires
+
+pub returns-in-None-clause-steps : goal.returns-in-None-clause-steps
+returns-in-None-clause-steps c =
+    let d : DomainState = view_of c.self.inside in
+    let none : at_place d.bus c.args.place ≡ None = search rules in
+    subst (λ (z : DomainState). StepsTo z (Deliver c.args.place c.args.keep) (Refused NoPacket) z) c.self.view_is (deliver_none d c.args.place c.args.keep none)
+
+pub returns-after-not-keep-clause-steps : goal.returns-after-not-keep-clause-steps
+returns-after-not-keep-clause-steps c =
+    let d : DomainState = c.args.self.now in
+    let new : DomainState = view_of c.self-in-Some.inside in
+    let reply = c.in_ok-reply-in-Some.reply in
+    let at = there c.args.self.now (view_of c.self.inside) c.args.place c.in-Some.packet c.self.view_is (sym c.at.ensures ∙ c.in-Some.is) in
+    let received : Receives d c.in-Some.packet c.in_ok-reply-in-Some.reply new = subst (λ (z : DomainState). Receives c.args.self.now c.in-Some.packet c.in_ok-reply-in-Some.reply z) (sym c.self-in-Some.view_is) c.in_ok-reply-in-Some.ensures.receives in
+    elim c.if-not-keep.branch [
+      | then-not-keep w ↦ (
+          let gone : c.args.keep ≡ false = search rules in
+          let same : c.if-not-keep.self ≡ record new { bus = set new.bus c.args.place None } = search rules in
+          rw (gone, same) (deliver_gone d c.args.place c.in-Some.packet at reply new received))
+      | else-not-keep w ↦ (
+          let stays : c.args.keep ≡ true = search rules in
+          let same : c.if-not-keep.self ≡ new = search rules in
+          rw (stays, same) (deliver_kept d c.args.place c.in-Some.packet at reply new received))
+    ]

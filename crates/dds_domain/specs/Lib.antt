@@ -1,0 +1,4 @@
+pub mod Bus
+pub mod Standing
+pub mod View
+pub mod Opening

@@ -1,0 +1,30 @@
+//! What an application takes.
+ghost use Rattle.std.specs.Prelude.{◌≡◌};
+ghost use Rattle.dds_base.specs.declared.events.Event.TheVariants.{Take};
+ghost use Rattle.dds_domain.specs.Standing.{IsStanding, StepsTo};
+
+use crate::parts::Parts;
+use dds_base::{KeyNo, ReaderNo, Refusal, Reply};
+
+impl Parts {
+    /// A reader takes an available sample of a key.
+    pub(crate) fn take(&mut self, reader: ReaderNo, key: KeyNo) -> Reply
+        requires { IsStanding self.old }
+        ensures steps { StepsTo self.old (Take reader key) result self.new }
+        ensures plan { self.new.checked ≡ self.old.checked }
+    {
+        if !self.checked.plan().hears(reader, key) {
+            return Reply::Refused(Refusal::Foreign);
+        }
+        if self.ledger.spare(reader, key) == u64::MAX {
+            return Reply::Refused(Refusal::CountLimit);
+        }
+        match self.readers[reader.number()].take(key) {
+            None => Reply::Refused(Refusal::Empty),
+            Some(sample) => {
+                self.ledger.note_take(reader, key).unwrap();
+                Reply::Took(sample)
+            }
+        }
+    }
+}

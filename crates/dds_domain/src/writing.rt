@@ -1,0 +1,72 @@
+//! What applications do but for taking: writes and firings.
+ghost use Rattle.std.specs.Prelude.{◌≡◌, IfOk, OnErr};
+ghost use Rattle.dds_base.specs.declared.events.Event.TheVariants.{Write, Fire};
+ghost use Rattle.dds_domain.specs.Standing.{IsStanding, StepsTo};
+ghost use Rattle.dds_writer.specs.Writer.{Tells};
+
+use crate::parts::Parts;
+use dds_base::{Data, KeyNo, Refusal, Reply, RuleNo, WriterNo};
+use dds_match::NoMemory;
+use dds_rules::FireRefused;
+use dds_writer::WriteRefused;
+
+// The refusal that a writer tells. `None` where memory ran out.
+fn refusal_of(why: WriteRefused) -> Option<Refusal>
+    ensures { Tells why result }
+{
+    match why {
+        WriteRefused::SequenceEnd => Some(Refusal::SequenceEnd),
+        WriteRefused::InstanceLimit => Some(Refusal::InstanceLimit),
+        WriteRefused::Full => Some(Refusal::Full),
+        WriteRefused::InstanceFull => Some(Refusal::InstanceFull),
+        WriteRefused::NoMemory => None,
+    }
+}
+
+impl Parts {
+    /// A writer writes a sample of a key, which uses one permit.
+    pub(crate) fn write(
+        &mut self,
+        writer: WriterNo,
+        key: KeyNo,
+        payload: Data,
+    ) -> Result<Reply, NoMemory>
+        requires { IsStanding self.old }
+        ensures steps { IfOk result (λ reply. StepsTo self.old (Write writer key payload) reply self.new) }
+        ensures plan { self.new.checked ≡ self.old.checked }
+        ensures err { OnErr result (self.new ≡ self.old) }
+    {
+        if !self.checked.plan().writes_key(writer, key) {
+            return Ok(Reply::Refused(Refusal::Foreign));
+        }
+        if self.ledger.permits(writer, key) == 0 {
+            return Ok(Reply::Refused(Refusal::NoPermit));
+        }
+        match self.writers[writer.number()].write(key, payload) {
+            Ok(sn) => {
+                self.ledger.use_permit(writer, key).unwrap();
+                Ok(Reply::Written(sn))
+            }
+            Err(why) => match refusal_of(why) {
+                Some(refusal) => Ok(Reply::Refused(refusal)),
+                None => Err(NoMemory),
+            },
+        }
+    }
+
+    /// A rule spends the takes that it needs, and gives the permits of its writes.
+    pub(crate) fn fire(&mut self, rule: RuleNo) -> Reply
+        requires { IsStanding self.old }
+        ensures steps { StepsTo self.old (Fire rule) result self.new }
+        ensures plan { self.new.checked ≡ self.old.checked }
+    {
+        if rule.number() >= self.checked.plan().lists().rules() {
+            return Reply::Refused(Refusal::Foreign);
+        }
+        match self.ledger.fire(rule) {
+            Ok(()) => Reply::Fired,
+            Err(FireRefused::NotEnough) => Reply::Refused(Refusal::NotEnough),
+            Err(FireRefused::CountLimit) => Reply::Refused(Refusal::CountLimit),
+        }
+    }
+}
