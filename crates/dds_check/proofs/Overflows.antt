@@ -1,7 +1,7 @@
 -- Two deployments that a wrong rule accepts, and a run of each in which a reader rejects a sample.
-use Rattle.std.proofs.Common.{◌≡◌, inl, inr, ℕ, zero, suc, ◌+◌, ◌≤◌, ◌<◌, Bool, true, false, cond, eqb, leb, ◌&&◌, ◌==◌, if◌then◌else◌, List, [], ◌∷◌, Some, None, refl, sym, ap, subst, arith}
+use Rattle.std.proofs.Common.{◌≡◌, inl, inr, ℕ, zero, suc, ◌+◌, ◌≤◌, ◌<◌, Bool, true, false, cond, eqb, leb, ◌&&◌, ◌==◌, if◌then◌else◌, List, [], ◌∷◌, ◌++◌, Option, Some, None, refl, sym, ap, subst, arith}
 use Rattle.std.specs.List.{list_any}
-use Rattle.std.proofs.lemmas.Bool.{and_parts, leb-true, eqb-true}
+use Rattle.std.proofs.lemmas.Bool.{and_parts, leb-true, eqb-true, both_ways}
 use Rattle.std.proofs.lemmas.Option.{none-some, same_Some}
 use Rattle.dds_base.specs.Sums.{In, least, total, any_below}
 use Rattle.dds_base.specs.Counts.{count_between, count_from}
@@ -12,7 +12,8 @@ use Rattle.dds_base.specs.declared.sample.Rejection.TheVariants.{SamplesPerInsta
 use Rattle.dds_qos.specs.declared.limits.ReaderLimits.{ReaderLimits}
 use Rattle.dds_match.specs.Network.{Network, IsNetwork}
 use Rattle.dds_check.specs.Steps.{Event, Reply, Write, Fire, Take, SendData, Deliver, Written, Fired, Took, Sent, Arrived}
-use Rattle.dds_check.specs.Runs.{IsRun, IsRunFrom, as_moves}
+use Rattle.dds_check.specs.World.{Packet, opening}
+use Rattle.dds_check.specs.Runs.{IsRun, IsRunFrom, as_moves, replay, brought, is_watchers, reader_of}
 use Rattle.dds_check.specs.Runs.Move.{Do}
 use Rattle.dds_check.specs.Accepted.{Row, RowHolds, Bound, Certificate, AcceptedBy, Shows}
 use Rattle.dds_check.specs.Certified.{Safe}
@@ -25,8 +26,21 @@ in_moves m [] i = absurd i
 in_moves m (x ∷ xs) (inl e) = inl (ap (λ (y : Event × Reply). (Do y.0, y.1)) e)
 in_moves m (x ∷ xs) (inr i) = inr (in_moves m xs i)
 
+-- what comes before an element, and what after it
+between : {A : Type 0} (m : A) (ms : List A) → In m ms → (before : List A) × (later : List A) × (ms ≡ before ++ m ∷ later)
+between m [] i = absurd i
+between m (x ∷ xs) (inl e) = ([], xs, ap (λ y. y ∷ xs) e)
+between m (x ∷ xs) (inr i) = let p = between m xs i in (x ∷ p.0, p.1, ap (λ ys. x ∷ ys) p.2)
+
+none_watches : (net : Network) → ((r : ℕ) → net.watcher r ≡ false) → (o : Option Packet) → is_watchers net o ≡ false
+none_watches net none None = refl
+none_watches net none (Some p) = none (reader_of p)
+
 not_safe : (net : Network) (cert : Certificate) → Overflows net → Safe net cert → ⊥
-not_safe net cert o s = (s.runs (as_moves o.0) o.1).replies (Do o.2.0, Arrived (Rejected o.2.1)) (in_moves (o.2.0, Arrived (Rejected o.2.1)) o.0 o.2.2)
+not_safe net cert o s =
+    let x = between (Do o.3.0, Arrived (Rejected o.3.1)) (as_moves o.1) (in_moves (o.3.0, Arrived (Rejected o.3.1)) o.1 o.3.2) in
+    let told = (s.runs (as_moves o.1) o.2).replies x.0 (Do o.3.0, Arrived (Rejected o.3.1)) x.1 x.2 in
+    both_ways (is_watchers net (brought (replay net opening x.0) (Do o.3.0))) (none_watches net o.0 (brought (replay net opening x.0) (Do o.3.0))) told
 
 -- ── what both deployments have: one writer, one key, and weights of 1
 abbrev at_most : ℕ → ReaderLimits
@@ -50,6 +64,7 @@ limit_two = record {
   rules = 1;
   matched = λ w r. eqb w 0 && eqb r 0;
   intended = λ w r. eqb w 0 && eqb r 0;
+  watcher = λ r. false;
   writes_key = λ w k. eqb w 0 && eqb k 0;
   hears = λ r k. eqb r 0 && eqb k 0;
   writer_limits = λ w. record { max_samples = None; max_instances = None; max_samples_per_instance = None };
@@ -70,6 +85,7 @@ network_two = record {
   written_key = λ w k h. (let a = eqb-true k 0 (and_parts (eqb w 0) (eqb k 0) h).1 in omega arith);
   takes_known = λ u e b i. absurd i;
   writes_known = λ u e b i. elim i [ inl h ↦ subst (λ (x : Portion ℕ). (eqb x.endpoint 0 && eqb x.key 0) ≡ true) h refl | inr z ↦ absurd z ];
+  some_depth = λ r d h. absurd (none-some d h);
   consistent = λ r d m h. absurd (none-some d h);
 }
 
@@ -95,11 +111,11 @@ accepted_two = record {
   rows = λ x i. elim i [ inl e ↦ subst (RowHolds limit_two) e row_two | inr z ↦ absurd z ];
   bounds = λ b i. elim i [ inl e ↦ subst (λ (x : Bound). In x.row cert_two.rows × ShowsOrMeets limit_two x.row x.bound x.reader x.key) e (inl refl, (omega arith, omega arith)) | inr z ↦ absurd z ];
   totals = λ t i. absurd i;
-  reader_instances = λ r m h. absurd (none-some m h);
-  key_bounds = λ r k m h l. (let p = and_parts (eqb r 0) (eqb k 0) (and_parts (eqb r 0 && eqb k 0) (any_below 1 (λ u. list_any (λ e. (e.key == k) && (eqb e.endpoint 0 && eqb r 0)) (one_of 0))) h).0 in
+  reader_instances = λ r m t h. absurd (none-some m h);
+  key_bounds = λ r k m t h l. (let p = and_parts (eqb r 0) (eqb k 0) (and_parts (eqb r 0 && eqb k 0) (any_below 1 (λ u. list_any (λ e. (e.key == k) && (eqb e.endpoint 0 && eqb r 0)) (one_of 0))) h).0 in
       let most : 2 ≡ m = same_Some 2 m l in
       (2, (bound_on 0 2, inl refl, sym (eqb-true r 0 p.0), sym (eqb-true k 0 p.1), refl), omega arith));
-  samples = λ r m h. absurd (none-some m h);
+  samples = λ r m t h. absurd (none-some m h);
 }
 
 abbrev run_two : List (Event × Reply)
@@ -113,7 +129,7 @@ unfolding least total any_below count_between count_from flags_of IsRunFrom
 two_runs = (refl, (refl, (refl, (refl, (refl, (refl, (refl, (refl, (refl, tt)))))))))
 
 two_overflows : Overflows limit_two
-two_overflows = (run_two, two_runs, (Deliver 2 false, SamplesPerInstanceLimit, inr (inr (inr (inr (inr (inr (inr (inr (inl refl))))))))))
+two_overflows = (λ r. refl, run_two, two_runs, (Deliver 2 false, SamplesPerInstanceLimit, inr (inr (inr (inr (inr (inr (inr (inr (inl refl))))))))))
 
 pub equal_bound_law : EqualBoundOverflows
 equal_bound_law = (limit_two, cert_two, network_two, accepted_two, two_overflows, not_safe limit_two cert_two two_overflows)
@@ -127,6 +143,7 @@ forking = record {
   rules = 2;
   matched = λ w r. eqb w 0 && leb r 1;
   intended = λ w r. eqb w 0 && leb r 1;
+  watcher = λ r. false;
   writes_key = λ w k. eqb w 0 && eqb k 0;
   hears = λ r k. leb r 1 && eqb k 0;
   writer_limits = λ w. record { max_samples = None; max_instances = None; max_samples_per_instance = None };
@@ -147,6 +164,7 @@ network_fork = record {
   written_key = λ w k h. (let a = eqb-true k 0 (and_parts (eqb w 0) (eqb k 0) h).1 in omega arith);
   takes_known = λ u e b i. elim i [ inl h ↦ subst (λ (x : Portion ℕ). (leb x.endpoint 1 && eqb x.key 0) ≡ true) h (taken u b) | inr z ↦ absurd z ];
   writes_known = λ u e b i. elim i [ inl h ↦ subst (λ (x : Portion ℕ). (eqb x.endpoint 0 && eqb x.key 0) ≡ true) h refl | inr z ↦ absurd z ];
+  some_depth = λ r d h. absurd (none-some d h);
   consistent = λ r d m h. absurd (none-some d h);
 }
   where
@@ -176,11 +194,11 @@ accepted_fork = record {
     | inr j ↦ elim j [ inl e ↦ subst (λ (x : Bound). In x.row cert_fork.rows × Shows forking x.row x.bound x.reader x.key) e (inl refl, (omega arith, omega arith)) | inr z ↦ absurd z ]
   ];
   totals = λ t i. absurd i;
-  reader_instances = λ r m h. absurd (none-some m h);
-  key_bounds = λ r k m h l. (let p = and_parts (leb r 1) (eqb k 0) (and_parts (leb r 1 && eqb k 0) (any_below 2 (λ u. list_any (λ e. (e.key == k) && (eqb e.endpoint 0 && leb r 1)) (one_of 0))) h).0 in
+  reader_instances = λ r m t h. absurd (none-some m h);
+  key_bounds = λ r k m t h l. (let p = and_parts (leb r 1) (eqb k 0) (and_parts (leb r 1 && eqb k 0) (any_below 2 (λ u. list_any (λ e. (e.key == k) && (eqb e.endpoint 0 && leb r 1)) (one_of 0))) h).0 in
       let most : 1 ≡ m = same_Some 1 m l in
       bounded r k m (leb-true r 1 p.0) (eqb-true k 0 p.1) most);
-  samples = λ r m h. absurd (none-some m h);
+  samples = λ r m t h. absurd (none-some m h);
 }
   where
     bounded : (r k m : ℕ) → r ≤ 1 → k ≡ 0 → 1 ≡ m → (n : ℕ) × ((b : Bound) × In b cert_fork.bounds × (b.reader ≡ r) × (b.key ≡ k) × (b.bound ≡ n)) × (n ≤ m)
@@ -200,7 +218,7 @@ unfolding least total any_below count_between count_from flags_of IsRunFrom
 fork_runs = (refl, (refl, (refl, (refl, (refl, ((sample 1 [], record { among = inl refl; least = λ t i w. at_least 1 (sample 1 [] ∷ []) refl t i }, refl), ((sample 1 [], record { among = inl refl; least = λ t i w. at_least 1 (sample 1 [] ∷ []) refl t i }, refl), (refl, (refl, (refl, (refl, (refl, (refl, (refl, (refl, tt)))))))))))))))
 
 fork_overflows : Overflows forking
-fork_overflows = (run_fork, fork_runs, (Deliver 1 false, SamplesPerInstanceLimit, inr (inr (inr (inr (inr (inr (inr (inr (inr (inr (inr (inr (inr (inr (inl refl))))))))))))))))
+fork_overflows = (λ r. refl, run_fork, fork_runs, (Deliver 1 false, SamplesPerInstanceLimit, inr (inr (inr (inr (inr (inr (inr (inr (inr (inr (inr (inr (inr (inr (inl refl))))))))))))))))
 
 pub forgotten_reader_law : ForgottenReaderOverflows
 forgotten_reader_law = (forking, 1, cert_fork, network_fork, accepted_fork, fork_overflows, not_safe forking cert_fork fork_overflows)

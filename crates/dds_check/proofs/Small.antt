@@ -35,6 +35,7 @@ network = record {
   written_key = λ w k h. leb-true (suc k) 2 (and_parts (eqb w 0) (leb (suc k) 2) h).1;
   takes_known = λ u e b i. absurd i;
   writes_known = λ u e b i. elim i [ inl h ↦ subst (λ (x : Portion ℕ). (eqb x.endpoint 0 && leb (suc x.key) 2) ≡ true) h refl | inr j ↦ elim j [ inl h ↦ subst (λ (x : Portion ℕ). (eqb x.endpoint 0 && leb (suc x.key) 2) ≡ true) h refl | inr z ↦ absurd z ] ];
+  some_depth = λ r d h. absurd (none-some d h);
   consistent = λ r d m h. absurd (none-some d h);
 }
 
@@ -64,11 +65,11 @@ accepted = record {
   rows = λ x i. elim i [ inl e ↦ subst (RowHolds (small 3 2 None)) e row_holds | inr z ↦ absurd z ];
   bounds = λ b i. elim i [ inl e ↦ subst (λ (x : Bound). In x.row cert.rows × Shows (small 3 2 None) x.row x.bound x.reader x.key) e (inl refl, (omega arith, omega arith)) | inr z ↦ absurd z ];
   totals = λ t i. absurd i;
-  reader_instances = λ r m h. absurd (none-some m h);
-  key_bounds = λ r k m h l. (let p = and_parts (eqb r 0) (eqb k 0) (and_parts (eqb r 0 && eqb k 0) (any_below 1 (λ u. list_any (λ e. (e.key == k) && (eqb e.endpoint 0 && eqb r 0)) ((small 3 2 None).rule u).writes)) h).0 in
+  reader_instances = λ r m t h. absurd (none-some m h);
+  key_bounds = λ r k m t h l. (let p = and_parts (eqb r 0) (eqb k 0) (and_parts (eqb r 0 && eqb k 0) (any_below 1 (λ u. list_any (λ e. (e.key == k) && (eqb e.endpoint 0 && eqb r 0)) ((small 3 2 None).rule u).writes)) h).0 in
       let most : 3 ≡ m = same_Some 3 m l in
       (3, (record { reader = 0; key = 0; row = row; bound = 3 }, inl refl, sym (eqb-true r 0 p.0), sym (eqb-true k 0 p.1), refl), omega arith));
-  samples = λ r m h. absurd (none-some m h);
+  samples = λ r m t h. absurd (none-some m h);
 }
 
 safe : Safe (small 3 2 None) cert

@@ -15,12 +15,12 @@ pub use Rattle.dds_base.specs.Messages.{DataFor, GapFor, HeartbeatFor, covers}
 pub use Rattle.dds_base.specs.Sets.{set_of}
 pub use Rattle.dds_qos.specs.Admission.{is_reached, admission}
 pub use Rattle.dds_qos.specs.Taking.{available_of, IsLeastOfWriter}
-pub use Rattle.dds_qos.specs.Reading.{lost_or_heard, new_by_gap, new_by_heartbeat, gap_arrival, heartbeat_arrival, data_arrival, heard_after, missing_of}
+pub use Rattle.dds_qos.specs.Reading.{lost_or_heard, marks_it, new_by_gap, new_by_heartbeat, gap_arrival, heartbeat_arrival, is_repeat, data_arrival, heard_after, missing_of}
 pub use Rattle.dds_qos.specs.Writing.{write_refusal, gap_of, heartbeat_of, counts_ack, base_after}
-use Rattle.dds_match.specs.Network.{Network, named}
+use Rattle.dds_match.specs.Network.{Network, follows, named}
 use Rattle.dds_deploy.specs.Lists.{Rule}
 use Rattle.dds_base.specs.declared.portion.Portion.{Portion}
-use Rattle.dds_check.specs.World.{World, Sample, Packet, entry_at, has_key, permits, spare, bases, kept, is_kept, written_keys, marked, base, stored, known_keys, is_relevant}
+use Rattle.dds_check.specs.World.{World, Sample, Packet, entry_at, has_key, permits, spare, bases, kept, is_kept, is_at_hand, written_keys, marked, base, stored, known_keys, is_relevant}
 
 -- ── tests of lists and options
 -- some entry of a rule's list passes the test
@@ -56,7 +56,8 @@ fire_needs_more net v rule = is_empty rule.takes || any_entry (λ e. nat_lt (spa
 abbrev pub fire_passes_limit : Network → World → Rule → Bool
 fire_passes_limit net v rule = any_entry (λ e. nat_le (2 ^ 64) (permits net v e.endpoint e.key + named rule.writes e.endpoint e.key)) rule.writes
 
--- why an event is refused: the first test that holds. Foreign speaks of an endpoint, key or rule that isn't there, or of a pair that doesn't match
+-- why an event is refused: the first test that holds. Foreign speaks of an endpoint, key or rule that isn't there, or of a pair that doesn't
+-- match. A watcher gets DATA alone, and sends nothing
 abbrev pub refusal : Network → World → Event → Option Refusal
 refusal net v (Write w k d) =
     if not (net.writes_key w k) then Some Foreign
@@ -74,14 +75,15 @@ refusal net v (Take r k) =
     else None
 refusal net v (SendData w r n) =
     if not (net.matched w r) then Some Foreign
-    else if not (is_kept net v w n && is_relevant net v w r n) then Some NothingToSend
+    else if not (is_at_hand net v w r n && is_relevant net v w r n) then Some NothingToSend
     else None
 refusal net v (SendGap w r n) =
     if not (net.matched w r) then Some Foreign
+    else if net.watcher r then Some NothingToSend
     else if not (is_kept net v w n && not (is_relevant net v w r n)) then Some NothingToSend
     else None
-refusal net v (SendHeartbeat w r) = if not (net.matched w r) then Some Foreign else None
-refusal net v (SendAckNack r w) = if not (net.matched w r) then Some Foreign else None
+refusal net v (SendHeartbeat w r) = if not (net.matched w r) then Some Foreign else if net.watcher r then Some NothingToSend else None
+refusal net v (SendAckNack r w) = if not (net.matched w r) then Some Foreign else if net.watcher r then Some NothingToSend else None
 refusal net v (Deliver i keep) = if is_none_of (v.bus i) then Some NoPacket else None
 refusal net v (Lose i) = if is_none_of (v.bus i) then Some NoPacket else None
 
@@ -130,10 +132,11 @@ abbrev pub send : World → Packet → World
 send v p = record v { sent = p ∷ v.sent; bus = put_packet v.bus p (sent_place v) }
 
 -- ── arrivals
--- what a DATA does at its reader: Stranger, Repeat, Irrelevant or what the reader's cache answers on its sample, in this order
+-- what a DATA does at its reader: Stranger, Repeat (of a marked number, at a watcher of one below its base), Irrelevant or what the reader's
+-- cache answers on its sample, in this order
 abbrev pub arrival_of_data : Network → World → DataFor → Arrival
 arrival_of_data net v d =
-    data_arrival (net.matched d.sample.writer d.reader) (marked v d.reader d.sample.writer d.sample.sn) (net.hears d.reader d.sample.key)
+    data_arrival (net.matched d.sample.writer d.reader) (is_repeat (net.watcher d.reader) (marked v d.reader d.sample.writer) d.sample.sn) (net.hears d.reader d.sample.key)
     (admission (net.reader_limits d.reader) (stored v d.reader) (known_keys v d.reader) d.sample)
 
 -- the reader stores one more sample
@@ -148,12 +151,20 @@ mark_irrelevant v r w more = record v { irrelevant = put v.irrelevant r (put (v.
 abbrev pub mark_lost : World → ℕ → ℕ → (ℕ → Bool) → World
 mark_lost v r w more = record v { lost = put v.lost r (put (v.lost r) w (λ n. v.lost r w n || more n)) }
 
--- the world after a DATA did this at reader r; a rejected or repeated sample changes nothing
+-- the world after a DATA did this at a reliable reader r; a rejected or repeated sample changes nothing
 abbrev pub after_data : World → ℕ → Sample → Arrival → World
 after_data v r s New = store v r s
 after_data v r s (Overwrote old) = record (store v r s) { overwritten = put v.overwritten r (v.overwritten r ++ old ∷ []) }
 after_data v r s (Irrelevant n) = mark_irrelevant v r s.writer (λ m. m == s.sn)
 after_data v r s _ = v
+
+-- a reader gives up a writer's unmarked numbers below n
+abbrev pub give_up : World → ℕ → ℕ → ℕ → World
+give_up v r w n = mark_lost v r w (new_by_heartbeat (marked v r w) n)
+
+-- the world after a DATA did this at a watcher r: where it marks its number, the watcher gives up the unmarked numbers below it, and tells nobody
+abbrev pub after_watched : World → ℕ → Sample → Arrival → World
+after_watched v r s a = if marks_it a then after_data (give_up v r s.writer s.sn) r s a else v
 
 -- the world after a GAP of a matched writer: the unmarked numbers that it covers are irrelevant
 abbrev pub after_gap : World → GapFor → World
@@ -173,16 +184,17 @@ after_acknack v a = record v { acked = put v.acked a.writer (put (v.acked a.writ
 -- what is replied when a packet arrives
 abbrev pub packet_reply : Network → World → Packet → Reply
 packet_reply net v (Data d) = Arrived (arrival_of_data net v d)
-packet_reply net v (Gap g) = Arrived (gap_arrival (net.matched g.writer g.reader) (marked v g.reader g.writer) g)
-packet_reply net v (Heartbeat h) = Arrived (heartbeat_arrival (net.matched h.writer h.reader) (marked v h.reader h.writer) h)
+packet_reply net v (Gap g) = Arrived (gap_arrival (net.matched g.writer g.reader) (net.watcher g.reader) (marked v g.reader g.writer) g)
+packet_reply net v (Heartbeat h) = Arrived (heartbeat_arrival (net.matched h.writer h.reader) (net.watcher h.reader) (marked v h.reader h.writer) h)
 packet_reply net v (AckNack a) = Acked
 
--- the world after a packet arrived; one of a pair that doesn't match changes nothing
+-- the world after a packet arrived; one of a pair that doesn't match changes nothing, nor does any but a DATA of a watcher's pair
 abbrev pub after_packet : Network → World → Packet → World
-after_packet net v (Data d) = after_data v d.reader d.sample (arrival_of_data net v d)
-after_packet net v (Gap g) = if net.matched g.writer g.reader then after_gap v g else v
-after_packet net v (Heartbeat h) = if net.matched h.writer h.reader then after_heartbeat v h else v
-after_packet net v (AckNack a) = if net.matched a.writer a.reader then after_acknack v a else v
+after_packet net v (Data d) =
+    if net.watcher d.reader then after_watched v d.reader d.sample (arrival_of_data net v d) else after_data v d.reader d.sample (arrival_of_data net v d)
+after_packet net v (Gap g) = if follows net g.writer g.reader then after_gap v g else v
+after_packet net v (Heartbeat h) = if follows net h.writer h.reader then after_heartbeat v h else v
+after_packet net v (AckNack a) = if follows net a.writer a.reader then after_acknack v a else v
 
 -- there is a packet, and P holds of it
 abbrev pub AtPlace : Option Packet → (Packet → Type 0) → Type 0

@@ -5,21 +5,23 @@ use Rattle.std.proofs.lemmas.List.Elements.{All-from_get_or}
 use Rattle.std.proofs.lemmas.List.FromFn.{length-range_with_len, get_or-range_with_len}
 use Rattle.dds_qos.specs.declared.consistency.QosFault.{QosFault}
 use Rattle.dds_qos.specs.declared.consistency.QosFault.TheVariants.{DepthOverLimit, SamplesUnderInstance}
+use Rattle.dds_qos.specs.declared.policies.History.{History}
 use Rattle.dds_qos.specs.declared.policies.Policies.{Policies}
+use Rattle.dds_qos.specs.declared.policies.Reliability.{Reliability}
 use Rattle.dds_qos.specs.declared.policies.Reliability.TheVariants.{BestEffort, Reliable}
 use Rattle.dds_qos.specs.Consistency.{consistency_fault, is_depth_over, is_samples_under, is_above}
 use Rattle.dds_qos.specs.Limits.{keep_last_of}
 use Rattle.toml.specs.Data.{Data, Members}
-use Rattle.dds_fields.specs.Reading.{field, a_known_name, optional}
+use Rattle.dds_fields.specs.Reading.{field, a_known_name, a_number, optional}
 use Rattle.dds_fields.specs.Lists.{Listed}
 use Rattle.dds_fields.proofs.Laws.{bind_ok, ok_is}
 use Rattle.dds_deploy.specs.Lists.{Topic, Writer, Reader, Lists, keys_at}
-use Rattle.dds_deploy.specs.Policies.{policies, partitions}
+use Rattle.dds_deploy.specs.Policies.{policies, partitions, timing, delivery, history_kind, depth, history, resource_limits}
 use Rattle.dds_deploy.specs.Sections.{key, writer_fields, reader_fields, filter, filter_key, all_keys}
 use Rattle.dds_deploy.specs.WellFormed.{IsWriterOf, IsReaderOf, KeepsWithin, AreNumbered, AreDistinctBy}
 use Rattle.dds_deploy.proofs.Pushes.{optional_keeps, each_counts, push_size, pushes_few, pushes_all}
 use Rattle.dds_deploy.proofs.Distinct.{pushes_distinct, pushes_numbered, none_shows}
-use Rattle.dds_deploy.proofs.Readings.{number_field, keys_each, key_pushes, IsNewName, filter_each, filter_key_pushes, IsFilterKey, IsTopicRead, IsWriterRead, IsReaderRead}
+use Rattle.dds_deploy.proofs.Readings.{number_field, number_between, keys_each, key_pushes, IsNewName, filter_each, filter_key_pushes, IsFilterKey, IsTopicRead, IsWriterRead, IsReaderRead}
 
 pub none_is : {A : Type 0} (o : Option A) → is_none o ≡ true → o ≡ None
 none_is None e = refl
@@ -50,6 +52,20 @@ keeps_within q e last m limit =
     first_passes : (b : Bool) (more : Option QosFault) → is_none (cond b (Some DepthOverLimit) more) ≡ true → b ≡ false
     first_passes true more e = absurd cc
     first_passes false more e = refl
+
+-- the depth of a history that was read is in its range
+some_depth : (absent : Reliability) (path : List ℕ) (ms : Members) (q : Policies) → policies absent path ms ≡ Ok q → 1 ≤ q.history.depth
+unfolding policies history depth
+some_depth absent path ms q e =
+    let t = bind_ok (timing path ms) _ q e in
+    let d = bind_ok (delivery absent path ms) _ q t.2 in
+    let h = bind_ok (history path ms) _ q d.2 in
+    let l = bind_ok (resource_limits path ms) _ q h.2 in
+    let kind = bind_ok (history_kind path ms) _ h.0 h.1 in
+    let n = bind_ok (optional (codes "depth") 1 (a_number 1 2147483647) path ms) _ h.0 kind.2 in
+    let some = optional_keeps (λ k. 1 ≤ k) (codes "depth") 1 (a_number 1 2147483647) path ms n.0 (omega arith) (λ p x read. (number_between 1 2147483647 p x n.0 read).0) n.1 in
+    let made = subst (λ (x : History). 1 ≤ x.depth) {x = record { kind = kind.0; depth = n.0 }} (ok_is (record { kind = kind.0; depth = n.0 }) h.0 n.2) some in
+    subst (λ (x : Policies). 1 ≤ x.history.depth) (ok_is _ q l.2) made
 
 -- a filter's numbers are below the count of keys, and no two are the same
 record IsFilterOf (count : ℕ) (ns : List ℕ) : Type 0 where
@@ -95,6 +111,7 @@ module _ (d : Lists) (ps : length d.participants.names ≡ length d.participants
     pub participant : r.participant < length d.participants.entries
     pub topic : r.topic < length d.topics.entries
     pub filter : IsFilterOf (length (keys_at d.topics r.topic)) r.filter
+    pub some_depth : 1 ≤ r.qos.requested.history.depth
 
   reader_fields_fit : (path : List ℕ) (ms : Members) (r : Reader) → reader_fields d.participants d.topics path ms ≡ Ok r → HasNumbers r
   unfolding reader_fields
@@ -109,12 +126,13 @@ module _ (d : Lists) (ps : length d.participants.names ≡ length d.participants
         participant = number_field d.participants ps (codes "participant") path ms a.0 a.1;
         topic = number_field d.topics ts (codes "topic") path ms b.0 b.1;
         filter = optional_keeps (IsFilterOf (length (keys_at d.topics b.0))) (codes "filter") (all_keys (keys_at d.topics b.0)) (filter (keys_at d.topics b.0)) path ms c.0 (all_keys_fit (keys_at d.topics b.0)) (λ p x h. filter_fits (keys_at d.topics b.0) p x c.0 h) c.1;
+        some_depth = some_depth BestEffort path ms q.0 q.1;
       })
 
   pub reader_fits : (before : Listed Reader) (r : Reader) → IsReaderRead d.participants d.topics before r → IsReaderOf d r
   reader_fits before r read =
       let numbers = reader_fields_fit read.0 read.1 r read.2 in
-      record { participant = numbers.participant; topic = numbers.topic; filter = numbers.filter.below; depth = keeps_within r.qos.requested read.3 }
+      record { participant = numbers.participant; topic = numbers.topic; filter = numbers.filter.below; some_depth = numbers.some_depth; depth = keeps_within r.qos.requested read.3 }
 
   pub filter_distinct : (before : Listed Reader) (r : Reader) → IsReaderRead d.participants d.topics before r → AreDistinctBy (λ k. k) r.filter
   filter_distinct before r read = (reader_fields_fit read.0 read.1 r read.2).filter.distinct

@@ -1,12 +1,12 @@
 -- A reader stands for its part of the world.
-use Rattle.std.proofs.Common.{◌≡◌, ◌≢◌, inl, inr, ℕ, max, Bool, true, false, cond, ltb, ◌||◌, ◌&&◌, ◌==◌, not, List, [], ◌∷◌, ◌++◌, map, refl, sym, ap, subst, ◌∙◌}
+use Rattle.std.proofs.Common.{◌≡◌, ◌≢◌, inl, inr, ℕ, suc, ◌≤◌, max, Bool, true, false, cond, leb, ltb, ◌||◌, ◌&&◌, ◌==◌, not, List, [], ◌∷◌, ◌++◌, map, refl, sym, ap, subst, ◌∙◌, arith}
 use Rattle.std.specs.Prelude.{filter}
 use Rattle.std.specs.List.{list_any}
 use Rattle.std.specs.Cmp.{nat_cmp_total}
 use Rattle.std.specs.Ordering.{nat_cmp}
 use Rattle.std.specs.FinSet as set
 use Rattle.std.specs.FinSet.{from_list_push, nat_cmp-IsAntisymmetric}
-use Rattle.std.proofs.lemmas.Bool.{cases_Bool, cases_eq, eq-eqb, eqb-true, ne_eqb, or_parts}
+use Rattle.std.proofs.lemmas.Bool.{cases_Bool, cases_eq, cases_order, le-leb, lt-ltb, le-ltb, or_right, eq-eqb, eqb-true, ne_eqb, or_parts, and_parts, not-true}
 use Rattle.std.proofs.lemmas.List.{map-append}
 use Rattle.dds_base.specs.Sums.{put}
 use Rattle.dds_base.specs.Messages.{DataFor, GapFor, HeartbeatFor, covers}
@@ -16,18 +16,19 @@ use Rattle.dds_base.proofs.SumLaws.{put_at, put_other}
 use Rattle.dds_qos.specs.Samples.{holds, is_same, has_number, keys_of, without}
 use Rattle.dds_qos.specs.Taking.{available_of}
 use Rattle.dds_qos.specs.Admission.{admission}
-use Rattle.dds_qos.specs.Reading.{base_of, below_first, data_arrival, gap_arrival, heartbeat_arrival, heard_after, missing_of, new_by_heartbeat}
-use Rattle.dds_match.specs.Network.{Network}
+use Rattle.dds_qos.specs.Reading.{base_of, below_first, is_repeat, marked_by, data_arrival, gap_arrival, heartbeat_arrival, heard_after, missing_of, new_by_heartbeat}
+use Rattle.dds_match.specs.Network.{Network, follows}
 use Rattle.dds_check.specs.World.{World, marked, base, stored, is_stored, known_keys}
-use Rattle.dds_check.specs.Steps.{arrival_of_data, store, after_gap, after_heartbeat, available as available_at}
+use Rattle.dds_check.specs.Steps.{arrival_of_data, store, give_up, after_gap, after_heartbeat, available as available_at}
 use Rattle.dds_check.proofs.Places.{Distinct, eqb_sym, place_sym}
 use Rattle.dds_check.proofs.Sound.{Sound}
-use Rattle.dds_check.proofs.Views.{marked_store, marked_gap, stored_store, stored_take}
+use Rattle.dds_check.proofs.Views.{marked_store, marked_gap, stored_store, stored_more, stored_take}
+use Rattle.dds_check.proofs.Watching.{Watched, marked_give_up}
 use Rattle.dds_check.proofs.Joins.{without_is}
 use Rattle.dds_check.proofs.Weights.{after_take}
 use Rattle.dds_reader.specs.declared.notes.WriterProxy.{WriterProxy}
 use Rattle.dds_reader.specs.Notes.{has_writer, heard_in, hears, pays}
-use Rattle.dds_reader.specs.Reader.{ReaderState, acknack_of, available, data_arrives, gap_arrives, heartbeat_arrives, heard_of, is_marked, is_proxy, MarksMore, SameMarks, SameReader, SameSamples, Stores}
+use Rattle.dds_reader.specs.Reader.{ReaderState, acknack_of, available, data_arrives, gap_arrives, heartbeat_arrives, heard_of, heeds, is_marked, is_proxy, MarksMore, SameMarks, SameReader, SameSamples, Stores}
 use Rattle.dds_reader.proofs.NoteLaws.{listed_hears, listed_pays}
 use Rattle.dds_domain.specs.Standing.{ReaderPart, ReaderStands, part_of}
 
@@ -47,13 +48,13 @@ module _ (net : Network) (v : World) (r : ℕ) (x : ReaderState) (h : ReaderStan
   acknack_is w = λ i. record { reader = h.me i; writer = w; set = missing_of (marks_are w i) (h.heard w i) }
 
 pub data_is : (net : Network) (v : World) (d : DataFor) (x : ReaderState) → ReaderStands net d.reader (part_of v d.reader) x → data_arrives x d ≡ arrival_of_data net v d
-data_is net v d x h = λ i. data_arrival (h.proxies d.sample.writer i) (h.marks d.sample.writer d.sample.sn i) (h.filter d.sample.key i) (admission (h.limits i) (h.stored i) (h.keys i) d.sample)
+data_is net v d x h = λ i. data_arrival (h.proxies d.sample.writer i) (is_repeat (h.watching i) (λ n. h.marks d.sample.writer n i) d.sample.sn) (h.filter d.sample.key i) (admission (h.limits i) (h.stored i) (h.keys i) d.sample)
 
-pub gap_is : (net : Network) (v : World) (g : GapFor) (x : ReaderState) → ReaderStands net g.reader (part_of v g.reader) x → gap_arrives x g ≡ gap_arrival (net.matched g.writer g.reader) (marked v g.reader g.writer) g
-gap_is net v g x h = λ i. gap_arrival (h.proxies g.writer i) (marks_are net v g.reader x h g.writer i) g
+pub gap_is : (net : Network) (v : World) (g : GapFor) (x : ReaderState) → ReaderStands net g.reader (part_of v g.reader) x → gap_arrives x g ≡ gap_arrival (net.matched g.writer g.reader) (net.watcher g.reader) (marked v g.reader g.writer) g
+gap_is net v g x h = λ i. gap_arrival (h.proxies g.writer i) (h.watching i) (marks_are net v g.reader x h g.writer i) g
 
-pub heartbeat_is : (net : Network) (v : World) (b : HeartbeatFor) (x : ReaderState) → ReaderStands net b.reader (part_of v b.reader) x → heartbeat_arrives x b ≡ heartbeat_arrival (net.matched b.writer b.reader) (marked v b.reader b.writer) b
-heartbeat_is net v b x h = λ i. heartbeat_arrival (h.proxies b.writer i) (marks_are net v b.reader x h b.writer i) b
+pub heartbeat_is : (net : Network) (v : World) (b : HeartbeatFor) (x : ReaderState) → ReaderStands net b.reader (part_of v b.reader) x → heartbeat_arrives x b ≡ heartbeat_arrival (net.matched b.writer b.reader) (net.watcher b.reader) (marked v b.reader b.writer) b
+heartbeat_is net v b x h = λ i. heartbeat_arrival (h.proxies b.writer i) (h.watching i) (marks_are net v b.reader x h b.writer i) b
 
 -- ── notes of the writers
 -- an ACKNACK leaves what was heard
@@ -124,6 +125,35 @@ known_store v r s = ap keys_of (put_at v.received r (v.received r ++ s ∷ []))
     ∙ (ap (set.from_list {R = nat_cmp}) (map-append (λ (t : Sample). t.key) (v.received r) (s ∷ []))
     ∙ from_list_push nat_cmp_total nat_cmp-IsAntisymmetric (map (λ (t : Sample). t.key) (v.received r)) s.key)
 
+-- the marks of a watcher after a DATA is stored
+give_up_marks : (v : World) (r w m u n : ℕ) → marked (give_up v r w m) r u n ≡ (marked v r u n || ((w == u) && below_first m n))
+give_up_marks v r w m = joined (marked v r) (marked (give_up v r w m) r) w (below_first m) (marked_give_up v r w m) other
+  where
+    other : (u : ℕ) → w ≢ u → marked (give_up v r w m) r u ≡ marked v r u
+    other u ne = ap {B = ℕ → Bool} (λ (f : ℕ → Bool) k. has_number (v.received r) u k || (v.irrelevant r u k || f k))
+        (ap (λ (f : ℕ → ℕ → Bool). f u) (put_at v.lost r _) ∙ put_other (v.lost r) w u _ ne)
+
+below_next : (m n : ℕ) → 1 ≤ m → (below_first m n || (m == n)) ≡ below_first (suc m) n
+below_next m n low = elim (cases_order n m) [
+  | inl e ↦ rw (e, lt-ltb m (suc m) (omega arith), le-leb 1 m low, eq-eqb m m refl) (or_right (ltb m m) true refl)
+  | inr other ↦ elim other [
+    | inl less ↦ rw (lt-ltb n m less, lt-ltb n (suc m) (omega arith), ne_eqb m n (λ e. absurd (omega arith))) (or_none (leb 1 n && true))
+    | inr more ↦ rw (le-ltb n m (omega arith), le-ltb n (suc m) (omega arith), ne_eqb m n (λ e. absurd (omega arith))) (or_none (leb 1 n && false))
+  ]
+]
+
+given_marks : (v : World) (r : ℕ) (s : Sample) → 1 ≤ s.sn → (u n : ℕ) → marked (store (give_up v r s.writer s.sn) r s) r u n ≡ (marked v r u n || ((s.writer == u) && below_first (suc s.sn) n))
+given_marks v r s low u n =
+    marked_store (give_up v r s.writer s.sn) r s u n
+    ∙ ap (λ b. b || ((s.writer == u) && (s.sn == n))) (give_up_marks v r s.writer s.sn u n)
+    ∙ table (marked v r u n) (s.writer == u) (below_first s.sn n) (s.sn == n)
+    ∙ ap (λ b. marked v r u n || ((s.writer == u) && b)) (below_next s.sn n low)
+  where
+    table : (m c b e : Bool) → ((m || (c && b)) || (c && e)) ≡ (m || (c && (b || e)))
+    table true c b e = refl
+    table false true b e = refl
+    table false false b e = refl
+
 -- ── stored samples stay distinct
 holds_filter : (p : Sample → Bool) (ss : List Sample) (s : Sample) → holds ss s ≡ false → holds (filter p ss) s ≡ false
 holds_filter p [] s h = refl
@@ -147,6 +177,7 @@ module _ (net : Network) (v : World) (r : ℕ) (x y : ReaderState) (h : ReaderSt
   stands_for : (part : ReaderPart) → ((w : ℕ) → is_proxy y w ≡ is_proxy x w) → ((w n : ℕ) → is_marked y w n ≡ part.marks w n) → ((w : ℕ) → heard_of y w ≡ part.heard w) → y.stored ≡ part.stored → y.keys ≡ part.keys → ReaderStands net r part y
   stands_for part proxies marks heard stored' keys = record {
     me = rest.me ∙ h.me;
+    watching = rest.watching ∙ h.watching;
     limits = rest.limits ∙ h.limits;
     filter = λ k. ap (list_any (λ q. q == k)) rest.filter ∙ h.filter k;
     proxies = λ w. proxies w ∙ h.proxies w;
@@ -157,15 +188,28 @@ module _ (net : Network) (v : World) (r : ℕ) (x y : ReaderState) (h : ReaderSt
   }
 
   -- a DATA was stored
-  pub store_stands : (s : Sample) → Sound net v → marked v r s.writer s.sn ≡ false → MarksMore x y s.writer (λ n. n == s.sn) → Stores x y s New → y.proxies ≡ x.proxies → ReaderStands net r (part_of (store v r s) r) y
-  store_stands s sound fresh marks samples notes =
+  pub store_stands : (s : Sample) → Sound net v → net.watcher r ≡ false → marked v r s.writer s.sn ≡ false → MarksMore x y s.writer (λ n. n == s.sn) → Stores x y s New → y.proxies ≡ x.proxies → ReaderStands net r (part_of (store v r s) r) y
+  store_stands s sound reliable fresh marks samples notes =
       let apart = (or_parts (holds (v.received r) s) (v.irrelevant r s.writer s.sn || v.lost r s.writer s.sn) fresh).0 in
       stands_for (part_of (store v r s) r)
       (λ w. ap (has_writer w) notes)
       (λ w n. marks w n ∙ (ap (λ b. b || ((s.writer == w) && (n == s.sn))) (h.marks w n) ∙ (ap (λ b. marked v r w n || ((s.writer == w) && b)) (eqb_sym n s.sn) ∙ sym (marked_store v r s w n))))
       (λ w. ap (heard_in w) notes ∙ h.heard w)
-      (samples.stored ∙ (ap (λ ss. ss ++ s ∷ []) h.stored ∙ sym (stored_store net v sound r s apart)))
+      (samples.stored ∙ (ap (λ ss. ss ++ s ∷ []) h.stored ∙ sym (stored_store net v sound r s reliable apart)))
       (samples.keys ∙ (ap (λ ks. set.insert ks s.key) h.keys ∙ sym (known_store v r s)))
+
+  -- a DATA was stored at a watcher, which gave up all below it
+  pub watch_stands : (s : Sample) → Sound net v → Watched net v → net.watcher r ≡ true → 1 ≤ s.sn → marked v r s.writer s.sn ≡ false → MarksMore x y s.writer (marked_by true New s.sn) → Stores x y s New → y.proxies ≡ x.proxies →
+      ReaderStands net r (part_of (store (give_up v r s.writer s.sn) r s) r) y
+  watch_stands s sound watched watches low fresh marks samples notes =
+      let less : World = give_up v r s.writer s.sn in
+      let apart = (or_parts (holds (v.received r) s) (v.irrelevant r s.writer s.sn || v.lost r s.writer s.sn) fresh).0 in
+      stands_for (part_of (store less r s) r)
+      (λ w. ap (has_writer w) notes)
+      (λ w n. marks w n ∙ (ap (λ b. b || ((s.writer == w) && below_first (suc s.sn) n)) (h.marks w n) ∙ sym (given_marks v r s low w n)))
+      (λ w. ap (heard_in w) notes ∙ h.heard w)
+      (samples.stored ∙ (ap (λ ss. ss ++ s ∷ []) h.stored ∙ sym (stored_more less r s (sound.taken_in r) (watched r watches).over apart)))
+      (samples.keys ∙ (ap (λ ks. set.insert ks s.key) h.keys ∙ sym (known_store less r s)))
 
   -- a sample was taken
   pub take_stands : (s : Sample) → Sound net v → y.stored ≡ without s x.stored → y.keys ≡ x.keys → SameMarks x y → y.proxies ≡ x.proxies → ReaderStands net r (part_of (after_take v r s) r) y
@@ -178,37 +222,49 @@ module _ (net : Network) (v : World) (r : ℕ) (x y : ReaderState) (h : ReaderSt
       (keys ∙ h.keys)
 
   -- an ACKNACK was built
-  pub acknack_stands : (w : ℕ) → y.proxies ≡ pays w x.proxies → SameMarks x y → SameSamples x y → ReaderStands net r (part_of v r) y
-  acknack_stands w notes marks samples = stands_for (part_of v r)
+  pub acknack_stands : (w : ℕ) → net.watcher r ≡ false → y.proxies ≡ cond x.watching x.proxies (pays w x.proxies) → SameMarks x y → SameSamples x y → ReaderStands net r (part_of v r) y
+  acknack_stands w reliable noted marks samples =
+      let notes : y.proxies ≡ pays w x.proxies = noted ∙ ap (λ b. cond b x.proxies (pays w x.proxies)) (h.watching ∙ reliable) in
+      stands_for (part_of v r)
       (λ u. ap (has_writer u) notes ∙ listed_pays u w x.proxies)
       (λ u n. marks u n ∙ h.marks u n)
       (λ u. ap (heard_in u) notes ∙ (heard_pays u w x.proxies ∙ h.heard u))
       (samples.stored ∙ h.stored)
       (samples.keys ∙ h.keys)
 
+-- a reader heeds the writers that it follows
+pub heeds_is : (net : Network) (w r : ℕ) (part : ReaderPart) (x : ReaderState) → ReaderStands net r part x → heeds x w ≡ follows net w r
+heeds_is net w r part x h = λ i. h.proxies w i && not (h.watching i)
+
 -- a GAP arrived from a matched writer
-pub gap_stands : (net : Network) (v : World) (g : GapFor) (x y : ReaderState) → ReaderStands net g.reader (part_of v g.reader) x → SameReader x y → net.matched g.writer g.reader ≡ true →
-    MarksMore x y g.writer (λ n. is_proxy x g.writer && covers g n) → y.proxies ≡ x.proxies → SameSamples x y → ReaderStands net g.reader (part_of (after_gap v g) g.reader) y
+pub gap_stands : (net : Network) (v : World) (g : GapFor) (x y : ReaderState) → ReaderStands net g.reader (part_of v g.reader) x → SameReader x y → follows net g.writer g.reader ≡ true →
+    MarksMore x y g.writer (λ n. heeds x g.writer && covers g n) → y.proxies ≡ x.proxies → SameSamples x y → ReaderStands net g.reader (part_of (after_gap v g) g.reader) y
 gap_stands net v g x y h rest pair marks notes samples = stands_for net v g.reader x y h rest (part_of (after_gap v g) g.reader)
     (λ u. ap (has_writer u) notes)
-    (λ u n. marks u n ∙ (ap (λ b. is_marked x u n || ((g.writer == u) && (b && covers g n))) (h.proxies g.writer ∙ pair) ∙ (ap (λ b. b || ((g.writer == u) && covers g n)) (h.marks u n) ∙ sym (gap_marks v g u n))))
+    (λ u n. marks u n ∙ (ap (λ b. is_marked x u n || ((g.writer == u) && (b && covers g n))) (heeds_is net g.writer g.reader (part_of v g.reader) x h ∙ pair) ∙ (ap (λ b. b || ((g.writer == u) && covers g n)) (h.marks u n) ∙ sym (gap_marks v g u n))))
     (λ u. ap (heard_in u) notes ∙ h.heard u)
     (samples.stored ∙ h.stored)
     (samples.keys ∙ h.keys)
 
 -- a HEARTBEAT arrived from a matched writer
-pub heartbeat_stands : (net : Network) (v : World) (b : HeartbeatFor) (x y : ReaderState) → ReaderStands net b.reader (part_of v b.reader) x → SameReader x y → net.matched b.writer b.reader ≡ true →
-    MarksMore x y b.writer (λ n. is_proxy x b.writer && below_first b.first n) → y.proxies ≡ hears b.writer b.last x.proxies → SameSamples x y → ReaderStands net b.reader (part_of (after_heartbeat v b) b.reader) y
-heartbeat_stands net v b x y h rest pair marks notes samples = stands_for net v b.reader x y h rest (part_of (after_heartbeat v b) b.reader)
+pub heartbeat_stands : (net : Network) (v : World) (b : HeartbeatFor) (x y : ReaderState) → ReaderStands net b.reader (part_of v b.reader) x → SameReader x y → follows net b.writer b.reader ≡ true →
+    MarksMore x y b.writer (λ n. heeds x b.writer && below_first b.first n) → y.proxies ≡ cond x.watching x.proxies (hears b.writer b.last x.proxies) → SameSamples x y → ReaderStands net b.reader (part_of (after_heartbeat v b) b.reader) y
+heartbeat_stands net v b x y h rest pair marks noted samples = stands_for net v b.reader x y h rest (part_of (after_heartbeat v b) b.reader)
     (λ u. ap (has_writer u) notes ∙ listed_hears u b.writer b.last x.proxies)
-    (λ u n. marks u n ∙ (ap (λ t. is_marked x u n || ((b.writer == u) && (t && below_first b.first n))) (h.proxies b.writer ∙ pair) ∙ (ap (λ t. t || ((b.writer == u) && below_first b.first n)) (h.marks u n) ∙ sym (heartbeat_marks v b u n))))
+    (λ u n. marks u n ∙ (ap (λ t. is_marked x u n || ((b.writer == u) && (t && below_first b.first n))) (heeds_is net b.writer b.reader (part_of v b.reader) x h ∙ pair) ∙ (ap (λ t. t || ((b.writer == u) && below_first b.first n)) (h.marks u n) ∙ sym (heartbeat_marks v b u n))))
     (λ u. ap (heard_in u) notes ∙ (heard u ∙ sym (ap (λ (f : ℕ → ℕ). f u) (put_at v.heard b.reader (put (v.heard b.reader) b.writer (heard_after (v.heard b.reader b.writer) b))))))
     (samples.stored ∙ h.stored)
     (samples.keys ∙ h.keys)
   where
+    both : (net.matched b.writer b.reader ≡ true) × (net.watcher b.reader ≡ false)
+    both = let p = and_parts (net.matched b.writer b.reader) (not (net.watcher b.reader)) pair in (p.0, not-true (net.watcher b.reader) p.1)
+
+    notes : y.proxies ≡ hears b.writer b.last x.proxies
+    notes = noted ∙ ap (λ t. cond t x.proxies (hears b.writer b.last x.proxies)) (h.watching ∙ both.1)
+
     heard : (u : ℕ) → heard_in u (hears b.writer b.last x.proxies) ≡ put (v.heard b.reader) b.writer (heard_after (v.heard b.reader b.writer) b) u
     heard u = elim (cases_eq b.writer u) [
       | inl e ↦ subst (λ j. heard_in j (hears b.writer b.last x.proxies) ≡ put (v.heard b.reader) b.writer (heard_after (v.heard b.reader b.writer) b) j) e
-          (heard_same b.writer b.last x.proxies (h.proxies b.writer ∙ pair) ∙ (ap (λ n. max n b.last) (h.heard b.writer) ∙ sym (put_at (v.heard b.reader) b.writer (heard_after (v.heard b.reader b.writer) b))))
+          (heard_same b.writer b.last x.proxies (h.proxies b.writer ∙ both.0) ∙ (ap (λ n. max n b.last) (h.heard b.writer) ∙ sym (put_at (v.heard b.reader) b.writer (heard_after (v.heard b.reader b.writer) b))))
       | inr ne ↦ heard_other u b.writer b.last x.proxies ne ∙ (h.heard u ∙ sym (put_other (v.heard b.reader) b.writer u (heard_after (v.heard b.reader b.writer) b) ne))
     ]

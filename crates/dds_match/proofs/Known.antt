@@ -92,6 +92,17 @@ consistent_at l well r d m (Some x) at kept limit =
     let reader : IsReaderOf l x = all_at (IsReaderOf l) l.readers.entries r x well.each_reader at in
     kept_within x.qos.requested.history.kind x.qos.requested.history.depth d m (λ last. reader.depth last m limit) kept
 
+depth_of : (kind : HistoryKind) (depth d : ℕ) → 1 ≤ depth → keep_last_of kind depth ≡ Some d → 1 ≤ d
+depth_of KeepLast depth d some kept = let same : depth ≡ d = same_Some depth d kept in omega arith
+depth_of KeepAll depth d some kept = absurd (none-some d kept)
+
+some_depth_at : (l : Lists) → IsWellFormed l → (r d : ℕ) (o : Option Reader) → slice_get l.readers.entries r ≡ o
+    → (option_map_or (λ (x : Reader). reader_limits_of x.qos.requested) o no_reader_limits).keep_last ≡ Some d → 1 ≤ d
+some_depth_at l well r d None at kept = absurd (none-some d kept)
+some_depth_at l well r d (Some x) at kept =
+    let reader : IsReaderOf l x = all_at (IsReaderOf l) l.readers.entries r x well.each_reader at in
+    depth_of x.qos.requested.history.kind x.qos.requested.history.depth d reader.some_depth kept
+
 pub network_known : (d : Lists) → IsWellFormed d → IsNetwork (network_of d)
 network_known d well = record {
   matched_writer = λ w r both. ltb-true _ _ (and_parts _ _ both).0;
@@ -102,5 +113,6 @@ network_known d well = record {
   written_key = λ w k written. (written_known d well w k (ltb-true _ _ written)).1;
   takes_known = λ u e within named. found_in _ _ (all_in (IsTakeOf d) _ e (rule_of d well u within).takes named);
   writes_known = λ u e within named. lt-ltb _ _ (all_in (IsWriteOf d) _ e (rule_of d well u within).writes named);
+  some_depth = λ r k kept. some_depth_at d well r k (slice_get d.readers.entries r) refl kept;
   consistent = λ r k m kept limit. consistent_at d well r k m (slice_get d.readers.entries r) refl kept limit;
 }

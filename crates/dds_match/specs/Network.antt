@@ -1,5 +1,5 @@
 -- All that runs see of a plan: which endpoints match, filters, limits, rules, as functions of their numbers.
-use Rattle.std.specs.Prelude.{◌≡◌, ℕ, ◌+◌, ◌*◌, ◌<◌, ◌≤◌, Bool, true, ◌&&◌, ◌==◌, List, Some, [], ◌∷◌, if◌then◌else◌}
+use Rattle.std.specs.Prelude.{◌≡◌, ℕ, ◌+◌, ◌*◌, ◌<◌, ◌≤◌, Bool, true, not, ◌&&◌, ◌==◌, List, Some, [], ◌∷◌, if◌then◌else◌}
 use Rattle.std.specs.List.{list_any}
 use Rattle.dds_base.specs.Sums.{In, any_below}
 use Rattle.dds_base.specs.declared.portion.Portion.{Portion}
@@ -16,6 +16,8 @@ pub record Network : Type 0 where
   pub rules : ℕ
   pub matched : ℕ → ℕ → Bool
   pub intended : ℕ → ℕ → Bool
+  -- the reader is best-effort: it takes a part of what is written, and no writer waits for it
+  pub watcher : ℕ → Bool
   -- the key is in the writer's topic
   pub writes_key : ℕ → ℕ → Bool
   -- the key is in the reader's filter
@@ -25,7 +27,7 @@ pub record Network : Type 0 where
   pub rule : ℕ → Rule
 
 -- what holds of the network of every plan: numbers are below the counts, rules name keys that are there, and by KEEP_LAST
--- an instance never has more than a finite max_samples_per_instance
+-- an instance has at least one sample, and never more than a finite max_samples_per_instance
 pub record IsNetwork (net : Network) : Type 0 where
   pub matched_writer : (w r : ℕ) → net.matched w r ≡ true → w < net.writers
   pub matched_reader : (w r : ℕ) → net.matched w r ≡ true → r < net.readers
@@ -35,7 +37,12 @@ pub record IsNetwork (net : Network) : Type 0 where
   pub written_key : (w k : ℕ) → net.writes_key w k ≡ true → k < net.keys
   pub takes_known : (u : ℕ) (e : Portion ℕ) → u < net.rules → In e (net.rule u).takes → net.hears e.endpoint e.key ≡ true
   pub writes_known : (u : ℕ) (e : Portion ℕ) → u < net.rules → In e (net.rule u).writes → net.writes_key e.endpoint e.key ≡ true
+  pub some_depth : (r d : ℕ) → (net.reader_limits r).keep_last ≡ Some d → 1 ≤ d
   pub consistent : (r d m : ℕ) → (net.reader_limits r).keep_last ≡ Some d → (net.reader_limits r).max_samples_per_instance ≡ Some m → d ≤ m
+
+-- the reader matches the writer and is reliable: the writer waits for what it acknowledges
+abbrev pub follows : Network → ℕ → ℕ → Bool
+follows net w r = net.matched w r && not (net.watcher r)
 
 -- the count of an endpoint and key in a rule's list, 0 where it isn't named
 abbrev pub named : List (Portion ℕ) → ℕ → ℕ → ℕ

@@ -1,10 +1,10 @@
 -- What a base is, without its search.
-use Rattle.std.proofs.Common.{◌≡◌, ◌⊎◌, inl, inr, ℕ, ◌+◌, ◌≤◌, ◌<◌, Bool, true, false, not, refl, sym, arith}
-use Rattle.std.proofs.lemmas.Bool.{not_from_true, not_from_false, not-false, le-leb, lt-ltb}
+use Rattle.std.proofs.Common.{◌≡◌, ◌⊎◌, inl, inr, ℕ, suc, ◌+◌, ◌≤◌, ◌<◌, Bool, true, false, not, refl, sym, arith}
+use Rattle.std.proofs.lemmas.Bool.{not_from_true, not_from_false, not-false, le-leb, lt-ltb, le-ltb}
 use Rattle.dds_base.specs.Sums.{least}
 use Rattle.dds_base.proofs.SumLaws.{least_least, least_upto, least_le, least_from, least_below, least_same}
 use Rattle.dds_base.specs.Sets.{last_number}
-use Rattle.dds_qos.specs.Reading.{base_of, new_by_heartbeat, heartbeat_count}
+use Rattle.dds_qos.specs.Reading.{base_of, is_below_base, is_repeat, new_by_heartbeat, heartbeat_count}
 use Rattle.dds_base.specs.Counts.{count_between}
 use Rattle.dds_base.proofs.CountLaws.{count_same}
 
@@ -24,6 +24,15 @@ base_high marks = least_upto (λ n. not (marks n)) last_number 1
 -- each number below it is marked
 pub below_base : (marks : ℕ → Bool) (n : ℕ) → 1 ≤ n → n < base_of marks → marks n ≡ true
 below_base marks n low below = not-false (marks n) (least_below (λ m. not (marks m)) last_number 1 n low below)
+
+-- where marks have no hole, a number is marked or below the base alike
+pub repeat_is_marked : (watcher : Bool) (marks : ℕ → Bool) (n : ℕ) → 1 ≤ n → (watcher ≡ true → (m : ℕ) → marks n ≡ true → 1 ≤ m → m ≤ n → marks m ≡ true) → is_repeat watcher marks n ≡ marks n
+repeat_is_marked false marks n low whole = refl
+repeat_is_marked true marks n low whole = go (marks n) refl
+  where
+    go : (b : Bool) → marks n ≡ b → is_below_base marks n ≡ b
+    go true e = lt-ltb n (least (λ m. not (marks m)) n 1) (let up : suc n ≤ least (λ m. not (marks m)) n 1 = least_least (λ m. not (marks m)) n 1 (suc n) (omega arith) (λ m f l. not_from_true (marks m) (whole refl m e f (omega arith))) in omega arith)
+    go false e = le-ltb n (least (λ m. not (marks m)) n 1) (least_le (λ m. not (marks m)) n 1 n low (not_from_false (marks n) e))
 
 -- below first all numbers pass the test of first
 pub heartbeat_count_is : (marks : ℕ → Bool) (first : ℕ) → heartbeat_count marks first ≡ count_between (λ n. not (marks n)) 1 first

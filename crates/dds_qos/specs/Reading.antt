@@ -18,16 +18,24 @@ use Rattle.dds_qos.specs.Admission.{admission}
 abbrev pub base_of : (ℕ → Bool) → ℕ
 base_of marks = least (λ n. not (marks n)) last_number 1
 
+-- n is below the base: it and all numbers before it are marked
+abbrev pub is_below_base : (ℕ → Bool) → ℕ → Bool
+is_below_base marks n = ltb n (least (λ m. not (marks m)) n 1)
+
 -- ── DATA
+-- a DATA of number n came before: at a reliable reader n is marked, at a watcher it is below the base
+abbrev pub is_repeat : (watcher : Bool) → (ℕ → Bool) → ℕ → Bool
+is_repeat watcher marks n = cond watcher (is_below_base marks n) (marks n)
+
 abbrev pub arrival_of : Admit → Arrival
 arrival_of Stored = New
 arrival_of (Overwrote old) = Overwrites old
 arrival_of (Rejected why) = Refuses why
 
--- what a DATA does, in this order: its writer is matched, its number marked, its key in the filter; then admission
-abbrev pub data_arrival : (matched marked relevant : Bool) → Admit → Arrival
-data_arrival matched marked relevant answer =
-    cond (not matched) Stranger (cond marked Repeat (cond (not relevant) (Irrelevant 1) (arrival_of answer)))
+-- what a DATA does, in this order: its writer isn't matched, it came before, its key isn't in the filter; then admission
+abbrev pub data_arrival : (matched repeated relevant : Bool) → Admit → Arrival
+data_arrival matched repeated relevant answer =
+    cond (not matched) Stranger (cond repeated Repeat (cond (not relevant) (Irrelevant 1) (arrival_of answer)))
 
 -- a DATA with that answer marks its number
 abbrev pub marks_it : Arrival → Bool
@@ -35,6 +43,14 @@ marks_it New = true
 marks_it (Irrelevant n) = true
 marks_it (Overwrites old) = true
 marks_it _ = false
+
+-- the number is one of a writer's, and below this one
+abbrev pub below_first : ℕ → ℕ → Bool
+below_first first n = leb 1 n && ltb n first
+
+-- the numbers that a DATA of number sn with that answer marks: its own, and at a watcher all numbers below it too, which the watcher gives up
+abbrev pub marked_by : (watcher : Bool) → Arrival → ℕ → ℕ → Bool
+marked_by watcher a sn n = marks_it a && cond watcher (below_first (suc sn) n) (n == sn)
 
 -- ── GAP
 -- the numbers that it marks: those that it covers and that have no mark
@@ -44,14 +60,12 @@ new_by_gap marks g n = covers g n && not (marks n)
 abbrev pub gap_count : (ℕ → Bool) → GapFor → ℕ
 gap_count marks g = count_between (new_by_gap marks g) g.start (g.set.base + 256)
 
-abbrev pub gap_arrival : Bool → (ℕ → Bool) → GapFor → Arrival
-gap_arrival matched marks g = cond matched (Irrelevant (gap_count marks g)) Stranger
+-- at a watcher it marks nothing
+abbrev pub gap_arrival : (matched watcher : Bool) → (ℕ → Bool) → GapFor → Arrival
+gap_arrival matched watcher marks g = cond matched (Irrelevant (cond watcher 0 (gap_count marks g))) Stranger
 
 -- ── HEARTBEAT
 -- the numbers that it marks: those below first that have no mark
-abbrev pub below_first : ℕ → ℕ → Bool
-below_first first n = leb 1 n && ltb n first
-
 abbrev pub new_by_heartbeat : (ℕ → Bool) → ℕ → ℕ → Bool
 new_by_heartbeat marks first n = below_first first n && not (marks n)
 
@@ -61,8 +75,9 @@ heartbeat_count marks first = count_between (new_by_heartbeat marks first) 1 fir
 abbrev pub lost_or_heard : ℕ → Arrival
 lost_or_heard n = cond (n == 0) Heard (Lost n)
 
-abbrev pub heartbeat_arrival : Bool → (ℕ → Bool) → HeartbeatFor → Arrival
-heartbeat_arrival matched marks h = cond matched (lost_or_heard (heartbeat_count marks h.first)) Stranger
+-- at a watcher it marks nothing
+abbrev pub heartbeat_arrival : (matched watcher : Bool) → (ℕ → Bool) → HeartbeatFor → Arrival
+heartbeat_arrival matched watcher marks h = cond matched (cond watcher Heard (lost_or_heard (heartbeat_count marks h.first))) Stranger
 
 -- the last number heard of afterwards
 abbrev pub heard_after : ℕ → HeartbeatFor → ℕ

@@ -1,19 +1,29 @@
 -- The marks after more numbers are marked.
-use Rattle.std.proofs.Common.{◌≡◌, ℕ, ◌+◌, ◌-◌, ◌<◌, ◌≤◌, Bool, true, false, not, ◌&&◌, ◌||◌, ◌==◌, leb, ltb, List, [], ◌∷◌, ◌++◌, refl, sym, subst, ap, ◌∙◌, arith, inl, inr}
+use Rattle.std.proofs.Common.{◌≡◌, ℕ, suc, cond, ◌+◌, ◌-◌, ◌<◌, ◌≤◌, Bool, true, false, not, ◌&&◌, ◌||◌, ◌==◌, leb, ltb, List, [], ◌∷◌, ◌++◌, refl, sym, subst, ap, ◌∙◌, arith, inl, inr}
 use Rattle.std.specs.List.{All}
-use Rattle.std.proofs.lemmas.Bool.{cases_Bool, cases_order, both_ways, or_cases, or_left, or_right, and_left, and_from, and_parts, eq-eqb, ne_eqb, eqb-true, le-leb, lt-leb, leb-true, lt-ltb, le-ltb, ltb-true}
+use Rattle.std.proofs.lemmas.Bool.{cases_Bool, cases_order, both_ways, false≢true, or_cases, or_left, or_right, and_left, and_from, and_parts, eq-eqb, ne_eqb, eqb-true, le-leb, lt-leb, leb-true, lt-ltb, le-ltb, ltb-true}
 use Rattle.std.proofs.lemmas.List.Folds.{list_any-append}
 use Rattle.dds_base.specs.declared.sample.Sample.{Sample}
 use Rattle.dds_base.specs.Counts.{count_between}
 use Rattle.dds_base.specs.Sets.{last_number}
 use Rattle.dds_base.proofs.CountLaws.{count_join, count_all}
+use Rattle.dds_qos.specs.declared.admission.Admit.{Admit}
+use Rattle.dds_qos.specs.declared.admission.Admit.TheVariants.{Stored, Overwrote, Rejected}
+use Rattle.dds_qos.specs.Admission.{is_rejected}
+use Rattle.dds_qos.specs.Reading.{below_first, arrival_of, is_repeat, marked_by}
+use Rattle.dds_qos.proofs.BaseLaws.{repeat_is_marked}
 use Rattle.dds_reader.specs.declared.marks.Marked.{Marked}
-use Rattle.dds_reader.specs.Marks.{in_range, in_marks, is_between, AreNumbers, AddsMarks}
+use Rattle.dds_reader.specs.Marks.{in_range, in_marks, is_between, AreNumbers, AddsMarks, IsWhole}
 
 -- false adds nothing to an or
 pub or_none : (b : Bool) → (b || false) ≡ b
 or_none true = refl
 or_none false = refl
+
+-- either of two that are the same
+pub cond_same : {A : Type 0} (b : Bool) (x y : A) → x ≡ y → x ≡ cond b x y
+cond_same true x y e = refl
+cond_same false x y e = e
 
 -- one range more
 pub in_marks_push : (ms : List Marked) (m : Marked) (v n : ℕ) → in_marks (ms ++ m ∷ []) v n ≡ (in_marks ms v n || in_range v n m)
@@ -32,6 +42,40 @@ between_one n k = elim (cases_order k n) [
     | inr above ↦ rw (le-leb n k (omega arith), le-ltb k (n + 1) (omega arith), ne_eqb k n (λ e. absurd (omega arith))) refl
   ]
 ]
+
+-- a range has its last number
+pub between_last : (from n : ℕ) → from ≤ n → is_between from (n + 1) n ≡ true
+between_last from n le = and_from (leb from n) (ltb n (n + 1)) (le-leb from n le) (lt-ltb n (n + 1) (omega arith))
+
+-- what a DATA marks, as a range: its own number, and at a watcher all below it too
+pub between_marked : (watching : Bool) (from sn n : ℕ) → from ≡ cond watching 1 sn → is_between from (sn + 1) n ≡ cond watching (below_first (suc sn) n) (n == sn)
+between_marked false from sn n e = rw e (between_one sn n)
+between_marked true from sn n e = let s : sn + 1 ≡ suc sn = omega arith in rw (e, s) refl
+
+-- marks without a hole stay so where a range from 1 on is added
+pub whole_more : (m m' : ℕ → ℕ → Bool) (w until : ℕ) → IsWhole m → AddsMarks m m' w (is_between 1 until) → IsWhole m'
+whole_more m m' w until whole adds v n k h low le = adds v k ∙ elim (or_cases (m v n) ((w == v) && is_between 1 until n) (sym (adds v n) ∙ h)) [
+  | inl old ↦ or_left (m v k) ((w == v) && is_between 1 until k) (whole v n k old low le)
+  | inr new ↦
+      let p = and_parts (w == v) (is_between 1 until n) new in
+      let less = ltb-true n until (and_parts (leb 1 n) (ltb n until) p.1).1 in
+      or_right (m v k) ((w == v) && is_between 1 until k) (and_from (w == v) (is_between 1 until k) p.0 (and_from (leb 1 k) (ltb k until) (le-leb 1 k low) (lt-ltb k until (omega arith))))
+]
+
+-- what a DATA with that answer marks
+pub marks_after : (watching : Bool) (from sn n : ℕ) (a : Admit) → from ≡ cond watching 1 sn → (not (is_rejected a) && is_between from (sn + 1) n) ≡ marked_by watching (arrival_of a) sn n
+marks_after watching from sn n Stored e = between_marked watching from sn n e
+marks_after watching from sn n (Overwrote old) e = between_marked watching from sn n e
+marks_after watching from sn n (Rejected why) e = refl
+
+-- a watcher's marks have no hole after a DATA
+pub whole_after : (m m' : ℕ → ℕ → Bool) (w sn from : ℕ) (watching rejected : Bool) → from ≡ cond watching 1 sn → (watching ≡ true → IsWhole m) → AddsMarks m m' w (λ n. not rejected && is_between from (sn + 1) n) → watching ≡ true → IsWhole m'
+whole_after m m' w sn from false rejected e whole adds t = absurd (false≢true t)
+whole_after m m' w sn from true false e whole adds t = whole_more m m' w (sn + 1) (whole refl) (subst (λ f. AddsMarks m m' w (is_between f (sn + 1))) e adds)
+whole_after m m' w sn from true true e whole adds t = λ v n k h low le. adds v k ∙ or_left (m v k) ((w == v) && false) (whole refl v n k (elim (or_cases (m v n) ((w == v) && false) (sym (adds v n) ∙ h)) [
+  | inl old ↦ old
+  | inr new ↦ absurd (false≢true (and_parts (w == v) false new).1)
+]) low le)
 
 -- one number more is marked
 pub adds_one : (ms : List Marked) (w n : ℕ) → AddsMarks (in_marks ms) (in_marks (ms ++ (record { writer = w; from = n; until = n + 1 }) ∷ [])) w (λ k. k == n)
@@ -116,3 +160,7 @@ adds_marked m w n h marked v k = elim (cases_Bool (m v k)) [
           absurd (both_ways _ free (subst (λ x. m x k ≡ true) (eqb-true w v parts.0) (subst (λ x. m w x ≡ true) (sym same) marked))))
       | inr fails ↦ fails
     ]
+
+-- what came before is what is marked, as a watcher's marks have no hole
+pub repeats : (watching : Bool) (m : ℕ → ℕ → Bool) (w n : ℕ) → 1 ≤ n → (watching ≡ true → IsWhole m) → is_repeat watching (m w) n ≡ m w n
+repeats watching m w n low whole = repeat_is_marked watching (m w) n low (λ watches k. whole watches w n k)

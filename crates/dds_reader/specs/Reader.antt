@@ -1,5 +1,5 @@
--- A stateful reader, as its callers see it (DDSI-RTPS 2.5, clause 8.4.12).
-use Rattle.std.specs.Prelude.{◌≡◌, ℕ, Bool, ◌==◌, ltb, List}
+-- A stateful reader, or a watcher, as its callers see it (DDSI-RTPS 2.5, clause 8.4.12).
+use Rattle.std.specs.Prelude.{◌≡◌, ℕ, Bool, not, ◌&&◌, ◌==◌, ltb, List}
 use Rattle.std.specs.List.{list_any}
 use Rattle.dds_base.specs.declared.sample.Sample.{Sample}
 use Rattle.dds_base.specs.declared.sample.Arrival.{Arrival}
@@ -12,16 +12,17 @@ use Rattle.dds_qos.specs.declared.admission.Admit.TheVariants.{Stored, Overwrote
 use Rattle.dds_qos.specs.Samples.{Keys}
 use Rattle.dds_qos.specs.Admission.{admission, stored_after, keys_after}
 use Rattle.dds_qos.specs.Taking.{available_of}
-use Rattle.dds_qos.specs.Reading.{base_of, data_arrival, gap_arrival, heartbeat_arrival, missing_of}
+use Rattle.dds_qos.specs.Reading.{base_of, is_repeat, data_arrival, gap_arrival, heartbeat_arrival, missing_of}
 use Rattle.dds_reader.specs.declared.marks.Marked.{Marked}
 use Rattle.dds_reader.specs.declared.notes.WriterProxy.{WriterProxy}
 use Rattle.dds_reader.specs.Marks.{in_marks, AddsMarks}
 use Rattle.dds_reader.specs.Notes.{has_writer, heard_in, owes_in}
 
--- its number, limits, filter and writers, its marks, its stored samples in order of admission, and the keys of all samples ever stored.
+-- its number, whether it is a watcher, its limits, filter and writers, its marks, its stored samples in order of admission, and the keys of all samples ever stored.
 -- The marks stand for a set of numbers for each writer: read them by `is_marked` alone
 pub record ReaderState : Type 0 where
   pub me : ℕ
+  pub watching : Bool
   pub limits : ReaderLimits
   pub filter : List ℕ
   pub proxies : List WriterProxy
@@ -37,13 +38,17 @@ is_marked r w n = in_marks r.marks w n
 abbrev pub is_proxy : ReaderState → ℕ → Bool
 is_proxy r w = has_writer w r.proxies
 
+-- the reader heeds GAPs and HEARTBEATs of the writer: it is one of the reader's, which is no watcher
+abbrev pub heeds : ReaderState → ℕ → Bool
+heeds r w = is_proxy r w && not r.watching
+
 -- the greatest last number heard from a writer
 abbrev pub heard_of : ReaderState → ℕ → ℕ
 heard_of r w = heard_in w r.proxies
 
--- an ACKNACK is owed to a writer
+-- an ACKNACK is owed to a writer; a watcher owes none
 abbrev pub owes_to : ReaderState → ℕ → Bool
-owes_to r w = owes_in w r.proxies
+owes_to r w = not r.watching && owes_in w r.proxies
 
 -- the key is in the filter
 abbrev pub of_filter : ReaderState → ℕ → Bool
@@ -51,15 +56,15 @@ of_filter r key = list_any (λ k. k == key) r.filter
 
 -- what a DATA does
 abbrev pub data_arrives : ReaderState → DataFor → Arrival
-data_arrives r d = data_arrival (is_proxy r d.sample.writer) (is_marked r d.sample.writer d.sample.sn) (of_filter r d.sample.key) (admission r.limits r.stored r.keys d.sample)
+data_arrives r d = data_arrival (is_proxy r d.sample.writer) (is_repeat r.watching (is_marked r d.sample.writer) d.sample.sn) (of_filter r d.sample.key) (admission r.limits r.stored r.keys d.sample)
 
 -- what a GAP does
 abbrev pub gap_arrives : ReaderState → GapFor → Arrival
-gap_arrives r g = gap_arrival (is_proxy r g.writer) (is_marked r g.writer) g
+gap_arrives r g = gap_arrival (is_proxy r g.writer) r.watching (is_marked r g.writer) g
 
 -- what a HEARTBEAT does
 abbrev pub heartbeat_arrives : ReaderState → HeartbeatFor → Arrival
-heartbeat_arrives r h = heartbeat_arrival (is_proxy r h.writer) (is_marked r h.writer) h
+heartbeat_arrives r h = heartbeat_arrival (is_proxy r h.writer) r.watching (is_marked r h.writer) h
 
 -- the ACKNACK to a writer
 abbrev pub acknack_of : ReaderState → ℕ → AckNack
@@ -106,6 +111,7 @@ pub record SameSamples (old new : ReaderState) : Type 0 where
 -- what no call changes
 pub record SameReader (old new : ReaderState) : Type 0 where
   pub me : new.me ≡ old.me
+  pub watching : new.watching ≡ old.watching
   pub limits : new.limits ≡ old.limits
   pub filter : new.filter ≡ old.filter
 
