@@ -1,12 +1,12 @@
 -- The lemmas that join two forms of one thing: a test over the whole history and over the kept samples; a sample found in a list and the entry under its number.
-use Rattle.std.proofs.Common.{◌≡◌, ℕ, zero, suc, ◌+◌, ◌-◌, ◌<◌, Bool, true, false, cond, eqb, not, ◌&&◌, ◌||◌, List, [], ◌∷◌, refl, sym, ap, subst, ◌∙◌, arith, inl, inr}
-use Rattle.std.specs.Prelude.{filter}
+use Rattle.std.proofs.Common.{◌≡◌, ℕ, zero, suc, ◌+◌, ◌-◌, ◌<◌, Bool, true, false, cond, eqb, not, ◌&&◌, ◌||◌, List, [], ◌∷◌, length, refl, sym, ap, subst, ◌∙◌, arith, inl, inr}
+use Rattle.std.specs.Prelude.{filter, slice_index_or}
 use Rattle.std.specs.List.{remove, position_or_len}
 use Rattle.std.proofs.lemmas.Bool.{cases_eq, eq-eqb, eqb-true, ne_eqb, and_left, and_right, and_parts, or_parts}
-use Rattle.dds_base.specs.Sums.{count_below, bit, total}
+use Rattle.dds_base.specs.Sums.{In, count_below, bit, total}
 use Rattle.dds_base.specs.Counts.{count_from, count_between}
 use Rattle.dds_qos.specs.Samples.{is_numbered, is_same, has_number, holds, without}
-use Rattle.dds_check.proofs.Places.{Distinct}
+use Rattle.dds_check.proofs.Places.{Distinct, apart_in, place_self, place_sym}
 use Rattle.dds_qos.specs.Writing.{is_awaited, still_kept, is_relevant_in}
 use Rattle.dds_match.specs.Network.{Network}
 use Rattle.dds_check.specs.World.{World, Sample, entry_at, samples_from, history, hears_entry, is_relevant}
@@ -100,3 +100,18 @@ without_is s (x ∷ xs) d = go (is_same s x) refl (without_is s xs d.1)
         → remove (x ∷ xs) (cond (not t) (1 + position_or_len (is_same s) xs) 0) ≡ cond (not t) (x ∷ filter (λ u. not (is_same s u)) xs) (filter (λ u. not (is_same s u)) xs)
     go true e rest = sym (all_stay s xs (apart e))
     go false e rest = (let n : 1 + position_or_len (is_same s) xs ≡ suc (position_or_len (is_same s) xs) = omega arith in ap (λ k. remove (x ∷ xs) k) n ∙ ap (λ ys. x ∷ ys) rest)
+
+-- the element at a place of a list is in the list
+pub in_at : (xs : List Sample) (i : ℕ) (d : Sample) → i < length xs → In (slice_index_or xs i d) xs
+in_at [] i d b = absurd (omega arith)
+in_at (x ∷ xs) zero d b = inl refl
+in_at (x ∷ xs) (suc i) d b = inr (in_at xs i d (omega arith))
+
+-- the list without a place, by the test for the sample that stands there
+pub remove_is : (xs : List Sample) (i : ℕ) (d : Sample) → Distinct xs → i < length xs → remove xs i ≡ filter (λ t. not (is_same (slice_index_or xs i d) t)) xs
+remove_is [] i d distinct b = absurd (omega arith)
+remove_is (x ∷ xs) zero d distinct b = rw (place_self x) (sym (all_stay x xs distinct.0))
+remove_is (x ∷ xs) (suc i) d distinct b =
+    let there : i < length xs = omega arith in
+    let other = place_sym x (slice_index_or xs i d) ∙ apart_in xs x (slice_index_or xs i d) distinct.0 (in_at xs i d there) in
+    rw other (ap (λ ys. x ∷ ys) (remove_is xs i d distinct.1 there))

@@ -3,6 +3,7 @@ pub mod Worlds
 pub mod Steps
 pub mod Buses
 pub mod Writers
+pub mod Overwriting
 pub mod Readers
 pub mod Endpoints
 pub mod Gathered

@@ -1,35 +1,40 @@
 -- A reader stands for its part of the world.
-use Rattle.std.proofs.Common.{◌≡◌, ◌≢◌, inl, inr, ℕ, suc, ◌≤◌, max, Bool, true, false, cond, leb, ltb, ◌||◌, ◌&&◌, ◌==◌, not, List, [], ◌∷◌, ◌++◌, map, refl, sym, ap, subst, ◌∙◌, arith}
-use Rattle.std.specs.Prelude.{filter}
-use Rattle.std.specs.List.{list_any}
+use Rattle.std.proofs.Common.{◌≡◌, ◌≢◌, inl, inr, ℕ, suc, ◌≤◌, ◌<◌, max, Bool, true, false, cond, leb, ltb, ◌||◌, ◌&&◌, ◌==◌, not, List, [], ◌∷◌, ◌++◌, length, map, refl, sym, ap, subst, ◌∙◌, arith}
+use Rattle.std.specs.Prelude.{filter, slice_index_or}
+use Rattle.std.specs.List.{list_any, remove}
 use Rattle.std.specs.Cmp.{nat_cmp_total}
 use Rattle.std.specs.Ordering.{nat_cmp}
 use Rattle.std.specs.FinSet as set
 use Rattle.std.specs.FinSet.{from_list_push, nat_cmp-IsAntisymmetric}
 use Rattle.std.proofs.lemmas.Bool.{cases_Bool, cases_eq, cases_order, le-leb, lt-ltb, le-ltb, or_right, eq-eqb, eqb-true, ne_eqb, or_parts, and_parts, not-true}
 use Rattle.std.proofs.lemmas.List.{map-append}
-use Rattle.dds_base.specs.Sums.{put}
+use Rattle.std.proofs.lemmas.List.Elements.{filter-append}
+use Rattle.dds_base.specs.Sums.{In, put}
 use Rattle.dds_base.specs.Messages.{DataFor, GapFor, HeartbeatFor, covers}
 use Rattle.dds_base.specs.declared.sample.Sample.{Sample}
 use Rattle.dds_base.specs.declared.sample.Arrival.TheVariants.{New}
+use Rattle.dds_base.specs.declared.sample.Arrival.TheVariants.{Overwrote as Overwrites}
 use Rattle.dds_base.proofs.SumLaws.{put_at, put_other}
-use Rattle.dds_qos.specs.Samples.{holds, is_same, has_number, keys_of, without}
+use Rattle.dds_qos.specs.Samples.{first_of, holds, is_same, has_number, keys_of, without}
+use Rattle.dds_qos.specs.declared.admission.Admit.TheVariants.{Overwrote}
 use Rattle.dds_qos.specs.Taking.{available_of}
 use Rattle.dds_qos.specs.Admission.{admission}
 use Rattle.dds_qos.specs.Reading.{base_of, below_first, is_repeat, marked_by, data_arrival, gap_arrival, heartbeat_arrival, heard_after, missing_of, new_by_heartbeat}
-use Rattle.dds_match.specs.Network.{Network, follows}
+use Rattle.dds_match.specs.Network.{Network, IsNetwork, follows}
 use Rattle.dds_check.specs.World.{World, marked, base, stored, is_stored, known_keys}
-use Rattle.dds_check.specs.Steps.{arrival_of_data, store, give_up, after_gap, after_heartbeat, available as available_at}
-use Rattle.dds_check.proofs.Places.{Distinct, eqb_sym, place_sym}
+use Rattle.dds_check.specs.Steps.{after_data, arrival_of_data, store, give_up, after_gap, after_heartbeat, available as available_at}
+use Rattle.dds_check.proofs.Places.{Distinct, apart_in, eqb_sym, filter_in, place_sym}
+use Rattle.dds_check.proofs.Moves.{replaced_is}
 use Rattle.dds_check.proofs.Sound.{Sound}
-use Rattle.dds_check.proofs.Views.{marked_store, marked_gap, stored_store, stored_more, stored_take}
+use Rattle.dds_check.proofs.Views.{marked_store, marked_gap, stored_store, stored_more, stored_over, stored_take}
 use Rattle.dds_check.proofs.Watching.{Watched, marked_give_up}
-use Rattle.dds_check.proofs.Joins.{without_is}
+use Rattle.dds_check.proofs.Joins.{in_at, remove_is, without_is}
 use Rattle.dds_check.proofs.Weights.{after_take}
 use Rattle.dds_reader.specs.declared.notes.WriterProxy.{WriterProxy}
 use Rattle.dds_reader.specs.Notes.{has_writer, heard_in, hears, pays}
 use Rattle.dds_reader.specs.Reader.{ReaderState, acknack_of, available, data_arrives, gap_arrives, heartbeat_arrives, heard_of, heeds, is_marked, is_proxy, MarksMore, SameMarks, SameReader, SameSamples, Stores}
 use Rattle.dds_reader.proofs.NoteLaws.{listed_hears, listed_pays}
+use Rattle.dds_domain.proofs.Overwriting.{overwritten_there}
 use Rattle.dds_domain.specs.Standing.{ReaderPart, ReaderStands, part_of}
 
 -- ── what a reader answers is what its world answers
@@ -210,6 +215,44 @@ module _ (net : Network) (v : World) (r : ℕ) (x y : ReaderState) (h : ReaderSt
       (λ w. ap (heard_in w) notes ∙ h.heard w)
       (samples.stored ∙ (ap (λ ss. ss ++ s ∷ []) h.stored ∙ sym (stored_more less r s (sound.taken_in r) (watched r watches).over apart)))
       (samples.keys ∙ (ap (λ ks. set.insert ks s.key) h.keys ∙ sym (known_store less r s)))
+
+  -- a DATA was stored at a watcher in place of the oldest sample of its key, and the watcher gave up all below it
+  pub watch_over_stands : (s old : Sample) → IsNetwork net → Sound net v → Watched net v → net.watcher r ≡ true → 1 ≤ s.sn → marked v r s.writer s.sn ≡ false → admission (net.reader_limits r) (stored v r) (known_keys v r) s ≡ Overwrote old →
+      MarksMore x y s.writer (marked_by true (Overwrites old) s.sn) → Stores x y s (Overwrites old) → y.proxies ≡ x.proxies → ReaderStands net r (part_of (after_data (give_up v r s.writer s.sn) r s (Overwrites old)) r) y
+  watch_over_stands s old known sound watched watches low fresh from marks samples notes =
+      stands_for (part_of (after_data less r s (Overwrites old)) r)
+      (λ w. ap (has_writer w) notes)
+      (λ w n. marks w n ∙ (ap (λ b. b || ((s.writer == w) && below_first (suc s.sn) n)) (h.marks w n) ∙ sym (given_marks v r s low w n)))
+      (λ w. ap (heard_in w) notes ∙ h.heard w)
+      (samples.stored ∙ (ap (λ ss. remove ss (first_of s.key ss) ++ s ∷ []) h.stored ∙ (ap (λ ss. ss ++ s ∷ []) removed ∙ sym after)))
+      (samples.keys ∙ (ap (λ ks. set.insert ks s.key) h.keys ∙ sym (known_store less r s)))
+    where
+      less : World
+      less = give_up v r s.writer s.sn
+
+      apart : holds (v.received r) s ≡ false
+      apart = (or_parts (holds (v.received r) s) (v.irrelevant r s.writer s.sn || v.lost r s.writer s.sn) fresh).0
+
+      there : first_of s.key (stored v r) < length (stored v r)
+      there = overwritten_there net known r (stored v r) (known_keys v r) s old from
+
+      is : slice_index_or (stored v r) (first_of s.key (stored v r)) s ≡ old
+      is = replaced_is (net.reader_limits r) (stored v r) (known_keys v r) s old from
+
+      other : is_same s old ≡ false
+      other = apart_in (v.received r) s old apart (filter_in (is_stored v r) (v.received r) old (subst (λ t. In t (stored v r)) is (in_at (stored v r) (first_of s.key (stored v r)) s there))).0
+
+      -- the reader's list: the place removed is that of the overwritten sample
+      removed : remove (stored v r) (first_of s.key (stored v r)) ≡ filter (λ t. not (is_same t old)) (stored v r)
+      removed = remove_is (stored v r) (first_of s.key (stored v r)) s (distinct_filter (is_stored v r) (v.received r) (sound.distinct r)) there
+          ∙ (ap (λ o. filter (λ t. not (is_same o t)) (stored v r)) is ∙ sym (ap (λ (p : Sample → Bool). filter p (stored v r)) (λ i t. not (place_sym old t i))))
+
+      -- the world's list: the new sample is another one, so it stays
+      after : stored (after_data less r s (Overwrites old)) r ≡ filter (λ t. not (is_same t old)) (stored v r) ++ s ∷ []
+      after = stored_over (store less r s) r old
+          ∙ (ap (filter (λ t. not (is_same t old))) (stored_more less r s (sound.taken_in r) (watched r watches).over apart)
+          ∙ (filter-append (λ t. not (is_same t old)) (stored v r) (s ∷ [])
+          ∙ ap (λ b. filter (λ t. not (is_same t old)) (stored v r) ++ cond (not b) (s ∷ []) []) other))
 
   -- a sample was taken
   pub take_stands : (s : Sample) → Sound net v → y.stored ≡ without s x.stored → y.keys ≡ x.keys → SameMarks x y → y.proxies ≡ x.proxies → ReaderStands net r (part_of (after_take v r s) r) y

@@ -1,11 +1,12 @@
 -- A DATA, a GAP or a HEARTBEAT arrives at its reader.
-use Rattle.std.proofs.Common.{◌≡◌, ◌≢◌, ◌⊎◌, inl, inr, ℕ, ◌<◌, Bool, true, false, cond, not, ◌==◌, ◌&&◌, List, length, get_or, set, refl, sym, ap, subst, ◌∙◌, length-set, arith}
+use Rattle.std.proofs.Common.{◌≡◌, ◌≢◌, ◌⊎◌, inl, inr, ℕ, ◌<◌, Bool, true, false, cond, not, ◌&&◌, List, length, get_or, set, refl, sym, ap, subst, ◌∙◌, length-set, arith}
 use Rattle.std.proofs.lemmas.Bool.{and_parts}
 use Rattle.dds_check.specs.Accepted.{Certificate, Accepted}
 use Rattle.dds_base.specs.Messages.{DataFor, GapFor, HeartbeatFor, covers}
 use Rattle.dds_base.specs.declared.sample.Sample.{Sample}
 use Rattle.dds_base.specs.declared.sample.Arrival.{Arrival}
 use Rattle.dds_base.specs.declared.sample.Arrival.TheVariants.{New, Repeat}
+use Rattle.dds_base.specs.declared.sample.Arrival.TheVariants.{Overwrote as Overwrites}
 use Rattle.dds_base.specs.declared.messages.Packet.TheVariants.{Data, Gap, Heartbeat}
 use Rattle.dds_base.specs.declared.events.Reply.TheVariants.{Arrived}
 use Rattle.dds_base.proofs.SumLaws.{put_other}
@@ -13,10 +14,10 @@ use Rattle.dds_qos.specs.declared.admission.Admit.{Admit}
 use Rattle.dds_qos.specs.declared.admission.Admit.TheVariants.{Stored, Overwrote, Rejected}
 use Rattle.dds_qos.specs.Reading.{arrival_of, below_first, is_repeat, marked_by}
 use Rattle.dds_qos.specs.Admission.{admission}
-use Rattle.dds_match.specs.Network.{Network, IsNetwork, follows}
+use Rattle.dds_match.specs.Network.{Network, IsNetwork}
 use Rattle.dds_check.specs.Certified.{IsGoodArrival}
 use Rattle.dds_check.specs.World.{World, marked, stored, known_keys}
-use Rattle.dds_check.specs.Steps.{after_packet, after_data, after_watched, give_up, after_gap, after_heartbeat, store, arrival_of_data}
+use Rattle.dds_check.specs.Steps.{after_data, after_watched, give_up, after_gap, after_heartbeat, store, arrival_of_data}
 use Rattle.dds_check.specs.Facts.{IsWrittenFor}
 use Rattle.dds_check.proofs.Moves.{Healthy, packet_good, from_one, repeat_is}
 use Rattle.dds_reader.specs.Notes.{hears}
@@ -24,7 +25,7 @@ use Rattle.dds_reader.specs.Reader.{ReaderState, data_arrives, gap_arrives, hear
 use Rattle.dds_domain.specs.Standing.{DomainState, IsReached, ReaderStands, Receives, Stands, part_of}
 use Rattle.dds_domain.proofs.Slots.{set_all, set_back}
 use Rattle.dds_domain.proofs.Worlds.{healthy, reader_at}
-use Rattle.dds_domain.proofs.Readers.{data_is, gap_is, heartbeat_is, store_stands, watch_stands, gap_stands, heartbeat_stands}
+use Rattle.dds_domain.proofs.Readers.{data_is, gap_is, heartbeat_is, store_stands, watch_stands, watch_over_stands, gap_stands, heartbeat_stands}
 
 -- the reader of a matched pair is there
 at_reader : (net : Network) (v : World) (d : DomainState) (w r : ℕ) → IsNetwork net → Stands net v d → net.matched w r ≡ true → r < length d.readers
@@ -32,20 +33,20 @@ at_reader net v d w r known s pair = let below = known.matched_reader w r pair i
 
 -- ── the world after
 -- a world with other arrivals, and the rest as it was
-abbrev arrived : World → (ℕ → List Sample) → (ℕ → ℕ → ℕ → Bool) → (ℕ → ℕ → ℕ → Bool) → (ℕ → ℕ → ℕ) → World
-arrived v received irrelevant lost heard = record v { received = received; irrelevant = irrelevant; lost = lost; heard = heard }
+abbrev arrived : World → (ℕ → List Sample) → (ℕ → List Sample) → (ℕ → ℕ → ℕ → Bool) → (ℕ → ℕ → ℕ → Bool) → (ℕ → ℕ → ℕ) → World
+arrived v received overwritten irrelevant lost heard = record v { received = received; overwritten = overwritten; irrelevant = irrelevant; lost = lost; heard = heard }
 
 -- one reader changed, and what arrived at the others is as it was
-reader_world : (net : Network) (v : World) (d : DomainState) (r : ℕ) (y : ReaderState) (received : ℕ → List Sample) (irrelevant lost : ℕ → ℕ → ℕ → Bool) (heard : ℕ → ℕ → ℕ) → Stands net v d →
-    ((j : ℕ) → r ≢ j → received j ≡ v.received j) → ((j : ℕ) → r ≢ j → irrelevant j ≡ v.irrelevant j) → ((j : ℕ) → r ≢ j → lost j ≡ v.lost j) → ((j : ℕ) → r ≢ j → heard j ≡ v.heard j) →
-    ReaderStands net r (part_of (arrived v received irrelevant lost heard) r) y → Stands net (arrived v received irrelevant lost heard) (record d { readers = set d.readers r y })
-reader_world net v d r y received irrelevant lost heard s same same' same'' same''' h = record {
+reader_world : (net : Network) (v : World) (d : DomainState) (r : ℕ) (y : ReaderState) (received overwritten : ℕ → List Sample) (irrelevant lost : ℕ → ℕ → ℕ → Bool) (heard : ℕ → ℕ → ℕ) → Stands net v d →
+    ((j : ℕ) → r ≢ j → received j ≡ v.received j) → ((j : ℕ) → r ≢ j → overwritten j ≡ v.overwritten j) → ((j : ℕ) → r ≢ j → irrelevant j ≡ v.irrelevant j) → ((j : ℕ) → r ≢ j → lost j ≡ v.lost j) → ((j : ℕ) → r ≢ j → heard j ≡ v.heard j) →
+    ReaderStands net r (part_of (arrived v received overwritten irrelevant lost heard) r) y → Stands net (arrived v received overwritten irrelevant lost heard) (record d { readers = set d.readers r y })
+reader_world net v d r y received overwritten irrelevant lost heard s same over same' same'' same''' h = record {
   plan = s.plan;
   writer_count = s.writer_count;
   reader_count = length-set d.readers r y ∙ s.reader_count;
   writers = s.writers;
-  readers = set_all (λ i p z. ReaderStands net i p z) (part_of v) (part_of (arrived v received irrelevant lost heard)) d.readers r y s.readers
-      (λ j ne i. part_of (arrived v (λ k. same j ne i) (λ k. same' j ne i) (λ k. same'' j ne i) (λ k. same''' j ne i)) j) h;
+  readers = set_all (λ i p z. ReaderStands net i p z) (part_of v) (part_of (arrived v received overwritten irrelevant lost heard)) d.readers r y s.readers
+      (λ j ne i. part_of (arrived v (λ k. same j ne i) (λ k. over j ne i) (λ k. same' j ne i) (λ k. same'' j ne i) (λ k. same''' j ne i)) j) h;
   ledger = record { of = s.ledger.of; permits = s.ledger.permits; spare = s.ledger.spare };
   bus = s.bus;
 }
@@ -99,8 +100,14 @@ watched_stands d m x y a net cert v known accepted reached s fact watches at ans
         let reader = watch_stands net v m.reader x y stands rest m.sample well.sound well.watched watches (from_one net known cert accepted v well m.reader m.sample fact) fresh
         (subst (λ b. MarksMore x y m.sample.writer (marked_by b New m.sample.sn)) (stands.watching ∙ watches) (subst (λ b. MarksMore x y m.sample.writer (marked_by x.watching b m.sample.sn)) e marks))
         (subst (Stores x y m.sample) e samples) notes in
-        reader_world net v d m.reader y (store less m.reader m.sample).received v.irrelevant less.lost v.heard s (λ j ne. put_other v.received m.reader j _ ne) (λ j ne. refl) (λ j ne. put_other v.lost m.reader j _ ne) (λ j ne. refl) reader
-    fresh_case fresh (Overwrote old) from e = ?
+        reader_world net v d m.reader y (store less m.reader m.sample).received v.overwritten v.irrelevant less.lost v.heard s (λ j ne. put_other v.received m.reader j _ ne) (λ j ne. refl) (λ j ne. refl) (λ j ne. put_other v.lost m.reader j _ ne) (λ j ne. refl) reader
+    fresh_case fresh (Overwrote old) from e =
+        let less : World = give_up v m.reader m.sample.writer m.sample.sn in
+        let new : World = after_data less m.reader m.sample (Overwrites old) in
+        let reader = watch_over_stands net v m.reader x y stands rest m.sample old known well.sound well.watched watches (from_one net known cert accepted v well m.reader m.sample fact) fresh from
+        (subst (λ b. MarksMore x y m.sample.writer (marked_by b (Overwrites old) m.sample.sn)) (stands.watching ∙ watches) (subst (λ b. MarksMore x y m.sample.writer (marked_by x.watching b m.sample.sn)) e marks))
+        (subst (Stores x y m.sample) e samples) notes in
+        reader_world net v d m.reader y new.received new.overwritten v.irrelevant new.lost v.heard s (λ j ne. put_other v.received m.reader j _ ne) (λ j ne. put_other v.overwritten m.reader j _ ne) (λ j ne. refl) (λ j ne. put_other v.lost m.reader j _ ne) (λ j ne. refl) reader
     fresh_case fresh (Rejected why) from e = same (arrival_of (Rejected why)) e refl
 
     go : (t : Bool) → marked v m.reader m.sample.writer m.sample.sn ≡ t → Stands net (after_watched v m.reader m.sample (arrival_of_data net v m)) (record d { readers = set d.readers m.reader y })
@@ -146,7 +153,7 @@ receive_data d m x y a at answer marks samples notes rest idle net cert v known 
         (subst (λ b. MarksMore x y m.sample.writer (marked_by b New m.sample.sn)) (stands.watching ∙ reliable) (subst (λ b. MarksMore x y m.sample.writer (marked_by x.watching b m.sample.sn)) new marks))
         (subst (Stores x y m.sample) new samples) notes in
         subst (λ b. Stands net (after_data v m.reader m.sample b) (record d { readers = set d.readers m.reader y })) (sym e)
-        (reader_world net v d m.reader y (store v m.reader m.sample).received v.irrelevant v.lost v.heard s (λ j ne. put_other v.received m.reader j _ ne) (λ j ne. refl) (λ j ne. refl) (λ j ne. refl) reader)
+        (reader_world net v d m.reader y (store v m.reader m.sample).received v.overwritten v.irrelevant v.lost v.heard s (λ j ne. put_other v.received m.reader j _ ne) (λ j ne. refl) (λ j ne. refl) (λ j ne. refl) (λ j ne. refl) reader)
 
     by_kind : (t : Bool) → net.watcher m.reader ≡ t → Stands net (cond t (after_watched v m.reader m.sample (arrival_of_data net v m)) (after_data v m.reader m.sample (arrival_of_data net v m))) (record d { readers = set d.readers m.reader y })
     by_kind true e = watched_stands d m x y a net cert v known accepted reached s fact e at answer marks samples notes rest idle
@@ -167,7 +174,7 @@ receive_gap d m x y a at answer marks notes samples rest net cert v known accept
     let new : World = after_gap v m in (
       ap Arrived (answer ∙ gap_is net v m x stands),
       subst (λ b. Stands net (cond b new v) (record d { readers = set d.readers m.reader y })) (sym fact.0)
-          (reader_world net v d m.reader y v.received new.irrelevant v.lost v.heard s (λ j ne. refl) (λ j ne. put_other v.irrelevant m.reader j _ ne) (λ j ne. refl) (λ j ne. refl) reader),
+          (reader_world net v d m.reader y v.received v.overwritten new.irrelevant v.lost v.heard s (λ j ne. refl) (λ j ne. refl) (λ j ne. put_other v.irrelevant m.reader j _ ne) (λ j ne. refl) (λ j ne. refl) reader),
     )
 
 -- ── a HEARTBEAT
@@ -182,5 +189,5 @@ receive_heartbeat d m x y a at answer marks notes samples rest net cert v known 
     let new : World = after_heartbeat v m in (
       ap Arrived (answer ∙ heartbeat_is net v m x stands),
       subst (λ b. Stands net (cond b new v) (record d { readers = set d.readers m.reader y })) (sym fact.0)
-          (reader_world net v d m.reader y v.received v.irrelevant new.lost new.heard s (λ j ne. refl) (λ j ne. refl) (λ j ne. put_other v.lost m.reader j _ ne) (λ j ne. put_other v.heard m.reader j _ ne) reader),
+          (reader_world net v d m.reader y v.received v.overwritten v.irrelevant new.lost new.heard s (λ j ne. refl) (λ j ne. refl) (λ j ne. refl) (λ j ne. put_other v.lost m.reader j _ ne) (λ j ne. put_other v.heard m.reader j _ ne) reader),
     )

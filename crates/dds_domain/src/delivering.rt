@@ -11,14 +11,14 @@ use dds_match::NoMemory;
 
 impl Parts {
     /// A DATA arrives at its reader.
-    fn receive_data(&mut self, data: &DataMsg) -> Result<Reply, NoMemory>
-        requires { IsSent self.old (Data data.now) }
-        ensures receives { IfOk result (λ reply. Receives self.old (Data data.now) reply self.new) }
+    fn receive_data(&mut self, message: &DataMsg) -> Result<Reply, NoMemory>
+        requires { IsSent self.old (Data message.now) }
+        ensures receives { IfOk result (λ reply. Receives self.old (Data message.now) reply self.new) }
         ensures bus { self.new.bus ≡ self.old.bus }
         ensures plan { self.new.checked ≡ self.old.checked }
         ensures err { OnErr result (self.new ≡ self.old) }
     {
-        match self.readers[data.reader.number()].on_data(data) {
+        match self.readers[message.reader.number()].on_data(message) {
             Ok(arrival) => Ok(Reply::Arrived(arrival)),
             Err(_) => Err(NoMemory),
         }

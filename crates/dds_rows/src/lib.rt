@@ -18,3 +18,5 @@ mod proposals;
 mod proposed_texts;
 #[cfg(test)]
 mod rows;
+#[cfg(test)]
+mod watchers;

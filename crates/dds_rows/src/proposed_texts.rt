@@ -187,8 +187,8 @@ static NONE: [Row; 6] = [
         about: "a profile that the proof over runs doesn't cover",
         deployment: Text::Small,
         edits: &[(
-            "reliability = \"RELIABLE\"",
-            "reliability = \"BEST_EFFORT\"",
+            "topic = \"t\"\nhistory = \"KEEP_ALL\"\n\n[[readers]]",
+            "topic = \"t\"\n\n[[readers]]",
         )],
         status: 1,
         output: "none\n",

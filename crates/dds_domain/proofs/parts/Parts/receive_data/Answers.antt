@@ -13,7 +13,7 @@ use Rattle.dds_domain.proofs.parts.Parts.receive_data.Goals.{in-Ok, in-Err}
 pub returns-clause-receives : goal.returns-clause-receives
 returns-clause-receives c =
     let d : DomainState = view_of c.self.inside in
-    let m : DataFor = c.args.data.now in
+    let m : DataFor = c.args.message.now in
     let x : ReaderState = c.index_mut.result.now in
     let y : ReaderState = c.on_data.new.self in
     let n : c.number.result ≡ m.reader = search rules in
