@@ -87,11 +87,13 @@ if ! build_library; then
 fi
 ping=$here/examples/ping
 loop=$here/examples/loop
+frames=$here/examples/frames
 : >"$room/empty.toml"
 sweep check "$ping/ping.toml" "$ping/ping.cert.toml"
 if cmp -s "$room/want.out" "$here/crates/ddscheck/stdout"; then pass; else fail 'the output for examples/ping is not the one in crates/ddscheck/stdout'; fi
 sweep check "$loop/loop.toml" "$loop/loop.cert.toml"
 sweep check "$loop/loop.toml" "$ping/ping.cert.toml"
+sweep check "$frames/frames.toml" "$frames/frames.cert.toml"
 sweep check "$room/empty.toml" "$ping/ping.cert.toml"
 sweep check "$room/missing.toml" "$ping/ping.cert.toml"
 sweep match "$ping/ping.toml"
@@ -101,6 +103,9 @@ sweep match "$room/missing.toml"
 sweep propose "$ping/ping.toml"
 sweep propose "$loop/loop.toml"
 sweep propose "$room/empty.toml"
+sweep migrate "$ping/ping.toml"
+sweep migrate "$frames/frames.toml"
+sweep migrate "$room/empty.toml"
 sweep check "$ping/ping.toml"
 sweep match
 sweep propose

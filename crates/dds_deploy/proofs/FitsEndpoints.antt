@@ -1,6 +1,6 @@
 -- Topics and endpoints as they were read keep their limits, name what is there, and are consistent.
 use Rattle.std.proofs.Common.{codes, ◌≡◌, ℕ, ◌<◌, ◌≤◌, Bool, true, false, cond, List, [], length, Option, Some, None, Ok, refl, subst, arith, All, ltb-false, eq-eqb}
-use Rattle.std.specs.Prelude.{◌&&◌, ◌==◌, is_none}
+use Rattle.std.specs.Prelude.{◌==◌, is_none}
 use Rattle.std.proofs.lemmas.List.Elements.{All-from_get_or}
 use Rattle.std.proofs.lemmas.List.FromFn.{length-range_with_len, get_or-range_with_len}
 use Rattle.dds_qos.specs.declared.consistency.QosFault.{QosFault}

@@ -1,5 +1,5 @@
 -- The first number that a test passes over, as a loop looks for it.
-use Rattle.std.proofs.Common.{◌≡◌, ℕ, ◌+◌, ◌-◌, ◌<◌, Bool, true, false, not, Option, Some, None, sym}
+use Rattle.std.proofs.Common.{◌≡◌, ℕ, ◌+◌, ◌-◌, ◌<◌, Bool, true, false, not, Option, Some}
 use Rattle.std.specs.List.{find, range_with_len}
 use Rattle.dds_fields.proofs.Ranges.{range_first}
 

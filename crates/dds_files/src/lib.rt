@@ -3,6 +3,8 @@
 
 #[cfg(test)]
 mod deployments;
+pub mod dice;
+pub mod drawn;
 pub mod lines;
 pub mod proposed;
 pub mod texts;

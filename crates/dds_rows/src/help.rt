@@ -15,6 +15,7 @@ Commands:
   match    Tells which writers and readers match, and why others don't
   check    Checks a certificate of a deployment
   propose  Looks for a certificate of a deployment
+  migrate  Prints a deployment file of version 1 as one of version 2
   help     Print this message or the help of the given subcommand(s)
 
 Options:
@@ -59,9 +60,21 @@ Options:
   -h, --help  Print help
 ";
 
+const MIGRATE_HELP: &str = "\
+Prints a deployment file of version 1 as one of version 2
+
+Usage: ddscheck migrate <deployment>
+
+Arguments:
+  <deployment>  A TOML file: participants, topics, writers, readers, applications, rules, connections
+
+Options:
+  -h, --help  Print help
+";
+
 const NO_COMMAND: &str = "\
 error: 'ddscheck' requires a subcommand but one was not provided
-  [subcommands: match, check, propose, help]
+  [subcommands: match, check, propose, migrate, help]
 
 Usage: ddscheck <COMMAND>
 
@@ -162,7 +175,7 @@ struct Line {
 }
 
 /// What is told where it was asked for: on the output, with the status 0.
-static HELP: [Line; 12] = [
+static HELP: [Line; 13] = [
     Line {
         words: &["ddscheck", "--help"],
         text: TOP_HELP,
@@ -202,6 +215,10 @@ static HELP: [Line; 12] = [
     Line {
         words: &["ddscheck", "help", "propose"],
         text: PROPOSE_HELP,
+    },
+    Line {
+        words: &["ddscheck", "help", "migrate"],
+        text: MIGRATE_HELP,
     },
     Line {
         words: &["ddscheck", "--version"],

@@ -5,6 +5,8 @@
 use dds_files::texts;
 
 #[cfg(test)]
+mod cases;
+#[cfg(test)]
 mod devices;
 #[cfg(test)]
 mod files;
@@ -13,10 +15,14 @@ mod help;
 #[cfg(test)]
 mod matches;
 #[cfg(test)]
+mod migrated;
+#[cfg(test)]
 mod proposals;
 #[cfg(test)]
 mod proposed_texts;
 #[cfg(test)]
 mod rows;
+#[cfg(test)]
+mod versions;
 #[cfg(test)]
 mod watchers;

@@ -1,44 +1,9 @@
 //! Deployments with watchers, best-effort readers: what `check`, `match` and `propose` answer to them.
-use crate::files::{readable, text_of};
-use crate::rows::{Edit, Text, bytes_of, changed};
+use crate::cases::{CHECK, Case, MATCH, PROPOSE, expect_all};
+use crate::rows::{Edit, Text};
 use dds_files::proposed::SMALL_PROPOSED;
 use dds_files::texts::{SMALL_CERT, TWO_CERT};
-use dds_tool::tool;
-use std::alloc::{AllocError, Global};
-use std::process::Abort;
 use std::test::Fail;
-
-/// A deployment with some changes, a certificate, and what the command answers to them.
-struct Row {
-    about: &'static str,
-    words: &'static [&'static str],
-    deployment: Text,
-    edits: &'static [Edit],
-    certificate: &'static str,
-    certificate_edits: &'static [Edit],
-    status: u8,
-    output: &'static str,
-}
-
-/// Compares what is answered to the files of a row.
-fn expect(rt: &impl Abort, alloc: Global, row: &Row) -> Result<(), AllocError> {
-    let deployment = changed(rt, alloc, bytes_of(row.deployment), row.edits)?;
-    let certificate = changed(rt, alloc, row.certificate, row.certificate_edits)?;
-    let mut files = readable(deployment.as_bytes(), certificate.as_bytes());
-    let mut out = Vec::new(alloc);
-    let mut err = Vec::new(alloc);
-    let status = tool(alloc, row.words, &mut files, &mut out, &mut err);
-    assert_eq!(rt; text_of(out.as_slice()), row.output, "{}", row.about);
-    assert_eq!(rt; text_of(err.as_slice()), "", "{}", row.about);
-    assert_eq!(rt; status, row.status, "{}", row.about);
-    Ok(())
-}
-
-const CHECK: &[&str] = &["ddscheck", "check", "d", "c"];
-
-const MATCH: &[&str] = &["ddscheck", "match", "d"];
-
-const PROPOSE: &[&str] = &["ddscheck", "propose", "d"];
 
 /// A second reader, which is best-effort and keeps the last sample.
 const READER_V: Edit = (
@@ -54,8 +19,8 @@ const CONNECTED_V: Edit = (
 );
 
 /// A watcher needs no weight and no bound, counts where it has a weight, and may stand under a limit that is too small.
-static CHECKED: [Row; 8] = [
-    Row {
+static CHECKED: [Case; 8] = [
+    Case {
         about: "a watcher beside a reliable reader",
         words: CHECK,
         deployment: Text::Small,
@@ -64,8 +29,9 @@ static CHECKED: [Row; 8] = [
         certificate_edits: &[],
         status: 0,
         output: "yes\nbound r k 3\n",
+        errors: "",
     },
-    Row {
+    Case {
         about: "a watcher that no connection names",
         words: CHECK,
         deployment: Text::Small,
@@ -74,8 +40,9 @@ static CHECKED: [Row; 8] = [
         certificate_edits: &[],
         status: 1,
         output: "no 11 UnintendedMatch w v\n",
+        errors: "",
     },
-    Row {
+    Case {
         about: "a writer and its reader, both best-effort",
         words: CHECK,
         deployment: Text::Small,
@@ -93,8 +60,9 @@ static CHECKED: [Row; 8] = [
         certificate_edits: &[],
         status: 1,
         output: "no 17 WriterBestEffort w\n",
+        errors: "",
     },
-    Row {
+    Case {
         about: "a watcher that orders by source",
         words: CHECK,
         deployment: Text::Small,
@@ -115,8 +83,9 @@ static CHECKED: [Row; 8] = [
         certificate_edits: &[],
         status: 1,
         output: "no 15 SourceOrder v\n",
+        errors: "",
     },
-    Row {
+    Case {
         about: "a watcher whose samples weigh as much",
         words: CHECK,
         deployment: Text::Small,
@@ -128,8 +97,9 @@ static CHECKED: [Row; 8] = [
         )],
         status: 1,
         output: "no 32 WriteRaises m w k\n",
+        errors: "",
     },
-    Row {
+    Case {
         about: "a bound of a watcher, by a row of its own",
         words: CHECK,
         deployment: Text::Small,
@@ -147,8 +117,9 @@ static CHECKED: [Row; 8] = [
         ],
         status: 0,
         output: "yes\nbound r k 3\nbound v k 3\n",
+        errors: "",
     },
-    Row {
+    Case {
         about: "a bound of a watcher that its row doesn't show",
         words: CHECK,
         deployment: Text::Small,
@@ -166,8 +137,9 @@ static CHECKED: [Row; 8] = [
         ],
         status: 1,
         output: "no 33 BoundNotShown v k\n",
+        errors: "",
     },
-    Row {
+    Case {
         about: "a watcher with room for one sample of one key, and no bounds",
         words: CHECK,
         deployment: Text::Two,
@@ -182,20 +154,19 @@ static CHECKED: [Row; 8] = [
         )],
         status: 0,
         output: "yes\n",
+        errors: "",
     },
 ];
 
 #[test]
 fn checks_watchers(rt: HostRuntime) -> Result<(), Fail> {
-    for row in &CHECKED {
-        expect(&rt, rt.alloc(), row)?;
-    }
+    expect_all(&rt, rt.alloc(), &CHECKED)?;
     Ok(())
 }
 
 /// A watcher matches as any reader does, and nothing is proposed for it.
-static MATCHED_AND_PROPOSED: [Row; 4] = [
-    Row {
+static MATCHED_AND_PROPOSED: [Case; 4] = [
+    Case {
         about: "a writer matches its watcher",
         words: MATCH,
         deployment: Text::Small,
@@ -204,8 +175,9 @@ static MATCHED_AND_PROPOSED: [Row; 4] = [
         certificate_edits: &[],
         status: 0,
         output: "match w r\nmatch w v\n",
+        errors: "",
     },
-    Row {
+    Case {
         about: "a watcher that no connection names",
         words: MATCH,
         deployment: Text::Small,
@@ -214,8 +186,9 @@ static MATCHED_AND_PROPOSED: [Row; 4] = [
         certificate_edits: &[],
         status: 1,
         output: "match w r\nmatch w v\n",
+        errors: "",
     },
-    Row {
+    Case {
         about: "a row for the reliable reader alone",
         words: PROPOSE,
         deployment: Text::Small,
@@ -233,8 +206,9 @@ static MATCHED_AND_PROPOSED: [Row; 4] = [
         certificate_edits: &[],
         status: 0,
         output: SMALL_PROPOSED,
+        errors: "",
     },
-    Row {
+    Case {
         about: "no reliable reader",
         words: PROPOSE,
         deployment: Text::Small,
@@ -246,13 +220,12 @@ static MATCHED_AND_PROPOSED: [Row; 4] = [
         certificate_edits: &[],
         status: 0,
         output: "version = 1\n",
+        errors: "",
     },
 ];
 
 #[test]
 fn matches_and_proposes_with_watchers(rt: HostRuntime) -> Result<(), Fail> {
-    for row in &MATCHED_AND_PROPOSED {
-        expect(&rt, rt.alloc(), row)?;
-    }
+    expect_all(&rt, rt.alloc(), &MATCHED_AND_PROPOSED)?;
     Ok(())
 }

@@ -1,4 +1,5 @@
 mod Telling
 mod Proposals
+mod Migrations
 mod Requests
 pub mod Names

@@ -1,15 +1,16 @@
 -- What is said of a request whose answer was written, or that met a fault.
-use Rattle.std.proofs.Common.{◌≡◌, ◌⊎◌, ℕ, List, [], Option, Some, None, Result, Ok, Err, IfOk, IfErr, inl, inr, sym, ◌∙◌, append-nil}
+use Rattle.std.proofs.Common.{◌≡◌, ◌⊎◌, ℕ, List, [], Option, Some, None, Result, Ok, Err, IfOk, IfErr, inl, inr, refl, sym, ◌∙◌, append-nil, arith}
 use Rattle.std.specs.Io.KnownBytes.{Appends, Keeps}
 use Rattle.dds_tool.specs.declared.fault.ToolFault.{ToolFault}
 use Rattle.dds_tool.specs.declared.fault.ToolFault.TheVariants as fault
 use Rattle.dds_tool.specs.declared.request.Request.{Request}
 use Rattle.dds_tool.specs.declared.request.Request.TheVariants as asked
 use Rattle.dds_tool.specs.declared.answer.Answer.{Answer}
-use Rattle.dds_tool.specs.Answers.{Gives}
+use Rattle.dds_tool.specs.Answers.{Gives, GivesOneOf, SaysNothing}
 use Rattle.dds_tool.specs.Asking.{Answers, GivesTo, Said}
 use Rattle.dds_tool.specs.Fault.{fault_status}
-use Rattle.dds_tool.specs.Outcome.{Outcome, file_outcome, match_file_outcome}
+use Rattle.dds_tool.specs.Migrations.{MayMigrateFor}
+use Rattle.dds_tool.specs.Outcome.{Outcome, file_outcome, match_file_outcome, too_large, unproposed}
 use Rattle.dds_tool.specs.Report.{Ends, output_of, status_of}
 
 -- known bytes that stay grow by nothing
@@ -42,6 +43,50 @@ fault_said end fault.NoMemory status old new is nothing told = inr (three status
 fault_said end (fault.Usage text) status old new is nothing told = absurd is
 fault_said end fault.Run status old new is nothing told = absurd is
 
+-- a fault of memory or of a device may come with every end
+any_end : (e : ToolFault) (end : Outcome) → SaysNothing e → Ends e end
+any_end fault.Read end h = tt
+any_end fault.Write end h = tt
+any_end fault.NoMemory end h = tt
+any_end (fault.Usage text) end h = absurd h
+any_end (fault.Deployment flaw) end h = absurd h
+any_end (fault.Certificate flaw) end h = absurd h
+any_end fault.TooLarge end h = absurd h
+any_end fault.Run end h = absurd h
+
+-- a fault that ends two ends of another status is one of memory or of a device
+every_end : (f : ToolFault) → Ends f too_large → Ends f unproposed → fault_status f ≡ 3
+every_end fault.Read a b = refl
+every_end fault.Write a b = refl
+every_end fault.NoMemory a b = refl
+every_end (fault.Usage text) a b = absurd a
+every_end (fault.Deployment flaw) a b = absurd (let x : too_large ≡ unproposed = a ∙ sym b in cc)
+every_end (fault.Certificate flaw) a b = absurd (let x : too_large ≡ unproposed = a ∙ sym b in cc)
+every_end fault.TooLarge a b = absurd (let x : unproposed ≡ too_large = b in cc)
+every_end fault.Run a b = absurd a
+
+-- one of the ends that may be was said, or memory or a device failed
+one_said : (May : Outcome → Type 0) (given : Result Answer ToolFault) (status : ℕ) (old new : Option (List ℕ)) → GivesOneOf May given
+    → ((end : Outcome) → Gives given end → (status ≡ status_of end) × Appends old new (output_of end))
+    → (status ≡ 3) ⊎ ((end : Outcome) × May end × Said end status old new)
+unfolding status_of
+one_said May (Ok answer) status old new (end, may, is) written = inr (end, may, inl (written end is))
+one_said May (Err e) status old new (inr (end, may, ends)) written = inr (end, may, inl (written end ends))
+one_said May (Err e) status old new (inl failed) written =
+    let two : status ≡ 2 = (written too_large (any_end e too_large failed)).0 in
+    let one : status ≡ 1 = (written unproposed (any_end e unproposed failed)).0 in
+    absurd (omega (arith, one, two))
+
+-- a fault is said of one of the ends that may be, or of memory or of a device
+one_faulted : (May : Outcome → Type 0) (given : Result Answer ToolFault) (f : ToolFault) (status : ℕ) (old new : Option (List ℕ)) → GivesOneOf May given
+    → ((end : Outcome) → Gives given end → Ends f end) → (f ≡ fault.Write) ⊎ Keeps old new → (status ≡ fault_status f) ⊎ (status ≡ 3)
+    → (status ≡ 3) ⊎ ((end : Outcome) × May end × Said end status old new)
+one_faulted May (Ok answer) f status old new (end, may, is) ends nothing told = inr (end, may, fault_said end f status old new (ends end is) nothing told)
+one_faulted May (Err e) f status old new (inr (end, may, is)) ends nothing told = inr (end, may, fault_said end f status old new (ends end is) nothing told)
+one_faulted May (Err e) f status old new (inl failed) ends nothing told =
+    let all = every_end f (ends too_large (any_end e too_large failed)) (ends unproposed (any_end e unproposed failed)) in
+    inl (elim told [ inl h ↦ h ∙ all | inr h ↦ h ])
+
 -- an answer that was written is what is said of the request
 pub answered : (holds : List ℕ → Option (List ℕ)) (request : Request) (given : Result Answer ToolFault) (r : Result ℕ ToolFault) (old new : Option (List ℕ))
     → GivesTo holds request given
@@ -50,9 +95,11 @@ pub answered : (holds : List ℕ → Option (List ℕ)) (request : Request) (giv
 answered holds (asked.Check d b) given (Ok status) old new gives written = λ x y hx hy. inl (written (file_outcome x y) (gives x y hx hy))
 answered holds (asked.Match d) given (Ok status) old new gives written = λ x hx. inl (written (match_file_outcome x) (gives x hx))
 answered holds (asked.Propose d) given (Ok status) old new gives written = λ x hx. let g = gives x hx in (g.0, g.1, inl (written g.0 g.2))
+answered holds (asked.Migrate d) given (Ok status) old new gives written = λ x hx. one_said (MayMigrateFor x) given status old new (gives x hx) written
 answered holds (asked.Check d b) given (Err f) old new gives written = tt
 answered holds (asked.Match d) given (Err f) old new gives written = tt
 answered holds (asked.Propose d) given (Err f) old new gives written = tt
+answered holds (asked.Migrate d) given (Err f) old new gives written = tt
 
 -- a fault is said of the request by its status, or by 3
 pub faulted : (holds : List ℕ → Option (List ℕ)) (request : Request) (given : Result Answer ToolFault) (r : Result ℕ ToolFault) (old new : Option (List ℕ))
@@ -66,6 +113,9 @@ faulted holds (asked.Match d) given (Err f) old new gives ends nothing =
     λ status told x hx. fault_said (match_file_outcome x) f status old new (ends (match_file_outcome x) (gives x hx)) nothing told
 faulted holds (asked.Propose d) given (Err f) old new gives ends nothing =
     λ status told x hx. let g = gives x hx in (g.0, g.1, fault_said g.0 f status old new (ends g.0 g.2) nothing told)
+faulted holds (asked.Migrate d) given (Err f) old new gives ends nothing =
+    λ status told x hx. one_faulted (MayMigrateFor x) given f status old new (gives x hx) ends nothing told
 faulted holds (asked.Check d b) given (Ok status) old new gives ends nothing = tt
 faulted holds (asked.Match d) given (Ok status) old new gives ends nothing = tt
 faulted holds (asked.Propose d) given (Ok status) old new gives ends nothing = tt
+faulted holds (asked.Migrate d) given (Ok status) old new gives ends nothing = tt

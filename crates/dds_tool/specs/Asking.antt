@@ -10,8 +10,9 @@ use Rattle.dds_tool.specs.declared.request.NoRequest.{NoRequest}
 use Rattle.dds_tool.specs.declared.request.NoRequest.TheVariants as none
 use Rattle.dds_tool.specs.declared.answer.Answer.{Answer}
 use Rattle.dds_tool.specs.declared.fault.ToolFault.{ToolFault}
-use Rattle.dds_tool.specs.Answers.{Gives}
+use Rattle.dds_tool.specs.Answers.{Gives, GivesOneOf}
 use Rattle.dds_tool.specs.Outcome.{Outcome, file_outcome, match_file_outcome}
+use Rattle.dds_tool.specs.Migrations.{MayMigrateFor}
 use Rattle.dds_tool.specs.Proposals.{MayProposeFor}
 use Rattle.dds_tool.specs.Report.{output_of, status_of}
 
@@ -33,7 +34,10 @@ top_app = on_top (λ s. record s { subcommand_required = true; has_version = tru
 
 -- the command with its subcommands
 abbrev pub whole : App
-whole = with_subcommand (with_subcommand (with_subcommand top_app (one_file (codes "match")).top) (two_files (codes "check")).top) (one_file (codes "propose")).top
+whole =
+    with_subcommand
+    (with_subcommand (with_subcommand (with_subcommand top_app (one_file (codes "match")).top) (two_files (codes "check")).top) (one_file (codes "propose")).top)
+    (one_file (codes "migrate")).top
 
 -- the words name the subcommand, and the argument has this text
 abbrev pub Names : List Text → Text → Text → Text → Type 0
@@ -43,6 +47,7 @@ Names words name id text = (rows : List Row) × (subcommand_of whole words ≡ S
 abbrev pub Asks : List Text → Request → Type 0
 Asks words (asked.Match d) = Names words (codes "match") (codes "deployment") d.now
 Asks words (asked.Propose d) = Names words (codes "propose") (codes "deployment") d.now
+Asks words (asked.Migrate d) = Names words (codes "migrate") (codes "deployment") d.now
 Asks words (asked.Check d c) = Names words (codes "check") (codes "deployment") d.now × Names words (codes "check") (codes "certificate") c.now
 
 -- help or the version was asked for
@@ -56,6 +61,7 @@ abbrev pub GivesTo : (List ℕ → Option (List ℕ)) → Request → Result Ans
 GivesTo holds (asked.Check d c) result = (x y : List ℕ) → holds d.now ≡ Some x → holds c.now ≡ Some y → Gives result (file_outcome x y)
 GivesTo holds (asked.Match d) result = (x : List ℕ) → holds d.now ≡ Some x → Gives result (match_file_outcome x)
 GivesTo holds (asked.Propose d) result = (x : List ℕ) → holds d.now ≡ Some x → (end : Outcome) × MayProposeFor x end × Gives result end
+GivesTo holds (asked.Migrate d) result = (x : List ℕ) → holds d.now ≡ Some x → GivesOneOf (MayMigrateFor x) result
 
 -- the status and what is added to the output are those of this end, or memory or a device failed, and the status is 3
 abbrev pub Said : Outcome → ℕ → Option (List ℕ) → Option (List ℕ) → Type 0
@@ -66,3 +72,4 @@ abbrev pub Answers : (List ℕ → Option (List ℕ)) → Request → ℕ → Op
 Answers holds (asked.Check d c) status old new = (x y : List ℕ) → holds d.now ≡ Some x → holds c.now ≡ Some y → Said (file_outcome x y) status old new
 Answers holds (asked.Match d) status old new = (x : List ℕ) → holds d.now ≡ Some x → Said (match_file_outcome x) status old new
 Answers holds (asked.Propose d) status old new = (x : List ℕ) → holds d.now ≡ Some x → (end : Outcome) × MayProposeFor x end × Said end status old new
+Answers holds (asked.Migrate d) status old new = (x : List ℕ) → holds d.now ≡ Some x → (status ≡ 3) ⊎ ((end : Outcome) × MayMigrateFor x end × Said end status old new)

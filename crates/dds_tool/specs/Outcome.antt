@@ -8,14 +8,15 @@ use Rattle.dds_cert.specs.Sections as certificate
 use Rattle.dds_check.specs.Accepts.{first_no}
 use Rattle.dds_check.specs.declared.verdict.No.{No}
 
--- the certificate is accepted, or a condition fails, or the endpoints are compared, or a certificate is proposed or none is found, or a file has a flaw, or
--- a file has too many bytes
+-- the certificate is accepted, or a condition fails, or the endpoints are compared, or a certificate is proposed or none is found, or a deployment is
+-- migrated to this text, or a file has a flaw, or a file has too many bytes
 pub data Outcome : Type 0 where
   accepted : Lists → Certificate → Outcome
   refused : No → Lists → Certificate → Outcome
   compared : Lists → Outcome
   proposed : Lists → Certificate → Outcome
   unproposed : Outcome
+  migrated : List ℕ → Outcome
   bad_deployment : Flaw → Outcome
   bad_certificate : Flaw → Outcome
   too_large : Outcome

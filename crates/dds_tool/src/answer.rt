@@ -5,11 +5,12 @@ ghost use Rattle.dds_cert.specs.Fits.{fits};
 ghost use Rattle.dds_cert.specs.Sections.{read as certificate_read};
 ghost use Rattle.dds_cert.specs.Views.{certificate_view};
 ghost use Rattle.dds_check.specs.Accepts.{first_no};
-ghost use Rattle.dds_tool.specs.Answers.{Gives, answer_status};
+ghost use Rattle.dds_tool.specs.Answers.{Gives, GivesOneOf, answer_status};
 ghost use Rattle.dds_tool.specs.Fault.{fault_status};
 ghost use Rattle.dds_tool.specs.Outcome.{Outcome, compared, judged, match_outcome, outcome, proposed, unproposed, verdict};
+ghost use Rattle.dds_tool.specs.Migrations.{MayMigrate};
 ghost use Rattle.dds_tool.specs.Proposals.{IsProposed, MayPropose};
-ghost use Rattle.dds_deploy.specs.Sections.{read as deployment_read};
+ghost use Rattle.dds_deploy.specs.Sections.{read as deployment_read, read_up_to};
 
 use crate::fault::ToolFault;
 use crate::matches::{is_as_intended, match_text};
@@ -17,7 +18,7 @@ use crate::report::{acceptance_text, certificate_fault, deployment_fault, refusa
 use dds_cert::{Certificate, certificate_text, read_certificate};
 use dds_check::No;
 use dds_check::accepts::accepts;
-use dds_deploy::{Deployment, read_deployment};
+use dds_deploy::{Deployment, migrate, read_deployment};
 use dds_match::Plan;
 use dds_match::planning::plan;
 use dds_propose::propose;
@@ -211,6 +212,17 @@ pub fn propose_answer(alloc: Global, deployment: &[u8]) -> Result<Answer, ToolFa
 {
     match read_deployment(alloc, deployment) {
         Ok(lists) => lists_sought(alloc, lists),
+        Err(fault) => Err(deployment_fault(fault)),
+    }
+}
+
+/// The answer of `migrate` to the bytes of a deployment of version 1: yes with a text of version 2 that stands for the same lists.
+pub fn migrate_answer(alloc: Global, deployment: &[u8]) -> Result<Answer, ToolFault>
+    ensures gives { GivesOneOf (MayMigrate deployment.now (read_up_to 1 deployment.now)) result }
+    ensures no_usage { IfErr result (λ e. fault_status e ≤ 3) }
+{
+    match migrate(alloc, deployment) {
+        Ok(text) => Ok(Answer { text, is_yes: true }),
         Err(fault) => Err(deployment_fault(fault)),
     }
 }

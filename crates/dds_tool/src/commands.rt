@@ -2,15 +2,16 @@
 ghost use Rattle.std.specs.Prelude.{◌≡◌, ◌≢◌, ℕ, List, ◌≤◌, ◌⊎◌, Some, true, map, OnOk, IfOk, IfErr, IfSome, IsErrOf, length, ◌<◌};
 ghost use Rattle.std.specs.Io.KnownBytes.{Appends, Keeps};
 ghost use Rattle.clap.specs.Words.{takes};
-ghost use Rattle.dds_tool.specs.Answers.{Gives};
+ghost use Rattle.dds_tool.specs.Answers.{Gives, GivesOneOf};
 ghost use Rattle.dds_tool.specs.Asking.{Answers, Asks, GivesTo, IsHelp, whole};
 ghost use Rattle.dds_tool.specs.Fault.{fault_line, fault_status};
 ghost use Rattle.dds_tool.specs.Outcome.{Outcome, file_outcome, match_file_outcome};
+ghost use Rattle.dds_tool.specs.Migrations.{MayMigrateFor};
 ghost use Rattle.dds_tool.specs.Proposals.{MayProposeFor};
 ghost use Rattle.dds_tool.specs.Reading.{IsReadingFault};
 ghost use Rattle.dds_tool.specs.Report.{Ends, output_of, status_of};
 
-use crate::answer::{Answer, check_answer, match_answer, propose_answer};
+use crate::answer::{Answer, check_answer, match_answer, migrate_answer, propose_answer};
 use crate::counted::Counted;
 use crate::fault::{NO_MEMORY, ToolFault, fault_status, fault_text};
 use crate::reading::read_all;
@@ -94,6 +95,21 @@ fn propose_file<S: Sources>(
     }
 }
 
+/// The answer of `migrate` to a file, which is read whole before it is parsed.
+fn migrate_file<S: Sources>(
+    alloc: Global,
+    deployment: &str,
+    files: &mut S,
+) -> Result<Answer, ToolFault>
+    ensures gives { (d : List ℕ) → S.holds files.old deployment.now ≡ Some d → GivesOneOf (MayMigrateFor d) result }
+    ensures no_usage { IfErr result (λ e. fault_status e ≤ 3) }
+{
+    match read_file(alloc, files, deployment) {
+        Ok(bytes) => migrate_answer(alloc, bytes.as_slice()),
+        Err(fault) => Err(fault),
+    }
+}
+
 /// Writes the text of an answer and nothing else, and answers its status: 0 yes, 1 no. Only a failed write can leave a part of the text written.
 fn give<O: Write>(answer: Result<Answer, ToolFault>, out: &mut O) -> Result<u8, ToolFault>
     ensures answer { (end : Outcome) → Gives answer end
@@ -173,6 +189,7 @@ fn answer_of<S: Sources>(
         } => check_files(alloc, deployment, certificate, files),
         Request::Match { deployment } => match_file(alloc, deployment, files),
         Request::Propose { deployment } => propose_file(alloc, deployment, files),
+        Request::Migrate { deployment } => migrate_file(alloc, deployment, files),
     }
 }
 

@@ -14,7 +14,7 @@ mod report;
 mod request;
 mod sources;
 
-pub use answer::{Answer, check_answer, match_answer, propose_answer};
+pub use answer::{Answer, check_answer, match_answer, migrate_answer, propose_answer};
 pub use commands::{tell_fault, tool};
 pub use counted::Counted;
 pub use fault::{ToolFault, fault_status, fault_text};

@@ -27,6 +27,10 @@ pub enum Request<'a> {
     Propose {
         deployment: &'a str,
     },
+    /// A deployment of version 1 as one of version 2.
+    Migrate {
+        deployment: &'a str,
+    },
     /// Whether a certificate shows that a deployment is safe.
     Check {
         deployment: &'a str,
@@ -107,11 +111,17 @@ fn whole_command<'a>(alloc: Global) -> Result<Command<'a>, AllocError>
         "match",
         "Tells which writers and readers match, and why others don't",
     )?;
-    let checking = two_files_command(alloc, "check", "Checks a certificate of a deployment")?;
-    let proposing = one_file_command(alloc, "propose", "Looks for a certificate of a deployment")?;
     let command = with_command(top_command(alloc), matching)?;
+    let checking = two_files_command(alloc, "check", "Checks a certificate of a deployment")?;
     let command = with_command(command, checking)?;
-    with_command(command, proposing)
+    let proposing = one_file_command(alloc, "propose", "Looks for a certificate of a deployment")?;
+    let command = with_command(command, proposing)?;
+    let migrating = one_file_command(
+        alloc,
+        "migrate",
+        "Prints a deployment file of version 1 as one of version 2",
+    )?;
+    with_command(command, migrating)
 }
 
 /// The words are no request, for this reason.
@@ -206,6 +216,17 @@ fn propose_request<'a>(alloc: Global, matches: &ArgMatches<'a>) -> Result<Reques
     }
 }
 
+fn migrate_request<'a>(alloc: Global, matches: &ArgMatches<'a>) -> Result<Request<'a>, NoRequest>
+    ensures asked { (words : List Text) → subcommand_of whole words ≡ Some (codes "migrate", rows_of (found_of matches.now)) → IfOk result (Asks words) }
+    ensures fault { IfErr result (λ e. ¬ IsHelp e) }
+    ensures unasked { (words : List Text) → subcommand_of whole words ≡ Some (codes "migrate", rows_of (found_of matches.now)) → (r : _) → Asks words r → IfErr result (λ _. ⊥) }
+{
+    match argument(matches, "deployment") {
+        Some(deployment) => Ok(Request::Migrate { deployment }),
+        None => Err(usage(alloc, "error: a file is missing\n")),
+    }
+}
+
 /// What the words ask for, of which the first is the program's name. Words that the command does not take are `Usage`, unless they ask for help or the
 /// version; words that it takes are never `Help`. No file is opened.
 pub fn read_request<'a, S: AsStr>(alloc: Global, words: &'a [S]) -> Result<Request<'a>, NoRequest>
@@ -218,6 +239,7 @@ pub fn read_request<'a, S: AsStr>(alloc: Global, words: &'a [S]) -> Result<Reque
         Some(("match", inner)) => match_request(alloc, inner),
         Some(("check", inner)) => check_request(alloc, inner),
         Some(("propose", inner)) => propose_request(alloc, inner),
+        Some(("migrate", inner)) => migrate_request(alloc, inner),
         _ => Err(usage(alloc, "error: no such command\n")),
     }
 }

@@ -1,4 +1,4 @@
-use Rattle.std.proofs.Common.{◌≡◌, ℕ, Bool, sym, ◌∙◌}
+use Rattle.std.proofs.Common.{ℕ, Bool, sym, ◌∙◌}
 use Rattle.std.specs.List.{list_any}
 use Rattle.dds_fields.specs.Views.{listed}
 use Rattle.dds_deploy.specs.Lists.{Application}

@@ -59,6 +59,7 @@ written : (r : Request) (x y : List ℕ) (status : ℕ) (old new : Option (List 
     → ((status ≡ status_of (file_outcome x y)) × Appends old new (output_of (file_outcome x y))) ⊎ (status ≡ 3)
 written (asked.Match d) x y status old new asks answers = absurd (no_check 109 (omega arith) (other (codes "match") (codes "deployment") d.now asks))
 written (asked.Propose d) x y status old new asks answers = absurd (no_check 112 (omega arith) (other (codes "propose") (codes "deployment") d.now asks))
+written (asked.Migrate d) x y status old new asks answers = absurd (no_check 109 (omega arith) (other (codes "migrate") (codes "deployment") d.now asks))
 written (asked.Check d b) x y status old new asks answers =
     answers x y (rw (named (codes "check") (codes "deployment") d.now (codes "d") is_d asks.0) refl)
     (rw (named (codes "check") (codes "certificate") b.now (codes "c") is_c asks.1) refl)

@@ -10,4 +10,5 @@ pub returns : goal.returns
 returns c =
     let first = c.in_ok-command.ensures ∙ ap₂ joined c.top_command.ensures c.in_ok-matching.ensures.app in
     let second = c.in_ok-command-2.ensures ∙ ap₂ joined first c.in_ok-checking.ensures.app in
-    IfOk-weaker c.with_command-3.result _ _ (λ r h. h ∙ ap₂ joined second c.in_ok-proposing.ensures.app) c.with_command-3.ensures
+    let third = c.in_ok-command-3.ensures ∙ ap₂ joined second c.in_ok-proposing.ensures.app in
+    IfOk-weaker c.with_command-4.result _ _ (λ r h. h ∙ ap₂ joined third c.in_ok-migrating.ensures.app) c.with_command-4.ensures
