@@ -21,6 +21,14 @@ fn endpoints(alloc: Global, dice: &mut Dice, topics: usize) -> Result<Vec<usize>
     Ok(all)
 }
 
+fn one_to_three(dice: &mut Dice) -> usize {
+    match dice.below(3) {
+        0 => 1,
+        1 => 2,
+        _ => 3,
+    }
+}
+
 fn keys(dice: &mut Dice) -> &'static str {
     match dice.below(3) {
         0 => "[\"a\"]",
@@ -85,7 +93,7 @@ fn applications(alloc: Global, drawn: &Drawn) -> Result<String, AllocError> {
 }
 
 fn rule(alloc: Global, dice: &mut Dice, w: usize) -> Result<String, AllocError> {
-    let count = 1 + dice.below(2);
+    let count = one_to_three(dice);
     let start = dice.below(4);
     format!(in alloc;
         "\n[[rules]]\nname = \"u{w}\"\napplication = \"writing\"\nwrites = [{{ writer = \"w{w}\", key = \"a\", count = {count} }}]\nstart = {start}\n"
@@ -170,7 +178,7 @@ fn push_connections(alloc: Global, text: &mut String, drawn: &Drawn) -> Result<(
 /// The deployment of a seed: up to three topics, writers and readers, with limits, filters, partitions and policies of several kinds.
 pub fn deployment(alloc: Global, seed: u32) -> Result<String, AllocError> {
     let mut dice = Dice::new(seed);
-    let topics = 1 + dice.below(3);
+    let topics = one_to_three(&mut dice);
     let drawn = Drawn {
         topics,
         writers: endpoints(alloc, &mut dice, topics)?,
