@@ -71,4 +71,6 @@ fi
 sweep caches::caches_call_by_call
 sweep readers::readers_call_by_call
 sweep writers::two_readers_call_by_call
+sweep writers::a_watcher_call_by_call
+sweep writers::a_watcher_beside_a_reader
 finish

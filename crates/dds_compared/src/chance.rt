@@ -1,7 +1,8 @@
 //! Events drawn by a small linear congruential generator, the same at each run.
 
-use dds_base::{Event, KeyNo, ReaderNo, RuleNo, WriterNo};
+use dds_base::{Data, Event, KeyNo, ReaderNo, RuleNo, WriterNo};
 use dds_oracle::World;
+use dds_qos::Due;
 
 /// A generator.
 #[derive(Clone, Copy, Debug)]
@@ -44,14 +45,17 @@ impl Chance {
         KeyNo::new(self.number(2))
     }
 
-    /// A number of a writer: mostly one of the next four from the base that the reader acknowledged, and at times any up to the one after the
-    /// next to be written.
+    /// A number of a writer: mostly one of the next four from the base that the reader acknowledged, for a watcher mostly one of the last four
+    /// written, and at times any up to the one after the next to be written.
     fn sn(&mut self, world: &World, writer: WriterNo, reader: ReaderNo) -> u64 {
         if self.below(8) == 0 {
             return self.below(world.written(writer).saturating_add(3));
         }
-        let ahead = self.below(4);
-        world.acked(writer, reader).saturating_add(ahead)
+        let apart = self.below(4);
+        if world.layout().is_watcher(reader) {
+            return world.written(writer).saturating_sub(apart);
+        }
+        world.acked(writer, reader).saturating_add(apart)
     }
 
     /// A place: one of the first eight.
@@ -59,12 +63,16 @@ impl Chance {
         self.below(8) as usize
     }
 
+    fn payload(&mut self) -> Data {
+        [(self.below(256) & 0xff) as u8; 32]
+    }
+
     fn write(&mut self, world: &World) -> Event {
-        let byte = (self.below(256) & 0xff) as u8;
+        let payload = self.payload();
         Event::Write {
             writer: self.writer(world),
             key: self.key(),
-            payload: [byte; 32],
+            payload,
         }
     }
 
@@ -83,6 +91,47 @@ impl Chance {
             writer,
             reader,
             start: self.sn(world, writer, reader),
+        }
+    }
+
+    /// The DATA of the writer 0 that is due to some reader, or else any event.
+    fn due_data(&mut self, world: &World) -> Event {
+        let writer = WriterNo::new(0);
+        let reader = self.reader(world);
+        match world.due(writer, reader) {
+            Some(Due::Data(sn)) => Event::SendData { writer, reader, sn },
+            _ => self.event(world),
+        }
+    }
+
+    /// An event that moves the samples of the writer 0, the reader 0 and the rule 0 on.
+    fn onward(&mut self, world: &World) -> Event {
+        let (writer, reader) = (WriterNo::new(0), ReaderNo::new(0));
+        let key = KeyNo::new(0);
+        match self.below(5) {
+            0 => Event::Fire {
+                rule: RuleNo::new(0),
+            },
+            1 => Event::Write {
+                writer,
+                key,
+                payload: self.payload(),
+            },
+            2 => self.due_data(world),
+            3 => Event::Take { reader, key },
+            _ => Event::SendAckNack { reader, writer },
+        }
+    }
+
+    /// An event in this world, often one that moves samples on or delivers.
+    pub(crate) fn lively_event(&mut self, world: &World) -> Event {
+        match self.below(3) {
+            0 => self.onward(world),
+            1 => Event::Deliver {
+                place: self.place(),
+                keep: false,
+            },
+            _ => self.event(world),
         }
     }
 

@@ -11,10 +11,10 @@ use std::alloc::{AllocError, Global};
 use std::process::Abort;
 
 /// How many keys are looked at. No topic here has more than two.
-const SOME_KEYS: usize = 3;
+pub(crate) const SOME_KEYS: usize = 3;
 
 /// How many places of the bus are looked at. The runs fill no more.
-const SOME_PLACES: usize = 128;
+pub(crate) const SOME_PLACES: usize = 128;
 
 /// The same run on both sides.
 #[derive(Drop)]
@@ -24,7 +24,7 @@ pub(crate) struct Both {
 }
 
 /// What a take gave.
-fn taken(reply: &Reply) -> Option<Sample> {
+pub(crate) fn taken(reply: &Reply) -> Option<Sample> {
     match reply {
         Reply::Took(sample) => Some(*sample),
         _ => None,
@@ -83,7 +83,7 @@ impl Both {
     }
 }
 
-/// Compares what is seen of a writer and a reader that match.
+/// Compares what is seen of a writer and a reader that match. The base that a watcher acknowledged is 1 throughout.
 fn expect_same_pair(rt: &impl Abort, both: &Both, writer: WriterNo, reader: ReaderNo) {
     if let Some(speaker) = both.peers.writers.get(writer.number()) {
         assert_eq!(rt;

@@ -23,14 +23,19 @@ fn checked_of(rt: &impl Abort, alloc: Global, plan: Plan) -> Checked {
     }
 }
 
+/// The domain of a plan, before the first event.
+pub(crate) fn opened(rt: &impl Abort, alloc: Global, plan: Plan) -> Domain {
+    match Domain::open(alloc, checked_of(rt, alloc, plan)) {
+        Ok(domain) => domain,
+        Err(_) => panic!(rt; "no memory for the domain"),
+    }
+}
+
 /// The domain of a stage, before the first event.
 fn domain_of(rt: &impl Abort, alloc: Global, stage: Stage) -> Result<Domain, AllocError> {
     let text = text_of(rt, alloc, stage)?;
     let plan = plan_of(rt, alloc, text.as_str());
-    match Domain::open(alloc, checked_of(rt, alloc, plan)) {
-        Ok(domain) => Ok(domain),
-        Err(_) => panic!(rt; "no memory for the domain"),
-    }
+    Ok(opened(rt, alloc, plan))
 }
 
 /// What the domain answers to a question; none where it isn't asked for that.
@@ -44,7 +49,7 @@ fn answer(domain: &Domain, asked: Move) -> Option<Told> {
 }
 
 /// Makes an event, which has to find memory.
-fn make(rt: &impl Abort, domain: &mut Domain, event: Event) -> Reply {
+pub(crate) fn make(rt: &impl Abort, domain: &mut Domain, event: Event) -> Reply {
     match domain.step(event) {
         Ok(reply) => reply,
         Err(NoMemory) => panic!(rt; "no memory for the event"),

@@ -21,4 +21,6 @@ mod speakers;
 #[cfg(test)]
 mod texts;
 #[cfg(test)]
+mod watchers;
+#[cfg(test)]
 mod worked;

@@ -4,7 +4,7 @@ use crate::chance::Chance;
 use crate::comparing::{Both, expect_same};
 use crate::plans::plan_of;
 use crate::seen::Kind;
-use crate::texts::{FILTERED, LAST, LOOP, SMALL};
+use crate::texts::{FILTERED, LAST, LOOP, SMALL, WATCHED};
 use dds_match::Plan;
 use std::alloc::{AllocError, Global};
 use std::process::Abort;
@@ -98,6 +98,16 @@ fn a_filter_and_one_instance(rt: HostRuntime) -> Result<(), Fail> {
 fn the_last_one_or_two(rt: HostRuntime) -> Result<(), Fail> {
     let plan = plan_of(&rt, rt.alloc(), LAST);
     let wanted = [Kind::Overwrote, Kind::SamplesLimit, Kind::InstanceLimit];
+    let done = over_seeds(&rt, rt.alloc(), &plan, wanted.as_slice());
+    drop(plan);
+    done?;
+    Ok(())
+}
+
+#[test]
+fn a_reader_and_two_watchers(rt: HostRuntime) -> Result<(), Fail> {
+    let plan = plan_of(&rt, rt.alloc(), WATCHED);
+    let wanted = [Kind::Overwrote, Kind::SamplesLimit, Kind::Full];
     let done = over_seeds(&rt, rt.alloc(), &plan, wanted.as_slice());
     drop(plan);
     done?;

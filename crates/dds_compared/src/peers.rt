@@ -150,7 +150,7 @@ impl Peers {
                 start,
             } => self.writers.get_mut(writer.number())?.gap(reader, start),
             Event::SendHeartbeat { writer, reader } => {
-                Some(self.writers.get(writer.number())?.heartbeat(reader))
+                self.writers.get(writer.number())?.heartbeat(reader)
             }
             Event::SendAckNack { reader, writer } => {
                 self.readers.get_mut(reader.number())?.acknack(writer)
@@ -159,7 +159,7 @@ impl Peers {
         }
     }
 
-    /// A send between these two.
+    /// A send between these two. A watcher is sent DATA alone, and sends nothing.
     fn send_between(
         &mut self,
         plan: &Plan,

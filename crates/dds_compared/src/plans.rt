@@ -96,6 +96,7 @@ fn reader_layout(alloc: Global, plan: &Plan, reader: ReaderNo) -> Result<ReaderL
     Ok(ReaderLayout {
         filter: filter_of(alloc, plan, reader)?,
         limits,
+        watcher: plan.watcher(reader),
     })
 }
 

@@ -70,6 +70,7 @@ fn proxies_of(alloc: Global, plan: &Plan, writer: WriterNo) -> Result<Vec<Proxy>
         proxies.push(Proxy {
             reader: *reader,
             filter,
+            watcher: plan.watcher(*reader),
         })?;
     }
     Ok(proxies)
@@ -119,8 +120,12 @@ impl Speaker {
         Some(Packet::Gap(gap))
     }
 
-    pub(crate) fn heartbeat(&self, reader: ReaderNo) -> Packet {
-        Packet::Heartbeat(self.writer.heartbeat(reader))
+    /// The HEARTBEAT to a matched reader. None to a watcher.
+    pub(crate) fn heartbeat(&self, reader: ReaderNo) -> Option<Packet> {
+        if !self.writer.is_matched(reader) || self.writer.is_watcher(reader) {
+            return None;
+        }
+        Some(Packet::Heartbeat(self.writer.heartbeat(reader)))
     }
 
     pub(crate) fn on_acknack(&mut self, acknack: &AckNack) {
@@ -163,7 +168,11 @@ impl Listener {
     ) -> Result<Listener, AllocError> {
         let filter = filter_of(alloc, plan, me)?;
         let writers = writers_of(alloc, plan, me)?;
-        let reader = Reader::new(alloc, me, limits, &filter, &writers)?;
+        let reader = if plan.watcher(me) {
+            Reader::watching(alloc, me, limits, &filter, &writers)?
+        } else {
+            Reader::new(alloc, me, limits, &filter, &writers)?
+        };
         Ok(Listener { me, reader })
     }
 

@@ -163,6 +163,134 @@ writer = "narrow"
 reader = "r2"
 "#;
 
+/// A reliable reader and two watchers of the keys a and b. The first watcher takes a alone and stores its last sample, the second stores one
+/// sample. The writer keeps 4 samples.
+pub(crate) const WATCHED: &str = r#"version = 1
+participants = [{ name = "p", domain = 0 }, { name = "q", domain = 0 }]
+topics = [{ name = "t", type = "Num", keys = ["a", "b"] }]
+
+[[writers]]
+name = "w"
+participant = "p"
+topic = "t"
+history = "KEEP_ALL"
+max_samples = 4
+
+[[readers]]
+name = "r"
+participant = "q"
+topic = "t"
+reliability = "RELIABLE"
+history = "KEEP_ALL"
+
+[[readers]]
+name = "last"
+participant = "q"
+topic = "t"
+filter = ["a"]
+reliability = "BEST_EFFORT"
+history = "KEEP_LAST"
+depth = 1
+
+[[readers]]
+name = "one"
+participant = "q"
+topic = "t"
+reliability = "BEST_EFFORT"
+history = "KEEP_ALL"
+max_samples = 1
+
+[[applications]]
+name = "aw"
+participant = "p"
+writers = ["w"]
+
+[[applications]]
+name = "ar"
+participant = "q"
+readers = ["r", "last", "one"]
+
+[[rules]]
+name = "seed"
+application = "aw"
+writes = [{ writer = "w", key = "a", count = 1 }, { writer = "w", key = "b", count = 1 }]
+start = 100
+
+[[connections]]
+writer = "w"
+reader = "r"
+
+[[connections]]
+writer = "w"
+reader = "last"
+
+[[connections]]
+writer = "w"
+reader = "one"
+"#;
+
+/// An application writes again what it takes, of three samples at first. Two watchers look on: one stores the last sample, the other one
+/// sample.
+pub(crate) const AGAIN: &str = r#"version = 1
+participants = [{ name = "p", domain = 0 }, { name = "q", domain = 0 }]
+topics = [{ name = "t", type = "Num", keys = ["k"] }]
+writers = [{ name = "w", participant = "p", topic = "t", history = "KEEP_ALL" }]
+
+[[readers]]
+name = "r"
+participant = "p"
+topic = "t"
+reliability = "RELIABLE"
+history = "KEEP_ALL"
+max_samples_per_instance = 3
+
+[[readers]]
+name = "last"
+participant = "q"
+topic = "t"
+reliability = "BEST_EFFORT"
+history = "KEEP_LAST"
+depth = 1
+
+[[readers]]
+name = "one"
+participant = "q"
+topic = "t"
+reliability = "BEST_EFFORT"
+history = "KEEP_ALL"
+max_samples_per_instance = 1
+
+[[applications]]
+name = "writing"
+participant = "p"
+writers = ["w"]
+readers = ["r"]
+
+[[applications]]
+name = "watching"
+participant = "q"
+readers = ["last", "one"]
+
+[[rules]]
+name = "again"
+application = "writing"
+takes = [{ reader = "r", key = "k", count = 1 }]
+writes = [{ writer = "w", key = "k", count = 1 }]
+start = 3
+
+[[connections]]
+writer = "w"
+reader = "r"
+
+[[connections]]
+writer = "w"
+reader = "last"
+
+[[connections]]
+writer = "w"
+reader = "one"
+"#;
+
 /// Two applications that answer each other, as in `examples/loop/loop.toml`.
 pub(crate) const LOOP: &str = r#"version = 1
 participants = [{ name = "p1", domain = 0 }, { name = "p2", domain = 0 }]

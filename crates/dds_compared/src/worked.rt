@@ -26,6 +26,47 @@ const WRITES: &str = "writes = [{ writer = \"w\", key = \"k\", count = 1 }]";
 
 const READER: &str = "name = \"r\"\nparticipant = \"q\"\n";
 
+const RELIABLE: &str = "reliability = \"RELIABLE\"";
+
+const APPLICATIONS: &str = "[[applications]]\nname = \"aw\"\n";
+
+const READERS: &str = "readers = [\"r\"]";
+
+const CONNECTION: &str = "[[connections]]\nwriter = \"w\"\nreader = \"r\"\n";
+
+const LIMIT_3: Edit = (LIMIT, "max_samples_per_instance = 3");
+
+const START_3: Edit = (START, "start = 3");
+
+const FILTERED: &[Edit] = &[
+    LIMIT_3,
+    (START, "start = 1"),
+    (KEYS, "keys = [\"a\", \"b\"]"),
+    (
+        READER,
+        "name = \"r\"\nparticipant = \"q\"\nfilter = [\"a\"]\n",
+    ),
+    (
+        WRITES,
+        "writes = [{ writer = \"w\", key = \"a\", count = 1 }, { writer = \"w\", key = \"b\", count = 2 }]",
+    ),
+];
+
+/// A watcher of the last sample, with its application and its connection.
+const WATCHED: &[Edit] = &[
+    LIMIT_3,
+    START_3,
+    (
+        APPLICATIONS,
+        "[[readers]]\nname = \"v\"\nparticipant = \"q\"\ntopic = \"t\"\nreliability = \"BEST_EFFORT\"\nhistory = \"KEEP_LAST\"\ndepth = 1\n\n[[applications]]\nname = \"aw\"\n",
+    ),
+    (READERS, "readers = [\"r\", \"v\"]"),
+    (
+        CONNECTION,
+        "[[connections]]\nwriter = \"w\"\nreader = \"r\"\n\n[[connections]]\nwriter = \"w\"\nreader = \"v\"\n",
+    ),
+];
+
 /// The changes that make the deployment of a stage from that of one writer and one reader, or from that of two of each.
 fn edits_of(stage: Stage) -> &'static [Edit] {
     match stage {
@@ -34,29 +75,20 @@ fn edits_of(stage: Stage) -> &'static [Edit] {
             (START, "start = 1"),
         ],
         Stage::Small(2) => &[(START, "start = 2")],
-        Stage::Small(_) => &[
-            (LIMIT, "max_samples_per_instance = 3"),
-            (START, "start = 3"),
-        ],
-        Stage::Filtered => &[
-            (LIMIT, "max_samples_per_instance = 3"),
-            (START, "start = 1"),
-            (KEYS, "keys = [\"a\", \"b\"]"),
-            (
-                READER,
-                "name = \"r\"\nparticipant = \"q\"\nfilter = [\"a\"]\n",
-            ),
-            (
-                WRITES,
-                "writes = [{ writer = \"w\", key = \"a\", count = 1 }, { writer = \"w\", key = \"b\", count = 2 }]",
-            ),
-        ],
+        Stage::Small(_) => &[LIMIT_3, START_3],
+        Stage::Filtered => FILTERED,
         Stage::Narrow => &[
             (START, "start = 2"),
             (
                 WRITER,
                 "topic = \"t\", history = \"KEEP_ALL\", max_samples = 1",
             ),
+        ],
+        Stage::Watched => WATCHED,
+        Stage::WatcherAlone => &[
+            LIMIT_3,
+            START_3,
+            (RELIABLE, "reliability = \"BEST_EFFORT\""),
         ],
         Stage::Loop => &[],
     }

@@ -85,6 +85,19 @@ fn mark_irrelevant(
     Ok(())
 }
 
+/// More numbers of a writer are given up by a reader.
+fn mark_all_lost(
+    world: &mut World,
+    reader: ReaderNo,
+    writer: WriterNo,
+    numbers: &[u64],
+) -> Result<(), AllocError> {
+    if let Some(held) = world.from_writer_mut(reader, writer) {
+        held.lost.extend_from_slice(numbers)?;
+    }
+    Ok(())
+}
+
 /// The sample that leaves its place to another by this answer.
 fn replaced_by(answer: &Admit) -> Option<Sample> {
     match answer {
@@ -101,7 +114,7 @@ fn arrival_of(answer: &Admit) -> Arrival {
     }
 }
 
-/// A sample arrives at a reader that takes its key and has not marked its number.
+/// A sample arrives at a reader that takes its key, and it didn't come before.
 fn admit(world: &mut World, reader: ReaderNo, sample: &Sample) -> Result<Arrival, AllocError> {
     let answer = admission(world, reader, sample)?;
     if !answer.is_rejected() {
@@ -110,7 +123,34 @@ fn admit(world: &mut World, reader: ReaderNo, sample: &Sample) -> Result<Arrival
     Ok(arrival_of(&answer))
 }
 
-/// A DATA arrives.
+/// Whether the DATA of a number came before: at a reliable reader the number is marked, at a watcher it is below the base.
+fn is_repeat(world: &World, reader: ReaderNo, writer: WriterNo, sn: u64) -> bool {
+    if world.layout.is_watcher(reader) {
+        sn < world.base(reader, writer)
+    } else {
+        world.is_marked(reader, writer, sn)
+    }
+}
+
+/// Whether a DATA with this answer marks its number.
+fn marks_it(arrival: &Arrival) -> bool {
+    matches!(
+        arrival,
+        Arrival::New | Arrival::Irrelevant(_) | Arrival::Overwrote(_)
+    )
+}
+
+/// A DATA of a matched writer that didn't come before arrives.
+fn on_fresh_data(world: &mut World, message: &DataMsg) -> Result<Arrival, AllocError> {
+    let (reader, sample) = (message.reader, &message.sample);
+    if !world.layout.hears(reader, sample.key) {
+        mark_irrelevant(world, reader, sample.writer, sample.sn)?;
+        return Ok(Arrival::Irrelevant(1));
+    }
+    admit(world, reader, sample)
+}
+
+/// A DATA arrives. Where it marks its number, a watcher gives up the unmarked numbers below that.
 fn on_data(world: &mut World, message: &DataMsg) -> Result<Arrival, AllocError> {
     let reader = message.reader;
     let writer = message.sample.writer;
@@ -118,14 +158,25 @@ fn on_data(world: &mut World, message: &DataMsg) -> Result<Arrival, AllocError> 
     if !world.layout.matched(writer, reader) {
         return Ok(Arrival::Stranger);
     }
-    if world.is_marked(reader, writer, sn) {
+    if is_repeat(world, reader, writer, sn) {
         return Ok(Arrival::Repeat);
     }
-    if !world.layout.hears(reader, message.sample.key) {
-        mark_irrelevant(world, reader, writer, sn)?;
-        return Ok(Arrival::Irrelevant(1));
+    let arrival = on_fresh_data(world, message)?;
+    if world.layout.is_watcher(reader) && marks_it(&arrival) {
+        give_up(world, reader, writer, sn)?;
     }
-    admit(world, reader, &message.sample)
+    Ok(arrival)
+}
+
+/// A reader gives up a writer's unmarked numbers below this one.
+fn give_up(
+    world: &mut World,
+    reader: ReaderNo,
+    writer: WriterNo,
+    sn: u64,
+) -> Result<(), AllocError> {
+    let missed = unmarked_between(world, reader, writer, 1, sn)?;
+    mark_all_lost(world, reader, writer, &missed)
 }
 
 /// The numbers from one up to another less one that a reader has not marked.
@@ -145,11 +196,14 @@ fn unmarked_between(
     Ok(unmarked)
 }
 
-/// A GAP arrives: the unmarked numbers from its start up to the base of its set, and those of the set, are irrelevant.
+/// A GAP arrives: the unmarked numbers from its start up to the base of its set, and those of the set, are irrelevant. At a watcher none is.
 fn on_gap(world: &mut World, gap: &GapMsg) -> Result<Arrival, AllocError> {
     let (reader, writer) = (gap.reader, gap.writer);
     if !world.layout.matched(writer, reader) {
         return Ok(Arrival::Stranger);
+    }
+    if world.layout.is_watcher(reader) {
+        return Ok(Arrival::Irrelevant(0));
     }
     let base = gap.set.base();
     let mut fresh = unmarked_between(world, reader, writer, gap.start, base)?;
@@ -162,15 +216,19 @@ fn on_gap(world: &mut World, gap: &GapMsg) -> Result<Arrival, AllocError> {
     Ok(Arrival::Irrelevant(fresh.len() as u64))
 }
 
-/// A HEARTBEAT arrives: the unmarked numbers below its first are lost, the last number heard grows, and an ACKNACK is owed.
+/// A HEARTBEAT arrives: the unmarked numbers below its first are lost, the last number heard grows, and an ACKNACK is owed. A watcher
+/// heeds none.
 fn on_heartbeat(world: &mut World, heartbeat: &Heartbeat) -> Result<Arrival, AllocError> {
     let (reader, writer) = (heartbeat.reader, heartbeat.writer);
     if !world.layout.matched(writer, reader) {
         return Ok(Arrival::Stranger);
     }
+    if world.layout.is_watcher(reader) {
+        return Ok(Arrival::Heard);
+    }
     let fresh = unmarked_between(world, reader, writer, 1, heartbeat.first)?;
+    mark_all_lost(world, reader, writer, &fresh)?;
     if let Some(held) = world.from_writer_mut(reader, writer) {
-        held.lost.extend_from_slice(&fresh)?;
         held.heard = held.heard.max(heartbeat.last);
         held.owes = true;
     }
@@ -193,10 +251,10 @@ fn asked_by(world: &World, acknack: &AckNack) -> Result<Vec<u64>, AllocError> {
 }
 
 /// An ACKNACK arrives: its base is held, unless it is below the one held or above the next number to be written. Where it is held, what
-/// it asks for is noted.
+/// it asks for is noted. One of a watcher changes nothing.
 fn on_acknack(world: &mut World, acknack: &AckNack) -> Result<(), AllocError> {
     let (reader, writer) = (acknack.reader, acknack.writer);
-    if !world.layout.matched(writer, reader) {
+    if !world.layout.follows(writer, reader) {
         return Ok(());
     }
     let base = acknack.set.base();

@@ -22,6 +22,8 @@ pub struct ReaderLayout {
     /// The keys that it takes.
     pub filter: Vec<KeyNo>,
     pub limits: ReaderLimits,
+    /// Whether it is best-effort: no writer waits for it.
+    pub watcher: bool,
 }
 
 /// A rule. Without needs it is never fired, and has its start alone.
@@ -49,6 +51,19 @@ impl Layout {
             Some(layout) => layout.readers.iter().any(|r| *r == reader),
             None => false,
         }
+    }
+
+    /// Whether there is such a reader, and it is a watcher.
+    pub fn is_watcher(&self, reader: ReaderNo) -> bool {
+        match self.readers.get(reader.number()) {
+            Some(layout) => layout.watcher,
+            None => false,
+        }
+    }
+
+    /// Whether they match and the reader is reliable: the writer waits for what it acknowledges.
+    pub fn follows(&self, writer: WriterNo, reader: ReaderNo) -> bool {
+        self.matched(writer, reader) && !self.is_watcher(reader)
     }
 
     /// Whether there is such a writer, and the key is in its topic.

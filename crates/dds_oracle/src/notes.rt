@@ -19,7 +19,7 @@ impl World {
         from <= to && (from..=to).all(|n| self.is_silent(writer, reader, n))
     }
 
-    /// Whether a reader owes a writer an ACKNACK: a HEARTBEAT came since the last one was sent.
+    /// Whether a reader owes a writer an ACKNACK: a HEARTBEAT came since the last one was sent. A watcher owes none.
     pub fn owes(&self, reader: ReaderNo, writer: WriterNo) -> bool {
         match self.from_writer(reader, writer) {
             Some(held) => held.owes,
@@ -27,7 +27,7 @@ impl World {
         }
     }
 
-    /// Whether a number is to be sent: kept, not acknowledged, and asked for or never sent.
+    /// Whether a number is to be sent to a reliable reader: kept, not acknowledged, and asked for or never sent.
     fn is_due(&self, writer: WriterNo, reader: ReaderNo, sn: u64) -> bool {
         match self.for_reader(writer, reader) {
             Some(held) => {
@@ -39,8 +39,38 @@ impl World {
         }
     }
 
-    /// What a writer is to send a reader next: the least number that is due, as a DATA or as a GAP.
+    /// Whether a number is to be sent to a watcher: at hand and relevant, and above all that was sent.
+    fn is_watch_due(&self, writer: WriterNo, reader: ReaderNo, sn: u64) -> bool {
+        match self.for_reader(writer, reader) {
+            Some(held) => {
+                self.is_at_hand(writer, reader, sn)
+                    && self.is_relevant(writer, reader, sn)
+                    && held.sent < sn
+            }
+            None => false,
+        }
+    }
+
+    /// What a writer is to send a watcher next: the least number that is due, as a DATA.
+    fn watch_due(&self, writer: WriterNo, reader: ReaderNo) -> Option<Due> {
+        for sn in 1..=self.written(writer) {
+            if self.is_watch_due(writer, reader, sn) {
+                return Some(Due::Data(sn));
+            }
+        }
+        None
+    }
+
+    /// What a writer is to send a reader next: the least number that is due, as a DATA or as a GAP, to a watcher never as a GAP.
     pub fn due(&self, writer: WriterNo, reader: ReaderNo) -> Option<Due> {
+        if self.layout.is_watcher(reader) {
+            return self.watch_due(writer, reader);
+        }
+        self.reliable_due(writer, reader)
+    }
+
+    /// What a writer is to send a reliable reader next.
+    fn reliable_due(&self, writer: WriterNo, reader: ReaderNo) -> Option<Due> {
         for sn in 1..=self.written(writer) {
             if self.is_due(writer, reader, sn) {
                 if self.is_relevant(writer, reader, sn) {

@@ -6,9 +6,9 @@ use dds_base::{
 };
 use std::alloc::AllocError;
 
-/// The DATA of a number. None where the number isn't kept or isn't relevant.
+/// The DATA of a number. None where the number isn't at hand or isn't relevant.
 fn data(world: &World, writer: WriterNo, reader: ReaderNo, sn: u64) -> Option<Packet> {
-    if !world.is_kept(writer, sn) || !world.is_relevant(writer, reader, sn) {
+    if !world.is_at_hand(writer, reader, sn) || !world.is_relevant(writer, reader, sn) {
         return None;
     }
     let message = DataMsg::new(reader, world.sample(writer, sn)?)?;
@@ -25,8 +25,11 @@ pub(crate) fn gap_end(world: &World, writer: WriterNo, reader: ReaderNo, start: 
     world.written(writer).saturating_add(1)
 }
 
-/// The GAP from a number on. None where the number isn't kept or is relevant.
+/// The GAP from a number on. None where the reader is a watcher, or the number isn't kept or is relevant.
 fn gap(world: &World, writer: WriterNo, reader: ReaderNo, start: u64) -> Option<Packet> {
+    if world.layout.is_watcher(reader) {
+        return None;
+    }
     if !world.is_kept(writer, start) || world.is_relevant(writer, reader, start) {
         return None;
     }
@@ -46,8 +49,11 @@ fn first_kept(world: &World, writer: WriterNo) -> u64 {
     written.saturating_add(1)
 }
 
-/// The HEARTBEAT of a writer.
+/// The HEARTBEAT of a writer. None to a watcher.
 fn heartbeat(world: &World, writer: WriterNo, reader: ReaderNo) -> Option<Packet> {
+    if world.layout.is_watcher(reader) {
+        return None;
+    }
     let first = first_kept(world, writer);
     let message = Heartbeat::new(writer, reader, first, world.written(writer))?;
     Some(Packet::Heartbeat(message))
@@ -66,12 +72,15 @@ fn missing(world: &World, reader: ReaderNo, writer: WriterNo) -> Result<Vec<u64>
     Ok(missing)
 }
 
-/// The ACKNACK of a reader.
+/// The ACKNACK of a reader. None of a watcher.
 fn acknack(
     world: &World,
     reader: ReaderNo,
     writer: WriterNo,
 ) -> Result<Option<Packet>, AllocError> {
+    if world.layout.is_watcher(reader) {
+        return Ok(None);
+    }
     let missing = missing(world, reader, writer)?;
     match SnSet::new(world.base(reader, writer), &missing) {
         Some(set) => Ok(Some(Packet::AckNack(AckNack {
@@ -120,7 +129,7 @@ pub(crate) fn send_gap(world: &mut World, writer: WriterNo, reader: ReaderNo, st
     send_some(world, packet)
 }
 
-/// A writer sends its HEARTBEAT. It always has one.
+/// A writer sends its HEARTBEAT. It always has one for a reliable reader.
 pub(crate) fn send_heartbeat(world: &mut World, writer: WriterNo, reader: ReaderNo) -> Reply {
     if !world.layout.matched(writer, reader) {
         return Reply::Refused(Refusal::Foreign);
@@ -129,7 +138,7 @@ pub(crate) fn send_heartbeat(world: &mut World, writer: WriterNo, reader: Reader
     send_some(world, packet)
 }
 
-/// A reader sends its ACKNACK. It always has one.
+/// A reader sends its ACKNACK. A reliable one always has one.
 pub(crate) fn send_acknack(
     world: &mut World,
     reader: ReaderNo,

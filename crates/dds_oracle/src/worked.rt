@@ -17,6 +17,10 @@ pub enum Stage {
     Filtered,
     /// As `Small(2)`, but the writer keeps one sample.
     Narrow,
+    /// As `Small(3)`, with a watcher of the same application, reader 1, that stores the last sample of an instance.
+    Watched,
+    /// As `Small(3)`, but the reader is a watcher.
+    WatcherAlone,
     /// Two writers and two readers. Rule 0 takes one of reader 1 and writes two of writer 0, which it may do twice at first. Rule 1 takes
     /// two of reader 0 and writes one of writer 1. The readers take four and two samples of an instance.
     Loop,
@@ -319,8 +323,52 @@ const HALF: &[(Move, Told)] = &[
     (Move::Fire(1), Told::Refused(Refusal::NotEnough)),
 ];
 
+/// A watcher takes the last sample alone: an older one that comes late counts as a repeat. It is sent nothing but DATA, and sends nothing.
+const WATCHED: &[(Move, Told)] = &[
+    (Move::Write(0, 0, 11), Told::Written(1)),
+    (Move::Write(0, 0, 12), Told::Written(2)),
+    (Move::Write(0, 0, 13), Told::Written(3)),
+    (Move::SendData(0, 1, 2), Told::Sent(0)),
+    (Move::SendData(0, 1, 3), Told::Sent(1)),
+    (Move::SendData(0, 1, 1), Told::Sent(2)),
+    (Move::Deliver(0, false), Told::New),
+    (Move::Deliver(1, false), Told::Overwrote(2, 12)),
+    (Move::Deliver(2, false), Told::Repeat),
+    (Move::Stored(1), Told::Number(1)),
+    (Move::Take(1, 0), Told::Took(3, 13)),
+    (Move::Take(1, 0), Told::Refused(Refusal::Empty)),
+    (
+        Move::SendHeartbeat(0, 1),
+        Told::Refused(Refusal::NothingToSend),
+    ),
+    (
+        Move::SendAckNack(1, 0),
+        Told::Refused(Refusal::NothingToSend),
+    ),
+    (
+        Move::SendGap(0, 1, 1),
+        Told::Refused(Refusal::NothingToSend),
+    ),
+    (Move::Acked(0, 1), Told::Number(1)),
+    (Move::Kept(0), Told::Number(3)),
+];
+
+/// A writer whose reader is a watcher keeps nothing, and can send the last sample alone.
+const WATCHER_ALONE: &[(Move, Told)] = &[
+    (Move::Write(0, 0, 11), Told::Written(1)),
+    (Move::Write(0, 0, 12), Told::Written(2)),
+    (Move::Kept(0), Told::Number(0)),
+    (
+        Move::SendData(0, 0, 1),
+        Told::Refused(Refusal::NothingToSend),
+    ),
+    (Move::SendData(0, 0, 2), Told::Sent(0)),
+    (Move::Deliver(0, false), Told::New),
+    (Move::Take(0, 0), Told::Took(2, 12)),
+];
+
 /// The worked runs.
-pub static RUNS: [Run; 6] = [
+pub static RUNS: [Run; 8] = [
     Run {
         about: "samples come out of order and twice",
         stage: Stage::Small(3),
@@ -350,5 +398,15 @@ pub static RUNS: [Run; 6] = [
         about: "a rule needs two takes",
         stage: Stage::Loop,
         moves: HALF,
+    },
+    Run {
+        about: "a watcher beside a reliable reader",
+        stage: Stage::Watched,
+        moves: WATCHED,
+    },
+    Run {
+        about: "a watcher and no reliable reader",
+        stage: Stage::WatcherAlone,
+        moves: WATCHER_ALONE,
     },
 ];

@@ -23,7 +23,7 @@ pub(crate) struct Entry {
 /// What a writer holds for a reader.
 #[derive(Drop)]
 pub(crate) struct ForReader {
-    /// The base that the reader acknowledged, 1 at first.
+    /// The base that the reader acknowledged, 1 at first and always for a watcher.
     pub(crate) acked: u64,
     /// The greatest number noted as sent, 0 at first.
     pub(crate) sent: u64,
@@ -45,7 +45,7 @@ pub(crate) struct WriterPast {
 pub(crate) struct FromWriter {
     /// The numbers marked as irrelevant.
     pub(crate) irrelevant: Vec<u64>,
-    /// The numbers marked as lost.
+    /// The numbers marked as lost, which the reader gave up.
     pub(crate) lost: Vec<u64>,
     /// The greatest last number of a HEARTBEAT, 0 at first.
     pub(crate) heard: u64,

@@ -45,17 +45,28 @@ impl World {
         })
     }
 
-    /// Whether some reader that matches the writer has not acknowledged the number.
+    /// Whether some reliable reader that matches the writer has not acknowledged the number.
     fn is_awaited(&self, writer: WriterNo, sn: u64) -> bool {
         match self.layout.writers.get(writer.number()) {
-            Some(layout) => layout.readers.iter().any(|r| self.acked(writer, *r) <= sn),
+            Some(layout) => layout.readers.iter().any(|r| !self.layout.is_watcher(*r)
+                && self.acked(writer, *r) <= sn),
             None => false,
         }
     }
 
-    /// Whether a number is written, and some matched reader has not acknowledged it.
+    /// Whether a number is written, and some matched reliable reader has not acknowledged it.
     pub(crate) fn is_kept(&self, writer: WriterNo, sn: u64) -> bool {
         1 <= sn && sn <= self.written(writer) && self.is_awaited(writer, sn)
+    }
+
+    /// Whether a number is the last one written.
+    fn is_last(&self, writer: WriterNo, sn: u64) -> bool {
+        1 <= sn && sn == self.written(writer)
+    }
+
+    /// Whether a number can be sent to a reader: it is kept, or the reader is a watcher and it is the last one written.
+    pub(crate) fn is_at_hand(&self, writer: WriterNo, reader: ReaderNo, sn: u64) -> bool {
+        self.is_kept(writer, sn) || self.layout.is_watcher(reader) && self.is_last(writer, sn)
     }
 
     /// All samples that a writer has written, in order of number.

@@ -1,4 +1,4 @@
-//! Readers call by call: limits, messages that come twice or out of order, numbers that are lost or irrelevant, and ACKNACKs.
+//! Readers call by call: limits, messages that come twice or out of order, numbers that are lost or irrelevant, and ACKNACKs; and watchers.
 ghost use Rattle.std.specs.Prelude.{◌≡◌};
 
 use dds_base::{
@@ -31,6 +31,8 @@ enum Call {
     Stored,
     /// Whether an ACKNACK is owed.
     Owes,
+    /// The base of the writer.
+    Base,
 }
 
 /// What is answered.
@@ -53,6 +55,7 @@ enum Answer {
     Empty,
     Stores(usize),
     Owes(bool),
+    Base(u64),
     /// No answer of a reader: there is no such message, or the answer has other bytes than were sent.
     Wrong,
 }
@@ -132,6 +135,16 @@ impl Listener {
         Ok(Listener { me, reader })
     }
 
+    fn watching(
+        alloc: Global,
+        limits: ReaderLimits,
+        filter: &[KeyNo],
+    ) -> Result<Listener, AllocError> {
+        let me = ReaderNo::new(5);
+        let reader = Reader::watching(alloc, me, limits, filter, &[WriterNo::new(0)])?;
+        Ok(Listener { me, reader })
+    }
+
     fn data(&mut self, writer: usize, sn: u64, key: usize) -> Result<Answer, AllocError> {
         let Some(data) = DataMsg::new(self.me, sample(writer, sn, key)) else {
             return Ok(Answer::Wrong);
@@ -205,6 +218,7 @@ impl Listener {
             Call::Take(key) => Ok(self.take(key)),
             Call::Stored => Ok(Answer::Stores(self.reader.stored())),
             Call::Owes => Ok(Answer::Owes(self.reader.owes(WriterNo::new(0)))),
+            Call::Base => Ok(Answer::Base(self.reader.base(WriterNo::new(0)))),
         }
     }
 }
@@ -212,6 +226,7 @@ impl Listener {
 /// A reader, and its calls in order with their answers.
 struct Run {
     about: &'static str,
+    watching: bool,
     limits: ReaderLimits,
     keys: usize,
     calls: &'static [(Call, Answer)],
@@ -321,9 +336,72 @@ const GAPS: &[(Call, Answer)] = &[
     (Call::AckNack, Answer::AsksNothing(4)),
 ];
 
-static RUNS: [Run; 9] = [
+/// A watcher gives up what comes after a later one.
+const WATCHES: &[(Call, Answer)] = &[
+    (Call::Data(2, 0), Answer::New),
+    (Call::Base, Answer::Base(3)),
+    (Call::Data(1, 0), Answer::Repeat),
+    (Call::Stored, Answer::Stores(1)),
+    (Call::Take(0), Answer::Took(2)),
+    (Call::Take(0), Answer::Empty),
+    (Call::Data(2, 0), Answer::Repeat),
+    (Call::Base, Answer::Base(3)),
+    (Call::StrangeData, Answer::Stranger),
+];
+
+/// A watcher of the last sample.
+const WATCHES_LAST: &[(Call, Answer)] = &[
+    (Call::Data(1, 0), Answer::New),
+    (Call::Data(3, 0), Answer::Overwrote(1)),
+    (Call::Base, Answer::Base(4)),
+    (Call::Data(2, 0), Answer::Repeat),
+    (Call::Take(0), Answer::Took(3)),
+    (Call::Take(0), Answer::Empty),
+];
+
+/// A watcher marks nothing with a sample that it rejects, which may come again after a take.
+const WATCHES_ONE: &[(Call, Answer)] = &[
+    (Call::Data(2, 0), Answer::New),
+    (
+        Call::Data(5, 0),
+        Answer::Rejected(Rejection::SamplesPerInstanceLimit),
+    ),
+    (Call::Base, Answer::Base(3)),
+    (Call::Stored, Answer::Stores(1)),
+    (Call::Take(0), Answer::Took(2)),
+    (Call::Data(5, 0), Answer::New),
+    (Call::Base, Answer::Base(6)),
+    (Call::Take(0), Answer::Took(5)),
+];
+
+/// A watcher heeds no GAP and no HEARTBEAT, and sends no ACKNACK.
+const HEEDS_DATA_ALONE: &[(Call, Answer)] = &[
+    (Call::Data(2, 0), Answer::New),
+    (Call::Gap(3, 5, &[6]), Answer::Irrelevant(0)),
+    (Call::Heartbeat(4, 9), Answer::Heard),
+    (Call::Owes, Answer::Owes(false)),
+    (Call::AckNack, Answer::NoAckNack),
+    (Call::StrangeAckNack, Answer::NoAckNack),
+    (Call::Base, Answer::Base(3)),
+    (Call::Data(3, 0), Answer::New),
+    (Call::Take(0), Answer::Took(2)),
+    (Call::Take(0), Answer::Took(3)),
+];
+
+/// A watcher passes over a key that it doesn't take, and gives up what comes before it.
+const WATCHES_ONE_KEY: &[(Call, Answer)] = &[
+    (Call::Data(4, 1), Answer::Irrelevant(1)),
+    (Call::Base, Answer::Base(5)),
+    (Call::Data(3, 0), Answer::Repeat),
+    (Call::Stored, Answer::Stores(0)),
+    (Call::Data(5, 0), Answer::New),
+    (Call::Base, Answer::Base(6)),
+];
+
+static RUNS: [Run; 14] = [
     Run {
         about: "one sample of one key",
+        watching: false,
         limits: ReaderLimits {
             keep_last: None,
             max_samples: Some(2),
@@ -335,6 +413,7 @@ static RUNS: [Run; 9] = [
     },
     Run {
         about: "the last sample of each key, one in all",
+        watching: false,
         limits: ReaderLimits {
             keep_last: Some(1),
             max_samples: Some(1),
@@ -346,47 +425,103 @@ static RUNS: [Run; 9] = [
     },
     Run {
         about: "300 numbers are missing",
+        watching: false,
         limits: NO_LIMITS,
         keys: 1,
         calls: MUCH_MISSING,
     },
     Run {
         about: "every number is irrelevant",
+        watching: false,
         limits: NO_LIMITS,
         keys: 1,
         calls: ALL_IRRELEVANT,
     },
     Run {
         about: "a writer that the reader doesn't know",
+        watching: false,
         limits: NO_LIMITS,
         keys: 1,
         calls: STRANGERS,
     },
     Run {
         about: "samples that come twice",
+        watching: false,
         limits: THREE_OF_A_KEY,
         keys: 1,
         calls: TWICE,
     },
     Run {
         about: "the first sample comes last",
+        watching: false,
         limits: THREE_OF_A_KEY,
         keys: 1,
         calls: FIRST_COMES_LAST,
     },
     Run {
         about: "the same HEARTBEAT before and after its sample",
+        watching: false,
         limits: TWO_OF_A_KEY,
         keys: 1,
         calls: HEARD_TWICE,
     },
     Run {
         about: "a GAP before and after a sample",
+        watching: false,
         limits: THREE_OF_A_KEY,
         keys: 1,
         calls: GAPS,
     },
+    Run {
+        about: "a watcher, and an older sample that comes late",
+        watching: true,
+        limits: NO_LIMITS,
+        keys: 1,
+        calls: WATCHES,
+    },
+    Run {
+        about: "a watcher of the last sample",
+        watching: true,
+        limits: LAST_OF_A_KEY,
+        keys: 1,
+        calls: WATCHES_LAST,
+    },
+    Run {
+        about: "a watcher that rejects",
+        watching: true,
+        limits: ONE_OF_A_KEY,
+        keys: 1,
+        calls: WATCHES_ONE,
+    },
+    Run {
+        about: "a watcher, and what it doesn't heed",
+        watching: true,
+        limits: THREE_OF_A_KEY,
+        keys: 1,
+        calls: HEEDS_DATA_ALONE,
+    },
+    Run {
+        about: "a watcher of one key",
+        watching: true,
+        limits: NO_LIMITS,
+        keys: 1,
+        calls: WATCHES_ONE_KEY,
+    },
 ];
+
+const LAST_OF_A_KEY: ReaderLimits = ReaderLimits {
+    keep_last: Some(1),
+    max_samples: None,
+    max_instances: None,
+    max_samples_per_instance: None,
+};
+
+const ONE_OF_A_KEY: ReaderLimits = ReaderLimits {
+    keep_last: None,
+    max_samples: None,
+    max_instances: None,
+    max_samples_per_instance: Some(1),
+};
 
 const TWO_OF_A_KEY: ReaderLimits = ReaderLimits {
     keep_last: None,
@@ -402,22 +537,31 @@ const THREE_OF_A_KEY: ReaderLimits = ReaderLimits {
     max_samples_per_instance: Some(3),
 };
 
-/// A reader of the first keys, made once more where no memory was left for it.
-fn reader_of(alloc: Global, limits: ReaderLimits, keys: usize) -> Result<Listener, AllocError> {
+/// The reader of a run, which takes the first keys.
+fn reader_of(alloc: Global, run: &Run) -> Result<Listener, AllocError> {
     let both = [KeyNo::new(0), KeyNo::new(1)];
-    let filter = if keys == 1 {
+    let filter = if run.keys == 1 {
         &both[..1]
     } else {
         both.as_slice()
     };
-    match Listener::new(alloc, limits, filter) {
-        Err(_) => Listener::new(alloc, limits, filter),
+    if run.watching {
+        Listener::watching(alloc, run.limits, filter)
+    } else {
+        Listener::new(alloc, run.limits, filter)
+    }
+}
+
+/// The reader of a run, made once more where no memory was left for it.
+fn made_for(alloc: Global, run: &Run) -> Result<Listener, AllocError> {
+    match reader_of(alloc, run) {
+        Err(_) => reader_of(alloc, run),
         made => made,
     }
 }
 
 fn expect(rt: &impl Abort, alloc: Global, run: &Run) -> Result<(), AllocError> {
-    let mut listener = reader_of(alloc, run.limits, run.keys)?;
+    let mut listener = made_for(alloc, run)?;
     for (call, answer) in run.calls {
         assert_eq!(rt; listener.call(*call)?, *answer, "{}: {call:?}", run.about);
     }
