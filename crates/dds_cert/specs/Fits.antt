@@ -14,6 +14,10 @@ abbrev pub is_distinct : {A : Type 0} → (A → A → Bool) → List A → Bool
 is_distinct same [] = true
 is_distinct same (x ∷ xs) = not (list_any (same x) xs) && is_distinct same xs
 
+-- no key stands twice
+abbrev pub keys_differ : List ℕ → Bool
+keys_differ ks = is_distinct (λ x y. y == x) ks
+
 abbrev pub same_weight_place : Weight ℕ → Weight ℕ → Bool
 same_weight_place x y = (y.endpoint == x.endpoint) && (y.key == x.key)
 

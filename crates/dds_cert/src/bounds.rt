@@ -1,20 +1,21 @@
 //! The section of the bounds, and the fields that bounds and totals share.
-ghost use Rattle.std.specs.Prelude.{◌≡◌, [], map, OnOk, codes};
+ghost use Rattle.std.specs.Prelude.{◌≡◌, ◌++◌, [], map, IfOk, OnOk};
 ghost use Rattle.toml.specs.View.{view, items_view, table_view};
 ghost use Rattle.dds_fields.specs.Reading.{each};
 ghost use Rattle.dds_fields.specs.Gives.{Gives};
 ghost use Rattle.dds_fields.specs.Places.{place_text};
-ghost use Rattle.dds_cert.specs.Sections.{bound_place, bound_number, row_and_bound, bound_entry, bound, bounds};
+ghost use Rattle.dds_cert.specs.Sections.{bound_place, bound_number, row_and_bound, bound_entry, bounds_of, bound, bounds};
 
+use crate::adding::{may_add, name_keys};
 use crate::certificate::Bound;
-use crate::keys::reader_and_key;
-use dds_base::Names;
+use crate::keys::reader_and_keys;
+use dds_base::{KeyNo, Names, ReaderNo};
 use dds_deploy::Deployment;
-use dds_fields::fault::{FaultKind, ReadFault, refuse};
+use dds_fields::fault::ReadFault;
 use dds_fields::field::{entry, known_name_field, number_field, section};
 use dds_fields::pairs::Pairs;
 use dds_fields::place::Place;
-use std::alloc::Global;
+use std::alloc::{AllocError, Global};
 use toml::{Table, Value};
 
 // 0 to 4,294,967,295.
@@ -47,45 +48,63 @@ fn bound_entry<'a>(alloc: Global, path: &Place, value: &'a Value) -> Result<&'a 
     entry(alloc, &["reader", "key", "row", "bound"], path, value)
 }
 
+// The same bound for each of the keys.
+#[tactic(auto, using(dds_deploy::proofs::Expansions::map_next))]
+fn push_bounds(
+    all: &mut Vec<Bound>,
+    reader: ReaderNo,
+    keys: &[KeyNo],
+    row: usize,
+    bound: u32,
+) -> Result<(), AllocError>
+    ensures { IfOk result (λ _. all.new.items ≡ all.old.items ++ bounds_of (reader, keys.now) (row, bound)) }
+{
+    for key in keys {
+        all.push(Bound {
+            reader,
+            key: *key,
+            row,
+            bound,
+        })?;
+    }
+    Ok(())
+}
+
 // `named` has the readers and keys of `all`.
-#[tactic(auto, unfolding(crate::specs::Sections::bound))]
+#[tactic(auto, unfolding(crate::specs::Sections::bound, crate::specs::Sections::and_more))]
 fn add_bound(
     alloc: Global,
+    version: u32,
     lists: &Deployment,
     rows: &Names,
+    list: &Place,
     named: &mut Pairs,
     all: &mut Vec<Bound>,
     path: &Place,
     value: &Value,
 ) -> Result<(), ReadFault>
     requires { named.old ≡ map bound_place all.old.items }
-    ensures gives { Gives (λ _. all.new.items) result (bound lists.now rows.now all.old.items (place_text path.now) (view value.now)) }
+    ensures gives { Gives (λ _. all.new.items) result (bound version lists.now rows.now (place_text list.now) all.old.items (place_text path.now) (view value.now)) }
     ensures named { OnOk result (named.new ≡ map bound_place all.new.items) }
 {
     let table = bound_entry(alloc, path, value)?;
-    let (reader, key) = reader_and_key(alloc, lists, path, table)?;
+    let (reader, keys) = reader_and_keys(alloc, version, lists, path, table)?;
     let (row, bound) = row_and_bound(alloc, rows, path, table)?;
-    if named.contains(reader.number(), key.number()) {
-        return Err(refuse(alloc, FaultKind::Duplicate, path));
-    }
-    named.push(reader.number(), key.number())?;
-    all.push(Bound {
-        reader,
-        key,
-        row,
-        bound,
-    })?;
+    may_add(alloc, list, path, named, all.len(), reader.number(), &keys)?;
+    name_keys(named, reader.number(), &keys)?;
+    push_bounds(all, reader, &keys, row, bound)?;
     Ok(())
 }
 
 fn each_bound(
     alloc: Global,
+    version: u32,
     lists: &Deployment,
     rows: &Names,
     path: &Place,
     values: &[Value],
 ) -> Result<Vec<Bound>, ReadFault>
-    ensures { Gives (λ v. v.items) result (each (bound lists.now rows.now) (place_text path.now) 0 [] (items_view values.now)) }
+    ensures { Gives (λ v. v.items) result (each (bound version lists.now rows.now (place_text path.now)) (place_text path.now) 0 [] (items_view values.now)) }
 {
     let mut named = Pairs::new(alloc);
     let mut all = Vec::new(alloc);
@@ -94,7 +113,9 @@ fn each_bound(
             parent: &*path,
             index: i,
         };
-        add_bound(alloc, lists, rows, &mut named, &mut all, &at, value)?;
+        add_bound(
+            alloc, version, lists, rows, path, &mut named, &mut all, &at, value,
+        )?;
     }
     Ok(all)
 }
@@ -103,16 +124,17 @@ fn each_bound(
 #[tactic(auto, unfolding(crate::specs::Sections::bounds, dds_fields::specs::Paths::key_path))]
 pub(crate) fn bounds(
     alloc: Global,
+    version: u32,
     lists: &Deployment,
     rows: &Names,
     table: &Table,
 ) -> Result<Vec<Bound>, ReadFault>
-    ensures { Gives (λ v. v.items) result (bounds lists.now rows.now (table_view table.now)) }
+    ensures { Gives (λ v. v.items) result (bounds version lists.now rows.now (table_view table.now)) }
 {
     let values = section(alloc, table, "bounds", 16_384)?;
     let at = Place::Key {
         parent: &Place::Root,
         key: "bounds",
     };
-    each_bound(alloc, lists, rows, &at, values)
+    each_bound(alloc, version, lists, rows, &at, values)
 }

@@ -11,11 +11,11 @@ use dds_fields::fault::{FaultKind, ReadFault};
 pub enum CertKind {
     /// 1: the bytes are no TOML document, or not UTF-8.
     NotToml,
-    /// 2: the version is another whole number than 1.
+    /// 2: the version is another whole number than 1 and 2.
     WrongVersion,
     /// 3: a key that the document or an entry doesn't have.
     UnknownKey,
-    /// 4: a required key isn't there.
+    /// 4: a required key isn't there. The `key` of an entry is required in version 1 alone.
     MissingKey,
     /// 5: a value of another kind, as a text for a number.
     WrongKind,
@@ -23,9 +23,10 @@ pub enum CertKind {
     OutOfRange,
     /// 7: no such writer, reader or row, or a key outside the reader's filter or the writer's topic.
     UnknownName,
-    /// 8: a name of a row, an endpoint with a key, or the reader of a total that stands twice.
+    /// 8: a name of a row, an endpoint with a key, or the reader of a total that stands twice. An entry without `key` stands for
+    /// each key of its filter or topic.
     Duplicate,
-    /// 9: more entries than a list may have.
+    /// 9: more entries than a list may have. An entry without `key` counts once for each key that it stands for.
     TooMany,
     /// 10: a text that isn't 1 to 64 letters, digits, `_`, `.`, `/` and `-`.
     BadName,

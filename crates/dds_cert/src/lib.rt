@@ -3,6 +3,7 @@
 //! certificate that was made otherwise is tested by `Certificate::fits`.
 #![tactic(auto)]
 
+mod adding;
 mod bounds;
 pub mod certificate;
 pub mod document;

@@ -34,17 +34,18 @@ fn row_entry<'a>(alloc: Global, path: &Place, value: &'a Value) -> Result<&'a Ta
 #[tactic(auto, unfolding(crate::specs::Sections::row_lists))]
 fn row_lists(
     alloc: Global,
+    version: u32,
     lists: &Deployment,
     name: &str,
     path: &Place,
     table: &Table,
 ) -> Result<Row, ReadFault>
-    ensures gives { Gives row_view result (row_lists lists.now name.now (place_text path.now) (table_view table.now)) }
+    ensures gives { Gives row_view result (row_lists version lists.now name.now (place_text path.now) (table_view table.now)) }
     ensures named { IfOk result (λ r. string_bytes r.name ≡ name.now) }
 {
-    let samples = reader_weights(alloc, lists, path, table, "samples")?;
-    let takes = reader_weights(alloc, lists, path, table, "takes")?;
-    let permits = writer_weights(alloc, lists, path, table, "permits")?;
+    let samples = reader_weights(alloc, version, lists, path, table, "samples")?;
+    let takes = reader_weights(alloc, version, lists, path, table, "takes")?;
+    let permits = writer_weights(alloc, version, lists, path, table, "permits")?;
     let name = String::from_str(alloc, name)?;
     Ok(Row {
         name,
@@ -58,6 +59,7 @@ fn row_lists(
 #[tactic(auto, unfolding(crate::specs::Sections::row))]
 fn add_row(
     alloc: Global,
+    version: u32,
     lists: &Deployment,
     names: &mut Names,
     all: &mut Vec<Row>,
@@ -65,12 +67,12 @@ fn add_row(
     value: &Value,
 ) -> Result<(), ReadFault>
     requires { names.old ≡ row_names (map row_view all.old.items) }
-    ensures gives { Gives (λ _. map row_view all.new.items) result (row lists.now (map row_view all.old.items) (place_text path.now) (view value.now)) }
+    ensures gives { Gives (λ _. map row_view all.new.items) result (row version lists.now (map row_view all.old.items) (place_text path.now) (view value.now)) }
     ensures named { OnOk result (names.new ≡ row_names (map row_view all.new.items)) }
 {
     let table = row_entry(alloc, path, value)?;
     let name = new_name_field(alloc, names, path, table, "name")?;
-    let row = row_lists(alloc, lists, name, path, table)?;
+    let row = row_lists(alloc, version, lists, name, path, table)?;
     names.push(String::from_str(alloc, name)?)?;
     all.push(row)?;
     Ok(())
@@ -78,11 +80,12 @@ fn add_row(
 
 fn each_row(
     alloc: Global,
+    version: u32,
     lists: &Deployment,
     path: &Place,
     values: &[Value],
 ) -> Result<NamedRows, ReadFault>
-    ensures gives { Gives (λ all. map row_view all.rows.items) result (each (row lists.now) (place_text path.now) 0 [] (items_view values.now)) }
+    ensures gives { Gives (λ all. map row_view all.rows.items) result (each (row version lists.now) (place_text path.now) 0 [] (items_view values.now)) }
     ensures named { IfOk result (λ all. all.names ≡ row_names (map row_view all.rows.items)) }
 {
     let mut names = Names::new(alloc);
@@ -92,15 +95,20 @@ fn each_row(
             parent: &*path,
             index: i,
         };
-        add_row(alloc, lists, &mut names, &mut rows, &at, value)?;
+        add_row(alloc, version, lists, &mut names, &mut rows, &at, value)?;
     }
     Ok(NamedRows { names, rows })
 }
 
 /// The rows of a document, with their names.
 #[tactic(auto, unfolding(crate::specs::Sections::rows, dds_fields::specs::Paths::key_path))]
-pub(crate) fn rows(alloc: Global, lists: &Deployment, table: &Table) -> Result<NamedRows, ReadFault>
-    ensures gives { Gives (λ all. map row_view all.rows.items) result (rows lists.now (table_view table.now)) }
+pub(crate) fn rows(
+    alloc: Global,
+    version: u32,
+    lists: &Deployment,
+    table: &Table,
+) -> Result<NamedRows, ReadFault>
+    ensures gives { Gives (λ all. map row_view all.rows.items) result (rows version lists.now (table_view table.now)) }
     ensures named { IfOk result (λ all. all.names ≡ row_names (map row_view all.rows.items)) }
 {
     let values = section(alloc, table, "rows", 64)?;
@@ -108,5 +116,5 @@ pub(crate) fn rows(alloc: Global, lists: &Deployment, table: &Table) -> Result<N
         parent: &Place::Root,
         key: "rows",
     };
-    each_row(alloc, lists, &at, values)
+    each_row(alloc, version, lists, &at, values)
 }

@@ -15,9 +15,17 @@ const ROW: &str = "version = 1\n[[rows]]\nname = \"m\"\n";
 
 const ROWS: &str = "version = 1\nrows = [{ name = \"m\" }, { name = \"n\" }]\n";
 
+/// The same beginnings in version 2.
+const HEAD_2: &str = "version = 2\n";
+
+const ROW_2: &str = "version = 2\n[[rows]]\nname = \"m\"\n";
+
+const ROWS_2: &str = "version = 2\nrows = [{ name = \"m\" }, { name = \"n\" }]\n";
+
 const DOCUMENTS: &str = r#"none:  => 4 MissingKey version
 none: version = 1 => ok
-none: version = 2 => 2 WrongVersion version
+none: version = 2 => ok
+none: version = 3 => 2 WrongVersion version
 none: version = 0 => 2 WrongVersion version
 none: version = -1 => 2 WrongVersion version
 none: version = 1.0 => 5 WrongKind version
@@ -33,9 +41,12 @@ none: version = 1 ;; version = 1 => 1 NotToml
 none: version = 1 ;; [[rows]] ;; [rows] => 1 NotToml
 none: zone = 1 => 4 MissingKey version
 none: rows = 1 => 4 MissingKey version
-none: version = 2 ;; zone = 1 ;; rows = 1 => 2 WrongVersion version
+none: version = 3 ;; zone = 1 ;; rows = 1 => 2 WrongVersion version
+none: version = 2 ;; zone = 1 ;; rows = 1 => 3 UnknownKey zone
+none: version = 2 ;; rows = 1 => 5 WrongKind rows
 none: version = "2" ;; rows = 1 => 5 WrongKind version
 head: rows = [] ;; bounds = [] ;; totals = [] => ok
+head2: rows = [] ;; bounds = [] ;; totals = [] => ok
 head: zone = 1 => 3 UnknownKey zone
 head: row = [] => 3 UnknownKey row
 head: Rows = [] => 3 UnknownKey Rows
@@ -109,6 +120,8 @@ row: LIST = [{ SIDE = "z" }] => 7 UnknownName rows[0].LIST[0].SIDE
 row: LIST = [{ SIDE = "ALIEN" }] => 7 UnknownName rows[0].LIST[0].SIDE
 row: LIST = [{ SIDE = "t" }] => 7 UnknownName rows[0].LIST[0].SIDE
 row: LIST = [{ SIDE = "OWN" }] => 4 MissingKey rows[0].LIST[0].key
+row: LIST = [{ SIDE = "OWN", weight = 1 }] => 4 MissingKey rows[0].LIST[0].key
+row: LIST = [{ SIDE = "OWN", key = "a", weight = 1 }, { SIDE = "OWN", weight = 1 }] => 4 MissingKey rows[0].LIST[1].key
 row: LIST = [{ SIDE = "OWN", key = 1 }] => 5 WrongKind rows[0].LIST[0].key
 row: LIST = [{ SIDE = "OWN", key = "" }] => 10 BadName rows[0].LIST[0].key
 row: LIST = [{ SIDE = "OWN", key = "any text!" }] => 10 BadName rows[0].LIST[0].key
@@ -138,6 +151,38 @@ row: LIST = [{ SIDE = "OWN", key = "a", weight = 1 }] ;; [[rows]] ;; name = "n" 
 row: [[rows]] ;; name = "n" ;; LIST = [{ SIDE = "OWN", key = "a", weight = 1 }, { SIDE = "OWN", key = "z" }] => 7 UnknownName rows[1].LIST[1].key
 "#;
 
+/// The same for version 2, in which an entry without `key` is of each key of OWN.
+const WEIGHTS_2: &str = r#"row2: LIST = [{ SIDE = "OWN" }] => 4 MissingKey rows[0].LIST[0].weight
+row2: LIST = [{ weight = 1 }] => 4 MissingKey rows[0].LIST[0].SIDE
+row2: LIST = [{ SIDE = "OWN", weight = 1 }] => ok
+row2: LIST = [{ SIDE = "OWN", key = "a", weight = 1 }] => ok
+row2: LIST = [{ SIDE = "OWN", keys = "a", weight = 1 }] => 3 UnknownKey rows[0].LIST[0].keys
+row2: LIST = [{ SIDE = "OWN", key = 1, weight = 1 }] => 5 WrongKind rows[0].LIST[0].key
+row2: LIST = [{ SIDE = "OWN", key = "", weight = 1 }] => 10 BadName rows[0].LIST[0].key
+row2: LIST = [{ SIDE = "OWN", key = "z", weight = 1 }] => 7 UnknownName rows[0].LIST[0].key
+row2: LIST = [{ SIDE = "OWN", key = "d", weight = 1 }] => 7 UnknownName rows[0].LIST[0].key
+row2: LIST = [{ SIDE = "z", weight = 1 }] => 7 UnknownName rows[0].LIST[0].SIDE
+row2: LIST = [{ SIDE = "ALIEN", weight = 1 }] => 7 UnknownName rows[0].LIST[0].SIDE
+row2: LIST = [{ SIDE = "OWN", weight = 4294967295 }] => ok
+row2: LIST = [{ SIDE = "OWN", weight = 4294967296 }] => 6 OutOfRange rows[0].LIST[0].weight
+row2: LIST = [{ weight = -1, key = 1, SIDE = "z" }] => 7 UnknownName rows[0].LIST[0].SIDE
+row2: LIST = [{ weight = -1, key = "z", SIDE = "OWN" }] => 7 UnknownName rows[0].LIST[0].key
+row2: LIST = [{ SIDE = "OWN", weight = 1 }, { SIDE = "OWN", weight = 1 }] => 8 Duplicate rows[0].LIST[1]
+row2: LIST = [{ SIDE = "OWN", weight = 1 }, { SIDE = "OWN", key = "a", weight = 1 }] => 8 Duplicate rows[0].LIST[1]
+row2: LIST = [{ SIDE = "OWN", weight = 1 }, { SIDE = "OWN", key = "c", weight = 1 }] => 8 Duplicate rows[0].LIST[1]
+row2: LIST = [{ SIDE = "OWN", key = "a", weight = 1 }, { SIDE = "OWN", weight = 1 }] => 8 Duplicate rows[0].LIST[1]
+row2: LIST = [{ SIDE = "OWN", key = "c", weight = 1 }, { SIDE = "OWN", weight = 1 }] => 8 Duplicate rows[0].LIST[1]
+row2: LIST = [{ SIDE = "OWN", key = "a", weight = 1 }, { SIDE = "OWN", key = "b", weight = 1 }, { SIDE = "OWN", weight = 2 }] => 8 Duplicate rows[0].LIST[2]
+row2: LIST = [{ SIDE = "OWN", key = "a", weight = 1 }, { SIDE = "OWN", key = "a", weight = 1 }] => 8 Duplicate rows[0].LIST[1]
+row2: LIST = [{ SIDE = "OWN", weight = 1 }, { SIDE = "OWN", weight = -1 }] => 6 OutOfRange rows[0].LIST[1].weight
+row2: LIST = [{ SIDE = "OWN", weight = 1 }, { SIDE = "OWN" }] => 4 MissingKey rows[0].LIST[1].weight
+row2: LIST = [{ SIDE = "OWN", weight = 1 }, { SIDE = "OWN", key = "z", weight = 1 }] => 7 UnknownName rows[0].LIST[1].key
+row2: LIST = [{ SIDE = "OWN", weight = 1 }, { SIDE = "OWN", weight = 1 }, 1] => 8 Duplicate rows[0].LIST[1]
+row2: LIST = [{ SIDE = "OWN", weight = 1 }, 1] => 5 WrongKind rows[0].LIST[1]
+row2: LIST = [{ SIDE = "OWN", weight = 1 }] ;; [[rows]] ;; name = "n" ;; LIST = [{ SIDE = "OWN", weight = 1 }] => ok
+row2: [[rows]] ;; name = "n" ;; LIST = [{ SIDE = "OWN", weight = 1 }, { SIDE = "OWN", key = "b", weight = 1 }] => 8 Duplicate rows[1].LIST[1]
+"#;
+
 /// What LIST, SIDE, OWN, OTHER and ALIEN stand for.
 const LISTS: [[&str; 5]; 3] = [
     ["samples", "reader", "r", "writer", "w"],
@@ -163,6 +208,26 @@ row: permits = [1] ;; [[rows]] ;; name = "m" => 5 WrongKind rows[0].permits[0]
 row: permits = [1] ;; [[bounds]] => 5 WrongKind rows[0].permits[0]
 "#;
 
+/// Entries of version 2 without `key`: of a filter that has a part of its topic's keys, of one that has none, and several lists.
+const FILTERED_2: &str = r#"row2: samples = [{ reader = "s", weight = 1 }] => ok
+row2: samples = [{ reader = "s", weight = 1 }, { reader = "s", key = "a", weight = 1 }] => 8 Duplicate rows[0].samples[1]
+row2: samples = [{ reader = "s", weight = 1 }, { reader = "s", key = "b", weight = 1 }] => 7 UnknownName rows[0].samples[1].key
+row2: takes = [{ reader = "s", key = "c", weight = 1 }, { reader = "s", weight = 1 }] => 8 Duplicate rows[0].takes[1]
+row2: takes = [{ reader = "s", key = "b", weight = 1 }, { reader = "s", weight = 1 }] => 7 UnknownName rows[0].takes[0].key
+row2: samples = [{ reader = "r", weight = 1 }, { reader = "s", weight = 1 }, { reader = "o", weight = 1 }] => ok
+row2: samples = [{ reader = "r", weight = 1 }, { reader = "s", weight = 1 }, { reader = "r", key = "b", weight = 1 }] => 8 Duplicate rows[0].samples[2]
+row2: permits = [{ writer = "w", weight = 1 }, { writer = "v", weight = 1 }] => ok
+row2: permits = [{ writer = "w", weight = 1 }, { writer = "v", key = "d", weight = 1 }, { writer = "v", weight = 1 }] => 8 Duplicate rows[0].permits[2]
+row2: samples = [{ reader = "r", weight = 1 }] ;; takes = [{ reader = "r", weight = 1 }] ;; permits = [{ writer = "w", weight = 1 }] => ok
+row: samples = [{ reader = "e", weight = 1 }] => 4 MissingKey rows[0].samples[0].key
+row: samples = [{ reader = "e", key = "a", weight = 1 }] => 7 UnknownName rows[0].samples[0].key
+row2: samples = [{ reader = "e", key = "a", weight = 1 }] => 7 UnknownName rows[0].samples[0].key
+row2: samples = [{ reader = "e", weight = 1 }] => ok
+row2: samples = [{ reader = "e", weight = 1 }, { reader = "e", weight = 2 }] => ok
+row2: takes = [{ reader = "e", weight = 1 }, { reader = "e", weight = -1 }] => 6 OutOfRange rows[0].takes[1].weight
+row2: takes = [{ reader = "e" }] => 4 MissingKey rows[0].takes[0].weight
+"#;
+
 const BOUNDS: &str = r#"rows: bounds = 1 => 5 WrongKind bounds
 rows: bounds = {} => 5 WrongKind bounds
 rows: bounds = [1] => 5 WrongKind bounds[0]
@@ -175,6 +240,7 @@ rows: bounds = [{ reader = 1 }] => 5 WrongKind bounds[0].reader
 rows: bounds = [{ reader = "" }] => 10 BadName bounds[0].reader
 rows: bounds = [{ reader = "w" }] => 7 UnknownName bounds[0].reader
 rows: bounds = [{ reader = "r" }] => 4 MissingKey bounds[0].key
+rows: bounds = [{ reader = "r", row = "m", bound = 1 }] => 4 MissingKey bounds[0].key
 rows: bounds = [{ reader = "r", key = true }] => 5 WrongKind bounds[0].key
 rows: bounds = [{ reader = "r", key = "a?" }] => 10 BadName bounds[0].key
 rows: bounds = [{ reader = "r", key = "z" }] => 7 UnknownName bounds[0].key
@@ -205,6 +271,35 @@ rows: bounds = [{ bound = -1, row = "z", key = "a", reader = "r" }] => 7 Unknown
 rows: bounds = [{ reader = "r", key = "a", row = "m", bound = -1 }, 1] => 6 OutOfRange bounds[0].bound
 rows: totals = 1 ;; bounds = [{ reader = "r" }] => 4 MissingKey bounds[0].key
 row: samples = [{}] ;; [[bounds]] ;; reader = 1 => 4 MissingKey rows[0].samples[0].reader
+"#;
+
+/// Bounds of version 2 without `key`, and totals, which never have one.
+const BOUNDS_2: &str = r#"rows2: bounds = [{ reader = "r", row = "m", bound = 1 }] => ok
+rows2: bounds = [{ reader = "r", key = "a", row = "m", bound = 1 }] => ok
+rows2: bounds = [{ row = "m", bound = 1 }] => 4 MissingKey bounds[0].reader
+rows2: bounds = [{ reader = "r" }] => 4 MissingKey bounds[0].row
+rows2: bounds = [{ reader = "r", row = "m" }] => 4 MissingKey bounds[0].bound
+rows2: bounds = [{ reader = "r", row = "k", bound = 1 }] => 7 UnknownName bounds[0].row
+rows2: bounds = [{ reader = "r", row = "m", bound = 4294967296 }] => 6 OutOfRange bounds[0].bound
+rows2: bounds = [{ reader = "r", key = "z", row = "m", bound = 1 }] => 7 UnknownName bounds[0].key
+rows2: bounds = [{ reader = "s", key = "b", row = "m", bound = 1 }] => 7 UnknownName bounds[0].key
+rows2: bounds = [{ bound = -1, row = "z", reader = "r" }] => 7 UnknownName bounds[0].row
+rows2: bounds = [{ bound = -1, row = "z", key = "z", reader = "r" }] => 7 UnknownName bounds[0].key
+rows2: bounds = [{ reader = "r", row = "m", bound = 1 }, { reader = "s", row = "m", bound = 1 }, { reader = "o", row = "n", bound = 1 }] => ok
+rows2: bounds = [{ reader = "r", row = "m", bound = 1 }, { reader = "r", row = "n", bound = 2 }] => 8 Duplicate bounds[1]
+rows2: bounds = [{ reader = "r", row = "m", bound = 1 }, { reader = "r", key = "b", row = "n", bound = 2 }] => 8 Duplicate bounds[1]
+rows2: bounds = [{ reader = "r", key = "b", row = "n", bound = 2 }, { reader = "r", row = "m", bound = 1 }] => 8 Duplicate bounds[1]
+rows2: bounds = [{ reader = "s", key = "c", row = "m", bound = 1 }, { reader = "o", row = "m", bound = 1 }, { reader = "s", row = "m", bound = 1 }] => 8 Duplicate bounds[2]
+rows2: bounds = [{ reader = "r", row = "m", bound = 1 }, { reader = "r", row = "k", bound = 1 }] => 7 UnknownName bounds[1].row
+rows2: bounds = [{ reader = "r", row = "m", bound = 1 }, { reader = "r", row = "m", bound = -1 }] => 6 OutOfRange bounds[1].bound
+rows2: bounds = [{ reader = "r", row = "m", bound = 1 }, { reader = "r", row = "m", bound = 1 }, 1] => 8 Duplicate bounds[1]
+rows2: bounds = [{ reader = "e", row = "m", bound = 1 }, { reader = "e", row = "n", bound = 2 }] => ok
+rows2: bounds = [{ reader = "e", key = "a", row = "m", bound = 1 }] => 7 UnknownName bounds[0].key
+rows2: totals = [{ reader = "r", row = "m", bound = 1 }] => ok
+rows2: totals = [{ reader = "r", key = "a", row = "m", bound = 1 }] => 3 UnknownKey totals[0].key
+rows2: totals = [{ row = "m", bound = 1 }] => 4 MissingKey totals[0].reader
+rows2: totals = [{ reader = "e", row = "m", bound = 1 }, { reader = "e", row = "m", bound = 1 }] => 8 Duplicate totals[1]
+head2: bounds = [{ reader = "r", row = "m", bound = 1 }] => 7 UnknownName bounds[0].row
 "#;
 
 const TOTALS: &str = r#"rows: totals = 1 => 5 WrongKind totals
@@ -244,12 +339,15 @@ fn start_of(frame: &str) -> Option<&'static str> {
         "head" => Some(HEAD),
         "row" => Some(ROW),
         "rows" => Some(ROWS),
+        "head2" => Some(HEAD_2),
+        "row2" => Some(ROW_2),
+        "rows2" => Some(ROWS_2),
         _ => None,
     }
 }
 
 /// What is told of a certificate: the number and the name of the fault and its path, or `ok`.
-fn told(alloc: Global, plan: &Plan, bytes: &[u8]) -> Result<String, AllocError> {
+pub(crate) fn told(alloc: Global, plan: &Plan, bytes: &[u8]) -> Result<String, AllocError> {
     match certificate_of(alloc, plan, bytes) {
         Ok(certificate) => {
             drop(certificate);
@@ -301,15 +399,17 @@ fn over_texts(
 #[test]
 fn tells_the_first_fault(rt: HostRuntime) -> Result<(), Fail> {
     let plan = plan_of(rt.alloc(), FILTERS)?;
-    let texts = [DOCUMENTS, ROW_CASES, FILTERED, BOUNDS, TOTALS];
+    let texts = [
+        DOCUMENTS, ROW_CASES, FILTERED, FILTERED_2, BOUNDS, BOUNDS_2, TOTALS,
+    ];
     let done = over_texts(&rt, rt.alloc(), &plan, texts.as_slice());
     drop(plan);
     Ok(done?)
 }
 
-/// The cases of the weights, for one of the three lists.
-fn cases_of(alloc: Global, words: [&str; 5]) -> Result<String, AllocError> {
-    let mut text = String::from_str(alloc, WEIGHTS)?;
+/// Cases of weights, for one of the three lists.
+fn cases_of(alloc: Global, cases: &str, words: [&str; 5]) -> Result<String, AllocError> {
+    let mut text = String::from_str(alloc, cases)?;
     for (old, new) in ["LIST", "SIDE", "OWN", "OTHER", "ALIEN"]
         .iter()
         .zip(words.iter())
@@ -320,9 +420,14 @@ fn cases_of(alloc: Global, words: [&str; 5]) -> Result<String, AllocError> {
 }
 
 /// Compares what is told of the weights of each list.
-fn over_lists(rt: &impl Abort, alloc: Global, plan: &Plan) -> Result<(), AllocError> {
+fn over_lists(
+    rt: &impl Abort,
+    alloc: Global,
+    plan: &Plan,
+    weights: &str,
+) -> Result<(), AllocError> {
     for words in LISTS {
-        let cases = cases_of(alloc, words)?;
+        let cases = cases_of(alloc, weights, words)?;
         over_lines(rt, alloc, plan, cases.as_str())?;
     }
     Ok(())
@@ -331,7 +436,15 @@ fn over_lists(rt: &impl Abort, alloc: Global, plan: &Plan) -> Result<(), AllocEr
 #[test]
 fn tells_the_first_fault_of_weights(rt: HostRuntime) -> Result<(), Fail> {
     let plan = plan_of(rt.alloc(), FILTERS)?;
-    let done = over_lists(&rt, rt.alloc(), &plan);
+    let done = over_lists(&rt, rt.alloc(), &plan, WEIGHTS);
+    drop(plan);
+    Ok(done?)
+}
+
+#[test]
+fn tells_the_first_fault_of_weights_in_version_2(rt: HostRuntime) -> Result<(), Fail> {
+    let plan = plan_of(rt.alloc(), FILTERS)?;
+    let done = over_lists(&rt, rt.alloc(), &plan, WEIGHTS_2);
     drop(plan);
     Ok(done?)
 }
@@ -384,7 +497,7 @@ static CROWDS: [Crowd; 12] = [
     ("totals = [", 257, "]", "9 TooMany totals"),
 ];
 
-/// Compares what is told of a crowd.
+/// Compares what is told of a crowd, in both versions.
 fn expect_crowd(
     rt: &impl Abort,
     alloc: Global,
@@ -393,9 +506,11 @@ fn expect_crowd(
 ) -> Result<(), AllocError> {
     let (start, times, end, wanted) = *crowd;
     let list = repeated(alloc, start, "0,", times, end)?;
-    let text = file_of(alloc, HEAD, list.as_str(), "\n")?;
-    let answer = told(alloc, plan, text.as_bytes())?;
-    assert_eq!(rt; answer.as_str(), wanted, "{start} {times}");
+    for head in [HEAD, HEAD_2] {
+        let text = file_of(alloc, head, list.as_str(), "\n")?;
+        let answer = told(alloc, plan, text.as_bytes())?;
+        assert_eq!(rt; answer.as_str(), wanted, "{head} {start} {times}");
+    }
     Ok(())
 }
 

@@ -4,6 +4,8 @@
 #[cfg(test)]
 mod faults;
 #[cfg(test)]
+mod longest;
+#[cfg(test)]
 mod plans;
 #[cfg(test)]
 mod read;

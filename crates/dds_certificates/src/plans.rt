@@ -9,7 +9,7 @@ use std::alloc::Global;
 use std::test::Fail;
 
 /// Two topics, of the keys `a`, `b`, `c` and of the key `d`, each with a writer. The reader `r` takes all keys of the first, `s` two of them, which
-/// it names in another order, and `o` is of the second topic.
+/// it names in another order, `o` is of the second topic, and `e` takes no key.
 pub(crate) const FILTERS: &str = r#"version = 1
 participants = [{ name = "p", domain = 0 }]
 topics = [{ name = "t", type = "T", keys = ["a", "b", "c"] }, { name = "u", type = "T", keys = ["d"] }]
@@ -18,8 +18,9 @@ readers = [
   { name = "r", participant = "p", topic = "t" },
   { name = "s", participant = "p", topic = "t", filter = ["c", "a"] },
   { name = "o", participant = "p", topic = "u" },
+  { name = "e", participant = "p", topic = "t", filter = [] },
 ]
-applications = [{ name = "x", participant = "p", writers = ["w", "v"], readers = ["r", "s", "o"] }]
+applications = [{ name = "x", participant = "p", writers = ["w", "v"], readers = ["r", "s", "o", "e"] }]
 "#;
 
 /// Reads a deployment.

@@ -369,35 +369,103 @@ samples = [
 takes = [{ reader = "r", key = "c", weight = 9 }]
 "#;
 
-static FILTERS_FILES: [File; 1] = [File {
-    about: "rows, bounds and totals in the order of the file",
-    text: MIXED,
-    edits: &[],
-    wanted: Wanted {
-        rows: &[
-            WantedRow {
-                name: "first",
-                samples: &[],
-                takes: &[],
-                permits: &[(1, 0, 3), (0, 2, 16)],
-            },
-            WantedRow {
-                name: "none",
-                samples: &[],
-                takes: &[],
-                permits: &[],
-            },
-            WantedRow {
-                name: "last",
-                samples: &[(1, 2, 2), (2, 0, 0), (1, 0, 1000), (0, 1, 5)],
-                takes: &[(0, 2, 9)],
-                permits: &[],
-            },
-        ],
-        bounds: &[(1, 2, 2, 7), (0, 1, 0, 0), (1, 0, 2, 6)],
-        totals: &[(2, 2, 0), (0, 0, 4294967295)],
+/// What is read of `MIXED`.
+const MIXED_WANTED: Wanted = Wanted {
+    rows: &[
+        WantedRow {
+            name: "first",
+            samples: &[],
+            takes: &[],
+            permits: &[(1, 0, 3), (0, 2, 16)],
+        },
+        WantedRow {
+            name: "none",
+            samples: &[],
+            takes: &[],
+            permits: &[],
+        },
+        WantedRow {
+            name: "last",
+            samples: &[(1, 2, 2), (2, 0, 0), (1, 0, 1000), (0, 1, 5)],
+            takes: &[(0, 2, 9)],
+            permits: &[],
+        },
+    ],
+    bounds: &[(1, 2, 2, 7), (0, 1, 0, 0), (1, 0, 2, 6)],
+    totals: &[(2, 2, 0), (0, 0, 4294967295)],
+};
+
+/// Entries without `key`, which stand for the keys of the filter in its order or of the topic, among entries with one.
+const KEYLESS: &str = r#"version = 2
+bounds = [
+  { reader = "o", key = "d", row = "m", bound = 1 },
+  { reader = "s", row = "n", bound = 6 },
+  { reader = "e", row = "m", bound = 5 },
+  { reader = "r", row = "m", bound = 0 },
+]
+totals = [{ reader = "s", row = "m", bound = 8 }]
+
+[[rows]]
+name = "m"
+samples = [
+  { reader = "s", weight = 2 },
+  { reader = "e", weight = 9 },
+  { reader = "r", key = "b", weight = 5 },
+  { reader = "o", weight = 0 },
+]
+takes = [{ reader = "r", weight = 7 }]
+permits = [{ writer = "v", weight = 3 }, { weight = 4, writer = "w" }]
+
+[[rows]]
+name = "n"
+takes = [{ reader = "e", weight = 1 }, { reader = "e", weight = 2 }]
+permits = [{ writer = "w", key = "c", weight = 1 }, { writer = "v", weight = 1 }, { writer = "w", key = "a", weight = 2 }]
+"#;
+
+static FILTERS_FILES: [File; 3] = [
+    File {
+        about: "rows, bounds and totals in the order of the file",
+        text: MIXED,
+        edits: &[],
+        wanted: MIXED_WANTED,
     },
-}];
+    File {
+        about: "version 2 with a key in each entry",
+        text: MIXED,
+        edits: &[("version = 1", "version = 2")],
+        wanted: MIXED_WANTED,
+    },
+    File {
+        about: "version 2 with and without keys",
+        text: KEYLESS,
+        edits: &[],
+        wanted: Wanted {
+            rows: &[
+                WantedRow {
+                    name: "m",
+                    samples: &[(1, 2, 2), (1, 0, 2), (0, 1, 5), (2, 0, 0)],
+                    takes: &[(0, 0, 7), (0, 1, 7), (0, 2, 7)],
+                    permits: &[(1, 0, 3), (0, 0, 4), (0, 1, 4), (0, 2, 4)],
+                },
+                WantedRow {
+                    name: "n",
+                    samples: &[],
+                    takes: &[],
+                    permits: &[(0, 2, 1), (1, 0, 1), (0, 0, 2)],
+                },
+            ],
+            bounds: &[
+                (2, 0, 0, 1),
+                (1, 2, 1, 6),
+                (1, 0, 1, 6),
+                (0, 0, 0, 0),
+                (0, 1, 0, 0),
+                (0, 2, 0, 0),
+            ],
+            totals: &[(1, 0, 8)],
+        },
+    },
+];
 
 #[test]
 fn reads_certificates_of_applications_that_answer(rt: HostRuntime) -> Result<(), Fail> {

@@ -4,6 +4,7 @@ use crate::plans::{FILTERS, certificate_of, plan_of};
 use crate::weights::{PlainWeight, plain_row};
 use dds_base::{KeyNo, ReaderNo, WriterNo};
 use dds_cert::{Bound, Certificate, Row, Total, Weight, certificate_text};
+use dds_files::dice::Dice;
 use dds_files::texts::{LOOP, LOOP_CERT, PING, PING_CERT, SMALL, SMALL_CERT, TWO, TWO_CERT};
 use dds_match::Plan;
 use std::alloc::{AllocError, Global};
@@ -19,41 +20,15 @@ static READER_PLACES: [Place; 6] = [(0, 0), (0, 1), (0, 2), (1, 0), (1, 2), (2, 
 /// The writers of FILTERS in file order, with the keys of their topics.
 static WRITER_PLACES: [Place; 4] = [(0, 0), (0, 1), (0, 2), (1, 0)];
 
-/// Numbers that look like chance and are the same in each run.
-#[derive(Drop)]
-struct Dice {
-    state: u32,
-}
-
-impl Dice {
-    fn roll(&mut self) -> u32 {
-        self.state = self
-            .state
-            .wrapping_mul(1_664_525)
-            .wrapping_add(1_013_904_223);
-        self.state >> 16
-    }
-
-    /// Whether something comes that is left out once in three times.
-    fn comes(&mut self) -> bool {
-        self.roll() % 3 != 0
-    }
-
-    /// A number below a count, and 0 where the count is 0.
-    fn below(&mut self, count: usize) -> usize {
-        (self.roll() as usize).checked_rem(count).unwrap_or(0)
-    }
-
-    /// A weight or a bound.
-    fn amount(&mut self) -> u32 {
-        let roll = self.roll();
-        match roll % 5 {
-            0 => 0,
-            1 => 1,
-            2 => 5040,
-            3 => roll,
-            _ => u32::MAX - roll,
-        }
+/// A weight or a bound.
+fn amount(dice: &mut Dice) -> u32 {
+    let roll = dice.roll();
+    match roll % 5 {
+        0 => 0,
+        1 => 1,
+        2 => 5040,
+        3 => roll,
+        _ => u32::MAX - roll,
     }
 }
 
@@ -65,7 +40,7 @@ fn reader_weights(alloc: Global, dice: &mut Dice) -> Result<Vec<Weight<ReaderNo>
             all.push(Weight {
                 endpoint: ReaderNo::new(reader),
                 key: KeyNo::new(key),
-                weight: dice.amount(),
+                weight: amount(dice),
             })?;
         }
     }
@@ -83,7 +58,7 @@ fn writer_weights(alloc: Global, dice: &mut Dice) -> Result<Vec<Weight<WriterNo>
             all.push(Weight {
                 endpoint: WriterNo::new(writer),
                 key: KeyNo::new(key),
-                weight: dice.amount(),
+                weight: amount(dice),
             })?;
         }
     }
@@ -119,7 +94,7 @@ fn bounds(alloc: Global, dice: &mut Dice, rows: usize) -> Result<Vec<Bound>, All
                 reader: ReaderNo::new(reader),
                 key: KeyNo::new(key),
                 row: dice.below(rows),
-                bound: dice.amount(),
+                bound: amount(dice),
             })?;
         }
     }
@@ -137,7 +112,7 @@ fn totals(alloc: Global, dice: &mut Dice, rows: usize) -> Result<Vec<Total>, All
             all.push(Total {
                 reader: ReaderNo::new(reader),
                 row: dice.below(rows),
-                bound: dice.amount(),
+                bound: amount(dice),
             })?;
         }
     }
@@ -146,7 +121,7 @@ fn totals(alloc: Global, dice: &mut Dice, rows: usize) -> Result<Vec<Total>, All
 
 /// A certificate for FILTERS, of up to three rows, with and without bounds and totals.
 fn made(alloc: Global, number: u32) -> Result<Certificate, AllocError> {
-    let mut dice = Dice { state: number };
+    let mut dice = Dice::new(number);
     let count = (number % 4) as usize;
     let rows = rows(alloc, &mut dice, count)?;
     let mut certificate = Certificate {

@@ -7,5 +7,5 @@ use Rattle.dds_cert.proofs.bounds.each_bound.Given as goal
 
 abbrev pub invariant-loop-i : goal.invariant-loop-i
 invariant-loop-i l =
-    (each (bound l.lists l.rows) (place_text l.path) l.i l.all.items (items_view (drop l.i l.values)) ≡ each (bound l.lists l.rows) (place_text l.path) 0 [] (items_view l.values))
+    (each (bound l.version l.lists l.rows (place_text l.path)) (place_text l.path) l.i l.all.items (items_view (drop l.i l.values)) ≡ each (bound l.version l.lists l.rows (place_text l.path)) (place_text l.path) 0 [] (items_view l.values))
     × (l.named ≡ map bound_place l.all.items)

@@ -8,5 +8,5 @@ use Rattle.dds_cert.proofs.rows.each_row.Given as goal
 
 abbrev pub invariant-loop-i : goal.invariant-loop-i
 invariant-loop-i l =
-    (each (row l.lists) (place_text l.path) l.i (map row_view l.rows.items) (items_view (drop l.i l.values)) ≡ each (row l.lists) (place_text l.path) 0 [] (items_view l.values))
+    (each (row l.version l.lists) (place_text l.path) l.i (map row_view l.rows.items) (items_view (drop l.i l.values)) ≡ each (row l.version l.lists) (place_text l.path) 0 [] (items_view l.values))
     × (l.names ≡ row_names (map row_view l.rows.items))

@@ -7,5 +7,5 @@ use Rattle.dds_cert.proofs.weights.each_reader_weight.Given as goal
 
 abbrev pub invariant-loop-i : goal.invariant-loop-i
 invariant-loop-i l =
-    (each (reader_weight l.lists) (place_text l.path) l.i l.all.items (items_view (drop l.i l.values)) ≡ each (reader_weight l.lists) (place_text l.path) 0 [] (items_view l.values))
+    (each (reader_weight l.version l.lists (place_text l.path)) (place_text l.path) l.i l.all.items (items_view (drop l.i l.values)) ≡ each (reader_weight l.version l.lists (place_text l.path)) (place_text l.path) 0 [] (items_view l.values))
     × (l.named ≡ map weight_place l.all.items)
