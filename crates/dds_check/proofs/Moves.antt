@@ -19,7 +19,6 @@ use Rattle.dds_check.specs.Steps.{Event, Reply, Refusal, DataFor, any_entry, is_
 use Rattle.dds_base.specs.declared.events.Event.TheVariants.{Write, Fire, Take, SendData, SendGap, SendHeartbeat, SendAckNack, Deliver, Lose}
 use Rattle.dds_base.specs.declared.events.Reply.TheVariants.{Acked}
 use Rattle.dds_base.specs.declared.events.Refusal.TheVariants.{Foreign, NoPermit, NothingToSend}
-use Rattle.dds_base.specs.declared.sample.Arrival.{Arrival}
 use Rattle.dds_base.specs.declared.sample.Arrival.TheVariants.{New, Repeat}
 use Rattle.dds_check.specs.Runs.{Move, MayMove, after_move, replay, IsRunFrom, brought, is_watchers, reader_of}
 use Rattle.dds_check.specs.Runs.Move.{Do, Redeliver}

@@ -1,5 +1,5 @@
 -- What a base is, without its search.
-use Rattle.std.proofs.Common.{◌≡◌, ◌⊎◌, inl, inr, ℕ, suc, ◌+◌, ◌≤◌, ◌<◌, Bool, true, false, not, refl, sym, arith}
+use Rattle.std.proofs.Common.{◌≡◌, ◌⊎◌, inl, inr, ℕ, suc, ◌+◌, ◌≤◌, ◌<◌, Bool, true, false, not, refl, arith}
 use Rattle.std.proofs.lemmas.Bool.{not_from_true, not_from_false, not-false, le-leb, lt-ltb, le-ltb}
 use Rattle.dds_base.specs.Sums.{least}
 use Rattle.dds_base.proofs.SumLaws.{least_least, least_upto, least_le, least_from, least_below, least_same}

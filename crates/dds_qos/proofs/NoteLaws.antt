@@ -1,12 +1,9 @@
 -- What a writer's due names is kept, and relevant exactly where it is Data.
-use Rattle.std.proofs.Common.{◌≡◌, ◌⊎◌, inl, inr, ℕ, suc, ◌+◌, ◌≤◌, ◌<◌, Bool, true, false, cond, leb, ltb, ◌&&◌, ◌||◌, Option, Some, None, refl, sym, ◌∙◌, arith}
-use Rattle.std.proofs.lemmas.Bool.{and_parts, leb-true}
-use Rattle.dds_base.specs.Sums.{least}
+use Rattle.std.proofs.Common.{◌≡◌, ℕ, ◌≤◌, Bool, true, leb, ltb, ◌&&◌, ◌||◌, arith}
+use Rattle.std.proofs.lemmas.Bool.{and_parts}
 use Rattle.dds_base.proofs.SumLaws.{least_passes}
 use Rattle.dds_base.specs.Sets.{has}
-use Rattle.dds_qos.specs.declared.notes.Due.{Due}
-use Rattle.dds_qos.specs.declared.notes.Due.TheVariants.{Data, Gap}
-use Rattle.dds_qos.specs.Notes.{Notes, is_due, due_number, due_of}
+use Rattle.dds_qos.specs.Notes.{Notes, is_due, due_number}
 
 -- a number within what is written passes the test of what is due
 pub due_passes : (kept : ℕ → Bool) (base : ℕ) (notes : Notes) (written : ℕ) → due_number kept base notes written ≤ written → is_due kept base notes (due_number kept base notes written) ≡ true

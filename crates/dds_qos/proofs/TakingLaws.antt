@@ -1,11 +1,10 @@
 -- What may be taken, by places of a list, for a walk over it.
-use Rattle.std.specs.Prelude.{◌≡◌, ◌⊎◌, ℕ, zero, suc, ◌+◌, ◌≤◌, ◌<◌, Bool, true, false, ◌&&◌, cond, List, [], ◌∷◌, length, filter, slice_index_or as get_or}
-use Rattle.std.proofs.Common.{refl, sym, subst, ap, ◌∙◌, arith, inl, inr}
-use Rattle.std.proofs.lemmas.Bool.{cond_both, and_parts, and_from, both_ways, cases_Bool}
+use Rattle.std.specs.Prelude.{◌≡◌, ℕ, zero, suc, ◌≤◌, ◌<◌, Bool, true, false, cond, List, [], ◌∷◌, length, filter, slice_index_or as get_or}
+use Rattle.std.proofs.Common.{refl, sym, subst, arith, inl, inr}
+use Rattle.std.proofs.lemmas.Bool.{both_ways}
 use Rattle.dds_base.specs.declared.sample.Sample.{Sample}
 use Rattle.dds_base.specs.Sums.{In}
-use Rattle.dds_qos.specs.Samples.{has_key}
-use Rattle.dds_qos.specs.Taking.{available_of, IsLeastOfWriter}
+use Rattle.dds_qos.specs.Taking.{IsLeastOfWriter}
 
 -- ── the same by places, for a walk over the list
 in_at : (xs : List Sample) (i : ℕ) (d : Sample) → i < length xs → In (get_or xs i d) xs

@@ -1,5 +1,5 @@
 -- Which samples a cache stores, and what it answers on a new one (DDS 1.4, 2.2.3.18 and 2.2.3.19).
-use Rattle.std.specs.Prelude.{◌≡◌, ℕ, Bool, true, false, cond, not, ◌&&◌, leb, List, [], ◌∷◌, ◌++◌, length, slice_index_or, Option, None, Some}
+use Rattle.std.specs.Prelude.{ℕ, Bool, true, false, cond, not, ◌&&◌, leb, List, [], ◌∷◌, ◌++◌, length, slice_index_or, Option, None, Some}
 use Rattle.std.specs.List.{remove}
 use Rattle.std.specs.FinSet as set
 use Rattle.dds_base.specs.declared.sample.Sample.{Sample}

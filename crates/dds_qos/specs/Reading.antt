@@ -1,18 +1,14 @@
 -- What a message does at one reader: by its marks of the writer's numbers (a test), the last number heard, its samples and keys.
-use Rattle.std.specs.Prelude.{◌≡◌, ℕ, suc, ◌+◌, ◌≤◌, ◌<◌, max, Bool, true, false, cond, not, ◌&&◌, ◌||◌, ◌==◌, leb, ltb, List, length}
-use Rattle.dds_base.specs.declared.sample.Sample.{Sample}
+use Rattle.std.specs.Prelude.{ℕ, suc, ◌+◌, max, Bool, true, false, cond, not, ◌&&◌, ◌==◌, leb, ltb}
 use Rattle.dds_base.specs.declared.sample.Arrival.{Arrival}
 use Rattle.dds_base.specs.declared.sample.Arrival.TheVariants.{New, Repeat, Irrelevant, Heard, Lost, Stranger}
 use Rattle.dds_base.specs.declared.sample.Arrival.TheVariants.{Overwrote as Overwrites, Rejected as Refuses}
 use Rattle.dds_base.specs.Sums.{least}
 use Rattle.dds_base.specs.Counts.{count_between}
 use Rattle.dds_base.specs.Sets.{NumberSet, last_number, set_of}
-use Rattle.dds_base.specs.Messages.{DataFor, GapFor, HeartbeatFor, covers}
-use Rattle.dds_qos.specs.declared.limits.ReaderLimits.{ReaderLimits}
+use Rattle.dds_base.specs.Messages.{GapFor, HeartbeatFor, covers}
 use Rattle.dds_qos.specs.declared.admission.Admit.{Admit}
 use Rattle.dds_qos.specs.declared.admission.Admit.TheVariants.{Stored, Overwrote, Rejected}
-use Rattle.dds_qos.specs.Samples.{Keys}
-use Rattle.dds_qos.specs.Admission.{admission}
 
 -- the base: the least unmarked number, last_number + 1 where all are marked
 abbrev pub base_of : (ℕ → Bool) → ℕ
