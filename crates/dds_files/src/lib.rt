@@ -6,5 +6,6 @@ mod deployments;
 pub mod dice;
 pub mod drawn;
 pub mod lines;
+pub mod migrated;
 pub mod proposed;
 pub mod texts;

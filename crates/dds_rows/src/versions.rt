@@ -1,7 +1,8 @@
 //! Files of version 2, and what `migrate` prints of files of version 1.
 use crate::cases::{CHECK, Case, MIGRATE, expect_all};
 use crate::rows::{Edit, Text};
-use dds_files::texts::{LOOP_CERT, SMALL_CERT};
+use dds_files::migrated::SMALL_MIGRATED;
+use dds_files::texts::{LOOP_CERT, SMALL, SMALL_CERT};
 use std::test::Fail;
 
 /// The deployment is of version 2.
@@ -175,8 +176,30 @@ fn checks_short_forms(rt: HostRuntime) -> Result<(), Fail> {
     Ok(())
 }
 
-/// What can't be migrated.
-static NOT_MIGRATED: [Case; 4] = [
+/// A file of version 1 and of version 2, and what can't be migrated.
+static MIGRATIONS: [Case; 6] = [
+    Case {
+        about: "a deployment, and its whole text",
+        words: MIGRATE,
+        deployment: Text::Small,
+        edits: &[],
+        certificate: "",
+        certificate_edits: &[],
+        status: 0,
+        output: SMALL_MIGRATED,
+        errors: "",
+    },
+    Case {
+        about: "a deployment with nothing in it",
+        words: MIGRATE,
+        deployment: Text::Small,
+        edits: &[(SMALL, "version = 1")],
+        certificate: "",
+        certificate_edits: &[],
+        status: 0,
+        output: "version = 2\n",
+        errors: "",
+    },
     Case {
         about: "a file of version 2",
         words: MIGRATE,
@@ -227,7 +250,7 @@ static NOT_MIGRATED: [Case; 4] = [
 ];
 
 #[test]
-fn does_not_migrate(rt: HostRuntime) -> Result<(), Fail> {
-    expect_all(&rt, rt.alloc(), &NOT_MIGRATED)?;
+fn migrates_or_tells_why_not(rt: HostRuntime) -> Result<(), Fail> {
+    expect_all(&rt, rt.alloc(), &MIGRATIONS)?;
     Ok(())
 }
