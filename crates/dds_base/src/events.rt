@@ -1,4 +1,4 @@
-//! The events of a running deployment, and their replies.
+//! The events of a running deployment, their replies, and the fates of packets that a schedule chooses.
 
 use crate::numbers::{KeyNo, ReaderNo, RuleNo, WriterNo};
 use crate::sample::{Arrival, Data, Sample};
@@ -96,4 +96,17 @@ pub enum Reply {
     /// An ACKNACK came to its writer.
     Acked,
     Dropped,
+}
+
+/// What befalls a packet on the bus when a participant turns to the bus.
+#[derive(Clone, Copy, Debug, PartialEq, Eq)]
+pub enum Fate {
+    /// The packet at the lowest taken place arrives, and leaves it.
+    Pass,
+    /// The packet at the lowest taken place arrives, and stays there too.
+    Keep,
+    /// The packet at the highest taken place arrives, and leaves it.
+    Last,
+    /// The packet at the lowest taken place is lost.
+    Lose,
 }

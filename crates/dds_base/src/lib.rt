@@ -11,7 +11,7 @@ pub mod portion;
 pub mod sample;
 pub mod sets;
 
-pub use events::{Event, Refusal, Reply};
+pub use events::{Event, Fate, Refusal, Reply};
 pub use messages::{AckNack, DataMsg, GapMsg, Heartbeat, Packet};
 pub use names::{NameFault, Names, is_name, is_name_byte};
 pub use numbers::{AppNo, Endpoint, KeyNo, ParticipantNo, ReaderNo, RuleNo, TopicNo, WriterNo};

@@ -8,6 +8,7 @@ pub mod Limits
 pub mod Rows
 pub mod Shown
 pub mod Accepts
+pub mod Claims
 pub mod Checked
 pub mod World
 pub mod Steps
@@ -17,4 +18,3 @@ pub mod Facts
 pub mod Laws
 pub mod Unsafe
 pub mod CountRuns
-pub mod Noted

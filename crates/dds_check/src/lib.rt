@@ -5,6 +5,7 @@ pub mod accepts;
 pub mod bounds;
 mod budget;
 pub mod checked;
+pub mod claims;
 pub mod laws;
 mod limits;
 mod pairs;

@@ -1,17 +1,20 @@
 -- The bus stands for the world's.
 use Rattle.std.proofs.Common.{◌≡◌, inl, inr, ℕ, zero, suc, ◌+◌, ◌<◌, ◌≤◌, Bool, true, false, cond, not, ltb, List, [], ◌∷◌, length, Option, Some, None, set, refl, sym, ap, subst, ◌∙◌, arith, length-set}
-use Rattle.std.specs.Prelude.{is_none}
+use Rattle.std.specs.Prelude.{◌-◌, is_none, is_some, position}
 use Rattle.std.specs.List.{position_or_len}
-use Rattle.std.proofs.lemmas.Bool.{cases_eq, cases_lt, both_ways}
+use Rattle.std.proofs.lemmas.Bool.{cases_eq, cases_lt, cond-true, lt-ltb, both_ways}
 use Rattle.std.proofs.lemmas.List.Quantifiers.{position-Some}
 use Rattle.std.proofs.lemmas.List.{get_or-set_same, get_or-set_other}
 use Rattle.dds_base.specs.Sums.{put, least}
-use Rattle.dds_base.proofs.SumLaws.{put_at, put_other}
+use Rattle.dds_base.proofs.SumLaws.{put_at, put_other, least_same}
 use Rattle.dds_base.specs.declared.messages.Packet.{Packet}
 use Rattle.dds_check.specs.World.{World}
-use Rattle.dds_check.specs.Steps.{free_place, sent_place, put_packet, is_none_of}
-use Rattle.dds_domain.specs.Bus.{at_place, sent_to, with_packet}
+use Rattle.dds_check.specs.Steps.{places, free_place, sent_place, put_packet, is_none_of}
+use Rattle.dds_domain.specs.Bus.{at_place, free_above, last_taken, sent_to, taken_count, with_packet}
+use Rattle.dds_domain.specs.Schedule.{is_taken, load, lowest, highest}
 use Rattle.dds_domain.specs.Standing.{BusStands}
+use Rattle.dds_domain.proofs.Counting.{count_same}
+use Rattle.dds_domain.proofs.BusTurns.{lowest_within, highest_within}
 
 beyond : (held : List (Option Packet)) (i : ℕ) → length held ≤ i → at_place held i ≡ None
 beyond [] i b = refl
@@ -77,3 +80,29 @@ send_stands v held p h = subst (λ o. BusStands (put_packet v.bus p o) (with_pac
     go : (o : Option ℕ) → sent_to held ≡ o → BusStands (put_packet v.bus p o) (with_packet held p o)
     go None e = h
     go (Some i) e = set_stands v.bus held i (Some p) (position-Some is_none held i None e).0 h
+
+-- ── what is taken
+taken_there : (v : World) (held : List (Option Packet)) (i : ℕ) → BusStands v.bus held → is_some (at_place held i) ≡ is_taken v i
+taken_there v held i h = some_is (at_place held i) ∙ ap (λ o. not (is_none_of o)) (h.same i)
+  where
+    some_is : (o : Option Packet) → is_some o ≡ not (is_none_of o)
+    some_is None = refl
+    some_is (Some p) = refl
+
+-- as many places are taken as the world's bus has packets
+pub load_is : (v : World) (held : List (Option Packet)) → BusStands v.bus held → taken_count held ≡ load v
+load_is v held h = count_same (λ i. is_some (at_place held (0 + i))) (is_taken v) places (λ i l. taken_there v held (0 + i) h ∙ ap (is_taken v) (omega arith))
+
+-- the first taken place is the world's lowest
+pub lowest_is : (v : World) (held : List (Option Packet)) → BusStands v.bus held → 1 ≤ load v → position is_some held ≡ Some (lowest v)
+lowest_is v held h some =
+    let first = first_is is_some (is_taken v) held 0 (λ i. taken_there v held i h ∙ ap (is_taken v) (omega arith)) in
+    let at : position_or_len is_some held ≡ lowest v = omega arith ∙ first ∙ ap (λ n. least (is_taken v) n 0) h.whole in
+    ap (λ n. cond (ltb n (length held)) (Some n) None) at ∙ cond-true (ltb (lowest v) (length held)) (Some (lowest v)) None (lt-ltb (lowest v) (length held) (omega (arith, lowest_within v some, h.whole)))
+
+-- the last taken place is the world's highest
+pub highest_is : (v : World) (held : List (Option Packet)) → BusStands v.bus held → 1 ≤ load v → last_taken held ≡ Some (highest v)
+highest_is v held h some =
+    let back = λ (k : ℕ). is_taken v (places - 1 - k) in
+    let same : free_above held ≡ least back places 0 = least_same (λ k. is_some (at_place held (places - 1 - k))) back places 0 (λ k. taken_there v held (places - 1 - k) h) in
+    ap (λ n. cond (ltb n places) (Some (places - 1 - n)) None) same ∙ cond-true (ltb (least back places 0) places) (Some (highest v)) None (lt-ltb (least back places 0) places (highest_within v some))

@@ -1,7 +1,11 @@
 pub mod Slots
 pub mod Worlds
 pub mod Steps
+pub mod Counting
+pub mod Blocks
+pub mod Counted
 pub mod Buses
+pub mod BusTurns
 pub mod Writers
 pub mod Overwriting
 pub mod Readers
@@ -17,5 +21,12 @@ pub mod StepReceive
 pub mod StepAck
 pub mod StepDeliver
 pub mod StepLose
+pub mod NotesKept
+pub mod NotesSent
+pub mod NotesReceived
+pub mod SchedulePairs
+pub mod ScheduleDue
+pub mod Lawful
+pub mod Turns
 pub mod Standing
 pub mod Shown

@@ -10,12 +10,12 @@ use Rattle.dds_match.specs.Network.{Network}
 use Rattle.dds_check.specs.World.{World}
 use Rattle.dds_check.specs.Steps.{May, AtPlace, after, changed, arrived_from, packet_reply, after_packet, take_away}
 use Rattle.dds_domain.specs.Bus.{at_place}
-use Rattle.dds_domain.specs.Standing.{DomainState, Stands, IsStanding, IsSent, StepsTo, Receives}
+use Rattle.dds_domain.specs.Standing.{DomainState, Stands, HasWorld, IsSent, StepsWorld, Receives}
 use Rattle.dds_domain.proofs.StepLose.{taken_away}
 use Rattle.dds_domain.proofs.Worlds.{refused, may, fact_at}
 
 -- a packet on the bus was sent
-pub sent_at : (d : DomainState) (i : ℕ) (p : Packet) → at_place d.bus i ≡ Some p → IsStanding d → IsSent d p
+pub sent_at : (d : DomainState) (i : ℕ) (p : Packet) → at_place d.bus i ≡ Some p → HasWorld d → IsSent d p
 sent_at d i p e (net, v, (known, accepted, reached, s)) = (net, v, (known, accepted, reached, s), fact_at net _ v d i p known accepted reached s e)
 
 -- what a packet is answered is no refusal
@@ -32,8 +32,8 @@ after_is net v i keep p reply at is =
     ap (after net v (Deliver i keep)) is ∙ (answered net v i keep p ∙ ap (λ o. cond keep (arrived_from net v o) (take_away (arrived_from net v o) i)) at)
 
 module _ (d : DomainState) (i : ℕ) where
-  pub deliver_none : (keep : Bool) → at_place d.bus i ≡ None → StepsTo d (Deliver i keep) (Refused NoPacket) d
-  unfolding StepsTo
+  pub deliver_none : (keep : Bool) → at_place d.bus i ≡ None → StepsWorld d (Deliver i keep) (Refused NoPacket) d
+  unfolding StepsWorld
   deliver_none keep e net cert v known accepted reached s = refused net v d (Deliver i keep) NoPacket (rw (sym (s.bus.same i) ∙ e) refl) s
 
   module _ (p : Packet) (e : at_place d.bus i ≡ Some p) (reply : Reply) (new : DomainState) (received : Receives d p reply new) where
@@ -43,8 +43,8 @@ module _ (d : DomainState) (i : ℕ) where
         may net v (Deliver i keep) reply (rw at refl) (subst (λ o. AtPlace o (λ q. reply ≡ packet_reply net v q)) (sym at) is)
 
     -- it stays
-    pub deliver_kept : StepsTo d (Deliver i true) reply new
-    unfolding StepsTo Receives
+    pub deliver_kept : StepsWorld d (Deliver i true) reply new
+    unfolding StepsWorld Receives
     deliver_kept net cert v known accepted reached s =
         let came = received net cert v known accepted reached s (fact_at net cert v d i p known accepted reached s e) in (
           delivered true net v s came.0,
@@ -52,8 +52,8 @@ module _ (d : DomainState) (i : ℕ) where
         )
 
     -- it leaves
-    pub deliver_gone : StepsTo d (Deliver i false) reply (record new { bus = set new.bus i None })
-    unfolding StepsTo Receives
+    pub deliver_gone : StepsWorld d (Deliver i false) reply (record new { bus = set new.bus i None })
+    unfolding StepsWorld Receives
     deliver_gone net cert v known accepted reached s =
         let came = received net cert v known accepted reached s (fact_at net cert v d i p known accepted reached s e) in (
           delivered false net v s came.0,

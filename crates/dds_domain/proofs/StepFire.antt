@@ -16,7 +16,7 @@ use Rattle.dds_rules.specs.Exchange.{lacks_takes, lacks_room}
 use Rattle.dds_rules.specs.Ledger.{LedgerState, exchange_at, fire_refusal}
 use Rattle.dds_rules.specs.Standing.{StandsFor, Makes}
 use Rattle.dds_rules.proofs.Worlds.{same_lack_of_takes, same_lack_of_room}
-use Rattle.dds_domain.specs.Standing.{DomainState, Stands, StepsTo}
+use Rattle.dds_domain.specs.Standing.{DomainState, Stands, StepsWorld}
 use Rattle.dds_domain.proofs.Worlds.{healthy, refused, may}
 
 -- the refusal that the ledger's tells
@@ -44,8 +44,8 @@ refusal_is net v l u there stands =
     same false false = refl
 
 module _ (d : DomainState) (u : ℕ) where
-  pub fire_foreign : length d.checked.plan.rules.entries ≤ u → StepsTo d (Fire u) (Refused Foreign) d
-  unfolding StepsTo
+  pub fire_foreign : length d.checked.plan.rules.entries ≤ u → StepsWorld d (Fire u) (Refused Foreign) d
+  unfolding StepsWorld
   fire_foreign past net cert v known accepted reached s =
       let count : length d.checked.plan.rules.entries ≡ net.rules = ap (λ (n : Network). n.rules) s.plan in
       refused net v d (Fire u) Foreign (rw (le-leb net.rules u (omega arith)) refl) s
@@ -57,12 +57,12 @@ module _ (d : DomainState) (u : ℕ) where
         let count : length d.checked.plan.rules.entries ≡ net.rules = ap (λ (n : Network). n.rules) s.plan in
         refusal_is net v d.ledger u (omega arith) s.ledger
 
-    pub fire_refused : (why : FireRefused) → fire_refusal d.ledger u ≡ Some why → StepsTo d (Fire u) (Refused (told why)) d
-    unfolding StepsTo
+    pub fire_refused : (why : FireRefused) → fire_refusal d.ledger u ≡ Some why → StepsWorld d (Fire u) (Refused (told why)) d
+    unfolding StepsWorld
     fire_refused why e net cert v known accepted reached s = refused net v d (Fire u) (told why) (answer net v s ∙ ap (option_map told) e) s
 
-    pub fire_done : fire_refusal d.ledger u ≡ None → (l : LedgerState) → Makes (Fires u) d.ledger l → StepsTo d (Fire u) Fired (record d { ledger = l })
-    unfolding StepsTo
+    pub fire_done : fire_refusal d.ledger u ≡ None → (l : LedgerState) → Makes (Fires u) d.ledger l → StepsWorld d (Fire u) Fired (record d { ledger = l })
+    unfolding StepsWorld
     fire_done e l makes net cert v known accepted reached s = (
       may net v (Fire u) Fired (answer net v s ∙ ap (option_map told) e) refl,
       record {

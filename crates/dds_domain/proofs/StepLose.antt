@@ -7,7 +7,7 @@ use Rattle.dds_match.specs.Network.{Network}
 use Rattle.dds_check.specs.World.{World}
 use Rattle.dds_check.specs.Steps.{is_none_of, take_away}
 use Rattle.dds_domain.specs.Bus.{at_place}
-use Rattle.dds_domain.specs.Standing.{DomainState, Stands, StepsTo}
+use Rattle.dds_domain.specs.Standing.{DomainState, Stands, StepsWorld}
 use Rattle.dds_domain.proofs.Buses.{clear_stands}
 use Rattle.dds_domain.proofs.Worlds.{refused, may}
 
@@ -24,10 +24,10 @@ taken_away net v d i s = record {
 }
 
 module _ (d : DomainState) (i : ℕ) where
-  pub lose_none : at_place d.bus i ≡ None → StepsTo d (Lose i) (Refused NoPacket) d
-  unfolding StepsTo
+  pub lose_none : at_place d.bus i ≡ None → StepsWorld d (Lose i) (Refused NoPacket) d
+  unfolding StepsWorld
   lose_none e net cert v known accepted reached s = refused net v d (Lose i) NoPacket (rw (sym (s.bus.same i) ∙ e) refl) s
 
-  pub lose_done : is_none_of (at_place d.bus i) ≡ false → StepsTo d (Lose i) Dropped (record d { bus = set d.bus i None })
-  unfolding StepsTo
+  pub lose_done : is_none_of (at_place d.bus i) ≡ false → StepsWorld d (Lose i) Dropped (record d { bus = set d.bus i None })
+  unfolding StepsWorld
   lose_done e net cert v known accepted reached s = (may net v (Lose i) Dropped (rw (ap is_none_of (sym (s.bus.same i)) ∙ e) refl) refl, taken_away net v d i s)

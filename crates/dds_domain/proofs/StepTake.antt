@@ -21,7 +21,7 @@ use Rattle.dds_rules.specs.Counts.{count_at}
 use Rattle.dds_rules.specs.Ledger.{LedgerState}
 use Rattle.dds_rules.specs.Standing.{Makes}
 use Rattle.dds_reader.specs.Reader.{ReaderState, available, SameMarks, SameReader}
-use Rattle.dds_domain.specs.Standing.{DomainState, IsStanding, ReaderStands, Stands, StepsTo, part_of}
+use Rattle.dds_domain.specs.Standing.{DomainState, HasWorld, ReaderStands, Stands, StepsWorld, part_of}
 use Rattle.dds_domain.proofs.Slots.{set_all, set_back}
 use Rattle.dds_domain.proofs.Worlds.{healthy, may, reader_at, refused}
 use Rattle.dds_domain.proofs.Readers.{available_is, take_stands}
@@ -36,24 +36,24 @@ within net v d r k known s h = let below = known.heard_reader r k (heard net v d
 
 module _ (d : DomainState) (r k : ℕ) where
   -- the key is none of the reader's
-  pub take_foreign : (network_of d.checked.plan).hears r k ≡ false → StepsTo d (Take r k) (Refused Foreign) d
-  unfolding StepsTo
+  pub take_foreign : (network_of d.checked.plan).hears r k ≡ false → StepsWorld d (Take r k) (Refused Foreign) d
+  unfolding StepsWorld
   take_foreign f net cert v known accepted reached s = refused net v d (Take r k) Foreign (rw (heard net v d r k false s f) refl) s
 
   module _ (hears : (network_of d.checked.plan).hears r k ≡ true) where
     -- the reader and the key are the plan's
-    pub take_reader : IsStanding d → r < length d.readers
+    pub take_reader : HasWorld d → r < length d.readers
     take_reader (net, v, (known, accepted, reached, s)) = within net v d r k known s hears
 
-    pub take_row : IsStanding d → r < d.ledger.spare.endpoints
+    pub take_row : HasWorld d → r < d.ledger.spare.endpoints
     take_row (net, v, (known, accepted, reached, s)) = let below = known.heard_reader r k (heard net v d r k true s hears) in let count = s.ledger.of.readers in omega arith
 
-    pub take_key : IsStanding d → k < 64
+    pub take_key : HasWorld d → k < 64
     take_key (net, v, (known, accepted, reached, s)) = subst (λ (n : Network). k < n.keys) (sym s.plan) (known.heard_key r k (heard net v d r k true s hears))
 
     -- 2^64 - 1 takes are unspent
-    pub take_limit : 2 ^ 64 - 1 ≤ count_at d.ledger.spare r k → StepsTo d (Take r k) (Refused CountLimit) d
-    unfolding StepsTo
+    pub take_limit : 2 ^ 64 - 1 ≤ count_at d.ledger.spare r k → StepsWorld d (Take r k) (Refused CountLimit) d
+    unfolding StepsWorld
     take_limit full net cert v known accepted reached s =
         let same = s.ledger.spare r k in
         refused net v d (Take r k) CountLimit (rw (heard net v d r k true s hears, le-leb (2 ^ 64 - 1) (spare net v r k) (omega arith)) refl) s
@@ -70,8 +70,8 @@ module _ (d : DomainState) (r k : ℕ) where
       stands net v known s = reader_at net v d r x s (within net v d r k known s hears) at
 
       -- nothing is available
-      pub take_empty : available x k ≡ [] → y ≡ x → StepsTo d (Take r k) (Refused Empty) (record d { readers = set d.readers r y })
-      unfolding StepsTo
+      pub take_empty : available x k ≡ [] → y ≡ x → StepsWorld d (Take r k) (Refused Empty) (record d { readers = set d.readers r y })
+      unfolding StepsWorld
       take_empty none same net cert v known accepted reached s =
           let empty : is_empty (available_at v r k) ≡ true = ap is_empty (sym (available_is net v r x (stands net v known s) k) ∙ none) in
           let back : set d.readers r y ≡ d.readers = ap (set d.readers r) same ∙ set_back d.readers r x (within net v d r k known s hears) at in
@@ -80,8 +80,8 @@ module _ (d : DomainState) (r k : ℕ) where
 
       -- a sample is taken
       pub take_done : (t : Sample) (l : LedgerState) → IsLeastOfWriter t (available x k) → y.stored ≡ without t x.stored → y.keys ≡ x.keys → SameMarks x y → y.proxies ≡ x.proxies → SameReader x y →
-          ((u : Sample) → u.key ≡ k → Makes (Takes r u) d.ledger l) → StepsTo d (Take r k) (Took t) (record d { readers = set d.readers r y; ledger = l })
-      unfolding StepsTo
+          ((u : Sample) → u.key ≡ k → Makes (Takes r u) d.ledger l) → StepsWorld d (Take r k) (Took t) (record d { readers = set d.readers r y; ledger = l })
+      unfolding StepsWorld
       take_done t l least fewer keys marks notes rest makes net cert v known accepted reached s = (
         may net v (Take r k) (Took t) (passed net v s false some) (t, least', refl),
         record {

@@ -17,7 +17,7 @@ use Rattle.dds_rules.specs.Standing.{Makes}
 use Rattle.dds_writer.specs.declared.refused.WriteRefused.{WriteRefused}
 use Rattle.dds_writer.specs.declared.refused.WriteRefused.TheVariants.{SequenceEnd, InstanceLimit, Full, InstanceFull, NoMemory}
 use Rattle.dds_writer.specs.Writer.{WriterState, Tells}
-use Rattle.dds_domain.specs.Standing.{DomainState, Stands, StepsTo, WriterStands}
+use Rattle.dds_domain.specs.Standing.{DomainState, Stands, StepsWorld, WriterStands}
 use Rattle.dds_domain.proofs.Slots.{set_all, set_back}
 use Rattle.dds_domain.proofs.Worlds.{healthy, refused, may, writer_at}
 use Rattle.dds_domain.proofs.Writers.{wrote, write_stands}
@@ -35,12 +35,12 @@ own_is : (net : Network) (v : World) (d : DomainState) (w k : ℕ) (b : Bool) �
 own_is net v d w k b s e = subst (λ (m : Network). m.writes_key w k ≡ b) s.plan e
 
 module _ (d : DomainState) (w k : ℕ) (payload : List ℕ) where
-  pub write_foreign : (network_of d.checked.plan).writes_key w k ≡ false → StepsTo d (Write w k payload) (Refused Foreign) d
-  unfolding StepsTo
+  pub write_foreign : (network_of d.checked.plan).writes_key w k ≡ false → StepsWorld d (Write w k payload) (Refused Foreign) d
+  unfolding StepsWorld
   write_foreign fails net cert v known accepted reached s = refused net v d (Write w k payload) Foreign (rw (own_is net v d w k false s fails) refl) s
 
-  pub write_no_permit : (network_of d.checked.plan).writes_key w k ≡ true → count_at d.ledger.permits w k ≡ 0 → StepsTo d (Write w k payload) (Refused NoPermit) d
-  unfolding StepsTo
+  pub write_no_permit : (network_of d.checked.plan).writes_key w k ≡ true → count_at d.ledger.permits w k ≡ 0 → StepsWorld d (Write w k payload) (Refused NoPermit) d
+  unfolding StepsWorld
   write_no_permit own spent net cert v known accepted reached s =
       let none : permits net v w k ≡ 0 = sym (s.ledger.permits w k) ∙ spent in
       refused net v d (Write w k payload) NoPermit (rw (own_is net v d w k true s own, eq-eqb (permits net v w k) 0 none) refl) s
@@ -52,13 +52,13 @@ module _ (d : DomainState) (w k : ℕ) (payload : List ℕ) where
         let from = writer_at net v d w x s b at in
         rw (own_is net v d w k true s own, ne_eqb (permits net v w k) 0 (λ none. some (s.ledger.permits w k ∙ none)), from.limits, from.written, from.keys, from.kept) refl
 
-    pub write_refused : (why : WriteRefused) (y : Refusal) → Tells why (write_refusal x.limits x.written x.keys x.kept k) → Tells why (Some y) → StepsTo d (Write w k payload) (Refused y) d
-    unfolding StepsTo
+    pub write_refused : (why : WriteRefused) (y : Refusal) → Tells why (write_refusal x.limits x.written x.keys x.kept k) → Tells why (Some y) → StepsWorld d (Write w k payload) (Refused y) d
+    unfolding StepsWorld
     write_refused why y told tells net cert v known accepted reached s = refused net v d (Write w k payload) y (refusal_is net v s ∙ told_same why _ y told tells) s
 
     pub write_done : (n : ℕ) (l : LedgerState) → write_refusal x.limits x.written x.keys x.kept k ≡ None → n ≡ x.written + 1 → Makes (Writes w k payload) d.ledger l →
-        StepsTo d (Write w k payload) (Written n) (record d { writers = set d.writers w (wrote x k payload n); ledger = l })
-    unfolding StepsTo
+        StepsWorld d (Write w k payload) (Written n) (record d { writers = set d.writers w (wrote x k payload n); ledger = l })
+    unfolding StepsWorld
     write_done n l free number makes net cert v known accepted reached s =
         let from = writer_at net v d w x s b at in
         let count = from.written in (

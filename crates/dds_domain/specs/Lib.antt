@@ -1,4 +1,6 @@
 pub mod Bus
+pub mod Noted
+pub mod Schedule
 pub mod Standing
 pub mod View
 pub mod Opening

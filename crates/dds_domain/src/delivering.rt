@@ -3,7 +3,7 @@ ghost use Rattle.std.specs.Prelude.{◌≡◌, IfOk, OnErr, Some};
 ghost use Rattle.dds_base.specs.declared.events.Event.TheVariants.{Deliver, Lose};
 ghost use Rattle.dds_base.specs.declared.messages.Packet.TheVariants.{Data, Gap, Heartbeat as HeartbeatPacket, AckNack as AckNackPacket};
 ghost use Rattle.dds_domain.specs.Bus.{at_place};
-ghost use Rattle.dds_domain.specs.Standing.{IsSent, IsStanding, Receives, StepsTo};
+ghost use Rattle.dds_domain.specs.Standing.{HasWorld, IsSent, OnRefused, Receives, ReceivesNotes, StepsNotes, StepsWorld};
 
 use crate::parts::Parts;
 use dds_base::{AckNack, DataMsg, GapMsg, Heartbeat, Packet, Refusal, Reply};
@@ -14,6 +14,8 @@ impl Parts {
     fn receive_data(&mut self, message: &DataMsg) -> Result<Reply, NoMemory>
         requires { IsSent self.old (Data message.now) }
         ensures receives { IfOk result (λ reply. Receives self.old (Data message.now) reply self.new) }
+        ensures notes { IfOk result (λ reply. ReceivesNotes self.old (Data message.now) self.new) }
+        ensures arrives { IfOk result (λ reply. OnRefused reply ⊥) }
         ensures bus { self.new.bus ≡ self.old.bus }
         ensures plan { self.new.checked ≡ self.old.checked }
         ensures err { OnErr result (self.new ≡ self.old) }
@@ -28,6 +30,8 @@ impl Parts {
     fn receive_gap(&mut self, gap: &GapMsg) -> Result<Reply, NoMemory>
         requires { IsSent self.old (Gap gap.now) }
         ensures receives { IfOk result (λ reply. Receives self.old (Gap gap.now) reply self.new) }
+        ensures notes { IfOk result (λ reply. ReceivesNotes self.old (Gap gap.now) self.new) }
+        ensures arrives { IfOk result (λ reply. OnRefused reply ⊥) }
         ensures bus { self.new.bus ≡ self.old.bus }
         ensures plan { self.new.checked ≡ self.old.checked }
         ensures err { OnErr result (self.new ≡ self.old) }
@@ -42,6 +46,8 @@ impl Parts {
     fn receive_heartbeat(&mut self, heartbeat: &Heartbeat) -> Result<Reply, NoMemory>
         requires { IsSent self.old (HeartbeatPacket heartbeat.now) }
         ensures receives { IfOk result (λ reply. Receives self.old (HeartbeatPacket heartbeat.now) reply self.new) }
+        ensures notes { IfOk result (λ reply. ReceivesNotes self.old (HeartbeatPacket heartbeat.now) self.new) }
+        ensures arrives { IfOk result (λ reply. OnRefused reply ⊥) }
         ensures bus { self.new.bus ≡ self.old.bus }
         ensures plan { self.new.checked ≡ self.old.checked }
         ensures err { OnErr result (self.new ≡ self.old) }
@@ -56,6 +62,8 @@ impl Parts {
     fn receive_acknack(&mut self, acknack: &AckNack) -> Reply
         requires { IsSent self.old (AckNackPacket acknack.now) }
         ensures receives { Receives self.old (AckNackPacket acknack.now) result self.new }
+        ensures notes { ReceivesNotes self.old (AckNackPacket acknack.now) self.new }
+        ensures arrives { OnRefused result ⊥ }
         ensures bus { self.new.bus ≡ self.old.bus }
         ensures plan { self.new.checked ≡ self.old.checked }
     {
@@ -66,6 +74,8 @@ impl Parts {
     fn receive(&mut self, packet: &Packet) -> Result<Reply, NoMemory>
         requires { IsSent self.old packet.now }
         ensures receives { IfOk result (λ reply. Receives self.old packet.now reply self.new) }
+        ensures notes { IfOk result (λ reply. ReceivesNotes self.old packet.now self.new) }
+        ensures arrives { IfOk result (λ reply. OnRefused reply ⊥) }
         ensures bus { self.new.bus ≡ self.old.bus }
         ensures plan { self.new.checked ≡ self.old.checked }
         ensures err { OnErr result (self.new ≡ self.old) }
@@ -80,8 +90,10 @@ impl Parts {
 
     /// The packet at a place arrives. Where it is kept, it stays there too.
     pub(crate) fn deliver(&mut self, place: usize, keep: bool) -> Result<Reply, NoMemory>
-        requires { IsStanding self.old }
-        ensures steps { IfOk result (λ reply. StepsTo self.old (Deliver place keep) reply self.new) }
+        requires { HasWorld self.old }
+        ensures steps { IfOk result (λ reply. StepsWorld self.old (Deliver place keep) reply self.new) }
+        ensures notes { IfOk result (λ reply. StepsNotes self.old (Deliver place keep) reply self.new) }
+        ensures refused { IfOk result (λ reply. OnRefused reply (self.new ≡ self.old)) }
         ensures plan { self.new.checked ≡ self.old.checked }
         ensures err { OnErr result (self.new ≡ self.old) }
     {
@@ -99,8 +111,10 @@ impl Parts {
 
     /// The packet at a place is lost.
     pub(crate) fn lose(&mut self, place: usize) -> Reply
-        requires { IsStanding self.old }
-        ensures steps { StepsTo self.old (Lose place) result self.new }
+        requires { HasWorld self.old }
+        ensures steps { StepsWorld self.old (Lose place) result self.new }
+        ensures notes { StepsNotes self.old (Lose place) result self.new }
+        ensures refused { OnRefused result (self.new ≡ self.old) }
         ensures plan { self.new.checked ≡ self.old.checked }
     {
         if self.bus.at(place).is_none() {

@@ -1,6 +1,6 @@
 //! One event.
 ghost use Rattle.std.specs.Prelude.{◌≡◌, IfOk, OnErr};
-ghost use Rattle.dds_domain.specs.Standing.{IsStanding, StepsTo};
+ghost use Rattle.dds_domain.specs.Standing.{HasWorld, OnRefused, StepsNotes, StepsWorld};
 
 use crate::parts::Parts;
 use dds_base::{Event, Reply};
@@ -9,8 +9,10 @@ use dds_match::NoMemory;
 impl Parts {
     /// Makes an event, and tells what came of it. An `Err` means that memory ran out; it changes nothing.
     pub(crate) fn step(&mut self, event: Event) -> Result<Reply, NoMemory>
-        requires { IsStanding self.old }
-        ensures steps { IfOk result (λ reply. StepsTo self.old event reply self.new) }
+        requires { HasWorld self.old }
+        ensures steps { IfOk result (λ reply. StepsWorld self.old event reply self.new) }
+        ensures notes { IfOk result (λ reply. StepsNotes self.old event reply self.new) }
+        ensures refused { IfOk result (λ reply. OnRefused reply (self.new ≡ self.old)) }
         ensures plan { self.new.checked ≡ self.old.checked }
         ensures err { OnErr result (self.new ≡ self.old) }
     {

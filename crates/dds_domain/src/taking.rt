@@ -1,7 +1,7 @@
 //! What an application takes.
 ghost use Rattle.std.specs.Prelude.{◌≡◌};
 ghost use Rattle.dds_base.specs.declared.events.Event.TheVariants.{Take};
-ghost use Rattle.dds_domain.specs.Standing.{IsStanding, StepsTo};
+ghost use Rattle.dds_domain.specs.Standing.{HasWorld, OnRefused, StepsNotes, StepsWorld};
 
 use crate::parts::Parts;
 use dds_base::{KeyNo, ReaderNo, Refusal, Reply};
@@ -9,8 +9,10 @@ use dds_base::{KeyNo, ReaderNo, Refusal, Reply};
 impl Parts {
     /// A reader takes an available sample of a key.
     pub(crate) fn take(&mut self, reader: ReaderNo, key: KeyNo) -> Reply
-        requires { IsStanding self.old }
-        ensures steps { StepsTo self.old (Take reader key) result self.new }
+        requires { HasWorld self.old }
+        ensures steps { StepsWorld self.old (Take reader key) result self.new }
+        ensures notes { StepsNotes self.old (Take reader key) result self.new }
+        ensures refused { OnRefused result (self.new ≡ self.old) }
         ensures plan { self.new.checked ≡ self.old.checked }
     {
         if !self.checked.plan().hears(reader, key) {

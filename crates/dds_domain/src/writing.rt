@@ -1,7 +1,7 @@
 //! What applications do but for taking: writes and firings.
 ghost use Rattle.std.specs.Prelude.{◌≡◌, IfOk, OnErr};
 ghost use Rattle.dds_base.specs.declared.events.Event.TheVariants.{Write, Fire};
-ghost use Rattle.dds_domain.specs.Standing.{IsStanding, StepsTo};
+ghost use Rattle.dds_domain.specs.Standing.{HasWorld, OnRefused, StepsNotes, StepsWorld};
 ghost use Rattle.dds_writer.specs.Writer.{Tells};
 
 use crate::parts::Parts;
@@ -31,8 +31,10 @@ impl Parts {
         key: KeyNo,
         payload: Data,
     ) -> Result<Reply, NoMemory>
-        requires { IsStanding self.old }
-        ensures steps { IfOk result (λ reply. StepsTo self.old (Write writer key payload) reply self.new) }
+        requires { HasWorld self.old }
+        ensures steps { IfOk result (λ reply. StepsWorld self.old (Write writer key payload) reply self.new) }
+        ensures notes { IfOk result (λ reply. StepsNotes self.old (Write writer key payload) reply self.new) }
+        ensures refused { IfOk result (λ reply. OnRefused reply (self.new ≡ self.old)) }
         ensures plan { self.new.checked ≡ self.old.checked }
         ensures err { OnErr result (self.new ≡ self.old) }
     {
@@ -56,8 +58,10 @@ impl Parts {
 
     /// A rule spends the takes that it needs, and gives the permits of its writes.
     pub(crate) fn fire(&mut self, rule: RuleNo) -> Reply
-        requires { IsStanding self.old }
-        ensures steps { StepsTo self.old (Fire rule) result self.new }
+        requires { HasWorld self.old }
+        ensures steps { StepsWorld self.old (Fire rule) result self.new }
+        ensures notes { StepsNotes self.old (Fire rule) result self.new }
+        ensures refused { OnRefused result (self.new ≡ self.old) }
         ensures plan { self.new.checked ≡ self.old.checked }
     {
         if rule.number() >= self.checked.plan().lists().rules() {

@@ -1,7 +1,6 @@
 use Rattle.std.proofs.Common.{subst}
 use Rattle.dds_match.specs.Plan.{network_of}
-use Rattle.dds_check.specs.World.{opening}
-use Rattle.dds_domain.specs.Standing.{ReaderStands, part_of}
+use Rattle.dds_domain.specs.Opening.{ReaderOpens}
 use Rattle.dds_domain.proofs.Opened.{all_more, count_more}
 use Rattle.dds_domain.proofs.opening.readers.Goals as goal
 
@@ -11,6 +10,6 @@ loop-r-preserved c =
     let list = c.loop-r.all.items in
     record {
       count = count_more c.loop-r.r list _ c.in_ok-reader.field-0 c.loop-r.invariant.count c.in_ok-push.ensures.items;
-      each = all_more (λ r x. ReaderStands net r (part_of opening r) x) c.loop-r.r list _ c.in_ok-reader.field-0 c.loop-r.invariant.each c.loop-r.invariant.count
-          (subst (λ r. ReaderStands net r (part_of opening r) c.in_ok-reader.field-0) c.new.ensures c.in_ok-reader.ensures) c.in_ok-push.ensures.items;
+      each = all_more (ReaderOpens net) c.loop-r.r list _ c.in_ok-reader.field-0 c.loop-r.invariant.each c.loop-r.invariant.count
+          (subst (λ r. ReaderOpens net r c.in_ok-reader.field-0) c.new.ensures c.in_ok-reader.ensures) c.in_ok-push.ensures.items;
     }

@@ -1,17 +1,19 @@
-use Rattle.std.proofs.Common.{◌≡◌, rules, tests}
-use Rattle.std.specs.Prelude.{is_none}
-use Rattle.std.proofs.lemmas.Iterator.{YieldsList-from_slice}
-use Rattle.std.proofs.lemmas.Iterator.Search.{position_from_yields_List}
+use Rattle.std.proofs.Common.{◌≡◌, Some, sym, ap, ◌∙◌, arith}
 use Rattle.dds_domain.specs.Bus.{sent_to}
+use Rattle.dds_domain.proofs.Counted.{counted_sent, free_there, block_count_le, all_count_le}
 use Rattle.dds_domain.proofs.bus.Bus.send.Goals as goal
 
--- the call found the least free place
-pub returns-in_err-place-clause-place : goal.returns-in_err-place-clause-place
-returns-in_err-place-clause-place c =
-    let found : c.position.result ≡ sent_to c.args.self.now = position_from_yields_List is_none _ _ c.position.result c.position.ensures.ran (YieldsList-from_slice c.args.self.now cc) (λ x b q k. search (rules, tests)) in
-    search rules
+-- the place of the packet was free, so its block has room
+pub overflow_add-index_mut : goal.overflow_add-index_mut
+overflow_add-index_mut c =
+    let to : sent_to c.self.inside.held.items ≡ Some c.in_ok-place.place = ap sent_to c.self.view_is ∙ sym c.in_ok-place.ensures in
+    let there = free_there c.self.inside.held.items c.in_ok-place.place c.self.invariant.whole to in
+    omega (arith, block_count_le c.self.inside.held.items c.self.inside.taken.items c.self.inside.count c.in_ok-place.place c.index_mut-2.result.now c.self.invariant there.0 c.index_mut-2.ensures.value)
 
-pub returns-clause-place : goal.returns-clause-place
-returns-clause-place c =
-    let found : c.position.result ≡ sent_to c.args.self.now = position_from_yields_List is_none _ _ c.position.result c.position.ensures.ran (YieldsList-from_slice c.args.self.now cc) (λ x b q k. search (rules, tests)) in
-    search rules
+pub overflow_add-self : goal.overflow_add-self
+overflow_add-self c = omega (arith, all_count_le c.self.inside.held.items c.self.inside.taken.items c.self.inside.count c.self.invariant)
+
+pub invariant_of-self : goal.invariant_of-self
+invariant_of-self c =
+    let to : sent_to c.self.inside.held.items ≡ Some c.in_ok-place.place = ap sent_to c.self.view_is ∙ sym c.in_ok-place.ensures in
+    counted_sent c.self.inside.held.items c.self.inside.taken.items c.self.inside.count c.in_ok-place.place c.index_mut-2.result.now c.args.packet c.self.invariant to c.index_mut-2.ensures.value

@@ -1,8 +1,9 @@
-use Rattle.std.proofs.Common.{◌≤◌, length, rules}
+use Rattle.std.proofs.Common.{◌≤◌, length, rules, subst}
+use Rattle.dds_domain.specs.Standing.{IsStanding}
 use Rattle.dds_domain.proofs.Shown.{stored_past}
 use Rattle.dds_domain.proofs.domain.Domain.stored.Goals as goal
 
 pub returns-in-None : goal.returns-in-None
 returns-in-None c =
     let past : length c.args.self.now.readers ≤ c.args.reader = search rules in
-    stored_past c.args.self.now c.args.reader past
+    stored_past c.args.self.now c.args.reader (subst IsStanding c.self.view_is c.self.invariant) past

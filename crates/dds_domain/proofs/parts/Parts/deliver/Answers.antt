@@ -4,9 +4,11 @@ use Rattle.dds_base.specs.declared.events.Reply.TheVariants.{Refused}
 use Rattle.dds_base.specs.declared.events.Refusal.TheVariants.{NoPacket}
 use Rattle.dds_base.specs.declared.messages.Packet.{Packet}
 use Rattle.dds_domain.specs.Bus.{at_place}
-use Rattle.dds_domain.specs.Standing.{DomainState, StepsTo, Receives}
+use Rattle.dds_domain.specs.Standing.{DomainState, StepsWorld, Receives, ReceivesNotes}
 use Rattle.dds_domain.specs.View.{view_of}
 use Rattle.dds_domain.proofs.StepDeliver.{sent_at, deliver_none, deliver_kept, deliver_gone}
+use Rattle.dds_domain.proofs.NotesKept.{refused_kept}
+use Rattle.dds_domain.proofs.NotesReceived.{deliver_noted}
 use Rattle.dds_domain.proofs.parts.Parts.deliver.Goals as goal
 use Rattle.dds_domain.proofs.parts.Parts.deliver.Goals.{then-not-keep, else-not-keep}
 
@@ -23,7 +25,7 @@ pub returns-in-None-clause-steps : goal.returns-in-None-clause-steps
 returns-in-None-clause-steps c =
     let d : DomainState = view_of c.self.inside in
     let none : at_place d.bus c.args.place ≡ None = search rules in
-    subst (λ (z : DomainState). StepsTo z (Deliver c.args.place c.args.keep) (Refused NoPacket) z) c.self.view_is (deliver_none d c.args.place c.args.keep none)
+    subst (λ (z : DomainState). StepsWorld z (Deliver c.args.place c.args.keep) (Refused NoPacket) z) c.self.view_is (deliver_none d c.args.place c.args.keep none)
 
 pub returns-after-not-keep-clause-steps : goal.returns-after-not-keep-clause-steps
 returns-after-not-keep-clause-steps c =
@@ -41,4 +43,26 @@ returns-after-not-keep-clause-steps c =
           let stays : c.args.keep ≡ true = search rules in
           let same : c.if-not-keep.self ≡ new = search rules in
           rw (stays, same) (deliver_kept d c.args.place c.in-Some.packet at reply new received))
+    ]
+
+-- ── notes
+pub returns-in-None-clause-notes : goal.returns-in-None-clause-notes
+returns-in-None-clause-notes c = refused_kept c.args.self.now (Deliver c.args.place c.args.keep) NoPacket
+
+pub returns-after-not-keep-clause-notes : goal.returns-after-not-keep-clause-notes
+returns-after-not-keep-clause-notes c =
+    let d : DomainState = c.args.self.now in
+    let new : DomainState = view_of c.self-in-Some.inside in
+    let p : Packet = c.in-Some.packet in
+    let reply = c.in_ok-reply-in-Some.reply in
+    let e = c.in_ok-reply-in-Some.ensures in
+    let at = there d (view_of c.self.inside) c.args.place p c.self.view_is (sym c.at.ensures ∙ c.in-Some.is) in
+    let received : ReceivesNotes d p new = subst (λ (z : DomainState). ReceivesNotes d p z) (sym c.self-in-Some.view_is) e.notes in
+    elim c.if-not-keep.branch [
+      | then-not-keep w ↦ (
+          let same : c.if-not-keep.self ≡ record new { bus = set new.bus c.args.place None } = search rules in
+          rw same (deliver_noted d c.args.place c.args.keep p reply new (set new.bus c.args.place None) at e.arrives received))
+      | else-not-keep w ↦ (
+          let same : c.if-not-keep.self ≡ new = search rules in
+          rw same (deliver_noted d c.args.place c.args.keep p reply new new.bus at e.arrives received))
     ]

@@ -1,0 +1,14 @@
+use Rattle.std.proofs.Common.{sym, ◌∙◌}
+use Rattle.dds_cert.specs.Views.{certificate_view}
+use Rattle.dds_check.proofs.Fitting.{tabled_of}
+use Rattle.dds_check.proofs.Unlimited.{shown_where_none}
+use Rattle.dds_check.proofs.claims.shows.Goals as goal
+
+pub rows_no-requires : goal.rows_no-requires
+rows_no-requires c = tabled_of _ _ c.lists-lists.ensures.well_formed c.requires.fits
+
+pub shown_no-requires : goal.shown_no-requires
+shown_no-requires c = tabled_of _ _ c.lists-lists.ensures.well_formed c.requires.fits
+
+pub returns-in-None-shown_no : goal.returns-in-None-shown_no
+returns-in-None-shown_no c = λ _. shown_where_none c.args.plan.now (certificate_view c.args.certificate.now) c.lists-lists.ensures.well_formed (sym c.rows_no.ensures ∙ c.in-None.is) (sym c.shown_no.ensures ∙ c.in-None-shown_no.is)
