@@ -1,8 +1,7 @@
 #!/bin/sh
-# Runs the tests of cache, reader and writer with each of their allocations refused in turn. Each makes a refused call once more, after it saw
-# that nothing changed, and has to pass as with ample memory. The last line is 'N passed, M failed'; the status is 1 if one failed.
+# Runs tests of cache, reader, writer, domain and book with each of their allocations refused in turn. Each makes a refused call once more, after it
+# saw that nothing changed, and has to pass as with ample memory. The last line is 'N passed, M failed'; the status is 1 if one failed.
 here=$(CDPATH='' cd -- "$(dirname -- "$0")/.." && pwd)
-tests=$here/crates/dds_runs/out/dds_runs_tests
 room=$(mktemp -d) || exit 1
 trap 'rm -rf "$room"' EXIT
 passed=0
@@ -33,44 +32,56 @@ build_library() {
     return 1
 }
 
-# Runs one test with its allocation number $2 refused. Answers whether there was such an allocation.
+# The built tests of a crate.
+tests_of() { echo "$here/crates/$1/out/$1_tests"; }
+
+# Runs the test $2 of the crate $1 with its allocation number $3 refused. Answers whether there was such an allocation.
 run_refused() {
     rm -f "$room/seen"
-    REFUSE=$2 REFUSE_SEEN=$room/seen LD_PRELOAD=$room/refuse.so "$tests" "$1" >"$room/got" 2>&1 </dev/null
+    REFUSE=$3 REFUSE_SEEN=$room/seen LD_PRELOAD=$room/refuse.so "$(tests_of "$1")" "$2" >"$room/got" 2>&1 </dev/null
     echo $? >"$room/status"
     [ -s "$room/seen" ]
 }
 
 has_passed() { [ "$(cat "$room/status")" = 0 ]; }
 
-# Refuses each allocation of one test. A test that makes none shows nothing, and fails.
+# Refuses each allocation of the test $2 of the crate $1. A test that makes none shows nothing, and fails.
 sweep() {
     number=1
-    while run_refused "$1" "$number"; do
-        if has_passed; then pass; else fail "$1 with allocation $number refused: $(cat "$room/got")"; fi
+    while run_refused "$1" "$2" "$number"; do
+        if has_passed; then pass; else fail "$2 with allocation $number refused: $(cat "$room/got")"; fi
         number=$((number + 1))
     done
-    if has_passed && [ "$number" -gt 1 ]; then pass; else fail "$1 with no allocation refused: $(cat "$room/got")"; fi
-    echo "$1: $((number - 1)) allocations, each refused once"
+    if has_passed && [ "$number" -gt 1 ]; then pass; else fail "$2 with no allocation refused: $(cat "$room/got")"; fi
+    echo "$2: $((number - 1)) allocations, each refused once"
 }
 
-# The gate leaves the built tests behind; they are built here where they are missing or older than a source.
+# The gate leaves the built tests of a crate behind; they are built here where they are missing or older than a source.
 is_built() {
-    [ -x "$tests" ] && [ -z "$(find "$here"/crates/*/src "$here/crates.txt" -type f -newer "$tests" -print | head -n 1)" ]
+    [ -x "$(tests_of "$1")" ] && [ -z "$(find "$here"/crates/*/src "$here/crates.txt" -type f -newer "$(tests_of "$1")" -print | head -n 1)" ]
 }
 
-if ! is_built && ! (cd "$here/crates/dds_runs" && rt test) >"$room/built" 2>&1; then
-    tail -n 20 "$room/built"
-    fail "the tests of dds_runs were not built, or one failed"
-    finish
-fi
+build_tests() {
+    if ! is_built "$1" && ! (cd "$here/crates/$1" && rt test) >"$room/built" 2>&1; then
+        tail -n 20 "$room/built"
+        fail "the tests of $1 were not built, or one failed"
+        finish
+    fi
+}
+
+build_tests dds_runs
+build_tests dds_compared
+build_tests test_book
 if ! build_library; then
     fail "no compiler built tools/refuse.c"
     finish
 fi
-sweep caches::caches_call_by_call
-sweep readers::readers_call_by_call
-sweep writers::two_readers_call_by_call
-sweep writers::a_watcher_call_by_call
-sweep writers::a_watcher_beside_a_reader
+sweep dds_runs caches::caches_call_by_call
+sweep dds_runs readers::readers_call_by_call
+sweep dds_runs writers::two_readers_call_by_call
+sweep dds_runs writers::a_watcher_call_by_call
+sweep dds_runs writers::a_watcher_beside_a_reader
+sweep dds_compared without_memory::each_event_without_memory
+sweep dds_compared without_memory::a_list_without_memory
+sweep test_book without_memory::calls_without_memory
 finish

@@ -2,10 +2,11 @@
 
 use crate::plans::plan_of;
 use crate::worked::text_of;
-use dds_base::{Event, KeyNo, ReaderNo, Reply, WriterNo};
+use dds_base::{Arrival, Event, KeyNo, ReaderNo, Refusal, Reply, WriterNo};
 use dds_check::{Checked, check};
 use dds_domain::Domain;
 use dds_match::{NoMemory, Plan};
+use dds_oracle::PLACES;
 use dds_oracle::worked::{Move, RUNS, Run, Stage, Told, event_of, told_of, told_of_packet};
 use dds_propose::propose;
 use std::alloc::{AllocError, Global};
@@ -38,12 +39,17 @@ fn domain_of(rt: &impl Abort, alloc: Global, stage: Stage) -> Result<Domain, All
     Ok(opened(rt, alloc, plan))
 }
 
-/// What the domain answers to a question; none where it isn't asked for that.
-fn answer(domain: &Domain, asked: Move) -> Option<Told> {
+/// What the domain answers to a question, after so many samples were written; none where it isn't asked for that. Each worked run that asks for
+/// an acknowledged base has one reader, which has acknowledged all that was written and isn't kept.
+fn answer(domain: &Domain, written: u64, asked: Move) -> Option<Told> {
     match asked {
         Move::Look(place) => Some(told_of_packet(&domain.at(place).copied())),
         Move::Kept(w) => Some(Told::Number(domain.kept(WriterNo::new(w)) as u64)),
         Move::Stored(r) => Some(Told::Number(domain.stored(ReaderNo::new(r)) as u64)),
+        Move::Acked(w, 0) => {
+            let kept = domain.kept(WriterNo::new(w)) as u64;
+            Some(Told::Number(written.saturating_add(1).saturating_sub(kept)))
+        }
         _ => None,
     }
 }
@@ -56,10 +62,18 @@ pub(crate) fn make(rt: &impl Abort, domain: &mut Domain, event: Event) -> Reply 
     }
 }
 
-fn expect_move(rt: &impl Abort, domain: &mut Domain, asked: Move, told: Told, about: &str) {
+/// Makes a move, after so many samples were written.
+fn expect_move(
+    rt: &impl Abort,
+    domain: &mut Domain,
+    written: u64,
+    asked: Move,
+    told: Told,
+    about: &str,
+) {
     let answered = match event_of(asked) {
         Some(event) => Some(told_of(&make(rt, domain, event))),
-        None => answer(domain, asked),
+        None => answer(domain, written, asked),
     };
     if let Some(answered) = answered {
         assert_eq!(rt; answered, told, "{about}: {asked:?}");
@@ -68,8 +82,12 @@ fn expect_move(rt: &impl Abort, domain: &mut Domain, asked: Move, told: Told, ab
 
 fn expect(rt: &impl Abort, alloc: Global, run: &Run) -> Result<(), AllocError> {
     let mut domain = domain_of(rt, alloc, run.stage)?;
+    let mut written = 0;
     for (asked, told) in run.moves {
-        expect_move(rt, &mut domain, *asked, *told, run.about);
+        expect_move(rt, &mut domain, written, *asked, *told, run.about);
+        if let Told::Written(sn) = told {
+            written = *sn;
+        }
     }
     drop(domain);
     Ok(())
@@ -93,29 +111,44 @@ const THREE_SENT: [(Move, Told); 6] = [
     (Move::SendData(0, 0, 3), Told::Sent(2)),
 ];
 
-/// The orders in which the three places are delivered, ten times each.
-const ORDERS: [[usize; 3]; 3] = [[0, 1, 2], [2, 1, 0], [1, 2, 0]];
+/// Orders in which each of the three places is delivered ten times: rising, falling and mixed.
+const ORDERS: [[usize; 30]; 3] = [
+    [
+        0, 1, 2, 0, 1, 2, 0, 1, 2, 0, 1, 2, 0, 1, 2, 0, 1, 2, 0, 1, 2, 0, 1, 2, 0, 1, 2, 0, 1, 2,
+    ],
+    [
+        2, 1, 0, 2, 1, 0, 2, 1, 0, 2, 1, 0, 2, 1, 0, 2, 1, 0, 2, 1, 0, 2, 1, 0, 2, 1, 0, 2, 1, 0,
+    ],
+    [
+        1, 2, 1, 2, 1, 0, 2, 0, 0, 2, 1, 0, 0, 0, 0, 0, 2, 1, 1, 2, 0, 1, 2, 0, 1, 1, 2, 2, 2, 1,
+    ],
+];
 
-/// The packet arrives once more, and stays; never more than three samples are stored.
-fn deliver(rt: &impl Abort, domain: &mut Domain, place: usize) {
-    make(rt, domain, Event::Deliver { place, keep: true });
+/// The packet arrives, for the first time or again, and stays; never more than three samples are stored.
+fn deliver(rt: &impl Abort, domain: &mut Domain, place: usize, first: bool) {
+    let arrival = if first { Arrival::New } else { Arrival::Repeat };
+    let reply = make(rt, domain, Event::Deliver { place, keep: true });
+    assert_eq!(rt; reply, Reply::Arrived(arrival), "place {place}");
     assert!(rt; domain.stored(ReaderNo::new(0)) <= 3);
     assert!(rt; domain.unread(ReaderNo::new(0), KeyNo::new(0)) <= 3);
 }
 
-fn deliver_all(rt: &impl Abort, domain: &mut Domain, order: &[usize; 3]) {
-    for _ in 0..10 {
-        for place in order {
-            deliver(rt, domain, *place);
-        }
+fn deliver_all(rt: &impl Abort, domain: &mut Domain, order: &[usize; 30]) {
+    for (at, place) in order.iter().enumerate() {
+        let first = !order[..at].contains(place);
+        deliver(rt, domain, *place, first);
     }
 }
 
-fn expect_ten_times(rt: &impl Abort, alloc: Global, order: &[usize; 3]) -> Result<(), AllocError> {
-    let mut domain = domain_of(rt, alloc, Stage::Small(3))?;
+fn expect_three_sent(rt: &impl Abort, domain: &mut Domain) {
     for (asked, told) in &THREE_SENT {
-        expect_move(rt, &mut domain, *asked, *told, "three sent");
+        expect_move(rt, domain, 0, *asked, *told, "three sent");
     }
+}
+
+fn expect_ten_times(rt: &impl Abort, alloc: Global, order: &[usize; 30]) -> Result<(), AllocError> {
+    let mut domain = domain_of(rt, alloc, Stage::Small(3))?;
+    expect_three_sent(rt, &mut domain);
     deliver_all(rt, &mut domain, order);
     assert_eq!(rt; domain.stored(ReaderNo::new(0)), 3);
     drop(domain);
@@ -130,10 +163,31 @@ fn each_packet_ten_times(rt: HostRuntime) -> Result<(), Fail> {
     Ok(())
 }
 
-/// Events that write, send, lose and take, in one list.
-fn listed(alloc: Global) -> Result<Vec<Event>, AllocError> {
+/// A list of moves: writes, sends, losses, deliveries, takes and refusals.
+const LIST: [(Move, Told); 14] = [
+    (Move::Write(0, 0, 11), Told::Written(1)),
+    (Move::Write(0, 0, 12), Told::Written(2)),
+    (Move::SendData(0, 0, 1), Told::Sent(0)),
+    (Move::SendData(0, 0, 2), Told::Sent(1)),
+    (Move::Lose(0), Told::Dropped),
+    (Move::Deliver(0, false), Told::Refused(Refusal::NoPacket)),
+    (Move::Deliver(1, false), Told::New),
+    (Move::Take(0, 0), Told::Refused(Refusal::Empty)),
+    (Move::SendData(0, 0, 1), Told::Sent(0)),
+    (Move::Deliver(0, true), Told::New),
+    (Move::Deliver(0, false), Told::Repeat),
+    (Move::Take(0, 0), Told::Took(1, 11)),
+    (Move::Take(0, 0), Told::Took(2, 12)),
+    (
+        Move::SendData(0, 0, 3),
+        Told::Refused(Refusal::NothingToSend),
+    ),
+];
+
+/// The events of the list.
+pub(crate) fn listed(alloc: Global) -> Result<Vec<Event>, AllocError> {
     let mut events = Vec::new(alloc);
-    for (asked, _) in &THREE_SENT {
+    for (asked, _) in &LIST {
         if let Some(event) = event_of(*asked) {
             events.push(event)?;
         }
@@ -141,17 +195,22 @@ fn listed(alloc: Global) -> Result<Vec<Event>, AllocError> {
     Ok(events)
 }
 
+/// The replies are those that the list tells from a place on, as far as they go.
+pub(crate) fn expect_replies(rt: &impl Abort, replies: &[Reply], from: usize) {
+    for (reply, (asked, told)) in replies.iter().zip(LIST.iter().skip(from)) {
+        assert_eq!(rt; told_of(reply), *told, "{asked:?}");
+    }
+}
+
 fn expect_list(rt: &impl Abort, alloc: Global) -> Result<(), AllocError> {
     let events = listed(alloc)?;
     let mut domain = domain_of(rt, alloc, Stage::Small(3))?;
-    let replies = match domain.run(alloc, &events) {
+    let replies = match domain.run(&events) {
         Ok(replies) => replies,
         Err(_) => panic!(rt; "no memory for the events"),
     };
-    assert_eq!(rt; replies.len(), THREE_SENT.len());
-    for (reply, (_, told)) in replies.iter().zip(THREE_SENT.iter()) {
-        assert_eq!(rt; told_of(reply), *told);
-    }
+    assert_eq!(rt; replies.len(), LIST.len());
+    expect_replies(rt, &replies, 0);
     drop(domain);
     Ok(())
 }
@@ -159,5 +218,46 @@ fn expect_list(rt: &impl Abort, alloc: Global) -> Result<(), AllocError> {
 #[test]
 fn a_list_of_events(rt: HostRuntime) -> Result<(), Fail> {
     expect_list(&rt, rt.alloc())?;
+    Ok(())
+}
+
+/// What is asked of a full bus, and what is told.
+const ON_A_FULL_BUS: [(Move, Told); 4] = [
+    (Move::SendHeartbeat(0, 0), Told::NotSent),
+    (Move::Lose(7), Told::Dropped),
+    (Move::SendHeartbeat(0, 0), Told::Sent(7)),
+    (
+        Move::Deliver(PLACES, false),
+        Told::Refused(Refusal::NoPacket),
+    ),
+];
+
+/// Sends a HEARTBEAT to each place of the bus.
+fn fill(rt: &impl Abort, domain: &mut Domain) {
+    for place in 0..PLACES {
+        expect_move(
+            rt,
+            domain,
+            0,
+            Move::SendHeartbeat(0, 0),
+            Told::Sent(place),
+            "a bus that fills",
+        );
+    }
+}
+
+fn expect_full_bus(rt: &impl Abort, alloc: Global) -> Result<(), AllocError> {
+    let mut domain = domain_of(rt, alloc, Stage::Small(1))?;
+    fill(rt, &mut domain);
+    for (asked, told) in &ON_A_FULL_BUS {
+        expect_move(rt, &mut domain, 0, *asked, *told, "a full bus");
+    }
+    drop(domain);
+    Ok(())
+}
+
+#[test]
+fn a_full_bus_of_a_domain_loses_what_is_sent(rt: HostRuntime) -> Result<(), Fail> {
+    expect_full_bus(&rt, rt.alloc())?;
     Ok(())
 }

@@ -21,6 +21,10 @@ mod speakers;
 #[cfg(test)]
 mod texts;
 #[cfg(test)]
+mod turns;
+#[cfg(test)]
 mod watchers;
+#[cfg(test)]
+mod without_memory;
 #[cfg(test)]
 mod worked;

@@ -1,0 +1,45 @@
+ghost use Rattle.std.specs.Prelude.{◌≡◌, ◌<◌, IsSome};
+
+use super::*;
+use dds_base::AppNo;
+use std::test::*;
+use std::thread;
+use std::thread::Threads;
+
+// Raises the seat's count a thousand times.
+fn bump_often(gauge: &Gauge, mut seat: GaugeSeat)
+    requires gauge { seat.table ≡ gauge.now.table }
+    requires owner { IsSome seat.owner }
+{
+    for _ in 0..1000 {
+        gauge.bump(&mut seat).is_ok();
+    }
+}
+
+// The count of the first application, as a monitor reads it once the thread of the owner was joined.
+fn read_after<R: Threads>(rt: &R, gauge: &Gauge, owner: GaugeSeat, mut monitor: GaugeSeat) -> u64
+    requires owner { (owner.table ≡ gauge.now.table) × IsSome owner.owner }
+    requires monitor { monitor.table ≡ gauge.now.table }
+    requires app { 0 < gauge.now.apps }
+{
+    thread::join(
+        rt,
+        || -> ()
+            requires { (owner.table ≡ gauge.now.table) × IsSome owner.owner }
+        { bump_often(gauge, owner) },
+        || {},
+    );
+    gauge.read(&mut monitor, AppNo::new(0))
+}
+
+#[test]
+fn gauge_read_back(rt: HostRuntime) -> Result<(), Fail> {
+    let Ok((gauge, mut seats)) = Gauge::open(rt.alloc(), 1, 1) else {
+        panic!(rt; "no memory")
+    };
+    let (Some(monitor), Some(owner)) = (seats.pop(), seats.pop()) else {
+        panic!(rt; "too few seats")
+    };
+    assert_eq!(rt; read_after(&rt, &gauge, owner, monitor), 1000);
+    Ok(())
+}

@@ -1,0 +1,12 @@
+//! Tests of a book: seats of two applications and two participants over one journal, call by call, with each of its allocations refused, and with
+//! as many entries as a journal has.
+#![tactic(auto)]
+
+#[cfg(test)]
+mod kits;
+#[cfg(test)]
+mod longest;
+#[cfg(test)]
+mod seats;
+#[cfg(test)]
+mod without_memory;
