@@ -103,6 +103,8 @@ sweep match "$room/missing.toml"
 sweep propose "$ping/ping.toml"
 sweep propose "$loop/loop.toml"
 sweep propose "$room/empty.toml"
+sweep propose "$ping/ping.toml" --thorough
+sweep propose "$loop/loop.toml" --thorough
 sweep migrate "$ping/ping.toml"
 sweep migrate "$frames/frames.toml"
 sweep migrate "$room/empty.toml"

@@ -1,8 +1,6 @@
-//! Tests of certificate files: what is read from them, which fault is told where, the text of a certificate, and what is read of it again.
+//! Tests of certificate files: what is read from them, the text of a certificate, and what is read of it again.
 #![tactic(auto)]
 
-#[cfg(test)]
-mod faults;
 #[cfg(test)]
 mod longest;
 #[cfg(test)]

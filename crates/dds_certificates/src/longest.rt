@@ -1,9 +1,8 @@
 //! The longest lists: each key of each endpoint of the greatest plan, by entries without `key`. No list has more single keys,
 //! since one more names an endpoint and key again. So TooMany is told of arrays alone.
 
-use crate::faults::told;
 use crate::plans::{certificate_of, plan_of};
-use dds_cert::Certificate;
+use dds_cert::{CertFault, Certificate};
 use dds_match::Plan;
 use std::alloc::{AllocError, Global};
 use std::process::Abort;
@@ -89,6 +88,21 @@ fn expect_longest(rt: &impl Abort, found: &Certificate) {
             (last.endpoint.number(), last.key.number(), last.weight),
             (255, 63, 3)
         );
+    }
+}
+
+/// What is told of a certificate: the number and the name of the fault and its path, or `ok`.
+fn told(alloc: Global, plan: &Plan, bytes: &[u8]) -> Result<String, AllocError> {
+    match certificate_of(alloc, plan, bytes) {
+        Ok(certificate) => {
+            drop(certificate);
+            String::from_str(alloc, "ok")
+        }
+        Err(CertFault::NoMemory) => String::from_str(alloc, "11 NoMemory"),
+        Err(CertFault::At(fault)) => {
+            let kind = fault.kind;
+            format!(in alloc; "{} {} {}", kind.number(), kind.name(), fault.path)
+        }
     }
 }
 

@@ -1,11 +1,7 @@
-//! The files of the tests, and tests of deployment files: which fault is told where.
+//! The files that several crates of tests read: deployments with their certificates, what is proposed for them, and deployments that are drawn.
 #![tactic(auto)]
 
-#[cfg(test)]
-mod deployments;
 pub mod dice;
 pub mod drawn;
-pub mod lines;
-pub mod migrated;
 pub mod proposed;
 pub mod texts;

@@ -1,4 +1,4 @@
-//! The files of the rows. Each row changes one of them a little.
+//! Deployments and their certificates.
 
 /// Two applications that answer each other: the first may have three samples under way.
 pub const PING: &str = r#"version = 1

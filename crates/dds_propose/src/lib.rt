@@ -12,7 +12,7 @@ mod matches;
 mod proposer;
 mod rounds;
 mod sizes;
-mod targets;
+pub mod targets;
 mod weights;
 
 pub use proposer::propose;

@@ -1,7 +1,8 @@
-//! Files that are cut, too large or not text, readers that are slow or fail, and an output that fails, by each command.
+//! Files that are as large as they may be or too large, every beginning of a file, readers that are slow or fail, and an output that fails, by
+//! each command.
 use crate::files::{Pair, readable, text_of};
-use crate::texts::{PING, PING_CERT};
 use dds_files::proposed::PING_PROPOSED;
+use dds_files::texts::{PING, PING_CERT};
 use dds_tool::{MAX_FILE, tool};
 use std::alloc::{AllocError, Global};
 use std::io::{self, ErrorKind, Write};
@@ -61,62 +62,6 @@ fn expect_fault(rt: &impl Abort, alloc: Global, files: Pair, status: u8, errors:
     for command in &COMMANDS {
         expect(rt, alloc, command.words, files, status, "", errors);
     }
-}
-
-#[test]
-fn tells_cut_files(rt: HostRuntime) -> Result<(), Fail> {
-    let alloc = rt.alloc();
-    let Some((head, _)) = PING.split_once("[[applications]]") else {
-        panic!(rt; "PING has no applications");
-    };
-    let cut = readable(head.as_bytes(), PING_CERT.as_bytes());
-    expect_fault(
-        &rt,
-        alloc,
-        cut,
-        2,
-        "ddscheck: deployment 12 EndpointOwner writers[0]\n",
-    );
-    let no_text = readable(&[255], PING_CERT.as_bytes());
-    expect_fault(&rt, alloc, no_text, 2, "ddscheck: deployment 1 NotToml\n");
-    Ok(())
-}
-
-#[test]
-fn tells_deep_brackets(rt: HostRuntime) -> Result<(), Fail> {
-    let alloc = rt.alloc();
-    let mut deep = String::from_str(alloc, "version = ")?;
-    for _ in 0..1000 {
-        deep.push_str("[")?;
-    }
-    let files = readable(deep.as_bytes(), PING_CERT.as_bytes());
-    expect_fault(&rt, alloc, files, 2, "ddscheck: deployment 1 NotToml\n");
-    Ok(())
-}
-
-/// PING with 63 participants more.
-fn crowded(alloc: Global) -> Result<String, AllocError> {
-    let mut more = String::from_str(alloc, "{ name = \"p2\", domain = 0 }")?;
-    for i in 3..66 {
-        let entry = format!(in alloc; ", {{ name = \"p{i}\", domain = 0 }}")?;
-        more.push_str(entry.as_str())?;
-    }
-    PING.replace(alloc, "{ name = \"p2\", domain = 0 }", more.as_str())
-}
-
-#[test]
-fn tells_too_many(rt: HostRuntime) -> Result<(), Fail> {
-    let alloc = rt.alloc();
-    let text = crowded(alloc)?;
-    let files = readable(text.as_bytes(), PING_CERT.as_bytes());
-    expect_fault(
-        &rt,
-        alloc,
-        files,
-        2,
-        "ddscheck: deployment 11 TooMany participants\n",
-    );
-    Ok(())
 }
 
 /// PING with lines of comment, so many bytes in all.
@@ -201,18 +146,30 @@ fn tells_failed_reads(rt: HostRuntime) -> Result<(), Fail> {
     Ok(())
 }
 
+/// How many files are opened for the words.
+fn expect_opened(rt: &impl Abort, alloc: Global, words: &[&str], opened: u64) {
+    let mut files = readable(PING.as_bytes(), PING_CERT.as_bytes());
+    let mut out = Vec::new(alloc);
+    let mut err = Vec::new(alloc);
+    tool(alloc, words, &mut files, &mut out, &mut err);
+    assert_eq!(rt; files.opened, opened, "{words:?}");
+}
+
 #[test]
-fn tells_files_that_do_not_open(rt: HostRuntime) -> Result<(), Fail> {
-    let rows: [&[&str]; 5] = [
-        &["ddscheck", "check", "e", "c"],
-        &["ddscheck", "check", "d", "e"],
-        &["ddscheck", "check", "e", "e"],
-        &["ddscheck", "match", "e"],
-        &["ddscheck", "propose", "e"],
+fn opens_each_file_once(rt: HostRuntime) -> Result<(), Fail> {
+    let rows: [(&[&str], u64); 9] = [
+        (&["ddscheck", "check", "d", "c"], 2),
+        (&["ddscheck", "match", "d"], 1),
+        (&["ddscheck", "propose", "d"], 1),
+        (&["ddscheck", "migrate", "d"], 1),
+        (&["ddscheck", "match", "d", "-h"], 0),
+        (&["ddscheck", "help", "check"], 0),
+        (&["ddscheck", "frob", "d", "c"], 0),
+        (&["ddscheck", "match", "d", "c"], 0),
+        (&["ddscheck", "check", "d", "c", "--fast"], 0),
     ];
-    for words in rows {
-        let files = readable(PING.as_bytes(), PING_CERT.as_bytes());
-        expect(&rt, rt.alloc(), words, files, 3, "", "ddscheck: 5 Read\n");
+    for (words, opened) in rows {
+        expect_opened(&rt, rt.alloc(), words, opened);
     }
     Ok(())
 }

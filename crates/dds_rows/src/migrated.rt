@@ -1,5 +1,4 @@
 //! A file of version 1 and what `migrate` prints of it have the same answers: of worked files, and of drawn ones.
-use crate::cases::{CHECK, MATCH, MIGRATE, PROPOSE};
 use crate::files::{readable, text_of};
 use dds_files::drawn::deployment;
 use dds_files::texts::{LOOP, LOOP_CERT, PING, PING_CERT, SMALL, SMALL_CERT, TWO, TWO_CERT};
@@ -7,6 +6,23 @@ use dds_tool::tool;
 use std::alloc::{AllocError, Global};
 use std::process::Abort;
 use std::test::Fail;
+
+const CHECK: &[&str] = &["ddscheck", "check", "d", "c"];
+
+const MATCH: &[&str] = &["ddscheck", "match", "d"];
+
+const PROPOSE: &[&str] = &["ddscheck", "propose", "d"];
+
+const MIGRATE: &[&str] = &["ddscheck", "migrate", "d"];
+
+/// A deployment of inline tables, with a filter and without connections.
+const INLINE: &str = r#"version = 1
+participants = [{ name = "p", domain = 0 }, { name = "q", domain = 0 }]
+topics = [{ name = "t", type = "T", keys = ["a", "b"] }, { name = "u", type = "T", keys = ["c"] }]
+writers = [{ name = "w", participant = "p", topic = "t" }, { name = "v", participant = "q", topic = "t" }]
+readers = [{ name = "r", participant = "q", topic = "t" }, { name = "s", participant = "p", topic = "t", filter = ["b"] }]
+applications = [{ name = "x", participant = "p", writers = ["w"], readers = ["s"] }, { name = "y", participant = "q", writers = ["v"], readers = ["r"] }]
+"#;
 
 /// What words answer to two files.
 #[derive(Drop)]
@@ -78,6 +94,7 @@ fn migrates_worked_files(rt: HostRuntime) -> Result<(), Fail> {
     expect_migrated(&rt, alloc, LOOP, LOOP_CERT)?;
     expect_migrated(&rt, alloc, SMALL, SMALL_CERT)?;
     expect_migrated(&rt, alloc, TWO, TWO_CERT)?;
+    expect_migrated(&rt, alloc, INLINE, "version = 1")?;
     Ok(())
 }
 

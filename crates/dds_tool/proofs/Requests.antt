@@ -95,10 +95,12 @@ pub answered : (holds : List ℕ → Option (List ℕ)) (request : Request) (giv
 answered holds (asked.Check d b) given (Ok status) old new gives written = λ x y hx hy. inl (written (file_outcome x y) (gives x y hx hy))
 answered holds (asked.Match d) given (Ok status) old new gives written = λ x hx. inl (written (match_file_outcome x) (gives x hx))
 answered holds (asked.Propose d) given (Ok status) old new gives written = λ x hx. let g = gives x hx in (g.0, g.1, inl (written g.0 g.2))
+answered holds (asked.ProposeThoroughly d) given (Ok status) old new gives written = λ x hx. let g = gives x hx in (g.0, g.1, inl (written g.0 g.2))
 answered holds (asked.Migrate d) given (Ok status) old new gives written = λ x hx. one_said (MayMigrateFor x) given status old new (gives x hx) written
 answered holds (asked.Check d b) given (Err f) old new gives written = tt
 answered holds (asked.Match d) given (Err f) old new gives written = tt
 answered holds (asked.Propose d) given (Err f) old new gives written = tt
+answered holds (asked.ProposeThoroughly d) given (Err f) old new gives written = tt
 answered holds (asked.Migrate d) given (Err f) old new gives written = tt
 
 -- a fault is said of the request by its status, or by 3
@@ -113,9 +115,12 @@ faulted holds (asked.Match d) given (Err f) old new gives ends nothing =
     λ status told x hx. fault_said (match_file_outcome x) f status old new (ends (match_file_outcome x) (gives x hx)) nothing told
 faulted holds (asked.Propose d) given (Err f) old new gives ends nothing =
     λ status told x hx. let g = gives x hx in (g.0, g.1, fault_said g.0 f status old new (ends g.0 g.2) nothing told)
+faulted holds (asked.ProposeThoroughly d) given (Err f) old new gives ends nothing =
+    λ status told x hx. let g = gives x hx in (g.0, g.1, fault_said g.0 f status old new (ends g.0 g.2) nothing told)
 faulted holds (asked.Migrate d) given (Err f) old new gives ends nothing =
     λ status told x hx. one_faulted (MayMigrateFor x) given f status old new (gives x hx) ends nothing told
 faulted holds (asked.Check d b) given (Ok status) old new gives ends nothing = tt
 faulted holds (asked.Match d) given (Ok status) old new gives ends nothing = tt
 faulted holds (asked.Propose d) given (Ok status) old new gives ends nothing = tt
+faulted holds (asked.ProposeThoroughly d) given (Ok status) old new gives ends nothing = tt
 faulted holds (asked.Migrate d) given (Ok status) old new gives ends nothing = tt

@@ -1,8 +1,10 @@
 -- What the words of a command line ask for, by clap's own account of a command and its words.
-use Rattle.std.specs.Prelude.{ℕ, ◌≡◌, ◌⊎◌, List, Option, Some, Result, true, codes}
+use Rattle.std.specs.Prelude.{ℕ, ◌≡◌, ◌⊎◌, Bool, List, Option, Some, Result, true, false, codes}
+use Rattle.std.specs.Option.{option_map_or}
+use Rattle.std.specs.Str.{bytes_eq}
 use Rattle.std.specs.Io.KnownBytes.{Appends}
 use Rattle.clap.specs.Words.{App, Row, Rule, Text, new_app, new_rule, with_rule, with_subcommand, subcommand_of, first_of}
-use Rattle.clap.specs.declared.builder.ArgAction.TheVariants.{Set}
+use Rattle.clap.specs.declared.builder.ArgAction.TheVariants.{Set, SetTrue}
 use Rattle.clap.specs.Simple.{on_top}
 use Rattle.dds_tool.specs.declared.request.Request.{Request}
 use Rattle.dds_tool.specs.declared.request.Request.TheVariants as asked
@@ -14,6 +16,7 @@ use Rattle.dds_tool.specs.Answers.{Gives, GivesOneOf}
 use Rattle.dds_tool.specs.Outcome.{Outcome, file_outcome, match_file_outcome}
 use Rattle.dds_tool.specs.Migrations.{MayMigrateFor}
 use Rattle.dds_tool.specs.Proposals.{MayProposeFor}
+use Rattle.dds_tool.specs.Searches.{MayFindFor}
 use Rattle.dds_tool.specs.Report.{output_of, status_of}
 
 -- a file that has to be named
@@ -23,6 +26,14 @@ file_rule id = record (new_rule id) { required = true; action = Some Set }
 -- a command with a deployment
 abbrev pub one_file : Text → App
 one_file name = with_rule (new_app name) (file_rule (codes "deployment"))
+
+-- the flag of a thorough search
+abbrev pub thorough_rule : Rule
+thorough_rule = record (new_rule (codes "thorough")) { long = Some (codes "thorough"); action = Some SetTrue }
+
+-- the command that looks for a certificate
+abbrev pub searching : App
+searching = with_rule (one_file (codes "propose")) thorough_rule
 
 -- a command with a deployment and a certificate
 abbrev pub two_files : Text → App
@@ -36,17 +47,27 @@ top_app = on_top (λ s. record s { subcommand_required = true; has_version = tru
 abbrev pub whole : App
 whole =
     with_subcommand
-    (with_subcommand (with_subcommand (with_subcommand top_app (one_file (codes "match")).top) (two_files (codes "check")).top) (one_file (codes "propose")).top)
+    (with_subcommand (with_subcommand (with_subcommand top_app (one_file (codes "match")).top) (two_files (codes "check")).top) searching.top)
     (one_file (codes "migrate")).top
 
 -- the words name the subcommand, and the argument has this text
 abbrev pub Names : List Text → Text → Text → Text → Type 0
 Names words name id text = (rows : List Row) × (subcommand_of whole words ≡ Some (name, rows)) × (first_of id rows ≡ Some text)
 
+-- the flag of a thorough search is given
+abbrev pub is_thorough : List Row → Bool
+is_thorough rows = option_map_or (λ text. bytes_eq text (codes "true")) (first_of (codes "thorough") rows) false
+
+-- the words look for a certificate of the deployment with this name, thoroughly or not
+abbrev pub Looks : List Text → Text → Bool → Type 0
+Looks words name thorough =
+    (rows : List Row) × (subcommand_of whole words ≡ Some (codes "propose", rows)) × (first_of (codes "deployment") rows ≡ Some name) × (is_thorough rows ≡ thorough)
+
 -- the words ask for this, by clap's own account of the command
 abbrev pub Asks : List Text → Request → Type 0
 Asks words (asked.Match d) = Names words (codes "match") (codes "deployment") d.now
-Asks words (asked.Propose d) = Names words (codes "propose") (codes "deployment") d.now
+Asks words (asked.Propose d) = Looks words d.now false
+Asks words (asked.ProposeThoroughly d) = Looks words d.now true
 Asks words (asked.Migrate d) = Names words (codes "migrate") (codes "deployment") d.now
 Asks words (asked.Check d c) = Names words (codes "check") (codes "deployment") d.now × Names words (codes "check") (codes "certificate") c.now
 
@@ -61,6 +82,7 @@ abbrev pub GivesTo : (List ℕ → Option (List ℕ)) → Request → Result Ans
 GivesTo holds (asked.Check d c) result = (x y : List ℕ) → holds d.now ≡ Some x → holds c.now ≡ Some y → Gives result (file_outcome x y)
 GivesTo holds (asked.Match d) result = (x : List ℕ) → holds d.now ≡ Some x → Gives result (match_file_outcome x)
 GivesTo holds (asked.Propose d) result = (x : List ℕ) → holds d.now ≡ Some x → (end : Outcome) × MayProposeFor x end × Gives result end
+GivesTo holds (asked.ProposeThoroughly d) result = (x : List ℕ) → holds d.now ≡ Some x → (end : Outcome) × MayFindFor x end × Gives result end
 GivesTo holds (asked.Migrate d) result = (x : List ℕ) → holds d.now ≡ Some x → GivesOneOf (MayMigrateFor x) result
 
 -- the status and what is added to the output are those of this end, or memory or a device failed, and the status is 3
@@ -72,4 +94,5 @@ abbrev pub Answers : (List ℕ → Option (List ℕ)) → Request → ℕ → Op
 Answers holds (asked.Check d c) status old new = (x y : List ℕ) → holds d.now ≡ Some x → holds c.now ≡ Some y → Said (file_outcome x y) status old new
 Answers holds (asked.Match d) status old new = (x : List ℕ) → holds d.now ≡ Some x → Said (match_file_outcome x) status old new
 Answers holds (asked.Propose d) status old new = (x : List ℕ) → holds d.now ≡ Some x → (end : Outcome) × MayProposeFor x end × Said end status old new
+Answers holds (asked.ProposeThoroughly d) status old new = (x : List ℕ) → holds d.now ≡ Some x → (end : Outcome) × MayFindFor x end × Said end status old new
 Answers holds (asked.Migrate d) status old new = (x : List ℕ) → holds d.now ≡ Some x → (status ≡ 3) ⊎ ((end : Outcome) × MayMigrateFor x end × Said end status old new)

@@ -29,6 +29,8 @@ use std::alloc::{AllocError, Global};
 pub struct Answer {
     pub text: String,
     pub is_yes: bool,
+    /// What the user is told besides, on standard error.
+    pub note: Option<String>,
 }
 
 impl Answer {
@@ -58,7 +60,11 @@ fn answered(text: Result<String, AllocError>, is_yes: bool) -> Result<Answer, To
     ensures memory { IfErr result (λ e. e ≡ ToolFault.NoMemory) }
 {
     match text {
-        Ok(text) => Ok(Answer { text, is_yes }),
+        Ok(text) => Ok(Answer {
+            text,
+            is_yes,
+            note: None,
+        }),
         Err(_) => Err(ToolFault::NoMemory),
     }
 }
@@ -156,12 +162,20 @@ pub fn match_answer(alloc: Global, deployment: &[u8]) -> Result<Answer, ToolFaul
 
 /// The answer with the text of a certificate that was proposed.
 #[tactic(auto, unfolding(crate::specs::Report::output_of, crate::specs::Report::status_of))]
-fn certified(alloc: Global, plan: &Plan, certificate: &Certificate) -> Result<Answer, ToolFault>
+pub(crate) fn certified(
+    alloc: Global,
+    plan: &Plan,
+    certificate: &Certificate,
+) -> Result<Answer, ToolFault>
     ensures gives { Gives result (proposed plan.now (certificate_view certificate.now)) }
     ensures no_usage { IfErr result (λ e. fault_status e ≤ 3) }
 {
     match certificate_text(alloc, plan, certificate) {
-        Ok(text) => Ok(Answer { text, is_yes: true }),
+        Ok(text) => Ok(Answer {
+            text,
+            is_yes: true,
+            note: None,
+        }),
         Err(_) => Err(ToolFault::NoMemory),
     }
 }
@@ -222,7 +236,11 @@ pub fn migrate_answer(alloc: Global, deployment: &[u8]) -> Result<Answer, ToolFa
     ensures no_usage { IfErr result (λ e. fault_status e ≤ 3) }
 {
     match migrate(alloc, deployment) {
-        Ok(text) => Ok(Answer { text, is_yes: true }),
+        Ok(text) => Ok(Answer {
+            text,
+            is_yes: true,
+            note: None,
+        }),
         Err(fault) => Err(deployment_fault(fault)),
     }
 }

@@ -8,6 +8,7 @@ ghost use Rattle.dds_tool.specs.Fault.{fault_line, fault_status};
 ghost use Rattle.dds_tool.specs.Outcome.{Outcome, file_outcome, match_file_outcome};
 ghost use Rattle.dds_tool.specs.Migrations.{MayMigrateFor};
 ghost use Rattle.dds_tool.specs.Proposals.{MayProposeFor};
+ghost use Rattle.dds_tool.specs.Searches.{MayFindFor};
 ghost use Rattle.dds_tool.specs.Reading.{IsReadingFault};
 ghost use Rattle.dds_tool.specs.Report.{Ends, output_of, status_of};
 
@@ -17,6 +18,7 @@ use crate::fault::{NO_MEMORY, ToolFault, fault_status, fault_text};
 use crate::reading::read_all;
 use crate::request::{NoRequest, Request, read_request};
 use crate::sources::Sources;
+use crate::thorough::thorough_answer;
 use std::alloc::Global;
 use std::convert::AsStr;
 use std::io::Write;
@@ -95,6 +97,21 @@ fn propose_file<S: Sources>(
     }
 }
 
+/// The answer of `propose --thorough` to a file, which is read whole before it is parsed.
+fn thorough_file<S: Sources>(
+    alloc: Global,
+    deployment: &str,
+    files: &mut S,
+) -> Result<Answer, ToolFault>
+    ensures gives { (d : List ℕ) → S.holds files.old deployment.now ≡ Some d → (end : Outcome) × MayFindFor d end × Gives result end }
+    ensures no_usage { IfErr result (λ e. fault_status e ≤ 3) }
+{
+    match read_file(alloc, files, deployment) {
+        Ok(bytes) => thorough_answer(alloc, bytes.as_slice()),
+        Err(fault) => Err(fault),
+    }
+}
+
 /// The answer of `migrate` to a file, which is read whole before it is parsed.
 fn migrate_file<S: Sources>(
     alloc: Global,
@@ -110,8 +127,20 @@ fn migrate_file<S: Sources>(
     }
 }
 
-/// Writes the text of an answer and nothing else, and answers its status: 0 yes, 1 no. Only a failed write can leave a part of the text written.
-fn give<O: Write>(answer: Result<Answer, ToolFault>, out: &mut O) -> Result<u8, ToolFault>
+/// Tells the user what an answer has besides. Where that cannot be written, it is not told.
+fn note<E: Write>(answer: &Answer, err: &mut E) {
+    if let Some(note) = &answer.note {
+        let _ = print(err, note.as_str());
+    }
+}
+
+/// Writes the text of an answer to `out` and nothing else, and answers its status: 0 yes, 1 no. Only a failed write can leave a part of the text
+/// written. What the answer has besides is told to `err`.
+fn give<O: Write, E: Write>(
+    answer: Result<Answer, ToolFault>,
+    out: &mut O,
+    err: &mut E,
+) -> Result<u8, ToolFault>
     ensures answer { (end : Outcome) → Gives answer end
         → IfOk result (λ status. (status ≡ status_of end) × Appends (O.contents out.old) (O.contents out.new) (output_of end)) }
     ensures fault { (end : Outcome) → Gives answer end → IfErr result (λ e. Ends e end) }
@@ -122,6 +151,7 @@ fn give<O: Write>(answer: Result<Answer, ToolFault>, out: &mut O) -> Result<u8, 
     match answer {
         Ok(answer) => {
             print(out, answer.text.as_str())?;
+            note(&answer, err);
             Ok(answer.status())
         }
         Err(fault) => Err(fault),
@@ -189,16 +219,18 @@ fn answer_of<S: Sources>(
         } => check_files(alloc, deployment, certificate, files),
         Request::Match { deployment } => match_file(alloc, deployment, files),
         Request::Propose { deployment } => propose_file(alloc, deployment, files),
+        Request::ProposeThoroughly { deployment } => thorough_file(alloc, deployment, files),
         Request::Migrate { deployment } => migrate_file(alloc, deployment, files),
     }
 }
 
 /// Does what a request asks for, and answers the status or the fault.
-fn run_request<S: Sources, O: Write>(
+fn run_request<S: Sources, O: Write, E: Write>(
     alloc: Global,
     request: Request,
     files: &mut S,
     out: &mut O,
+    err: &mut E,
 ) -> Result<u8, ToolFault>
     ensures answer { IfOk result (λ status. Answers (S.holds files.old) request.entry status (O.contents out.old) (O.contents out.new)) }
     ensures fault { IfErr result (λ e. (status : ℕ) → (status ≡ fault_status e) ⊎ (status ≡ 3) → Answers (S.holds files.old) request.entry status (O.contents out.old) (O.contents out.new)) }
@@ -206,11 +238,12 @@ fn run_request<S: Sources, O: Write>(
     ensures no_usage { IfErr result (λ e. fault_status e ≤ 3) }
     ensures nothing { IfErr result (λ e. (e ≡ ToolFault.Write) ⊎ Keeps (O.contents out.old) (O.contents out.new)) }
 {
-    give(answer_of(alloc, request, files), out)
+    give(answer_of(alloc, request, files), out, err)
 }
 
 /// Does what the words ask for, of which the first is the program's name, and answers the exit status: 0 yes, 1 no, 2 a bad file, 3 want of memory or of
-/// a device, 4 words that ask for nothing. The answer goes to `out`, and a fault is told to `err`; where `err` does not take it, it is not told.
+/// a device, 4 words that ask for nothing. The answer goes to `out`, and a fault is told to `err`, as is why no certificate was found; where `err`
+/// does not take it, it is not told.
 pub fn tool<W: AsStr, S: Sources, O: Write, E: Write>(
     alloc: Global,
     words: &[W],
@@ -228,7 +261,7 @@ pub fn tool<W: AsStr, S: Sources, O: Write, E: Write>(
         Ok(request) => request,
         Err(reason) => return explain(alloc, reason, out, err),
     };
-    match run_request(alloc, request, files, out) {
+    match run_request(alloc, request, files, out, err) {
         Ok(status) => status,
         Err(fault) => tell_fault(alloc, err, &fault),
     }

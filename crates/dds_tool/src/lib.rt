@@ -13,6 +13,7 @@ mod reading;
 mod report;
 mod request;
 mod sources;
+mod thorough;
 
 pub use answer::{Answer, check_answer, match_answer, migrate_answer, propose_answer};
 pub use commands::{tell_fault, tool};
@@ -24,3 +25,4 @@ pub use reading::{MAX_FILE, read_all};
 pub use report::{Report, answer_check, report_text};
 pub use request::{NoRequest, Request, read_request};
 pub use sources::Sources;
+pub use thorough::thorough_answer;

@@ -2,7 +2,7 @@
 ghost use Rattle.std.specs.Prelude.{◌≡◌, List, IfOk, IfErr, IfSome, Some, true, false, codes, map, option_map};
 ghost use Rattle.clap.specs.Words.{Text, app_of, first_of, found_of, kind_of, rows_of, rule_of, subcommand_of, subcommand_rows_of, takes, with_subcommand};
 ghost use Rattle.clap.specs.declared.builder.command.Command.TheViews.{out-Command as fields_of};
-ghost use Rattle.dds_tool.specs.Asking.{Asks, IsHelp, file_rule, one_file, top_app, two_files, whole};
+ghost use Rattle.dds_tool.specs.Asking.{Asks, IsHelp, file_rule, is_thorough, one_file, searching, thorough_rule, top_app, two_files, whole};
 
 use clap::error::ErrorKind;
 use clap::{Arg, ArgAction, ArgMatches, Command};
@@ -12,6 +12,10 @@ use std::convert::AsStr;
 /// What help says of the argument that names a deployment.
 const DEPLOYMENT: &str =
     "A TOML file: participants, topics, writers, readers, applications, rules, connections";
+
+/// What help says of the flag of a thorough search.
+const THOROUGH: &str =
+    "Searches by linear programming, for the least bounds, and tells which limit has no certificate";
 
 /// What help says of the argument that names a certificate.
 const CERTIFICATE: &str = "A TOML file: rows of weights, and the bounds and totals that they show";
@@ -25,6 +29,10 @@ pub enum Request<'a> {
     },
     /// A certificate that shows that a deployment is safe.
     Propose {
+        deployment: &'a str,
+    },
+    /// A certificate with the least bounds that weights show, or which limit has none.
+    ProposeThoroughly {
         deployment: &'a str,
     },
     /// A deployment of version 1 as one of version 2.
@@ -57,6 +65,26 @@ fn file<'a>(alloc: Global, id: &'a str, help: &'a str) -> Arg<'a>
         .help(help)
         .required(true)
         .action(ArgAction::Set)
+}
+
+fn thorough_flag<'a>(alloc: Global) -> Arg<'a>
+    ensures rule { rule_of result ≡ thorough_rule }
+    ensures local { result.global ≡ false }
+{
+    Arg::new(alloc, "thorough")
+        .long("thorough")
+        .help(THOROUGH)
+        .action(ArgAction::SetTrue)
+}
+
+fn propose_command<'a>(alloc: Global) -> Result<Command<'a>, AllocError>
+    ensures app { IfOk result (λ c. app_of c ≡ searching) }
+    ensures local { IfOk result (λ c. (fields_of c).has_globals ≡ false) }
+{
+    Command::new(alloc, "propose")
+        .about("Looks for a certificate of a deployment")
+        .arg(file(alloc, "deployment", DEPLOYMENT))?
+        .arg(thorough_flag(alloc))
 }
 
 fn one_file_command<'a>(
@@ -114,7 +142,7 @@ fn whole_command<'a>(alloc: Global) -> Result<Command<'a>, AllocError>
     let command = with_command(top_command(alloc), matching)?;
     let checking = two_files_command(alloc, "check", "Checks a certificate of a deployment")?;
     let command = with_command(command, checking)?;
-    let proposing = one_file_command(alloc, "propose", "Looks for a certificate of a deployment")?;
+    let proposing = propose_command(alloc)?;
     let command = with_command(command, proposing)?;
     let migrating = one_file_command(
         alloc,
@@ -205,12 +233,23 @@ fn match_request<'a>(alloc: Global, matches: &ArgMatches<'a>) -> Result<Request<
     }
 }
 
+/// Whether a thorough search is asked for.
+fn is_thorough(matches: &ArgMatches) -> bool
+    ensures { result ≡ is_thorough (rows_of (found_of matches.now)) }
+{
+    match argument(matches, "thorough") {
+        Some(text) => text == "true",
+        None => false,
+    }
+}
+
 fn propose_request<'a>(alloc: Global, matches: &ArgMatches<'a>) -> Result<Request<'a>, NoRequest>
     ensures asked { (words : List Text) → subcommand_of whole words ≡ Some (codes "propose", rows_of (found_of matches.now)) → IfOk result (Asks words) }
     ensures fault { IfErr result (λ e. ¬ IsHelp e) }
     ensures unasked { (words : List Text) → subcommand_of whole words ≡ Some (codes "propose", rows_of (found_of matches.now)) → (r : _) → Asks words r → IfErr result (λ _. ⊥) }
 {
     match argument(matches, "deployment") {
+        Some(deployment) if is_thorough(matches) => Ok(Request::ProposeThoroughly { deployment }),
         Some(deployment) => Ok(Request::Propose { deployment }),
         None => Err(usage(alloc, "error: a file is missing\n")),
     }

@@ -1,11 +1,10 @@
-//! Tests of policies, partitions and the ranges of messages, by tables: worked by hand, and as another implementation answers.
+//! Tests by tables, worked by hand and as another implementation answers: which policies of one endpoint go together, patterns of partitions, and
+//! the ranges of messages.
 #![tactic(auto)]
 
 #[cfg(test)]
+mod consistency;
+#[cfg(test)]
 mod patterns;
 #[cfg(test)]
-mod policies;
-#[cfg(test)]
 mod ranges;
-#[cfg(test)]
-mod vectors;

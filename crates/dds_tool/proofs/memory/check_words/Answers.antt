@@ -58,7 +58,8 @@ held x y path = Some (if bytes_eq path (codes "d") then x else y)
 written : (r : Request) (x y : List ℕ) (status : ℕ) (old new : Option (List ℕ)) → Asks words r → Answers (held x y) r status old new
     → ((status ≡ status_of (file_outcome x y)) × Appends old new (output_of (file_outcome x y))) ⊎ (status ≡ 3)
 written (asked.Match d) x y status old new asks answers = absurd (no_check 109 (omega arith) (other (codes "match") (codes "deployment") d.now asks))
-written (asked.Propose d) x y status old new asks answers = absurd (no_check 112 (omega arith) (other (codes "propose") (codes "deployment") d.now asks))
+written (asked.Propose d) x y status old new asks answers = absurd (no_check 112 (omega arith) (other (codes "propose") (codes "deployment") d.now (asks.0, asks.1, asks.2)))
+written (asked.ProposeThoroughly d) x y status old new asks answers = absurd (no_check 112 (omega arith) (other (codes "propose") (codes "deployment") d.now (asks.0, asks.1, asks.2)))
 written (asked.Migrate d) x y status old new asks answers = absurd (no_check 109 (omega arith) (other (codes "migrate") (codes "deployment") d.now asks))
 written (asked.Check d b) x y status old new asks answers =
     answers x y (rw (named (codes "check") (codes "deployment") d.now (codes "d") is_d asks.0) refl)

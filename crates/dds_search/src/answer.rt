@@ -1,0 +1,39 @@
+//! What a search answers.
+
+use dds_cert::Certificate;
+use dds_check::No;
+use dds_propose::targets::Target;
+
+/// What is known of the bounds that weights show for a limit that has no certificate.
+#[derive(Clone, Copy, Debug, PartialEq, Eq)]
+pub enum Least {
+    /// Some weights show this bound. It is above the limit, and the least that one row of weights was found to show. For the samples of a
+    /// reader a sum of bounds of its keys may be less.
+    Shown(u32),
+    /// The climb found that there is no least bound: firings in fractions bring more and more samples.
+    Unbounded,
+    /// The search gave up: numbers passed 128 bits, the pivots were spent, or no weights within 32 bits were found.
+    Unknown,
+}
+
+/// Why no certificate was found.
+#[derive(Clone, Copy, Debug, PartialEq, Eq)]
+pub enum Missing {
+    /// A condition fails that no certificate can change: the deployment has to be changed.
+    Structure(No),
+    /// No weights were found that show a bound within this limit.
+    Limit { target: Target, least: Least },
+    /// Each limit has weights, but they make no certificate: no 64 rows of those that were found show all limits.
+    Rows,
+    /// What was found isn't accepted, for this reason.
+    Refused(No),
+}
+
+/// The answer of a search.
+#[derive(Drop)]
+pub enum Found {
+    /// A certificate that is accepted.
+    Certificate(Certificate),
+    /// None, and why.
+    Missing(Missing),
+}

@@ -1,0 +1,136 @@
+//! Collects rows and bounds, limit by limit.
+
+use crate::attempt::{Attempt, Climber};
+use crate::limits::Limited;
+use crate::rows::{Entry, merged};
+use crate::weights::WeighedRow;
+use dds_base::{KeyNo, ReaderNo};
+use dds_propose::targets::Target;
+use std::alloc::{AllocError, Global};
+
+/// The rows and the bounds so far.
+#[derive(Drop)]
+pub(crate) struct Collected {
+    pub(crate) rows: Vec<WeighedRow>,
+    pub(crate) entries: Vec<Entry>,
+}
+
+/// A copy of a limit.
+fn copied(alloc: Global, limited: &Limited) -> Result<Limited, AllocError> {
+    Ok(Limited {
+        target: limited.target,
+        places: limited.places.to_vec(alloc)?,
+        limit: limited.limit,
+    })
+}
+
+/// The place of the entry of a key of a reader, if there is one.
+fn find(entries: &[Entry], reader: ReaderNo, key: KeyNo) -> Option<usize> {
+    let target = Target::Instance { reader, key };
+    entries
+        .iter()
+        .position(|entry| entry.limited.target == target)
+}
+
+impl Collected {
+    /// Nothing yet.
+    pub(crate) fn none(alloc: Global) -> Collected {
+        Collected {
+            rows: Vec::new(alloc),
+            entries: Vec::new(alloc),
+        }
+    }
+
+    /// Adds the row of a limit and the bound that it shows.
+    fn add(&mut self, limited: Limited, row: WeighedRow, bound: u32) -> Result<(), AllocError> {
+        let row = merged(&mut self.rows, row)?;
+        let entry = Entry {
+            limited,
+            row,
+            bound,
+        };
+        match self.entries.push(entry) {
+            Ok(()) => Ok(()),
+            Err(_) => Err(AllocError),
+        }
+    }
+
+    /// The bound of a key that has one already. From here on it counts towards a sum, so that it may not rise any more.
+    fn fixed(&mut self, place: usize) -> Option<u32> {
+        let entry = self.entries.get_mut(place)?;
+        entry.limited.limit = entry.bound;
+        Some(entry.bound)
+    }
+
+    /// Adds a bound within `left` of the key of a place as a part of a sum, and gives it; `None` where none is found.
+    fn add_part(
+        &mut self,
+        alloc: Global,
+        climber: &mut Climber,
+        place: usize,
+        left: u32,
+    ) -> Result<Option<u32>, AllocError> {
+        let Some(known) = climber.net.places.get(place) else {
+            return Ok(None);
+        };
+        let (reader, key) = (known.reader, known.key);
+        if let Some(entry) = find(&self.entries, reader, key) {
+            return Ok(self.fixed(entry).filter(|bound| *bound <= left));
+        }
+        let places = vec![in alloc; place]?;
+        match climber.attempt(alloc, &places, left)? {
+            Attempt::Row { row, bound } if bound <= left => {
+                let target = Target::Instance { reader, key };
+                let limited = Limited {
+                    target,
+                    places,
+                    limit: bound,
+                };
+                self.add(limited, row, bound)?;
+                Ok(Some(bound))
+            }
+            _ => Ok(None),
+        }
+    }
+
+    /// Bounds of the keys of a reader whose sum is within its limit. Tells whether they were found.
+    fn add_parts(
+        &mut self,
+        alloc: Global,
+        climber: &mut Climber,
+        limited: &Limited,
+    ) -> Result<bool, AllocError> {
+        let mut left = limited.limit;
+        for place in &limited.places {
+            match self.add_part(alloc, climber, *place, left)? {
+                Some(bound) => left = left.saturating_sub(bound),
+                None => return Ok(false),
+            }
+        }
+        Ok(true)
+    }
+
+    /// Adds a row for a limit with the bound that it shows, or for the samples of a reader a bound for each of its keys. `None` where that
+    /// was done, and else what was found instead.
+    pub(crate) fn add_limit(
+        &mut self,
+        alloc: Global,
+        climber: &mut Climber,
+        limited: &Limited,
+    ) -> Result<Option<Attempt>, AllocError> {
+        let attempt = match climber.attempt(alloc, &limited.places, limited.limit)? {
+            Attempt::Row { row, bound } if bound <= limited.limit => {
+                self.add(copied(alloc, limited)?, row, bound)?;
+                return Ok(None);
+            }
+            attempt => attempt,
+        };
+        if let Target::Instance { .. } = limited.target {
+            return Ok(Some(attempt));
+        }
+        if self.add_parts(alloc, climber, limited)? {
+            return Ok(None);
+        }
+        Ok(Some(attempt))
+    }
+}

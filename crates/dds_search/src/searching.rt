@@ -1,0 +1,184 @@
+//! Looks for a certificate of a plan.
+ghost use Rattle.std.specs.Prelude.{◌≡◌, ◌≢◌, true, Some, None, IfOk, IfSome};
+ghost use Rattle.dds_match.specs.Plan.{network_of};
+ghost use Rattle.dds_cert.specs.Lists.{Certificate as CertificateLists};
+ghost use Rattle.dds_cert.specs.Fits.{fits};
+ghost use Rattle.dds_cert.specs.Views.{certificate_view};
+ghost use Rattle.dds_check.specs.Accepted.{Accepted, certificate_of};
+ghost use Rattle.dds_check.specs.Accepts.{first_no};
+ghost use Rattle.dds_check.specs.Claims.{structure_no};
+ghost use Rattle.dds_check.specs.Certified.{Safe};
+ghost use Rattle.dds_search.specs.Answers.{IsShownFor, IsShownLeast, IfCertificate, IfStructure, IfLimit};
+
+use crate::answer::{Found, Least, Missing};
+use crate::attempt::{Attempt, Climber};
+use crate::collecting::Collected;
+use crate::limits::{Limited, limits_of};
+use crate::listing::{certificate_of, claim};
+use crate::net::Net;
+use crate::rows::cover;
+use crate::weights::WeighedRow;
+use dds_cert::Certificate;
+use dds_check::accepts::accepts;
+use dds_check::claims::{shows, structure_no};
+use dds_match::{NoMemory, Plan};
+use dds_propose::targets::Target;
+use std::alloc::{AllocError, Global};
+
+/// The certificate, where it is accepted.
+fn accepted(plan: &Plan, certificate: Certificate) -> Found
+    ensures fits { IfCertificate result (λ c. fits (network_of plan.now) (certificate_view c) ≡ true) }
+    ensures accepted { IfCertificate result (λ c. first_no plan.now (certificate_view c) ≡ None) }
+    ensures holds { IfCertificate result (λ c. Accepted (network_of plan.now) (certificate_of (certificate_view c))) }
+    ensures safe { IfCertificate result (λ c. Safe (network_of plan.now) (certificate_of (certificate_view c))) }
+    ensures structure { IfStructure result (λ no. ⊥) }
+    ensures least { IfLimit result (λ target least. ⊥) }
+{
+    if !certificate.fits(plan) {
+        return Found::Missing(Missing::Rows);
+    }
+    match accepts(plan, &certificate) {
+        Ok(()) => Found::Certificate(certificate),
+        Err(no) => Found::Missing(Missing::Refused(no)),
+    }
+}
+
+/// What is told of a bound above a limit: it is told only where its row holds and shows it.
+fn shown(
+    alloc: Global,
+    plan: &Plan,
+    net: &Net,
+    target: &Target,
+    row: &WeighedRow,
+    bound: u32,
+) -> Result<Least, AllocError>
+    ensures { IfOk result (IsShownLeast (network_of plan.now) target.now) }
+{
+    let claimed = claim(alloc, net, target, row, bound)?;
+    if !claimed.fits(plan) {
+        return Ok(Least::Unknown);
+    }
+    if shows(plan, &claimed) {
+        Ok(Least::Shown(bound))
+    } else {
+        Ok(Least::Unknown)
+    }
+}
+
+/// What is known of the bounds for a target whose attempt gave none within its limit.
+fn least_of(
+    alloc: Global,
+    plan: &Plan,
+    net: &Net,
+    target: &Target,
+    attempt: &Attempt,
+) -> Result<Least, AllocError>
+    ensures { IfOk result (IsShownLeast (network_of plan.now) target.now) }
+{
+    match attempt {
+        Attempt::Row { row, bound } => shown(alloc, plan, net, target, row, *bound),
+        Attempt::Unbounded => Ok(Least::Unbounded),
+        Attempt::Unknown => Ok(Least::Unknown),
+    }
+}
+
+/// Adds what one limit needs. Where that isn't found, what is known of its bounds.
+fn add_limit(
+    alloc: Global,
+    plan: &Plan,
+    climber: &mut Climber,
+    collected: &mut Collected,
+    limited: &Limited,
+) -> Result<Option<Least>, AllocError>
+    ensures { IfOk result (λ least. IfSome least (IsShownLeast (network_of plan.now) limited.now.target)) }
+{
+    match collected.add_limit(alloc, climber, limited)? {
+        Some(attempt) => {
+            let least = least_of(alloc, plan, &climber.net, &limited.target, &attempt)?;
+            Ok(Some(least))
+        }
+        None => Ok(None),
+    }
+}
+
+/// Adds what each limit needs. The first limit for which that isn't found, and what is known of its bounds.
+fn add_limits(
+    alloc: Global,
+    plan: &Plan,
+    climber: &mut Climber,
+    collected: &mut Collected,
+) -> Result<Option<(Target, Least)>, AllocError>
+    ensures { IfOk result (λ missing. IfSome missing (λ m. IsShownLeast (network_of plan.now) m.0 m.1)) }
+{
+    let limits = limits_of(alloc, plan, &climber.net)?;
+    for limited in &limits {
+        if let Some(least) = add_limit(alloc, plan, climber, collected, limited)? {
+            return Ok(Some((limited.target, least)));
+        }
+    }
+    Ok(None)
+}
+
+/// The certificate of what was collected, where it is accepted.
+fn concluded(
+    alloc: Global,
+    plan: &Plan,
+    net: &Net,
+    collected: &mut Collected,
+) -> Result<Found, AllocError>
+    ensures fits { IfOk result (λ f. IfCertificate f (λ c. fits (network_of plan.now) (certificate_view c) ≡ true)) }
+    ensures accepted { IfOk result (λ f. IfCertificate f (λ c. first_no plan.now (certificate_view c) ≡ None)) }
+    ensures holds { IfOk result (λ f. IfCertificate f (λ c. Accepted (network_of plan.now) (certificate_of (certificate_view c)))) }
+    ensures safe { IfOk result (λ f. IfCertificate f (λ c. Safe (network_of plan.now) (certificate_of (certificate_view c)))) }
+    ensures structure { IfOk result (λ f. IfStructure f (λ no. ⊥)) }
+    ensures least { IfOk result (λ f. IfLimit f (λ target least. ⊥)) }
+{
+    let Some(chosen) = cover(alloc, &collected.rows, &mut collected.entries)? else {
+        return Ok(Found::Missing(Missing::Rows));
+    };
+    let certificate = certificate_of(alloc, net, &collected.rows, &chosen, &collected.entries)?;
+    Ok(accepted(plan, certificate))
+}
+
+/// Looks for a certificate of a plan whose structure is as it has to be.
+fn search_limits(alloc: Global, plan: &Plan) -> Result<Found, AllocError>
+    ensures fits { IfOk result (λ f. IfCertificate f (λ c. fits (network_of plan.now) (certificate_view c) ≡ true)) }
+    ensures accepted { IfOk result (λ f. IfCertificate f (λ c. first_no plan.now (certificate_view c) ≡ None)) }
+    ensures holds { IfOk result (λ f. IfCertificate f (λ c. Accepted (network_of plan.now) (certificate_of (certificate_view c)))) }
+    ensures safe { IfOk result (λ f. IfCertificate f (λ c. Safe (network_of plan.now) (certificate_of (certificate_view c)))) }
+    ensures structure { IfOk result (λ f. IfStructure f (λ no. ⊥)) }
+    ensures least { IfOk result (λ f. IfLimit f (IsShownLeast (network_of plan.now))) }
+{
+    let mut climber = Climber::new(alloc, Net::of(alloc, plan)?)?;
+    let mut collected = Collected::none(alloc);
+    if let Some((target, least)) = add_limits(alloc, plan, &mut climber, &mut collected)? {
+        return Ok(Found::Missing(Missing::Limit { target, least }));
+    }
+    concluded(alloc, plan, &climber.net, &mut collected)
+}
+
+/// Looks for a certificate of a plan, by exact linear programming for each limit. What it gives fits the plan and is accepted, so the
+/// deployment is safe. Where it gives none it tells why: a condition that no certificate can change, or the first limit for which no weights
+/// were found, and then a bound that some weights do show, where it knows one.
+///
+/// That a certificate is found where there is one isn't promised: numbers may pass 128 bits, weights 32 bits, or pivots and rows be too many.
+/// `NoMemory` is answered only where memory ran out.
+pub fn search(alloc: Global, plan: &Plan) -> Result<Found, NoMemory>
+    ensures fits { IfOk result (λ f. IfCertificate f (λ c. fits (network_of plan.now) (certificate_view c) ≡ true)) }
+    ensures accepted { IfOk result (λ f. IfCertificate f (λ c. first_no plan.now (certificate_view c) ≡ None)) }
+    ensures holds { IfOk result (λ f. IfCertificate f (λ c. Accepted (network_of plan.now) (certificate_of (certificate_view c)))) }
+    ensures safe { IfOk result (λ f. IfCertificate f (λ c. Safe (network_of plan.now) (certificate_of (certificate_view c)))) }
+    // What is told of the structure is so, and then no certificate is accepted.
+    ensures structure { IfOk result (λ f. IfStructure f (λ no. structure_no plan.now ≡ Some no)) }
+    ensures always { IfOk result (λ f. IfStructure f (λ no. (cert : CertificateLists) → first_no plan.now cert ≢ None)) }
+    // Some weights show the bound that is told.
+    ensures least { IfOk result (λ f. IfLimit f (IsShownLeast (network_of plan.now))) }
+{
+    if let Some(no) = structure_no(plan) {
+        return Ok(Found::Missing(Missing::Structure(no)));
+    }
+    match search_limits(alloc, plan) {
+        Ok(found) => Ok(found),
+        Err(_) => Err(NoMemory),
+    }
+}

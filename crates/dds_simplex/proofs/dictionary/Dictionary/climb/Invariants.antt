@@ -1,0 +1,5 @@
+use Rattle.dds_simplex.proofs.dictionary.Dictionary.climb.Given as goal
+
+-- fewer pivots are left
+abbrev pub decreases-loop-left : goal.decreases-loop-left
+decreases-loop-left l = l.left

@@ -1,0 +1,65 @@
+//! Whole commands as data: prints each line of standard input, and below a line that is a command line what comes of it over the files of the folder
+//! in which this runs. The stored run has its command lines in `stdin`, what is expected in `stdout` and the files in `data`.
+#![tactic(auto)]
+
+use dds_tool::{Sources, tool};
+use std::alloc::{AllocError, Global};
+use std::rt::Files;
+use std::{fs, io};
+
+/// The files of the system.
+#[derive(Drop)]
+struct Disk<'a, F> {
+    rt: &'a F,
+}
+
+impl<'a, F: Files> Sources for Disk<'a, F> {
+    type R = F::File;
+
+    fn open(&mut self, path: &str) -> Option<F::File> {
+        match fs::open(self.rt, path) {
+            Ok(file) => Some(file),
+            Err(_) => None,
+        }
+    }
+}
+
+/// The words of a line.
+fn words_of(alloc: Global, line: &str) -> Result<Vec<&str>, AllocError> {
+    line.split_whitespace().collect(alloc)
+}
+
+/// The text of what was written.
+fn text_of(bytes: &[u8]) -> &str {
+    match std::str::from_utf8(bytes) {
+        Ok(text) => text,
+        Err(_) => "(bytes that are no text)\n",
+    }
+}
+
+/// What comes of the words: what is written to the output; after a line `errors:`, what is written to the error output; and the status.
+fn outcome<F: Files>(alloc: Global, rt: &F, words: &[&str]) -> Result<String, AllocError> {
+    let mut files = Disk { rt };
+    let mut out = Vec::new(alloc);
+    let mut err = Vec::new(alloc);
+    let status = tool(alloc, words, &mut files, &mut out, &mut err);
+    let output = text_of(out.as_slice());
+    if err.is_empty() {
+        return format!(in alloc; "{output}status {status}");
+    }
+    let errors = text_of(err.as_slice());
+    format!(in alloc; "{output}errors:\n{errors}status {status}")
+}
+
+fn main(rt: HostRuntime) -> io::Result<()> {
+    for line in rt.lines(rt.alloc()) {
+        let line = line?;
+        println!(rt; "{line}")?;
+        let words = words_of(rt.alloc(), line.as_str())?;
+        if words.as_slice().first() == Some(&"ddscheck") {
+            let text = outcome(rt.alloc(), &rt, words.as_slice())?;
+            println!(rt; "{text}")?;
+        }
+    }
+    Ok(())
+}
