@@ -7,7 +7,10 @@ use dds_tool::{MAX_FILE, tool};
 use std::alloc::{AllocError, Global};
 use std::io::{self, ErrorKind, Write};
 use std::process::Abort;
+use std::sync::Wait;
 use std::test::Fail;
+use std::thread::Threads;
+use std::time::Clock;
 
 /// The words of a command, and what it answers to PING.
 struct Command {
@@ -33,8 +36,8 @@ static COMMANDS: [Command; 3] = [
 ];
 
 /// Compares the status and what is written.
-fn expect(
-    rt: &impl Abort,
+fn expect<R: Threads + Wait + Clock + Sync + Abort>(
+    rt: &R,
     alloc: Global,
     words: &[&str],
     mut files: Pair,
@@ -44,21 +47,27 @@ fn expect(
 ) {
     let mut out = Vec::new(alloc);
     let mut err = Vec::new(alloc);
-    let answer = tool(alloc, words, &mut files, &mut out, &mut err);
+    let answer = tool(rt, alloc, words, &mut files, &mut out, &mut err);
     assert_eq!(rt; text_of(out.as_slice()), output, "{words:?}");
     assert_eq!(rt; text_of(err.as_slice()), errors, "{words:?}");
     assert_eq!(rt; answer, status, "{words:?}");
 }
 
 /// Each command answers these files as it answers PING.
-fn expect_answers(rt: &impl Abort, alloc: Global, files: Pair) {
+fn expect_answers<R: Threads + Wait + Clock + Sync + Abort>(rt: &R, alloc: Global, files: Pair) {
     for command in &COMMANDS {
         expect(rt, alloc, command.words, files, 0, command.answer, "");
     }
 }
 
 /// Each command answers these files with this status and this text on the error output, and nothing else.
-fn expect_fault(rt: &impl Abort, alloc: Global, files: Pair, status: u8, errors: &str) {
+fn expect_fault<R: Threads + Wait + Clock + Sync + Abort>(
+    rt: &R,
+    alloc: Global,
+    files: Pair,
+    status: u8,
+    errors: &str,
+) {
     for command in &COMMANDS {
         expect(rt, alloc, command.words, files, status, "", errors);
     }
@@ -147,11 +156,16 @@ fn tells_failed_reads(rt: HostRuntime) -> Result<(), Fail> {
 }
 
 /// How many files are opened for the words.
-fn expect_opened(rt: &impl Abort, alloc: Global, words: &[&str], opened: u64) {
+fn expect_opened<R: Threads + Wait + Clock + Sync + Abort>(
+    rt: &R,
+    alloc: Global,
+    words: &[&str],
+    opened: u64,
+) {
     let mut files = readable(PING.as_bytes(), PING_CERT.as_bytes());
     let mut out = Vec::new(alloc);
     let mut err = Vec::new(alloc);
-    tool(alloc, words, &mut files, &mut out, &mut err);
+    tool(rt, alloc, words, &mut files, &mut out, &mut err);
     assert_eq!(rt; files.opened, opened, "{words:?}");
 }
 
@@ -196,10 +210,15 @@ impl Write for Full {
 }
 
 /// What a command tells where its output takes so many bytes.
-fn expect_write_fault(rt: &impl Abort, alloc: Global, words: &[&str], room: usize) {
+fn expect_write_fault<R: Threads + Wait + Clock + Sync + Abort>(
+    rt: &R,
+    alloc: Global,
+    words: &[&str],
+    room: usize,
+) {
     let mut files = readable(PING.as_bytes(), PING_CERT.as_bytes());
     let mut err = Vec::new(alloc);
-    let status = tool(alloc, words, &mut files, &mut Full { room }, &mut err);
+    let status = tool(rt, alloc, words, &mut files, &mut Full { room }, &mut err);
     assert_eq!(rt; status, 3, "{words:?}");
     assert_eq!(rt; text_of(err.as_slice()), "ddscheck: 6 Write\n", "{words:?}");
 }
@@ -222,7 +241,7 @@ fn answers_the_status_without_an_error_output(rt: HostRuntime) -> Result<(), Fai
         let mut files = readable(b"", PING_CERT.as_bytes());
         let mut out = Vec::new(alloc);
         let mut err = Full { room: 0 };
-        let status = tool(alloc, command.words, &mut files, &mut out, &mut err);
+        let status = tool(&rt, alloc, command.words, &mut files, &mut out, &mut err);
         assert_eq!(rt; status, 2, "{:?}", command.words);
         assert_eq!(rt; out.len(), 0, "{:?}", command.words);
     }
@@ -230,15 +249,25 @@ fn answers_the_status_without_an_error_output(rt: HostRuntime) -> Result<(), Fai
 }
 
 /// Runs a command on two files, whatever it answers of them.
-fn expect_an_answer(rt: &impl Abort, alloc: Global, words: &[&str], mut files: Pair, end: usize) {
+fn expect_an_answer<R: Threads + Wait + Clock + Sync + Abort>(
+    rt: &R,
+    alloc: Global,
+    words: &[&str],
+    mut files: Pair,
+    end: usize,
+) {
     let mut out = Vec::new(alloc);
     let mut err = Vec::new(alloc);
-    let status = tool(alloc, words, &mut files, &mut out, &mut err);
+    let status = tool(rt, alloc, words, &mut files, &mut out, &mut err);
     assert!(rt; status <= 2, "{words:?} {end}");
 }
 
 /// A command reads every beginning of a deployment.
-fn over_beginnings(rt: &impl Abort, alloc: Global, words: &[&str]) {
+fn over_beginnings<R: Threads + Wait + Clock + Sync + Abort>(
+    rt: &R,
+    alloc: Global,
+    words: &[&str],
+) {
     let (deployment, certificate) = (PING.as_bytes(), PING_CERT.as_bytes());
     for end in 0..deployment.len() {
         let files = readable(&deployment[..end], certificate);

@@ -5,7 +5,10 @@ use dds_files::texts::{LOOP, LOOP_CERT, PING, PING_CERT, SMALL, SMALL_CERT, TWO,
 use dds_tool::tool;
 use std::alloc::{AllocError, Global};
 use std::process::Abort;
+use std::sync::Wait;
 use std::test::Fail;
+use std::thread::Threads;
+use std::time::Clock;
 
 const CHECK: &[&str] = &["ddscheck", "check", "d", "c"];
 
@@ -32,25 +35,31 @@ struct Answer {
     err: Vec<u8>,
 }
 
-fn answered(alloc: Global, words: &[&str], deployment: &str, certificate: &str) -> Answer {
+fn answered<R: Threads + Wait + Clock + Sync>(
+    rt: &R,
+    alloc: Global,
+    words: &[&str],
+    deployment: &str,
+    certificate: &str,
+) -> Answer {
     let mut files = readable(deployment.as_bytes(), certificate.as_bytes());
     let mut out = Vec::new(alloc);
     let mut err = Vec::new(alloc);
-    let status = tool(alloc, words, &mut files, &mut out, &mut err);
+    let status = tool(rt, alloc, words, &mut files, &mut out, &mut err);
     Answer { status, out, err }
 }
 
 /// The words answer both deployments alike.
-fn expect_same(
-    rt: &impl Abort,
+fn expect_same<R: Threads + Wait + Clock + Sync + Abort>(
+    rt: &R,
     alloc: Global,
     words: &[&str],
     one: &str,
     two: &str,
     certificate: &str,
 ) {
-    let first = answered(alloc, words, one, certificate);
-    let second = answered(alloc, words, two, certificate);
+    let first = answered(rt, alloc, words, one, certificate);
+    let second = answered(rt, alloc, words, two, certificate);
     assert_eq!(rt;
         text_of(second.out.as_slice()),
         text_of(first.out.as_slice()),
@@ -65,18 +74,18 @@ fn expect_same(
 }
 
 /// What is printed of a file is of version 2, can't be migrated again, and is answered as the file.
-fn expect_migrated(
-    rt: &impl Abort,
+fn expect_migrated<R: Threads + Wait + Clock + Sync + Abort>(
+    rt: &R,
     alloc: Global,
     text: &str,
     certificate: &str,
 ) -> Result<(), AllocError> {
-    let printed = answered(alloc, MIGRATE, text, "");
+    let printed = answered(rt, alloc, MIGRATE, text, "");
     assert_eq!(rt; text_of(printed.err.as_slice()), "", "{text}");
     assert_eq!(rt; printed.status, 0, "{text}");
     let new = String::from_str(alloc, text_of(printed.out.as_slice()))?;
     assert!(rt; new.as_str().contains("version = 2\n"), "{new}");
-    let again = answered(alloc, MIGRATE, new.as_str(), "");
+    let again = answered(rt, alloc, MIGRATE, new.as_str(), "");
     assert_eq!(rt;
         text_of(again.err.as_slice()),
         "ddscheck: deployment 2 WrongVersion version\n"
@@ -99,14 +108,22 @@ fn migrates_worked_files(rt: HostRuntime) -> Result<(), Fail> {
 }
 
 /// The certificate that is proposed for a deployment, or `none`.
-fn proposed(alloc: Global, text: &str) -> Result<String, AllocError> {
-    let answer = answered(alloc, PROPOSE, text, "");
+fn proposed<R: Threads + Wait + Clock + Sync>(
+    rt: &R,
+    alloc: Global,
+    text: &str,
+) -> Result<String, AllocError> {
+    let answer = answered(rt, alloc, PROPOSE, text, "");
     String::from_str(alloc, text_of(answer.out.as_slice()))
 }
 
-fn expect_drawn(rt: &impl Abort, alloc: Global, seed: u32) -> Result<(), AllocError> {
+fn expect_drawn<R: Threads + Wait + Clock + Sync + Abort>(
+    rt: &R,
+    alloc: Global,
+    seed: u32,
+) -> Result<(), AllocError> {
     let text = deployment(alloc, seed)?;
-    let certificate = proposed(alloc, text.as_str())?;
+    let certificate = proposed(rt, alloc, text.as_str())?;
     expect_migrated(rt, alloc, text.as_str(), certificate.as_str())
 }
 

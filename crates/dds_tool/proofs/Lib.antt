@@ -4,3 +4,7 @@ pub mod Searches
 mod Migrations
 mod Requests
 pub mod Names
+mod FateLists
+mod Numbers
+mod Tallies
+mod RunGives

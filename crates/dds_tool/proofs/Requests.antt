@@ -1,5 +1,5 @@
 -- What is said of a request whose answer was written, or that met a fault.
-use Rattle.std.proofs.Common.{◌≡◌, ◌⊎◌, ℕ, List, [], Option, Some, None, Result, Ok, Err, IfOk, IfErr, inl, inr, refl, sym, ◌∙◌, append-nil, arith}
+use Rattle.std.proofs.Common.{◌≡◌, ◌⊎◌, ℕ, List, [], Option, Some, None, Result, Ok, Err, IfOk, IfErr, inl, inr, refl, ap, sym, ◌∙◌, append-nil, arith}
 use Rattle.std.specs.Io.KnownBytes.{Appends, Keeps}
 use Rattle.dds_tool.specs.declared.fault.ToolFault.{ToolFault}
 use Rattle.dds_tool.specs.declared.fault.ToolFault.TheVariants as fault
@@ -12,6 +12,7 @@ use Rattle.dds_tool.specs.Fault.{fault_status}
 use Rattle.dds_tool.specs.Migrations.{MayMigrateFor}
 use Rattle.dds_tool.specs.Outcome.{Outcome, file_outcome, match_file_outcome, too_large, unproposed}
 use Rattle.dds_tool.specs.Report.{Ends, output_of, status_of}
+use Rattle.dds_tool.specs.RunEnds.{GivesRun, MayRun}
 
 -- known bytes that stay grow by nothing
 appends_nothing : (old new : Option (List ℕ)) → Keeps old new → Appends old new []
@@ -87,40 +88,76 @@ one_faulted May (Err e) f status old new (inl failed) ends nothing told =
     let all = every_end f (ends too_large (any_end e too_large failed)) (ends unproposed (any_end e unproposed failed)) in
     inl (elim told [ inl h ↦ h ∙ all | inr h ↦ h ])
 
+-- a fault is passed on
+abbrev Passes : Result Answer ToolFault → Result ℕ ToolFault → Type 0
+Passes given r = IfErr given (λ e. r ≡ Err e)
+
+-- the fault that was passed on is the same
+same_fault : (given : Result Answer ToolFault) (f : ToolFault) → Passes given (Err f) → IfErr given (λ e. f ≡ e)
+same_fault (Ok answer) f passed = tt
+same_fault (Err e) f passed = cc
+
+no_fault : (status : ℕ) (e : ToolFault) → Passes (Err e) (Ok status) → ⊥
+no_fault status e passed = cc
+
+-- an end that a run may come to was said, where a fault is passed on
+run_said : (checked : Outcome) (given : Result Answer ToolFault) (status : ℕ) (old new : Option (List ℕ)) → GivesRun checked given
+    → ((end : Outcome) → Gives given end → (status ≡ status_of end) × Appends old new (output_of end))
+    → Passes given (Ok status)
+    → (status ≡ 3) ⊎ ((end : Outcome) × MayRun checked end × Said end status old new)
+run_said checked (Ok answer) status old new (end, may, is) written passed = inr (end, may, inl (written end is))
+run_said checked (Err e) status old new gives written passed = absurd (no_fault status e passed)
+
+-- a fault is said of one of the ends that a run may come to, or of the run, of memory or of a device
+run_faulted : (checked : Outcome) (given : Result Answer ToolFault) (f : ToolFault) (status : ℕ) (old new : Option (List ℕ)) → GivesRun checked given
+    → ((end : Outcome) → Gives given end → Ends f end) → (f ≡ fault.Write) ⊎ Keeps old new → IfErr given (λ e. f ≡ e)
+    → (status ≡ fault_status f) ⊎ (status ≡ 3) → (status ≡ 3) ⊎ ((end : Outcome) × MayRun checked end × Said end status old new)
+run_faulted checked (Ok answer) f status old new gives ends nothing passed told = one_faulted (MayRun checked) (Ok answer) f status old new gives ends nothing told
+run_faulted checked (Err e) f status old new (inr gives) ends nothing passed told = one_faulted (MayRun checked) (Err e) f status old new gives ends nothing told
+run_faulted checked (Err e) f status old new (inl run) ends nothing passed told = inl (elim told [ inl h ↦ h ∙ ap fault_status (passed ∙ run) | inr h ↦ h ])
+
 -- an answer that was written is what is said of the request
 pub answered : (holds : List ℕ → Option (List ℕ)) (request : Request) (given : Result Answer ToolFault) (r : Result ℕ ToolFault) (old new : Option (List ℕ))
     → GivesTo holds request given
     → ((end : Outcome) → Gives given end → IfOk r (λ status. (status ≡ status_of end) × Appends old new (output_of end)))
+    → Passes given r
     → IfOk r (λ status. Answers holds request status old new)
-answered holds (asked.Check d b) given (Ok status) old new gives written = λ x y hx hy. inl (written (file_outcome x y) (gives x y hx hy))
-answered holds (asked.Match d) given (Ok status) old new gives written = λ x hx. inl (written (match_file_outcome x) (gives x hx))
-answered holds (asked.Propose d) given (Ok status) old new gives written = λ x hx. let g = gives x hx in (g.0, g.1, inl (written g.0 g.2))
-answered holds (asked.ProposeThoroughly d) given (Ok status) old new gives written = λ x hx. let g = gives x hx in (g.0, g.1, inl (written g.0 g.2))
-answered holds (asked.Migrate d) given (Ok status) old new gives written = λ x hx. one_said (MayMigrateFor x) given status old new (gives x hx) written
-answered holds (asked.Check d b) given (Err f) old new gives written = tt
-answered holds (asked.Match d) given (Err f) old new gives written = tt
-answered holds (asked.Propose d) given (Err f) old new gives written = tt
-answered holds (asked.ProposeThoroughly d) given (Err f) old new gives written = tt
-answered holds (asked.Migrate d) given (Err f) old new gives written = tt
+answered holds (asked.Check d b) given (Ok status) old new gives written passed = λ x y hx hy. inl (written (file_outcome x y) (gives x y hx hy))
+answered holds (asked.Match d) given (Ok status) old new gives written passed = λ x hx. inl (written (match_file_outcome x) (gives x hx))
+answered holds (asked.Propose d) given (Ok status) old new gives written passed = λ x hx. let g = gives x hx in (g.0, g.1, inl (written g.0 g.2))
+answered holds (asked.ProposeThoroughly d) given (Ok status) old new gives written passed = λ x hx. let g = gives x hx in (g.0, g.1, inl (written g.0 g.2))
+answered holds (asked.Migrate d) given (Ok status) old new gives written passed = λ x hx. one_said (MayMigrateFor x) given status old new (gives x hx) written
+answered holds (asked.Run d b wishes) given (Ok status) old new gives written passed =
+    λ x y hx hy. run_said (file_outcome x y) given status old new (gives x y hx hy) written passed
+answered holds (asked.Check d b) given (Err f) old new gives written passed = tt
+answered holds (asked.Match d) given (Err f) old new gives written passed = tt
+answered holds (asked.Propose d) given (Err f) old new gives written passed = tt
+answered holds (asked.ProposeThoroughly d) given (Err f) old new gives written passed = tt
+answered holds (asked.Migrate d) given (Err f) old new gives written passed = tt
+answered holds (asked.Run d b wishes) given (Err f) old new gives written passed = tt
 
 -- a fault is said of the request by its status, or by 3
 pub faulted : (holds : List ℕ → Option (List ℕ)) (request : Request) (given : Result Answer ToolFault) (r : Result ℕ ToolFault) (old new : Option (List ℕ))
     → GivesTo holds request given
     → ((end : Outcome) → Gives given end → IfErr r (λ f. Ends f end))
     → IfErr r (λ f. (f ≡ fault.Write) ⊎ Keeps old new)
+    → Passes given r
     → IfErr r (λ f. (status : ℕ) → (status ≡ fault_status f) ⊎ (status ≡ 3) → Answers holds request status old new)
-faulted holds (asked.Check d b) given (Err f) old new gives ends nothing =
+faulted holds (asked.Check d b) given (Err f) old new gives ends nothing passed =
     λ status told x y hx hy. fault_said (file_outcome x y) f status old new (ends (file_outcome x y) (gives x y hx hy)) nothing told
-faulted holds (asked.Match d) given (Err f) old new gives ends nothing =
+faulted holds (asked.Match d) given (Err f) old new gives ends nothing passed =
     λ status told x hx. fault_said (match_file_outcome x) f status old new (ends (match_file_outcome x) (gives x hx)) nothing told
-faulted holds (asked.Propose d) given (Err f) old new gives ends nothing =
+faulted holds (asked.Propose d) given (Err f) old new gives ends nothing passed =
     λ status told x hx. let g = gives x hx in (g.0, g.1, fault_said g.0 f status old new (ends g.0 g.2) nothing told)
-faulted holds (asked.ProposeThoroughly d) given (Err f) old new gives ends nothing =
+faulted holds (asked.ProposeThoroughly d) given (Err f) old new gives ends nothing passed =
     λ status told x hx. let g = gives x hx in (g.0, g.1, fault_said g.0 f status old new (ends g.0 g.2) nothing told)
-faulted holds (asked.Migrate d) given (Err f) old new gives ends nothing =
+faulted holds (asked.Migrate d) given (Err f) old new gives ends nothing passed =
     λ status told x hx. one_faulted (MayMigrateFor x) given f status old new (gives x hx) ends nothing told
-faulted holds (asked.Check d b) given (Ok status) old new gives ends nothing = tt
-faulted holds (asked.Match d) given (Ok status) old new gives ends nothing = tt
-faulted holds (asked.Propose d) given (Ok status) old new gives ends nothing = tt
-faulted holds (asked.ProposeThoroughly d) given (Ok status) old new gives ends nothing = tt
-faulted holds (asked.Migrate d) given (Ok status) old new gives ends nothing = tt
+faulted holds (asked.Run d b wishes) given (Err f) old new gives ends nothing passed =
+    λ status told x y hx hy. run_faulted (file_outcome x y) given f status old new (gives x y hx hy) ends nothing (same_fault given f passed) told
+faulted holds (asked.Check d b) given (Ok status) old new gives ends nothing passed = tt
+faulted holds (asked.Match d) given (Ok status) old new gives ends nothing passed = tt
+faulted holds (asked.Propose d) given (Ok status) old new gives ends nothing passed = tt
+faulted holds (asked.ProposeThoroughly d) given (Ok status) old new gives ends nothing passed = tt
+faulted holds (asked.Migrate d) given (Ok status) old new gives ends nothing passed = tt
+faulted holds (asked.Run d b wishes) given (Ok status) old new gives ends nothing passed = tt

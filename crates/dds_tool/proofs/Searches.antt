@@ -9,7 +9,7 @@ use Rattle.dds_tool.specs.declared.fault.ToolFault.{ToolFault}
 use Rattle.dds_tool.specs.declared.fault.ToolFault.TheVariants as fault
 use Rattle.dds_tool.specs.Answers.{Gives}
 use Rattle.dds_tool.specs.Outcome.{Outcome}
-use Rattle.dds_tool.specs.Proposals.{MayPropose, MayProposeFor, MayProposeIf}
+use Rattle.dds_tool.specs.Proposals.{MayPropose, MayProposeIf}
 use Rattle.dds_tool.specs.Reading.{IsReadingFault}
 use Rattle.dds_tool.specs.Report.{Ends, IsDeploymentFault}
 use Rattle.dds_tool.specs.Searches.{MayFind, MayFindFor, MayFindIf}

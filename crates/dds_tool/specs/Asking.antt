@@ -1,11 +1,16 @@
 -- What the words of a command line ask for, by clap's own account of a command and its words.
-use Rattle.std.specs.Prelude.{ℕ, ◌≡◌, ◌⊎◌, Bool, List, Option, Some, Result, true, false, codes}
+use Rattle.std.specs.Prelude.{ℕ, ◌≡◌, ◌⊎◌, ◌<◌, ◌^◌, Bool, List, [], ◌∷◌, Option, Some, Result, true, false, codes, pos}
 use Rattle.std.specs.Option.{option_map_or}
 use Rattle.std.specs.Str.{bytes_eq}
 use Rattle.std.specs.Io.KnownBytes.{Appends}
-use Rattle.clap.specs.Words.{App, Row, Rule, Text, new_app, new_rule, with_rule, with_subcommand, subcommand_of, first_of}
+use Rattle.std.specs.Str.Parse.{IsNumeral, digits_value, without_leading_plus}
+use Rattle.clap.specs.Words.{App, Row, Rule, Text, new_app, new_rule, with_rule, with_subcommand, subcommand_of, first_of, one_of}
 use Rattle.clap.specs.declared.builder.ArgAction.TheVariants.{Set, SetTrue}
+use Rattle.clap.specs.declared.builder.value_parser.ValueParser.TheVariants.{Signed}
 use Rattle.clap.specs.Simple.{on_top}
+use Rattle.dds_peers.specs.Fates.{AreFates}
+use Rattle.dds_tool.specs.Wishes.{fates_text}
+use Rattle.dds_tool.specs.declared.wishes.Wishes.{Wishes}
 use Rattle.dds_tool.specs.declared.request.Request.{Request}
 use Rattle.dds_tool.specs.declared.request.Request.TheVariants as asked
 use Rattle.dds_tool.specs.declared.request.NoRequest.{NoRequest}
@@ -16,6 +21,7 @@ use Rattle.dds_tool.specs.Answers.{Gives, GivesOneOf}
 use Rattle.dds_tool.specs.Outcome.{Outcome, file_outcome, match_file_outcome}
 use Rattle.dds_tool.specs.Migrations.{MayMigrateFor}
 use Rattle.dds_tool.specs.Proposals.{MayProposeFor}
+use Rattle.dds_tool.specs.RunEnds.{GivesRun, MayRun}
 use Rattle.dds_tool.specs.Searches.{MayFindFor}
 use Rattle.dds_tool.specs.Report.{output_of, status_of}
 
@@ -39,6 +45,18 @@ searching = with_rule (one_file (codes "propose")) thorough_rule
 abbrev pub two_files : Text → App
 two_files name = with_rule (one_file name) (file_rule (codes "certificate"))
 
+-- a wish with a text that holds where it isn't given
+abbrev pub wish_rule : Text → Text → Rule
+wish_rule id default = record (new_rule id) { long = Some id; value_names = 1; defaults = default ∷ []; action = Some Set }
+
+-- a wish for a number up to 65,535, which is 10 where it isn't given
+abbrev pub count_rule : Text → Rule
+count_rule id = record (wish_rule id (codes "10")) { parser = Some (Signed (pos 0) (pos 65535)) }
+
+-- the command that runs a deployment
+abbrev pub running : App
+running = with_rule (with_rule (with_rule (two_files (codes "run")) (wish_rule (codes "fates") (codes "pass"))) (count_rule (codes "writes"))) (count_rule (codes "takes"))
+
 -- the command by itself: it has a version, and wants a subcommand
 abbrev pub top_app : App
 top_app = on_top (λ s. record s { subcommand_required = true; has_version = true }) (new_app (codes "ddscheck"))
@@ -47,7 +65,7 @@ top_app = on_top (λ s. record s { subcommand_required = true; has_version = tru
 abbrev pub whole : App
 whole =
     with_subcommand
-    (with_subcommand (with_subcommand (with_subcommand top_app (one_file (codes "match")).top) (two_files (codes "check")).top) searching.top)
+    (with_subcommand (with_subcommand (with_subcommand (with_subcommand top_app (one_file (codes "match")).top) (two_files (codes "check")).top) searching.top) running.top)
     (one_file (codes "migrate")).top
 
 -- the words name the subcommand, and the argument has this text
@@ -63,6 +81,22 @@ abbrev pub Looks : List Text → Text → Bool → Type 0
 Looks words name thorough =
     (rows : List Row) × (subcommand_of whole words ≡ Some (codes "propose", rows)) × (first_of (codes "deployment") rows ≡ Some name) × (is_thorough rows ≡ thorough)
 
+-- the argument has a text that reads as this number, which is at most 65,535
+abbrev pub Counts : List Row → Text → ℕ → Type 0
+Counts rows id count =
+    (text : Text) × (one_of id rows ≡ Some text) × IsNumeral 10 (without_leading_plus text) × (digits_value 10 (without_leading_plus text) ≡ count) × (count < 2 ^ 16)
+
+-- the arguments have the texts of these wishes
+abbrev pub Wants : List Row → Wishes → Type 0
+Wants rows wishes =
+    AreFates wishes.fates × (first_of (codes "fates") rows ≡ Some (fates_text wishes.fates)) × Counts rows (codes "writes") wishes.writes × Counts rows (codes "takes") wishes.takes
+
+-- the words run the deployment with this name, by the certificate with that name, with these wishes
+abbrev pub Runs : List Text → Text → Text → Wishes → Type 0
+Runs words deployment certificate wishes =
+    (rows : List Row) × (subcommand_of whole words ≡ Some (codes "run", rows)) × (first_of (codes "deployment") rows ≡ Some deployment)
+    × (first_of (codes "certificate") rows ≡ Some certificate) × Wants rows wishes
+
 -- the words ask for this, by clap's own account of the command
 abbrev pub Asks : List Text → Request → Type 0
 Asks words (asked.Match d) = Names words (codes "match") (codes "deployment") d.now
@@ -70,6 +104,7 @@ Asks words (asked.Propose d) = Looks words d.now false
 Asks words (asked.ProposeThoroughly d) = Looks words d.now true
 Asks words (asked.Migrate d) = Names words (codes "migrate") (codes "deployment") d.now
 Asks words (asked.Check d c) = Names words (codes "check") (codes "deployment") d.now × Names words (codes "check") (codes "certificate") c.now
+Asks words (asked.Run d c wishes) = Runs words d.now c.now wishes
 
 -- help or the version was asked for
 abbrev pub IsHelp : NoRequest → Type 0
@@ -84,6 +119,7 @@ GivesTo holds (asked.Match d) result = (x : List ℕ) → holds d.now ≡ Some x
 GivesTo holds (asked.Propose d) result = (x : List ℕ) → holds d.now ≡ Some x → (end : Outcome) × MayProposeFor x end × Gives result end
 GivesTo holds (asked.ProposeThoroughly d) result = (x : List ℕ) → holds d.now ≡ Some x → (end : Outcome) × MayFindFor x end × Gives result end
 GivesTo holds (asked.Migrate d) result = (x : List ℕ) → holds d.now ≡ Some x → GivesOneOf (MayMigrateFor x) result
+GivesTo holds (asked.Run d c wishes) result = (x y : List ℕ) → holds d.now ≡ Some x → holds c.now ≡ Some y → GivesRun (file_outcome x y) result
 
 -- the status and what is added to the output are those of this end, or memory or a device failed, and the status is 3
 abbrev pub Said : Outcome → ℕ → Option (List ℕ) → Option (List ℕ) → Type 0
@@ -96,3 +132,5 @@ Answers holds (asked.Match d) status old new = (x : List ℕ) → holds d.now �
 Answers holds (asked.Propose d) status old new = (x : List ℕ) → holds d.now ≡ Some x → (end : Outcome) × MayProposeFor x end × Said end status old new
 Answers holds (asked.ProposeThoroughly d) status old new = (x : List ℕ) → holds d.now ≡ Some x → (end : Outcome) × MayFindFor x end × Said end status old new
 Answers holds (asked.Migrate d) status old new = (x : List ℕ) → holds d.now ≡ Some x → (status ≡ 3) ⊎ ((end : Outcome) × MayMigrateFor x end × Said end status old new)
+Answers holds (asked.Run d c wishes) status old new =
+    (x y : List ℕ) → holds d.now ≡ Some x → holds c.now ≡ Some y → (status ≡ 3) ⊎ ((end : Outcome) × MayRun (file_outcome x y) end × Said end status old new)

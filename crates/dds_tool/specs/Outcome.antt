@@ -7,9 +7,11 @@ use Rattle.dds_cert.specs.Lists.{Certificate}
 use Rattle.dds_cert.specs.Sections as certificate
 use Rattle.dds_check.specs.Accepts.{first_no}
 use Rattle.dds_check.specs.declared.verdict.No.{No}
+use Rattle.dds_book.specs.declared.entry.Entry.{Entry}
+use Rattle.dds_peers.specs.declared.player.AppEnd.{AppEnd}
 
 -- the certificate is accepted, or a condition fails, or the endpoints are compared, or a certificate is proposed or none is found, or a deployment is
--- migrated to this text, or a file has a flaw, or a file has too many bytes
+-- migrated to this text, or it ran, with this journal and these ends of its applications' threads, or a file has a flaw, or a file has too many bytes
 pub data Outcome : Type 0 where
   accepted : Lists → Certificate → Outcome
   refused : No → Lists → Certificate → Outcome
@@ -17,6 +19,7 @@ pub data Outcome : Type 0 where
   proposed : Lists → Certificate → Outcome
   unproposed : Outcome
   migrated : List ℕ → Outcome
+  ran : Lists → List Entry → List AppEnd → Outcome
   bad_deployment : Flaw → Outcome
   bad_certificate : Flaw → Outcome
   too_large : Outcome

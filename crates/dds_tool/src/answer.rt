@@ -1,23 +1,18 @@
 //! What each command answers to the bytes of its files.
-ghost use Rattle.std.specs.Prelude.{◌≡◌, ◌≤◌, IfErr, IfOk, IsOk, Ok, OnOk, true};
-ghost use Rattle.dds_match.specs.Plan.{network_of};
-ghost use Rattle.dds_cert.specs.Fits.{fits};
-ghost use Rattle.dds_cert.specs.Sections.{read as certificate_read};
+ghost use Rattle.std.specs.Prelude.{◌≡◌, ◌≤◌, IfErr, IfOk, IsOk, Ok, OnOk};
 ghost use Rattle.dds_cert.specs.Views.{certificate_view};
-ghost use Rattle.dds_check.specs.Accepts.{first_no};
 ghost use Rattle.dds_tool.specs.Answers.{Gives, GivesOneOf, answer_status};
 ghost use Rattle.dds_tool.specs.Fault.{fault_status};
-ghost use Rattle.dds_tool.specs.Outcome.{Outcome, compared, judged, match_outcome, outcome, proposed, unproposed, verdict};
+ghost use Rattle.dds_tool.specs.Outcome.{Outcome, compared, match_outcome, outcome, proposed, unproposed};
 ghost use Rattle.dds_tool.specs.Migrations.{MayMigrate};
-ghost use Rattle.dds_tool.specs.Proposals.{IsProposed, MayPropose};
+ghost use Rattle.dds_tool.specs.Proposals.{MayPropose};
+ghost use Rattle.dds_tool.specs.Report.{outcome_of};
 ghost use Rattle.dds_deploy.specs.Sections.{read as deployment_read, read_up_to};
 
 use crate::fault::ToolFault;
 use crate::matches::{is_as_intended, match_text};
-use crate::report::{acceptance_text, certificate_fault, deployment_fault, refusal_text};
-use dds_cert::{Certificate, certificate_text, read_certificate};
-use dds_check::No;
-use dds_check::accepts::accepts;
+use crate::report::{Report, answer_check, deployment_fault, report_text};
+use dds_cert::{Certificate, certificate_text};
 use dds_deploy::{Deployment, migrate, read_deployment};
 use dds_match::Plan;
 use dds_match::planning::plan;
@@ -42,17 +37,6 @@ impl Answer {
     }
 }
 
-/// The first condition that refuses a certificate that fits the plan.
-fn refusal(plan: &Plan, certificate: &Certificate) -> Option<No>
-    requires { fits (network_of plan.now) (certificate_view certificate.now) ≡ true }
-    ensures { result ≡ first_no plan.now (certificate_view certificate.now) }
-{
-    match accepts(plan, certificate) {
-        Ok(()) => None,
-        Err(no) => Some(no),
-    }
-}
-
 /// The answer with a text, if there was memory for it.
 fn answered(text: Result<String, AllocError>, is_yes: bool) -> Result<Answer, ToolFault>
     ensures answer { IfOk result (λ a. (a.is_yes ≡ is_yes) × IfOk text (λ t. a.text ≡ t)) }
@@ -69,44 +53,16 @@ fn answered(text: Result<String, AllocError>, is_yes: bool) -> Result<Answer, To
     }
 }
 
-/// The answer to a certificate that fits the plan.
+/// The answer that tells a report, which is needed no longer: yes where the certificate is accepted.
 #[tactic(auto, unfolding(crate::specs::Report::output_of, crate::specs::Report::status_of))]
-fn judged(alloc: Global, plan: &Plan, certificate: &Certificate) -> Result<Answer, ToolFault>
-    requires { fits (network_of plan.now) (certificate_view certificate.now) ≡ true }
-    ensures gives { Gives result (verdict (first_no plan.now (certificate_view certificate.now)) plan.now (certificate_view certificate.now)) }
+pub(crate) fn reported(alloc: Global, report: Report) -> Result<Answer, ToolFault>
+    ensures gives { Gives result (outcome_of report) }
     ensures no_usage { IfErr result (λ e. fault_status e ≤ 3) }
 {
-    match refusal(plan, certificate) {
-        None => answered(acceptance_text(alloc, plan.lists(), certificate), true),
-        Some(no) => answered(refusal_text(alloc, no, plan.lists(), certificate), false),
-    }
-}
-
-/// The answer to the bytes of a certificate, for a plan that is needed no longer.
-fn read_and_judged(alloc: Global, plan: Plan, certificate: &[u8]) -> Result<Answer, ToolFault>
-    ensures gives { Gives result (judged plan (certificate_read plan certificate.now)) }
-    ensures no_usage { IfErr result (λ e. fault_status e ≤ 3) }
-{
-    let answer = match read_certificate(alloc, &plan, certificate) {
-        Ok(certificate) => judged(alloc, &plan, &certificate),
-        Err(fault) => Err(certificate_fault(fault)),
-    };
-    drop(plan);
+    let is_yes = matches!(&report, Report::Yes(_));
+    let answer = answered(report_text(alloc, &report), is_yes);
+    drop(report);
     answer
-}
-
-/// The answer to the bytes of a certificate, for the lists of a deployment.
-fn lists_judged(alloc: Global, lists: Deployment, certificate: &[u8]) -> Result<Answer, ToolFault>
-    ensures gives { Gives result (judged lists (certificate_read lists certificate.now)) }
-    ensures no_usage { IfErr result (λ e. fault_status e ≤ 3) }
-{
-    match plan(alloc, lists) {
-        Ok(plan) => read_and_judged(alloc, plan, certificate),
-        Err((_, lists)) => {
-            drop(lists);
-            Err(ToolFault::NoMemory)
-        }
-    }
 }
 
 /// The answer of `check` to the bytes of a deployment and of a certificate: yes where the certificate is accepted. It is that of the report on them.
@@ -118,9 +74,9 @@ pub fn check_answer(
     ensures gives { Gives result (outcome deployment.now certificate.now) }
     ensures no_usage { IfErr result (λ e. fault_status e ≤ 3) }
 {
-    match read_deployment(alloc, deployment) {
-        Ok(lists) => lists_judged(alloc, lists, certificate),
-        Err(fault) => Err(deployment_fault(fault)),
+    match answer_check(alloc, deployment, certificate) {
+        Ok(report) => reported(alloc, report),
+        Err(fault) => Err(fault),
     }
 }
 

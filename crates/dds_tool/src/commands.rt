@@ -1,5 +1,5 @@
 //! The commands, over any files and any two writers.
-ghost use Rattle.std.specs.Prelude.{◌≡◌, ◌≢◌, ℕ, List, ◌≤◌, ◌⊎◌, Some, true, map, OnOk, IfOk, IfErr, IfSome, IsErrOf, length, ◌<◌};
+ghost use Rattle.std.specs.Prelude.{◌≡◌, ◌≢◌, ℕ, List, ◌≤◌, ◌⊎◌, Some, true, map, OnOk, IfOk, IfErr, IfSome, IsErrOf, Err, length, ◌<◌};
 ghost use Rattle.std.specs.Io.KnownBytes.{Appends, Keeps};
 ghost use Rattle.clap.specs.Words.{takes};
 ghost use Rattle.dds_tool.specs.Answers.{Gives, GivesOneOf};
@@ -11,17 +11,23 @@ ghost use Rattle.dds_tool.specs.Proposals.{MayProposeFor};
 ghost use Rattle.dds_tool.specs.Searches.{MayFindFor};
 ghost use Rattle.dds_tool.specs.Reading.{IsReadingFault};
 ghost use Rattle.dds_tool.specs.Report.{Ends, output_of, status_of};
+ghost use Rattle.dds_tool.specs.RunEnds.{GivesRun};
 
 use crate::answer::{Answer, check_answer, match_answer, migrate_answer, propose_answer};
 use crate::counted::Counted;
 use crate::fault::{NO_MEMORY, ToolFault, fault_status, fault_text};
 use crate::reading::read_all;
 use crate::request::{NoRequest, Request, read_request};
+use crate::running::run_answer;
 use crate::sources::Sources;
 use crate::thorough::thorough_answer;
+use crate::wishes::Wishes;
 use std::alloc::Global;
 use std::convert::AsStr;
 use std::io::Write;
+use std::sync::Wait;
+use std::thread::Threads;
+use std::time::Clock;
 
 /// The bytes of the file at a path.
 fn read_file<S: Sources>(alloc: Global, files: &mut S, path: &str) -> Result<Vec<u8>, ToolFault>
@@ -66,6 +72,30 @@ fn check_files<S: Sources>(
     let deployment = read_file(alloc, files, deployment)?;
     let certificate = read_file(alloc, files, certificate)?;
     check_answer(alloc, deployment.as_slice(), certificate.as_slice())
+}
+
+/// The answer of `run` to two files. Both are read whole, the deployment first, before either is parsed.
+fn run_files<R: Threads + Wait + Clock + Sync, S: Sources>(
+    rt: &R,
+    alloc: Global,
+    deployment: &str,
+    certificate: &str,
+    wishes: &Wishes,
+    files: &mut S,
+) -> Result<Answer, ToolFault>
+    ensures gives { (d c : List ℕ) → S.holds files.old deployment.now ≡ Some d → S.holds files.old certificate.now ≡ Some c
+        → GivesRun (file_outcome d c) result }
+    ensures no_usage { IfErr result (λ e. fault_status e ≤ 3) }
+{
+    let deployment = read_file(alloc, files, deployment)?;
+    let certificate = read_file(alloc, files, certificate)?;
+    run_answer(
+        rt,
+        alloc,
+        deployment.as_slice(),
+        certificate.as_slice(),
+        wishes,
+    )
 }
 
 /// The answer of `match` to a file, which is read whole before it is parsed.
@@ -144,6 +174,7 @@ fn give<O: Write, E: Write>(
     ensures answer { (end : Outcome) → Gives answer end
         → IfOk result (λ status. (status ≡ status_of end) × Appends (O.contents out.old) (O.contents out.new) (output_of end)) }
     ensures fault { (end : Outcome) → Gives answer end → IfErr result (λ e. Ends e end) }
+    ensures passed { IfErr answer (λ e. result ≡ Err e) }
     ensures no_usage { IfErr answer (λ e. fault_status e ≤ 3) → IfErr result (λ e. fault_status e ≤ 3) }
     ensures status { IfOk result (λ status. status ≤ 1) }
     ensures nothing { IfErr result (λ e. (e ≡ ToolFault.Write) ⊎ Keeps (O.contents out.old) (O.contents out.new)) }
@@ -204,7 +235,8 @@ fn explain<O: Write, E: Write>(alloc: Global, reason: NoRequest, out: &mut O, er
 }
 
 /// The answer to a request.
-fn answer_of<S: Sources>(
+fn answer_of<R: Threads + Wait + Clock + Sync, S: Sources>(
+    rt: &R,
     alloc: Global,
     request: Request,
     files: &mut S,
@@ -221,11 +253,17 @@ fn answer_of<S: Sources>(
         Request::Propose { deployment } => propose_file(alloc, deployment, files),
         Request::ProposeThoroughly { deployment } => thorough_file(alloc, deployment, files),
         Request::Migrate { deployment } => migrate_file(alloc, deployment, files),
+        Request::Run {
+            deployment,
+            certificate,
+            wishes,
+        } => run_files(rt, alloc, deployment, certificate, &wishes, files),
     }
 }
 
 /// Does what a request asks for, and answers the status or the fault.
-fn run_request<S: Sources, O: Write, E: Write>(
+fn run_request<R: Threads + Wait + Clock + Sync, S: Sources, O: Write, E: Write>(
+    rt: &R,
     alloc: Global,
     request: Request,
     files: &mut S,
@@ -238,13 +276,14 @@ fn run_request<S: Sources, O: Write, E: Write>(
     ensures no_usage { IfErr result (λ e. fault_status e ≤ 3) }
     ensures nothing { IfErr result (λ e. (e ≡ ToolFault.Write) ⊎ Keeps (O.contents out.old) (O.contents out.new)) }
 {
-    give(answer_of(alloc, request, files), out, err)
+    give(answer_of(rt, alloc, request, files), out, err)
 }
 
 /// Does what the words ask for, of which the first is the program's name, and answers the exit status: 0 yes, 1 no, 2 a bad file, 3 want of memory or of
-/// a device, 4 words that ask for nothing. The answer goes to `out`, and a fault is told to `err`, as is why no certificate was found; where `err`
+/// a device or a run that failed, 4 words that ask for nothing. The answer goes to `out`, and a fault is told to `err`, as is why no certificate was found; where `err`
 /// does not take it, it is not told.
-pub fn tool<W: AsStr, S: Sources, O: Write, E: Write>(
+pub fn tool<R: Threads + Wait + Clock + Sync, W: AsStr, S: Sources, O: Write, E: Write>(
+    rt: &R,
     alloc: Global,
     words: &[W],
     files: &mut S,
@@ -261,7 +300,7 @@ pub fn tool<W: AsStr, S: Sources, O: Write, E: Write>(
         Ok(request) => request,
         Err(reason) => return explain(alloc, reason, out, err),
     };
-    match run_request(alloc, request, files, out, err) {
+    match run_request(rt, alloc, request, files, out, err) {
         Ok(status) => status,
         Err(fault) => tell_fault(alloc, err, &fault),
     }

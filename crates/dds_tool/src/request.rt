@@ -1,11 +1,12 @@
 //! What the words of a command line ask for.
-ghost use Rattle.std.specs.Prelude.{◌≡◌, List, IfOk, IfErr, IfSome, Some, true, false, codes, map, option_map};
+ghost use Rattle.std.specs.Prelude.{◌≡◌, ℕ, List, IfNone, IfOk, IfErr, IfSome, Some, true, false, codes, map, option_map};
 ghost use Rattle.clap.specs.Words.{Text, app_of, first_of, found_of, kind_of, rows_of, rule_of, subcommand_of, subcommand_rows_of, takes, with_subcommand};
 ghost use Rattle.clap.specs.declared.builder.command.Command.TheViews.{out-Command as fields_of};
-ghost use Rattle.dds_tool.specs.Asking.{Asks, IsHelp, file_rule, is_thorough, one_file, searching, thorough_rule, top_app, two_files, whole};
+ghost use Rattle.dds_tool.specs.Asking.{Asks, Counts, IsHelp, Wants, count_rule, file_rule, is_thorough, one_file, running, searching, thorough_rule, top_app, two_files, whole, wish_rule};
 
+use crate::wishes::{Wishes, read_fates};
 use clap::error::ErrorKind;
-use clap::{Arg, ArgAction, ArgMatches, Command};
+use clap::{Arg, ArgAction, ArgMatches, Command, value_parser};
 use std::alloc::{AllocError, Global};
 use std::convert::AsStr;
 
@@ -19,6 +20,19 @@ const THOROUGH: &str =
 
 /// What help says of the argument that names a certificate.
 const CERTIFICATE: &str = "A TOML file: rows of weights, and the bounds and totals that they show";
+
+/// What help says of the fates of packets.
+const FATES: &str = "What befalls packets, in a circle: pass, keep, last, lose, with commas";
+
+/// What help says of the number of writes.
+const WRITES: &str = "How many samples each application writes";
+
+/// What help says of the number of takes.
+const TAKES: &str = "How many samples each application takes";
+
+/// What is told of fates that are no list.
+const WRONG_FATES: &str =
+    "error: the fates are 1 to 64 of the words pass, keep, last and lose, with commas between them\n";
 
 /// What is asked for. The texts are those of the command line.
 #[derive(Drop)]
@@ -43,6 +57,12 @@ pub enum Request<'a> {
     Check {
         deployment: &'a str,
         certificate: &'a str,
+    },
+    /// What a deployment does that a certificate shows to be safe.
+    Run {
+        deployment: &'a str,
+        certificate: &'a str,
+        wishes: Wishes,
     },
 }
 
@@ -114,6 +134,39 @@ fn two_files_command<'a>(
         .arg(file(alloc, "certificate", CERTIFICATE))
 }
 
+fn wish<'a>(alloc: Global, id: &'a str, value: &'a str, default: &'a str, help: &'a str) -> Arg<'a>
+    ensures rule { rule_of result ≡ wish_rule id.entry.now default.entry.now }
+    ensures local { result.global ≡ false }
+{
+    Arg::new(alloc, id)
+        .long(id)
+        .value_name(value)
+        .default_value(default)
+        .help(help)
+        .action(ArgAction::Set)
+}
+
+fn count<'a>(alloc: Global, id: &'a str, help: &'a str) -> Arg<'a>
+    ensures rule { rule_of result ≡ count_rule id.entry.now }
+    ensures local { result.global ≡ false }
+{
+    wish(alloc, id, "N", "10", help).value_parser(value_parser!(u16))
+}
+
+fn run_command<'a>(alloc: Global) -> Result<Command<'a>, AllocError>
+    ensures app { IfOk result (λ c. app_of c ≡ running) }
+    ensures local { IfOk result (λ c. (fields_of c).has_globals ≡ false) }
+{
+    two_files_command(
+        alloc,
+        "run",
+        "Runs a deployment that a certificate shows to be safe",
+    )?
+    .arg(wish(alloc, "fates", "LIST", "pass", FATES))?
+    .arg(count(alloc, "writes", WRITES))?
+    .arg(count(alloc, "takes", TAKES))
+}
+
 /// The command, and a subcommand more that has no global argument.
 fn with_command<'a>(command: Command<'a>, below: Command<'a>) -> Result<Command<'a>, AllocError>
     requires below { (fields_of below).has_globals ≡ false }
@@ -144,6 +197,8 @@ fn whole_command<'a>(alloc: Global) -> Result<Command<'a>, AllocError>
     let command = with_command(command, checking)?;
     let proposing = propose_command(alloc)?;
     let command = with_command(command, proposing)?;
+    let running = run_command(alloc)?;
+    let command = with_command(command, running)?;
     let migrating = one_file_command(
         alloc,
         "migrate",
@@ -255,6 +310,47 @@ fn propose_request<'a>(alloc: Global, matches: &ArgMatches<'a>) -> Result<Reques
     }
 }
 
+/// The number of an argument, if it was given or stands for itself.
+fn number(matches: &ArgMatches, id: &str) -> Option<u16>
+    ensures some { IfSome result (Counts (rows_of (found_of matches.now)) id.now) }
+    ensures none { IfNone result ((count : ℕ) → Counts (rows_of (found_of matches.now)) id.now count → ⊥) }
+{
+    matches.get_one::<u16>(id)
+}
+
+/// How a deployment is to run, or `None` where the fates aren't a list of them.
+fn wishes(matches: &ArgMatches) -> Option<Wishes>
+    ensures some { IfSome result (Wants (rows_of (found_of matches.now))) }
+    ensures none { IfNone result ((wishes : _) → Wants (rows_of (found_of matches.now)) wishes → ⊥) }
+{
+    Some(Wishes {
+        fates: read_fates(argument(matches, "fates")?)?,
+        writes: number(matches, "writes")?,
+        takes: number(matches, "takes")?,
+    })
+}
+
+fn run_request<'a>(alloc: Global, matches: &ArgMatches<'a>) -> Result<Request<'a>, NoRequest>
+    ensures asked { (words : List Text) → subcommand_of whole words ≡ Some (codes "run", rows_of (found_of matches.now)) → IfOk result (Asks words) }
+    ensures fault { IfErr result (λ e. ¬ IsHelp e) }
+    ensures unasked { (words : List Text) → subcommand_of whole words ≡ Some (codes "run", rows_of (found_of matches.now)) → (r : _) → Asks words r → IfErr result (λ _. ⊥) }
+{
+    let Some(wishes) = wishes(matches) else {
+        return Err(usage(alloc, WRONG_FATES));
+    };
+    match (
+        argument(matches, "deployment"),
+        argument(matches, "certificate"),
+    ) {
+        (Some(deployment), Some(certificate)) => Ok(Request::Run {
+            deployment,
+            certificate,
+            wishes,
+        }),
+        _ => Err(usage(alloc, "error: a file is missing\n")),
+    }
+}
+
 fn migrate_request<'a>(alloc: Global, matches: &ArgMatches<'a>) -> Result<Request<'a>, NoRequest>
     ensures asked { (words : List Text) → subcommand_of whole words ≡ Some (codes "migrate", rows_of (found_of matches.now)) → IfOk result (Asks words) }
     ensures fault { IfErr result (λ e. ¬ IsHelp e) }
@@ -278,6 +374,7 @@ pub fn read_request<'a, S: AsStr>(alloc: Global, words: &'a [S]) -> Result<Reque
         Some(("match", inner)) => match_request(alloc, inner),
         Some(("check", inner)) => check_request(alloc, inner),
         Some(("propose", inner)) => propose_request(alloc, inner),
+        Some(("run", inner)) => run_request(alloc, inner),
         Some(("migrate", inner)) => migrate_request(alloc, inner),
         _ => Err(usage(alloc, "error: no such command\n")),
     }

@@ -53,5 +53,12 @@ fn main(rt: HostRuntime) -> ExitCode {
         }
     };
     let mut files = Disk { rt: &rt };
-    ExitCode::from(tool(rt.alloc(), words.as_slice(), &mut files, &mut out, &mut err))
+    ExitCode::from(tool(
+        &rt,
+        rt.alloc(),
+        words.as_slice(),
+        &mut files,
+        &mut out,
+        &mut err,
+    ))
 }

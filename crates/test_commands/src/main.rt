@@ -5,6 +5,9 @@
 use dds_tool::{Sources, tool};
 use std::alloc::{AllocError, Global};
 use std::rt::Files;
+use std::sync::Wait;
+use std::thread::Threads;
+use std::time::Clock;
 use std::{fs, io};
 
 /// The files of the system.
@@ -38,11 +41,15 @@ fn text_of(bytes: &[u8]) -> &str {
 }
 
 /// What comes of the words: what is written to the output; after a line `errors:`, what is written to the error output; and the status.
-fn outcome<F: Files>(alloc: Global, rt: &F, words: &[&str]) -> Result<String, AllocError> {
+fn outcome<R: Files + Threads + Wait + Clock + Sync>(
+    rt: &R,
+    alloc: Global,
+    words: &[&str],
+) -> Result<String, AllocError> {
     let mut files = Disk { rt };
     let mut out = Vec::new(alloc);
     let mut err = Vec::new(alloc);
-    let status = tool(alloc, words, &mut files, &mut out, &mut err);
+    let status = tool(rt, alloc, words, &mut files, &mut out, &mut err);
     let output = text_of(out.as_slice());
     if err.is_empty() {
         return format!(in alloc; "{output}status {status}");
@@ -57,7 +64,7 @@ fn main(rt: HostRuntime) -> io::Result<()> {
         println!(rt; "{line}")?;
         let words = words_of(rt.alloc(), line.as_str())?;
         if words.as_slice().first() == Some(&"ddscheck") {
-            let text = outcome(rt.alloc(), &rt, words.as_slice())?;
+            let text = outcome(&rt, rt.alloc(), words.as_slice())?;
             println!(rt; "{text}")?;
         }
     }

@@ -1,0 +1,5 @@
+pub mod CircleLists
+pub mod KeptLaws
+pub mod ListLaws
+pub mod Owners
+pub mod SeatLaws

@@ -1,0 +1,4 @@
+pub mod Diary
+pub mod Fates
+pub mod Kept
+pub mod Steady

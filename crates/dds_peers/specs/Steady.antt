@@ -1,0 +1,92 @@
+-- The circle of an application that does all that it may do, over and over.
+use Rattle.std.specs.Prelude.{ℕ, ◌≡◌, ◌-◌, Bool, true, false, nat_lt, not, ◌&&◌, ◌==◌, List, ◌++◌, Contains, length, map, flat_map, replicate, slice_get, if◌then◌else◌}
+use Rattle.std.specs.List.{filter, list_any, range_with_len}
+use Rattle.std.specs.Int.{to_be_bytes, w64}
+use Rattle.std.specs.Option.{option_map_or}
+use Rattle.dds_deploy.specs.Lists.{Lists, Rule, keys_at}
+use Rattle.dds_deploy.specs.Sections.{filter_at, has, reader_topic, readers_at, writer_topic, writers_at}
+use Rattle.dds_base.specs.declared.events.Event.{Event}
+use Rattle.dds_base.specs.declared.events.Event.TheVariants.{Take as take_event, Fire as fire_event, Write as write_event}
+use Rattle.dds_base.specs.declared.events.Reply.{Reply}
+use Rattle.dds_base.specs.declared.events.Reply.TheVariants.{Took, Written}
+use Rattle.dds_peers.specs.declared.circle.Step.{Step}
+use Rattle.dds_peers.specs.declared.circle.Step.TheVariants.{Take, Fire, Write}
+use Rattle.dds_peers.specs.Diary.{DiaryState, empty_diary}
+
+-- the numbers below a count, in order
+abbrev below : ℕ → List ℕ
+below count = range_with_len 0 count
+
+-- a take of each key of the reader's filter, in the order of its topic
+abbrev pub takes_of : Lists → ℕ → List Step
+takes_of d r = map (λ k. Take r k) (filter (has (filter_at d.readers r)) (below (length (keys_at d.topics (reader_topic d.readers r)))))
+
+-- the takes of each reader of the application, in file order
+abbrev pub all_takes : Lists → ℕ → List Step
+all_takes d app = flat_map (takes_of d) (filter (has (readers_at d.applications app)) (below (length d.readers.entries)))
+
+-- the application's rule wants takes
+abbrev pub is_fired : Lists → ℕ → ℕ → Bool
+is_fired d app u = option_map_or (λ (x : Rule). (x.application == app) && not (length x.takes == 0)) (slice_get d.rules.entries u) false
+
+-- a firing of each rule of the application that needs takes, in file order
+abbrev pub all_firings : Lists → ℕ → List Step
+all_firings d app = map (λ u. Fire u) (filter (is_fired d app) (below (length d.rules.entries)))
+
+-- a rule of the application writes the key at the writer
+abbrev pub is_written : Lists → ℕ → ℕ → ℕ → Bool
+is_written d app w k = list_any (λ (x : Rule). (x.application == app) && list_any (λ p. (p.endpoint == w) && (p.key == k)) x.writes) d.rules.entries
+
+-- a write of each key that the application's rules write at the writer, in the order of its topic
+abbrev pub writes_of : Lists → ℕ → ℕ → List Step
+writes_of d app w = map (λ k. Write w k) (filter (is_written d app w) (below (length (keys_at d.topics (writer_topic d.writers w)))))
+
+-- the writes of each writer of the application, in file order
+abbrev pub all_writes : Lists → ℕ → List Step
+all_writes d app = flat_map (writes_of d app) (filter (has (writers_at d.applications app)) (below (length d.writers.entries)))
+
+-- all takes, all firings, all writes
+abbrev pub circle_of : Lists → ℕ → List Step
+circle_of d app = all_takes d app ++ (all_firings d app ++ all_writes d app)
+
+-- what a contract sees of the application: its diary, its circle, and how many takes and writes are still to come
+pub record SteadyState : Type 0 where
+  pub diary : DiaryState
+  pub circle : List Step
+  pub takes : ℕ
+  pub writes : ℕ
+
+-- the data of a write: its number from 1 in the first eight bytes, most significant first, and 0 in the others
+abbrev pub data_of : ℕ → List ℕ
+data_of count = to_be_bytes w64 count ++ replicate 24 0
+
+-- so many, if there is something to do them with
+abbrev pub wanted : {X : Type 0} → List X → ℕ → ℕ
+wanted things count = if length things == 0 then 0 else count
+
+-- the application at its start: one without readers takes nothing, and one whose rules write nothing writes nothing
+abbrev pub steady_of : Lists → (app writes takes : ℕ) → SteadyState
+steady_of d app writes takes = record { diary = empty_diary; circle = circle_of d app; takes = wanted (readers_at d.applications app) takes; writes = wanted (all_writes d app) writes }
+
+-- the step is still to be made: not all takes, or not all writes, are made, and a firing is always wanted
+abbrev pub is_wanted : SteadyState → Step → Bool
+is_wanted s (Take r k) = nat_lt 0 s.takes
+is_wanted s (Fire u) = true
+is_wanted s (Write w k) = nat_lt 0 s.writes
+
+-- the step is one of the circle, and is still to be made
+pub record IsNext (s : SteadyState) (step : Step) : Type 0 where
+  pub known : Contains s.circle step
+  pub wanted : is_wanted s step ≡ true
+
+-- the event of a step, where a write is the one of this number
+abbrev pub event_of : Step → ℕ → Event
+event_of (Take r k) count = take_event r k
+event_of (Fire u) count = fire_event u
+event_of (Write w k) count = write_event w k (data_of count)
+
+-- one take or one write fewer is still to come, where that is what came of an event
+abbrev pub counted : SteadyState → Reply → SteadyState
+counted s (Took sample) = record { diary = s.diary; circle = s.circle; takes = s.takes - 1; writes = s.writes }
+counted s (Written sn) = record { diary = s.diary; circle = s.circle; takes = s.takes; writes = s.writes - 1 }
+counted s _ = s

@@ -1,0 +1,53 @@
+//! The fates of packets, in a circle.
+ghost use Rattle.std.specs.Prelude.{◌≡◌, ◌%◌, Some, length, IfSome, IfNone, slice_get};
+ghost use Rattle.dds_peers.specs.Fates.{AreFates};
+
+use dds_base::Fate;
+use std::marker::Model;
+
+/// How many fates a circle has at most.
+const MOST: usize = 64;
+
+/// The fates that befall packets, one after the other and then from the first one again: 1 to 64. A contract sees the list.
+#[derive(Drop)]
+pub struct Fates {
+    all: [Fate; MOST],
+    len: usize,
+}
+
+impl Model for Fates {
+    ghost use Rattle.std.specs.Prelude.{◌≡◌, List, take, length};
+    ghost use Rattle.dds_base.specs.declared.events.Fate.{Fate};
+    ghost use Rattle.dds_peers.specs.Fates.{AreFates};
+
+    ghost Value = { List Fate };
+
+    ghost view = { λ f. take f.len f.all };
+
+    ghost invariant = { λ f. AreFates (take f.len f.all) × (length (take f.len f.all) ≡ f.len) };
+}
+
+impl Fates {
+    /// These fates, or `None` unless there are 1 to 64.
+    pub fn new(fates: &[Fate]) -> Option<Fates>
+        ensures same { IfSome result (λ f. f ≡ fates.now) }
+        ensures none { IfNone result (¬ AreFates fates.now) }
+    {
+        if fates.is_empty() || fates.len() > MOST {
+            return None;
+        }
+        let mut all = [Fate::Pass; MOST];
+        all[..fates.len()].copy_from_slice(fates);
+        Some(Fates {
+            all,
+            len: fates.len(),
+        })
+    }
+
+    /// The fate after so many.
+    pub(crate) fn after(&self, count: usize) -> Fate
+        ensures { slice_get self.now (count % length self.now) ≡ Some result }
+    {
+        self.all[count % self.len]
+    }
+}

@@ -1,0 +1,25 @@
+//! A checked deployment that runs: boxed applications and participants on threads of their own, over a book and the lossy bus of its domain.
+//!
+//! An application decides what it does next and hears what came of it; it keeps a diary of both. Each participant moves packets and sends what is
+//! due, by a schedule of fates. When the run has ended, each application's diary is its part of the journal of the book, and that journal is a run of
+//! the plan: what the checker promises of every run is promised of this one.
+#![tactic(auto)]
+
+mod app;
+mod boxed;
+mod carrier;
+mod circle;
+mod diary;
+mod fates;
+mod player;
+mod run;
+mod settling;
+mod steady;
+mod threads;
+
+pub use app::{Act, App, Gate};
+pub use diary::Diary;
+pub use fates::Fates;
+pub use player::{AppEnd, Limits};
+pub use run::{Outcome, RunFault, run_peers};
+pub use steady::Steady;

@@ -1,0 +1,205 @@
+//! The threads of a run, in one scope.
+ghost use Rattle.std.specs.Prelude.{◌≡◌, ◌+◌, ◌≤◌, true, [], length, map, All};
+ghost use Rattle.std.specs.List.{range_with_len};
+ghost use Rattle.std.specs.Vec.{vec_len, vec_capacity};
+ghost use Rattle.dds_peers.specs.Kept.{IsKept};
+
+use crate::app::{App, Gate};
+use crate::carrier::Carrier;
+use crate::fates::Fates;
+use crate::player::{Limits, Player};
+use dds_book::{Book, Gauge, Name};
+use std::snapshot::Snapshot;
+use std::sync::Wait;
+use std::thread;
+use std::thread::{JoinHandle, Promise, PromisedHandle, Scope, Threads};
+use std::time::Clock;
+
+/// What an application's thread promises: it gives back the application of this number, whose count at this gauge and whose diary, if it was empty
+/// at first, are those of what was done.
+#[derive(Drop)]
+pub(crate) struct Plays {
+    app: usize,
+    fresh: bool,
+    gauge: Snapshot<Gauge>,
+}
+
+impl<A: App, N: Name> Promise<Player<A, N>> for Plays {
+    ghost use Rattle.std.specs.Prelude.{◌≡◌};
+    ghost use Rattle.dds_peers.specs.Kept.{IsKept};
+
+    ghost kept_by = { λ p r. (r.seat.number ≡ p.app) × IsKept p.gauge.value p.fresh r.seat r.counter (A.notes r.app).entries };
+}
+
+/// The handle of an application's thread.
+pub(crate) type Playing<A, N> = PromisedHandle<Player<A, N>, Plays>;
+
+// Starts a thread for each application, until one can't be made. It tells whether all were.
+fn start_players<
+    's,
+    E: 's,
+    A: App + Send + 's,
+    N: Name + Send + Sync + 's,
+    R: Wait + Clock + Sync + 's,
+    G: Gate + 's,
+>(
+    scope: &'s Scope<'s, E>,
+    rt: &'s R,
+    book: &'s Book<N>,
+    gauge: &'s Gauge,
+    gate: &'s G,
+    limits: Limits,
+    fresh: bool,
+    players: Vec<Player<A, N>>,
+    handles: Vec<Playing<A, N>>,
+) -> (Vec<Playing<A, N>>, bool)
+    requires none { (handles.items ≡ []) × (vec_len players ≤ vec_capacity handles) }
+    requires players { All (λ p. IsKept gauge.now fresh p.seat p.counter (A.notes p.app).entries) players.items }
+    requires numbers { map (λ p. p.seat.number) players.items ≡ range_with_len 0 (length players.items) }
+    ensures all { result.1 ≡ true → map (λ h. h.promise.app) result.0.items ≡ range_with_len 0 (length players.items) }
+    ensures len { vec_len result.0 ≤ vec_len players }
+    ensures promises { All (λ h. (h.promise.gauge.value ≡ gauge.now) × (h.promise.fresh ≡ fresh)) result.0.items }
+{
+    let mut handles = handles;
+    for player in players {
+        let promise = Plays {
+            app: player.number(),
+            fresh,
+            gauge: Snapshot::of(gauge),
+        };
+        let run = move || -> Player<A, N>
+            requires { IsKept gauge.now fresh player.seat player.counter (A.notes player.app).entries }
+            ensures { (result.seat.number ≡ player.seat.number) × IsKept gauge.entry.now fresh result.seat result.counter (A.notes result.app).entries }
+        {
+            let _ = &fresh;
+            player.play(rt, book, gauge, gate, limits)
+        };
+        let Ok(handle) = scope.spawn_with(promise, run) else {
+            return (handles, false);
+        };
+        handles.push_reserved(handle);
+    }
+    (handles, true)
+}
+
+// Joins the applications' threads, in their order.
+fn join_players<A: App, N: Name, R: Threads>(
+    rt: &R,
+    _gauge: &Gauge,
+    _fresh: bool,
+    handles: Vec<Playing<A, N>>,
+    players: Vec<Player<A, N>>,
+) -> Vec<Player<A, N>>
+    requires none { (players.items ≡ []) × (vec_len handles ≤ vec_capacity players) }
+    requires promises { All (λ h. (h.promise.gauge.value ≡ _gauge.now) × (h.promise.fresh ≡ _fresh)) handles.items }
+    ensures numbers { map (λ p. p.seat.number) result.items ≡ map (λ h. h.promise.app) handles.items }
+    ensures players { All (λ p. IsKept _gauge.now _fresh p.seat p.counter (A.notes p.app).entries) result.items }
+{
+    let mut players = players;
+    for handle in handles {
+        players.push_reserved(handle.join(rt));
+    }
+    players
+}
+
+// Starts a thread for each participant, until one can't be made. It tells whether all were.
+fn start_carriers<'s, E: 's, N: Name + Send + Sync + 's, R: Wait + Clock + Sync + 's>(
+    scope: &'s Scope<'s, E>,
+    rt: &'s R,
+    book: &'s Book<N>,
+    fates: &'s Fates,
+    pumps: u64,
+    carriers: Vec<Carrier<N>>,
+    handles: Vec<JoinHandle<Carrier<N>>>,
+) -> (Vec<JoinHandle<Carrier<N>>>, bool)
+    requires { vec_len handles + vec_len carriers ≤ vec_capacity handles }
+{
+    let mut handles = handles;
+    for carrier in carriers {
+        let Ok(handle) = scope.spawn(move || carrier.carry(rt, book, fates, pumps)) else {
+            return (handles, false);
+        };
+        handles.push_reserved(handle);
+    }
+    (handles, true)
+}
+
+// Joins the participants' threads. It tells whether one has met a full journal.
+fn join_carriers<N: Name, R: Threads>(rt: &R, handles: Vec<JoinHandle<Carrier<N>>>) -> bool {
+    let mut is_full = false;
+    for handle in handles {
+        is_full |= handle.join(rt).is_full();
+    }
+    is_full
+}
+
+/// Room for what the threads leave, so that no memory is wanted once they run.
+#[derive(Drop)]
+pub(crate) struct Room<A: App, N: Name> {
+    pub(crate) playing: Vec<Playing<A, N>>,
+    pub(crate) carrying: Vec<JoinHandle<Carrier<N>>>,
+    pub(crate) done: Vec<Player<A, N>>,
+}
+
+/// Runs all threads in one scope: the applications' are joined, the book is stopped, the participants' are joined. It gives the applications back,
+/// and tells whether each thread could be made, and whether a participant has met a full journal.
+pub(crate) fn together<
+    A: App + Send,
+    N: Name + Send + Sync,
+    R: Threads + Wait + Clock + Sync,
+    G: Gate,
+>(
+    rt: &R,
+    book: &Book<N>,
+    gauge: &Gauge,
+    gate: &G,
+    fates: &Fates,
+    limits: Limits,
+    fresh: bool,
+    players: Vec<Player<A, N>>,
+    carriers: Vec<Carrier<N>>,
+    room: Room<A, N>,
+) -> (Vec<Player<A, N>>, bool, bool)
+    requires playing { (room.playing.items ≡ []) × (vec_len players ≤ vec_capacity room.playing) }
+    requires done { (room.done.items ≡ []) × (vec_len players ≤ vec_capacity room.done) }
+    requires carrying { vec_len room.carrying + vec_len carriers ≤ vec_capacity room.carrying }
+    requires players { All (λ p. IsKept gauge.now fresh p.seat p.counter (A.notes p.app).entries) players.items }
+    requires numbers { map (λ p. p.seat.number) players.items ≡ range_with_len 0 (length players.items) }
+    ensures numbers { result.1 ≡ true → map (λ p. p.seat.number) result.0.items ≡ range_with_len 0 (length players.items) }
+    ensures players { All (λ p. IsKept gauge.now fresh p.seat p.counter (A.notes p.app).entries) result.0.items }
+{
+    let Room {
+        playing,
+        carrying,
+        done,
+    } = room;
+    thread::scope(
+        thread::scope_env(),
+        rt,
+        move |scope| -> (Vec<Player<A, N>>, bool, bool)
+            requires { (playing.items ≡ []) × (vec_len players ≤ vec_capacity playing) × (done.items ≡ []) × (vec_len players ≤ vec_capacity done) × (vec_len carrying + vec_len carriers ≤ vec_capacity carrying) × All (λ p. IsKept gauge.now fresh p.seat p.counter (A.notes p.app).entries) players.items × (map (λ p. p.seat.number) players.items ≡ range_with_len 0 (length players.items)) }
+            ensures { (result.1 ≡ true → map (λ p. p.seat.number) result.0.items ≡ range_with_len 0 (length players.items)) × All (λ p. IsKept gauge.entry.now fresh p.seat p.counter (A.notes p.app).entries) result.0.items }
+        {
+            let (carrying, all_carry) = start_carriers(
+                scope,
+                rt,
+                book,
+                fates,
+                limits.pumps,
+                carriers,
+                carrying,
+            );
+            let (playing, all_play) = start_players(
+                scope, rt, book, gauge, gate, limits, fresh, players, playing,
+            );
+            let all = all_carry && all_play;
+            if !all {
+                book.stop(rt);
+            }
+            let players = join_players(rt, gauge, fresh, playing, done);
+            book.stop(rt);
+            let is_full = join_carriers(rt, carrying);
+            (players, all, is_full)
+        },
+    )
+}

@@ -1,0 +1,16 @@
+-- The words for what befalls packets.
+use Rattle.std.specs.Prelude.{ℕ, List, codes}
+use Rattle.std.specs.List.{join_by}
+use Rattle.dds_base.specs.declared.events.Fate.{Fate}
+use Rattle.dds_base.specs.declared.events.Fate.TheVariants.{Pass, Keep, Last, Lose}
+
+-- the word for a fate
+abbrev pub fate_word : Fate → List ℕ
+fate_word Pass = codes "pass"
+fate_word Keep = codes "keep"
+fate_word Last = codes "last"
+fate_word Lose = codes "lose"
+
+-- a list of fates: their words, with commas between them
+abbrev pub fates_text : List Fate → List ℕ
+fates_text fates = join_by fate_word (codes ",") fates

@@ -1,0 +1,266 @@
+//! What `run` answers: the deployment is checked, and where the answer is yes it runs, with a steady application for each that it names.
+ghost use Rattle.std.specs.Prelude.{◌≡◌, ◌⊎◌, ◌≤◌, IfErr, IfOk, length, map, string_bytes};
+ghost use Rattle.std.specs.List.{count_by};
+ghost use Rattle.dds_book.specs.Journal.{IsJournal};
+ghost use Rattle.dds_peers.specs.Kept.{AreOwners, entries_of};
+ghost use Rattle.dds_tool.specs.Fault.{fault_status};
+ghost use Rattle.dds_tool.specs.Outcome.{accepted, outcome};
+ghost use Rattle.dds_tool.specs.RunEnds.{GivesRun};
+ghost use Rattle.dds_tool.specs.Running.{all_stopped, app_line, app_names, end_word, is_taken, is_written, run_lines};
+
+use crate::answer::{Answer, reported};
+use crate::fault::ToolFault;
+use crate::report::{Report, answer_check};
+use crate::wishes::Wishes;
+use dds_base::{AppNo, Reply};
+use dds_book::{Entry, Gauge, GaugeSeat, Journal};
+use dds_cert::naming::name_at;
+use dds_check::Checked;
+use dds_deploy::Deployment;
+use dds_match::{NoMemory, Plan};
+use dds_peers::{App, AppEnd, Gate, Limits, Outcome, RunFault, Steady, run_peers};
+use std::alloc::{AllocError, Global};
+use std::sync::Wait;
+use std::thread::Threads;
+use std::time::Clock;
+
+/// What ends the threads of a run.
+const LIMITS: Limits = Limits {
+    calls: 200_000,
+    idle_waits: 500,
+    pumps: 20_000,
+};
+
+/// Lets every call through.
+struct Open;
+
+impl Gate for Open {
+    fn pass(&self, _app: AppNo) {}
+}
+
+/// The names of the applications, in file order.
+fn names_of(alloc: Global, lists: &Deployment) -> Result<Vec<String>, AllocError>
+    ensures { IfOk result (λ names. map string_bytes names.items ≡ app_names lists.now) }
+{
+    let mut names = Vec::new(alloc);
+    for app in 0..lists.applications() {
+        let name = name_at(lists.application_names(), app);
+        names.push(String::from_str(alloc, name)?)?;
+    }
+    Ok(names)
+}
+
+/// The word for the end of an application's thread.
+fn end_word(end: AppEnd) -> &'static str
+    ensures { result.now ≡ end_word end }
+{
+    match end {
+        AppEnd::Stopped => "stopped",
+        AppEnd::CallLimit => "limit",
+        AppEnd::Idle => "idle",
+        AppEnd::NoMemory => "memory",
+        AppEnd::NotYours => "notyours",
+        AppEnd::Cut => "cut",
+    }
+}
+
+/// How many samples the seat wrote.
+fn written_by(seat: usize, entries: &[Entry]) -> usize
+    ensures { result ≡ count_by is_written (entries_of seat entries.now) }
+{
+    entries
+        .iter()
+        .filter(|entry| entry.seat == seat && matches!(entry.reply, Reply::Written(_)))
+        .count()
+}
+
+/// How many samples the seat took.
+fn taken_by(seat: usize, entries: &[Entry]) -> usize
+    ensures { result ≡ count_by is_taken (entries_of seat entries.now) }
+{
+    entries
+        .iter()
+        .filter(|entry| entry.seat == seat && matches!(entry.reply, Reply::Took(_)))
+        .count()
+}
+
+/// The line of an application.
+fn app_text(
+    alloc: Global,
+    name: &str,
+    seat: usize,
+    entries: &[Entry],
+    end: AppEnd,
+) -> Result<String, AllocError>
+    ensures { IfOk result (λ text. string_bytes text ≡ app_line name.now (entries_of seat entries.now) end) }
+{
+    let written = written_by(seat, entries);
+    let taken = taken_by(seat, entries);
+    let end = end_word(end);
+    format!(in alloc; "app {name} written {written} taken {taken} {end}\n")
+}
+
+/// The lines of all applications.
+fn run_text(
+    alloc: Global,
+    names: &[String],
+    journal: &Journal,
+    ends: &[AppEnd],
+) -> Result<String, AllocError>
+    requires { length ends.now ≡ length names.now }
+    ensures { IfOk result (λ text. string_bytes text ≡ run_lines (map string_bytes names.now) journal.now ends.now) }
+{
+    let mut text = String::new(alloc);
+    for app in 0..names.len() {
+        let line = app_text(
+            alloc,
+            names[app].as_str(),
+            app,
+            journal.entries(),
+            ends[app],
+        )?;
+        text.push_str(line.as_str())?;
+    }
+    Ok(text)
+}
+
+/// Whether the thread of each application ended as the application asked.
+fn all_stopped(ends: &[AppEnd]) -> bool
+    ensures { result ≡ all_stopped ends.now }
+{
+    ends.iter().all(|end| matches!(end, AppEnd::Stopped))
+}
+
+/// A steady application for each of the plan's.
+fn steadies(alloc: Global, plan: &Plan, wishes: &Wishes) -> Result<Vec<Steady>, AllocError>
+    ensures { IfOk result (λ apps. length apps.items ≡ length plan.now.applications.entries) }
+{
+    let writes = u64::from(wishes.writes);
+    let takes = u64::from(wishes.takes);
+    let mut apps = Vec::new(alloc);
+    for app in 0..plan.lists().applications() {
+        let Ok(steady) = Steady::new(alloc, plan, AppNo::new(app), writes, takes) else {
+            return Err(AllocError);
+        };
+        apps.push(steady)?;
+    }
+    Ok(apps)
+}
+
+/// Counts of 0 for so many applications, and the seats of their owners.
+fn gauge_of(alloc: Global, apps: usize) -> Result<(Gauge, Vec<GaugeSeat>), NoMemory>
+    ensures apps { IfOk result (λ r. r.0.apps ≡ apps) }
+    ensures seats { IfOk result (λ r. AreOwners r.0 apps r.1.items) }
+{
+    Gauge::open(alloc, apps, 0)
+}
+
+/// Runs a checked plan with these applications, one for each of its own. It gives the journal, and how the thread of each ended.
+fn perform<R: Threads + Wait + Clock + Sync>(
+    rt: &R,
+    alloc: Global,
+    checked: Checked,
+    apps: Vec<Box<dyn App + Send>>,
+    wishes: &Wishes,
+) -> Result<(Journal, Vec<AppEnd>), ToolFault>
+    requires { length apps.items ≡ length checked.plan.applications.entries }
+    ensures journal { IfOk result (λ r. IsJournal checked.plan r.0) }
+    ensures ends { IfOk result (λ r. length r.1.items ≡ length checked.plan.applications.entries) }
+    ensures fault { IfErr result (λ e. (e ≡ ToolFault.Run) ⊎ (e ≡ ToolFault.NoMemory)) }
+{
+    let Ok((gauge, seats)) = gauge_of(alloc, apps.len()) else {
+        drop(checked);
+        return Err(ToolFault::NoMemory);
+    };
+    match run_peers(
+        rt,
+        alloc,
+        checked,
+        apps,
+        &wishes.fates,
+        &Open,
+        &gauge,
+        seats,
+        LIMITS,
+    ) {
+        Ok(Outcome { journal, ends, .. }) => Ok((journal, ends)),
+        Err(RunFault::NoMemory) => Err(ToolFault::NoMemory),
+        Err(fault) => {
+            drop(fault);
+            Err(ToolFault::Run)
+        }
+    }
+}
+
+/// Runs a checked plan with steady applications. It gives the journal, and how the thread of each ended.
+fn ran<R: Threads + Wait + Clock + Sync>(
+    rt: &R,
+    alloc: Global,
+    checked: Checked,
+    wishes: &Wishes,
+) -> Result<(Journal, Vec<AppEnd>), ToolFault>
+    ensures journal { IfOk result (λ r. IsJournal checked.plan r.0) }
+    ensures ends { IfOk result (λ r. length r.1.items ≡ length checked.plan.applications.entries) }
+    ensures fault { IfErr result (λ e. (e ≡ ToolFault.Run) ⊎ (e ≡ ToolFault.NoMemory)) }
+{
+    let Ok(steadies) = steadies(alloc, checked.plan(), wishes) else {
+        drop(checked);
+        return Err(ToolFault::NoMemory);
+    };
+    let mut apps: Vec<Box<dyn App + Send>> = Vec::new(alloc);
+    for steady in steadies {
+        let Ok(boxed) = Box::new(alloc, steady) else {
+            drop(checked);
+            return Err(ToolFault::NoMemory);
+        };
+        if apps.push(boxed).is_err() {
+            drop(checked);
+            return Err(ToolFault::NoMemory);
+        }
+    }
+    perform(rt, alloc, checked, apps, wishes)
+}
+
+/// The answer of a run of a checked plan: yes where the thread of each application ended as the application asked.
+fn played<R: Threads + Wait + Clock + Sync>(
+    rt: &R,
+    alloc: Global,
+    checked: Checked,
+    wishes: &Wishes,
+) -> Result<Answer, ToolFault>
+    ensures gives { GivesRun (accepted checked.plan checked.certificate) result }
+    ensures no_usage { IfErr result (λ e. fault_status e ≤ 3) }
+{
+    let Ok(names) = names_of(alloc, checked.plan().lists()) else {
+        drop(checked);
+        return Err(ToolFault::NoMemory);
+    };
+    let (journal, ends) = ran(rt, alloc, checked, wishes)?;
+    match run_text(alloc, names.as_slice(), &journal, ends.as_slice()) {
+        Ok(text) => Ok(Answer {
+            text,
+            is_yes: all_stopped(ends.as_slice()),
+            note: None,
+        }),
+        Err(_) => Err(ToolFault::NoMemory),
+    }
+}
+
+/// The answer of `run` to the bytes of a deployment and of a certificate: a no of the checker as `check` answers it, and else what the applications
+/// did: yes where the thread of each ended as the application asked. `Run` comes where the journal became full or a thread couldn't be made.
+pub fn run_answer<R: Threads + Wait + Clock + Sync>(
+    rt: &R,
+    alloc: Global,
+    deployment: &[u8],
+    certificate: &[u8],
+    wishes: &Wishes,
+) -> Result<Answer, ToolFault>
+    ensures gives { GivesRun (outcome deployment.now certificate.now) result }
+    ensures no_usage { IfErr result (λ e. fault_status e ≤ 3) }
+{
+    match answer_check(alloc, deployment, certificate) {
+        Ok(Report::Yes(checked)) => played(rt, alloc, checked, wishes),
+        Ok(refused) => reported(alloc, refused),
+        Err(fault) => Err(fault),
+    }
+}

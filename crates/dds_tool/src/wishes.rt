@@ -1,0 +1,50 @@
+//! How a deployment is to run.
+ghost use Rattle.std.specs.Prelude.{◌≡◌, ◌≢◌, List, IfNone, IfSome};
+ghost use Rattle.dds_base.specs.declared.events.Fate.{Fate};
+ghost use Rattle.dds_peers.specs.Fates.{AreFates};
+ghost use Rattle.dds_tool.specs.Wishes.{fate_word, fates_text};
+
+use dds_base::Fate;
+use dds_peers::Fates;
+
+/// The most fates that a list has.
+const MOST: usize = 64;
+
+/// What befalls the packets of a run, and how many samples each application writes and takes.
+#[derive(Drop)]
+pub struct Wishes {
+    pub fates: Fates,
+    pub writes: u16,
+    pub takes: u16,
+}
+
+/// The fate for which a word stands.
+fn fate_of(word: &str) -> Option<Fate>
+    ensures some { IfSome result (λ fate. word.now ≡ fate_word fate) }
+    ensures none { IfNone result ((fate : Fate) → word.now ≢ fate_word fate) }
+{
+    match word {
+        "pass" => Some(Fate::Pass),
+        "keep" => Some(Fate::Keep),
+        "last" => Some(Fate::Last),
+        "lose" => Some(Fate::Lose),
+        _ => None,
+    }
+}
+
+/// The fates of 1 to 64 words with commas between them, or `None` where the text is no such list.
+pub(crate) fn read_fates(text: &str) -> Option<Fates>
+    ensures some { IfSome result (λ fates. AreFates fates × (text.now ≡ fates_text fates)) }
+    ensures none { IfNone result ((fates : List Fate) → AreFates fates → text.now ≢ fates_text fates) }
+{
+    let mut fates = [Fate::Pass; MOST];
+    let mut count = 0;
+    for word in text.split(',') {
+        if count == MOST {
+            return None;
+        }
+        fates[count] = fate_of(word)?;
+        count += 1;
+    }
+    Fates::new(&fates[..count])
+}
