@@ -1,15 +1,20 @@
 -- The marks and the count of a GAP.
 use Rattle.std.proofs.Common.{◌≡◌, ℕ, ◌+◌, ◌≤◌, ltb, leb, Bool, true, false, cond, not, ◌&&◌, ◌||◌, ◌==◌, refl, sym, arith, inl, inr}
-use Rattle.std.proofs.lemmas.Bool.{cases_Bool, cases_lt, cases_order, lt-leb, lt-ltb, le-ltb, le-leb, eq-eqb, ne_eqb}
+use Rattle.std.proofs.lemmas.Bool.{and_parts, leb-true, cases_Bool, cases_lt, cases_order, lt-leb, lt-ltb, le-ltb, le-leb, eq-eqb, ne_eqb}
 use Rattle.dds_base.specs.Counts.{count_between}
+use Rattle.dds_base.specs.Sets.{NumberSet, has}
 use Rattle.dds_base.proofs.CountLaws.{count_join, count_same, count_more_yes, count_more_no, count_empty}
 
+-- false adds nothing to an or
+pub or_none : (b : Bool) → (b || false) ≡ b
+or_none true = refl
+or_none false = refl
+
 -- a test that fails adds nothing
-fades : (a b c : Bool) → (a || (b && (c && false))) ≡ a
-fades true b c = refl
-fades false false c = refl
-fades false true true = refl
-fades false true false = refl
+fades : (a b : Bool) → (a || (b && false)) ≡ a
+fades true b = refl
+fades false true = refl
+fades false false = refl
 
 -- past the range, an element of the set counts where it had no mark before
 past : (l h q : Bool) → (((l && false) || h) && not q) ≡ (h && not (q || (l && false)))
@@ -35,12 +40,6 @@ or_neither : (b : Bool) → ((b && false) || (b && false)) ≡ (b && false)
 or_neither true = refl
 or_neither false = refl
 
--- an and with false adds nothing
-none_left : (a b : Bool) → (a || (b && false)) ≡ a
-none_left true b = refl
-none_left false true = refl
-none_left false false = refl
-
 -- one number more of a set, in order
 pub lt_step : (h : ℕ → Bool) (n m : ℕ) → ((h m && ltb m n) || (h m && (m == n))) ≡ (h m && ltb m (n + 1))
 lt_step h n m = elim (cases_order m n) [
@@ -51,38 +50,36 @@ lt_step h n m = elim (cases_order m n) [
   ]
 ]
 
+-- an element of a set is not below its base
+pub from_base : (s : NumberSet) (n : ℕ) → has s n ≡ true → s.base ≤ n
+from_base s n h = leb-true s.base n (and_parts (leb s.base n) _ h).0
+
 -- no element of a set is below its base
-pub none_before : (b : Bool) (h : ℕ → Bool) (base m : ℕ) → (a : Bool) → (leb base m ≡ false → h m ≡ false) → a ≡ (a || (b && (h m && ltb m (base + 0))))
-none_before b h base m a outside = elim (cases_lt m base) [
-  | inl below ↦ rw (outside (lt-leb base m below)) (sym (none_left a b))
-  | inr above ↦ rw (le-ltb m (base + 0) (omega arith)) (sym (fades a b (h m)))
+pub none_before : (h : ℕ → Bool) (base m : ℕ) (a : Bool) → (leb base m ≡ false → h m ≡ false) → a ≡ (a || (h m && ltb m (base + 0)))
+none_before h base m a outside = elim (cases_lt m base) [
+  | inl below ↦ rw (outside (lt-leb base m below)) (sym (or_none a))
+  | inr above ↦ rw (le-ltb m (base + 0) (omega arith)) (sym (fades a (h m)))
 ]
 
 -- two additions of marks are one
-pub or_step : (a b x y z : Bool) → (x || y) ≡ z → ((a || (b && x)) || (b && y)) ≡ (a || (b && z))
-or_step true b x y z e = refl
-or_step false false x y z e = refl
-or_step false true x y z e = e
+pub or_step : (a x y z : Bool) → (x || y) ≡ z → ((a || x) || y) ≡ (a || z)
+or_step true x y z e = refl
+or_step false x y z e = e
 
 -- no element is below itself
-pub none_yet : (a : Bool) (b : Bool) (h : ℕ → Bool) (n : ℕ) → (a || (b && (h n && ltb n n))) ≡ a
-none_yet a b h n = rw (le-ltb n n (omega arith)) (fades a b (h n))
+pub none_yet : (a : Bool) (h : ℕ → Bool) (n : ℕ) → (a || (h n && ltb n n)) ≡ a
+none_yet a h n = rw (le-ltb n n (omega arith)) (fades a (h n))
 
-module _ (h q : ℕ → Bool) where
-  -- the elements without a mark
-  abbrev p : ℕ → Bool
-  p m = h m && not (q m)
+-- a count of one number
+pub count_one : (p : ℕ → Bool) (n : ℕ) → count_between p n (n + 1) ≡ cond (p n) 1 0
+count_one p n = elim (cases_Bool (p n)) [
+  | inl t ↦ rw t (omega (arith, count_more_yes p n n (omega arith) t, count_empty p n))
+  | inr f ↦ rw f (omega (arith, count_more_no p n n (omega arith) f, count_empty p n))
+]
 
-  -- one number more
-  pub count_step : (a n count : ℕ) → a ≤ n → count ≡ count_between (λ m. h m && not (q m)) a n → count + cond (h n && not (q n)) 1 0 ≡ count_between (λ m. h m && not (q m)) a (n + 1)
-  count_step a n count an e = elim (cases_Bool (h n && not (q n))) [
-    | inl t ↦ rw t (omega (arith, count_more_yes p a n an t))
-    | inr f ↦ rw f (omega (arith, count_more_no p a n an f))
-  ]
-
-  -- nothing is counted yet
-  pub count_start : (a : ℕ) → 0 ≡ count_between (λ m. h m && not (q m)) a a
-  count_start a = omega (arith, count_empty p a)
+-- one number more
+pub count_step : (p : ℕ → Bool) (a n count : ℕ) → a ≤ n → count ≡ count_between p a n → count + cond (p n) 1 0 ≡ count_between p a (n + 1)
+count_step p a n count an e = omega (arith, e, count_one p n, count_join p a n (n + 1) an (omega arith))
 
 -- the count of a GAP is that below the set's base and that of the set
 pub parts_count : (start base : ℕ) (h q q' : ℕ → Bool) → start ≤ base → ((n : ℕ) → q' n ≡ (q n || (leb start n && ltb n base)))

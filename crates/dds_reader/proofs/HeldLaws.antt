@@ -17,10 +17,11 @@ use Rattle.dds_cache.specs.declared.released.Released.{Released}
 use Rattle.dds_cache.specs.Released.{released_of, is_listed, raised}
 use Rattle.dds_cache.specs.Cache.{CacheState}
 use Rattle.dds_cache.specs.Cache.{available as unmarked}
-use Rattle.dds_reader.specs.Marks.{AreNumbers, AddsMarks, IsLeastUnmarked}
-use Rattle.dds_reader.specs.Held.{IsTied}
+use Rattle.dds_reader.specs.Marks.{AreNumbers, AddsMarks}
+use Rattle.dds_reader.specs.Ranges.{IsLeastUnmarked, OnlyNumbers}
+use Rattle.dds_reader.specs.Held.{IsTied, SameCache}
 use Rattle.dds_reader.specs.Reader.{available_in}
-use Rattle.dds_reader.proofs.MarkLaws.{adds_keeps, adds_other}
+use Rattle.dds_reader.proofs.MarkLaws.{adds_itself, adds_keeps, adds_numbers, adds_other, adds_received}
 
 -- a raise leaves the writers listed
 pub listed_raised : (v w u : ℕ) (ws : List Released) → is_listed v (raised w u ws) ≡ is_listed v ws
@@ -28,7 +29,7 @@ listed_raised v w u [] = refl
 listed_raised v w u (r ∷ ws) = ap (λ b. (r.writer == v) || b) (listed_raised v w u ws)
 
 -- what is released for a writer after a raise
-pub released_other : (v w u : ℕ) (ws : List Released) → (w ≡ v → ⊥) → released_of v (raised w u ws) ≡ released_of v ws
+released_other : (v w u : ℕ) (ws : List Released) → (w ≡ v → ⊥) → released_of v (raised w u ws) ≡ released_of v ws
 released_other v w u [] ne = refl
 released_other v w u (r ∷ ws) ne = elim (cases_Bool (r.writer == v)) [
   | inl t ↦ rw (t, ne_eqb r.writer w (λ e. ne (sym e ∙ eqb-true r.writer v t))) refl
@@ -36,7 +37,7 @@ released_other v w u (r ∷ ws) ne = elim (cases_Bool (r.writer == v)) [
 ]
 
 -- the raised writer has the greater number
-pub released_same : (w u : ℕ) (ws : List Released) → is_listed w ws ≡ true → released_of w (raised w u ws) ≡ max (released_of w ws) u
+released_same : (w u : ℕ) (ws : List Released) → is_listed w ws ≡ true → released_of w (raised w u ws) ≡ max (released_of w ws) u
 released_same w u [] h = cc
 released_same w u (r ∷ ws) h = elim (cases_Bool (r.writer == w)) [
   | inl t ↦ rw (t) refl
@@ -51,7 +52,7 @@ below_base m m' c w b tied keeps base = elim (cases_lt (released_of w c.writers)
 ]
 
 -- more numbers of w are marked, its new base b is released, and other samples may be stored
-pub tied_after : (m m' : ℕ → ℕ → Bool) (more : ℕ → Bool) (c c' : CacheState) (w b : ℕ) → IsTied m c → is_listed w c.writers ≡ true → AddsMarks m m' w more → AreNumbers m' → IsLeastUnmarked (m' w) b
+tied_after : (m m' : ℕ → ℕ → Bool) (more : ℕ → Bool) (c c' : CacheState) (w b : ℕ) → IsTied m c → is_listed w c.writers ≡ true → AddsMarks m m' w more → AreNumbers m' → IsLeastUnmarked (m' w) b
     → c'.writers ≡ raised w (b - 1) c.writers
     → All (λ y. m' y.writer y.sn ≡ true) c'.stored → All (λ y. is_listed y.writer c.writers ≡ true) c'.stored → IsTied m' c'
 tied_after m m' more c c' w b tied listed adds numbers base e received known =
@@ -90,6 +91,36 @@ All-after P Stored st x all new = All-push P st x all new
 All-after P (Overwrote old) st x all new = All-push P (remove st (first_of x.key st)) x (All-remove P st (first_of x.key st) all) new
 All-after P (Rejected why) st x all new = all
 
+-- more numbers of a writer are marked, and its new base is released
+pub tied_marked : (m m' : ℕ → ℕ → Bool) (more : ℕ → Bool) (c c' : CacheState) (w b : ℕ) → IsTied m c → is_listed w c.writers ≡ true → AddsMarks m m' w more → OnlyNumbers more → IsLeastUnmarked (m' w) b
+    → c' ≡ record c { writers = raised w (b - 1) c.writers } → IsTied m' c'
+tied_marked m m' more c c' w b tied listed adds fits base e =
+    let stored : c'.stored ≡ c.stored = ap (λ (v : CacheState). v.stored) e in
+    tied_after m m' more c c' w b tied listed adds (adds_numbers m m' w more adds tied.numbers fits) base (ap (λ (v : CacheState). v.writers) e)
+    (rw stored (adds_received m m' w more adds c.stored tied.received))
+    (rw stored tied.known)
+
+-- the same with a sample of the writer, whose number is one of them
+pub tied_stored : (m m' : ℕ → ℕ → Bool) (more : ℕ → Bool) (c c' : CacheState) (a : Admit) (x : Sample) (b : ℕ) → IsTied m c → is_listed x.writer c.writers ≡ true → AddsMarks m m' x.writer more → OnlyNumbers more → more x.sn ≡ true → IsLeastUnmarked (m' x.writer) b
+    → c'.writers ≡ raised x.writer (b - 1) c.writers → c'.stored ≡ stored_after a c.stored x → IsTied m' c'
+tied_stored m m' more c c' a x b tied listed adds fits here base writers stored =
+    tied_after m m' more c c' x.writer b tied listed adds (adds_numbers m m' x.writer more adds tied.numbers fits) base writers
+    (rw stored (All-after (λ y. m' y.writer y.sn ≡ true) a c.stored x (adds_received m m' x.writer more adds c.stored tied.received) (adds_itself m m' x.writer more adds x.sn here)))
+    (rw stored (All-after (λ y. is_listed y.writer c.writers ≡ true) a c.stored x tied.known listed))
+
+-- a release changes no more than released numbers
+pub same_released : (c c' : CacheState) (w u : ℕ) → c' ≡ record c { writers = raised w u c.writers } → SameCache c c'
+same_released c c' w u e = rw e (record {
+  limits = refl;
+  stored = refl;
+  keys = refl;
+  listed = λ v. listed_raised v w u c.writers;
+})
+
+-- the writers of the marks and of the cache stay the same after a release
+pub listed_released : (t t' : ℕ → Bool) (ws ws' : List Released) (w u : ℕ) → ((v : ℕ) → t' v ≡ t v) → ((v : ℕ) → t v ≡ is_listed v ws) → ws' ≡ raised w u ws → (v : ℕ) → t' v ≡ is_listed v ws'
+listed_released t t' ws ws' w u same old e v = same v ∙ old v ∙ sym (listed_raised v w u ws) ∙ sym (ap (is_listed v) e)
+
 -- fewer samples stored
 pub tied_without : (m : ℕ → ℕ → Bool) (c c' : CacheState) (n : ℕ) → IsTied m c → c'.stored ≡ remove c.stored n → c'.writers ≡ c.writers → IsTied m c'
 tied_without m c c' n tied stored writers = record {
@@ -101,7 +132,7 @@ tied_without m c c' n tied stored writers = record {
 }
 
 -- the tie goes by the state of the cache
-pub tied_same : (m : ℕ → ℕ → Bool) (c c' : CacheState) → IsTied m c → c' ≡ c → IsTied m c'
+tied_same : (m : ℕ → ℕ → Bool) (c c' : CacheState) → IsTied m c → c' ≡ c → IsTied m c'
 tied_same m c c' tied e = rw e tied
 
 -- the base of a listed writer is the number after the released ones
@@ -120,7 +151,7 @@ filter_alike p q [] same = refl
 filter_alike p q (x ∷ xs) same = rw (same 0 x (omega arith), filter_alike p q xs (λ k d within. same (suc k) d (omega arith))) refl
 
 -- what the cache has available is what the marks say
-pub same_available : (m : ℕ → ℕ → Bool) (c : CacheState) (key : ℕ) → IsTied m c → unmarked c key ≡ available_in m c.stored key
+same_available : (m : ℕ → ℕ → Bool) (c : CacheState) (key : ℕ) → IsTied m c → unmarked c key ≡ available_in m c.stored key
 same_available m c key tied = filter_alike (λ s. has_key key s && leb s.sn (released_of s.writer c.writers)) (λ s. has_key key s && ltb s.sn (base_of (m s.writer))) c.stored
     (λ k d within. ap (λ b. has_key key (get_or c.stored k d) && b) (alike (get_or c.stored k d).sn (released_of (get_or c.stored k d).writer c.writers) (base_of (m (get_or c.stored k d).writer)) (tied_base m c (get_or c.stored k d).writer tied (tied.known k d within))))
   where
@@ -139,3 +170,8 @@ pub tied_taken : (m : ℕ → ℕ → Bool) (c c' : CacheState) (o : Option Samp
 tied_taken m c c' None tied e = tied_same m c c' tied e
 tied_taken m c c' (Some x) tied e =
     tied_without m c c' (position_or_len (is_same x) c.stored) tied (ap (λ (v : CacheState). v.stored) e) (ap (λ (v : CacheState). v.writers) e)
+
+-- a take leaves the writers
+pub writers_taken : (c c' : CacheState) (o : Option Sample) → MatchOption o (c' ≡ c) (λ x. c' ≡ record { limits = c.limits; stored = without x c.stored; keys = c.keys; writers = c.writers }) → c'.writers ≡ c.writers
+writers_taken c c' None e = ap (λ (v : CacheState). v.writers) e
+writers_taken c c' (Some x) e = ap (λ (v : CacheState). v.writers) e

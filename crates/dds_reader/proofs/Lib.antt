@@ -1,7 +1,11 @@
-pub mod CountLaws
+pub mod AbsorbLaws
 pub mod FlagLaws
 pub mod GapLaws
+pub mod HasLaws
 pub mod HeldLaws
+pub mod JoinLaws
+pub mod ListedLaws
 pub mod MarkLaws
 pub mod NoteLaws
 pub mod OpeningLaws
+pub mod RangeLaws

@@ -1,3 +1,4 @@
+pub mod Ranges
 pub mod Marks
 pub mod Notes
 pub mod Held

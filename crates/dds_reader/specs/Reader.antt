@@ -13,9 +13,8 @@ use Rattle.dds_qos.specs.Samples.{Keys}
 use Rattle.dds_qos.specs.Admission.{admission, stored_after, keys_after}
 use Rattle.dds_qos.specs.Taking.{available_of}
 use Rattle.dds_qos.specs.Reading.{base_of, is_repeat, data_arrival, gap_arrival, heartbeat_arrival, missing_of}
-use Rattle.dds_reader.specs.declared.marks.Marked.{Marked}
 use Rattle.dds_reader.specs.declared.notes.WriterProxy.{WriterProxy}
-use Rattle.dds_reader.specs.Marks.{in_marks, AddsMarks}
+use Rattle.dds_reader.specs.Marks.{Marked, in_marks, AddsMarks}
 use Rattle.dds_reader.specs.Notes.{has_writer, heard_in, owes_in}
 
 -- its number, whether it is a watcher, its limits, filter and writers, its marks, its stored samples in order of admission, and the keys of all samples ever stored.

@@ -7,10 +7,10 @@
 #![tactic(auto)]
 
 mod held;
-pub mod marks;
+mod marks;
 pub mod notes;
+mod ranges;
 pub mod reader;
 
-pub use marks::Marked;
 pub use notes::WriterProxy;
 pub use reader::Reader;

@@ -1,44 +1,25 @@
-use Rattle.std.proofs.Common.{◌≡◌, ◌∙◌, ◌-◌, ap, sym, subst, refl, List, [], ◌∷◌, ◌++◌, true}
-use Rattle.std.specs.List.{All}
-use Rattle.dds_base.specs.declared.sample.Sample.{Sample}
-use Rattle.dds_cache.specs.Released.{is_listed}
+use Rattle.std.proofs.Common.{◌-◌, ap}
 use Rattle.dds_cache.specs.Cache.{CacheState}
-use Rattle.dds_reader.specs.declared.marks.Marked.{Marked}
-use Rattle.dds_reader.specs.Marks.{in_marks, is_between, IsLeastUnmarked}
-use Rattle.dds_reader.specs.Held.{IsTied}
-use Rattle.dds_reader.proofs.MarkLaws.{adds_push, adds_received, push_numbers}
-use Rattle.dds_reader.proofs.HeldLaws.{tied_after, listed_raised}
+use Rattle.dds_reader.specs.Marks.{in_marks, has_marks}
+use Rattle.dds_reader.specs.Ranges.{is_between}
+use Rattle.dds_reader.proofs.MarkLaws.{adds_numbers, between_numbers}
+use Rattle.dds_reader.proofs.HeldLaws.{listed_released, same_released, tied_marked}
 use Rattle.dds_reader.proofs.held.Held.mark.Goals as goal
 
-pub base_in-base-requires : goal.base_in-base-requires
-base_in-base-requires c =
-    rw (c.deref.ensures.value, c.push_reserved.ensures.items)
-    (λ n is. (push_numbers c.args.self.now.marks.items c.args.range c.args.self.now.tied.numbers c.requires.low c.requires.high c.args.range.writer n is).1)
+pub base-base-requires : goal.base-base-requires
+base-base-requires c =
+    let fits = between_numbers c.args.from c.args.until c.requires.low c.requires.high in
+    λ n is. (adds_numbers (in_marks c.args.self.now.marks) (in_marks c.mark.new.self) c.args.writer (is_between c.args.from c.args.until) c.in_ok-fresh.ensures.marks c.args.self.now.tied.numbers fits c.args.writer n is).1
 
-pub invariant_of-self : goal.invariant_of-self
-invariant_of-self c =
-    let old : CacheState = c.args.self.now.cache in
-    let ms : List Marked = c.args.self.now.marks.items in
-    let range : Marked = c.args.range in
-    let more = is_between range.from range.until in
-    let tied : IsTied (in_marks ms) old = c.args.self.now.tied in
-    let items : c.push_reserved.new.self.items ≡ ms ++ range ∷ [] = c.push_reserved.ensures.items in
-    let base = subst (λ (l : List Marked). IsLeastUnmarked (in_marks l range.writer) c.base_in-base.result) (c.deref.ensures.value ∙ items) c.base_in-base.ensures.least in
-    let stored : c.release.new.self.stored ≡ old.stored = ap (λ (v : CacheState). v.stored) c.release.ensures in
-    let received = subst (λ (st : List Sample). All (λ y. in_marks (ms ++ range ∷ []) y.writer y.sn ≡ true) st) (sym stored)
-    (adds_received (in_marks ms) (in_marks (ms ++ range ∷ [])) range.writer more (adds_push ms range) old.stored tied.received) in
-    let known = subst (λ (st : List Sample). All (λ y. is_listed y.writer old.writers ≡ true) st) (sym stored) tied.known in
+pub invariant_of-self-2 : goal.invariant_of-self-2
+invariant_of-self-2 c =
+    let old = c.args.self.now in
+    let w = c.args.writer in
+    let fits = between_numbers c.args.from c.args.until c.requires.low c.requires.high in
     record {
-      tied = rw items
-          (tied_after (in_marks ms) (in_marks (ms ++ range ∷ [])) more old c.release.new.self range.writer c.base_in-base.result tied c.requires.listed (adds_push ms range)
-          (push_numbers ms range tied.numbers c.requires.low c.requires.high) base
-          (ap (λ (v : CacheState). v.writers) c.release.ensures) received known);
+      tied = tied_marked (in_marks old.marks) (in_marks c.mark.new.self) (is_between c.args.from c.args.until) old.cache c.release.new.self w c.base-base.result old.tied c.requires.listed c.in_ok-fresh.ensures.marks fits c.base-base.ensures.least c.release.ensures;
+      listed = listed_released (λ v. has_marks v old.marks) (λ v. has_marks v c.mark.new.self) old.cache.writers c.release.new.self.writers w (c.base-base.result - 1) c.in_ok-fresh.ensures.writers old.listed (ap (λ (v : CacheState). v.writers) c.release.ensures);
     }
 
 pub returns-clause-cache : goal.returns-clause-cache
-returns-clause-cache c = rw c.release.ensures (record {
-  limits = refl;
-  stored = refl;
-  keys = refl;
-  listed = λ v. listed_raised v c.args.range.writer (c.base_in-base.result - 1) c.args.self.now.cache.writers;
-})
+returns-clause-cache c = same_released c.args.self.now.cache c.release.new.self c.args.writer (c.base-base.result - 1) c.release.ensures
