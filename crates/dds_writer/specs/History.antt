@@ -1,5 +1,5 @@
 -- Kept samples in a list whose numbers follow one another.
-use Rattle.std.specs.Prelude.{◌≡◌, ◌≢◌, ℕ, suc, ◌+◌, ◌<◌, ◌≤◌, Bool, true, false, not, cond, ◌&&◌, ◌==◌, List, [], ◌∷◌, ◌++◌, length, slice_index_or}
+use Rattle.std.specs.Prelude.{◌≡◌, ◌≢◌, ℕ, suc, ◌+◌, ◌<◌, ◌≤◌, Bool, true, false, not, ◌&&◌, ◌==◌, List, length, slice_index_or}
 use Rattle.std.specs.List.{list_any}
 use Rattle.dds_base.specs.declared.sample.Sample.{Sample}
 use Rattle.dds_writer.specs.Proxies.{ProxyState, hears}
@@ -30,7 +30,3 @@ pub record IsRunStart (silent : ℕ → Bool) (n from : ℕ) : Type 0 where
   pub alone : silent n ≡ false → from ≡ n
   pub run : silent n ≡ true → (m : ℕ) → from ≤ m → m ≤ n → silent m ≡ true
   pub before : silent n ≡ true → (m : ℕ) → from ≡ suc m → silent m ≡ false
-
--- the keys with one more, where it is not among them yet
-abbrev pub with_key : List ℕ → ℕ → List ℕ
-with_key keys key = cond (list_any (λ x. x == key) keys) keys (keys ++ key ∷ [])

@@ -1,4 +1,5 @@
 pub mod Proxies
 pub mod History
+pub mod Counted
 pub mod Writer
 pub mod View

@@ -12,7 +12,7 @@ overflow_sub-result-in-Some c =
 pub returns-in-Some : goal.returns-in-Some
 returns-in-Some c =
     let from = c.silent_from.ensures in
-    run_start c.args.kept.now c.requires c.args.proxy.now c.args.sn c.in-Some.at c.silent_from.result c.in-Some.ensures from.high from.heard from.silent from.before
+    run_start c.args.kept.now.items c.requires c.args.proxy.now c.args.sn c.in-Some.at c.silent_from.result c.in-Some.ensures from.high from.heard from.silent from.before
 
 pub returns-in-None : goal.returns-in-None
-returns-in-None c = no_run c.args.kept.now c.args.proxy.now c.args.sn c.in-None.ensures
+returns-in-None c = no_run c.args.kept.now.items c.args.proxy.now c.args.sn c.in-None.ensures

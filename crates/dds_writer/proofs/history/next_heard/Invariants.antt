@@ -4,4 +4,4 @@ use Rattle.dds_writer.specs.History.{hears_at}
 use Rattle.dds_writer.proofs.history.next_heard.Given as goal
 
 abbrev pub invariant-loop-place : goal.invariant-loop-place
-invariant-loop-place l = (i : ℕ) (d : Sample) → l.from ≤ i → i < l.place → hears_at l.proxy l.kept i d ≡ false
+invariant-loop-place l = (i : ℕ) (d : Sample) → l.from ≤ i → i < l.place → hears_at l.proxy l.kept.items i d ≡ false

@@ -6,7 +6,7 @@ use Rattle.dds_writer.proofs.history.silent_from.Given as goal
 abbrev pub invariant-loop-from : goal.invariant-loop-from
 invariant-loop-from l = record {
   high : l.from ≤ l.at;
-  silent : (i : ℕ) (d : Sample) → l.from ≤ i → i ≤ l.at → hears_at l.proxy l.kept i d ≡ false;
+  silent : (i : ℕ) (d : Sample) → l.from ≤ i → i ≤ l.at → hears_at l.proxy l.kept.items i d ≡ false;
 }
 
 abbrev pub decreases-loop-from : goal.decreases-loop-from

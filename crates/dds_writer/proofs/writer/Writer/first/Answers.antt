@@ -9,12 +9,12 @@ use Rattle.dds_writer.proofs.writer.Writer.first.Goals as goal
 pub overflow_sub-result : goal.overflow_sub-result
 overflow_sub-result c =
     let size = (interval_in (view_of c.self.inside) c.self.invariant.kept).size in
-    let long = c.self.inside.kept.ok.0 in
+    let long = c.self.inside.history.kept.ok.0 in
     omega arith
 
 pub returns : goal.returns
 returns c =
     let size = (interval_in (view_of c.self.inside) c.self.invariant.kept).size in
-    let long = c.self.inside.kept.ok.0 in
+    let long = c.self.inside.history.kept.ok.0 in
     let first : c.self.inside.written + 1 - c.len.result ≡ first_kept (bases_of c.self.inside.proxies.items) c.self.inside.written = omega arith in
     first ∙ ap (λ (v : WriterState). first_kept (bases_of v.proxies) v.written) c.self.view_is
