@@ -1,9 +1,10 @@
 //! Files that are as large as they may be or too large, every beginning of a file, readers that are slow or fail, and an output that fails, by
 //! each command.
 use crate::files::{Pair, readable, text_of};
+use dds_answers::MAX_FILE;
 use dds_files::proposed::PING_PROPOSED;
 use dds_files::texts::{PING, PING_CERT};
-use dds_tool::{MAX_FILE, tool};
+use dds_tool::tool;
 use std::alloc::{AllocError, Global};
 use std::io::{self, ErrorKind, Write};
 use std::process::Abort;

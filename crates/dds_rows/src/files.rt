@@ -1,5 +1,5 @@
 //! Files in memory, and readers that fail.
-use dds_tool::Sources;
+use dds_answers::Sources;
 use std::io::{self, ErrorKind, Read};
 use std::str;
 

@@ -1,17 +1,17 @@
 -- What is said of a request whose answer was written, or that met a fault.
 use Rattle.std.proofs.Common.{◌≡◌, ◌⊎◌, ℕ, List, [], Option, Some, None, Result, Ok, Err, IfOk, IfErr, inl, inr, refl, ap, sym, ◌∙◌, append-nil, arith}
 use Rattle.std.specs.Io.KnownBytes.{Appends, Keeps}
-use Rattle.dds_tool.specs.declared.fault.ToolFault.{ToolFault}
-use Rattle.dds_tool.specs.declared.fault.ToolFault.TheVariants as fault
+use Rattle.dds_answers.specs.declared.fault.ToolFault.{ToolFault}
+use Rattle.dds_answers.specs.declared.fault.ToolFault.TheVariants as fault
 use Rattle.dds_tool.specs.declared.request.Request.{Request}
 use Rattle.dds_tool.specs.declared.request.Request.TheVariants as asked
-use Rattle.dds_tool.specs.declared.answer.Answer.{Answer}
-use Rattle.dds_tool.specs.Answers.{Gives, GivesOneOf, SaysNothing}
+use Rattle.dds_answers.specs.declared.answer.Answer.{Answer}
+use Rattle.dds_answers.specs.Answers.{Gives, GivesOneOf, SaysNothing}
 use Rattle.dds_tool.specs.Asking.{Answers, GivesTo, Said}
-use Rattle.dds_tool.specs.Fault.{fault_status}
-use Rattle.dds_tool.specs.Migrations.{MayMigrateFor}
-use Rattle.dds_tool.specs.Outcome.{Outcome, file_outcome, match_file_outcome, too_large, unproposed}
-use Rattle.dds_tool.specs.Report.{Ends, output_of, status_of}
+use Rattle.dds_answers.specs.Fault.{fault_status}
+use Rattle.dds_answers.specs.Migrations.{MayMigrateFor}
+use Rattle.dds_answers.specs.Outcome.{Outcome, file_outcome, match_file_outcome, too_large, unproposed}
+use Rattle.dds_answers.specs.Report.{Ends, output_of, status_of}
 use Rattle.dds_tool.specs.RunEnds.{GivesRun, MayRun}
 
 -- known bytes that stay grow by nothing

@@ -14,13 +14,13 @@ use Rattle.dds_book.specs.Journal.{IsJournal}
 use Rattle.dds_peers.specs.declared.player.AppEnd.{AppEnd}
 use Rattle.dds_peers.specs.Kept.{AreOwners}
 use Rattle.dds_peers.proofs.Owners.{all_are_owners}
-use Rattle.dds_tool.specs.declared.answer.Answer.{Answer}
-use Rattle.dds_tool.specs.declared.fault.ToolFault.{ToolFault}
-use Rattle.dds_tool.specs.declared.fault.ToolFault.TheVariants as fault
-use Rattle.dds_tool.specs.Answers.{answer_status}
-use Rattle.dds_tool.specs.Outcome.{Outcome, accepted, file_outcome, outcome, ran, too_large}
-use Rattle.dds_tool.specs.Reading.{IsReadingFault}
-use Rattle.dds_tool.specs.Report.{Tells, output_of, status_of}
+use Rattle.dds_answers.specs.declared.answer.Answer.{Answer}
+use Rattle.dds_answers.specs.declared.fault.ToolFault.{ToolFault}
+use Rattle.dds_answers.specs.declared.fault.ToolFault.TheVariants as fault
+use Rattle.dds_answers.specs.Answers.{answer_status}
+use Rattle.dds_answers.specs.Outcome.{Outcome, accepted, file_outcome, outcome, ran, too_large}
+use Rattle.dds_answers.specs.Reading.{IsReadingFault}
+use Rattle.dds_answers.specs.Report.{Tells, output_of, status_of}
 use Rattle.dds_tool.specs.RunEnds.{GivesRun}
 use Rattle.dds_tool.specs.Running.{all_stopped, app_names, run_lines}
 
@@ -39,7 +39,7 @@ pub ran_gives : (d : Lists) (c : Certificate) (journal : List Entry) (ends : Lis
     → length ends ≡ length d.applications.entries → string_bytes answer.text ≡ run_lines (app_names d) journal ends → answer.is_yes ≡ all_stopped ends
     → GivesRun (accepted d c) (Ok answer)
 unfolding output_of status_of
-ran_gives d c journal ends answer is count lines stopped = (ran d journal ends, (journal, ends, is, count, refl), (lines, ap answer_status stopped))
+ran_gives d c journal ends answer is count lines stopped = (ran (run_lines (app_names d) journal ends) (all_stopped ends), (journal, ends, is, count, refl), (lines, ap answer_status stopped))
 
 -- a fault that a check tells is one that a run gives
 pub told_gives : (checked : Outcome) (e : ToolFault) → Tells (Err e) checked → GivesRun checked (Err e)

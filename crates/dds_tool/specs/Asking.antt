@@ -15,15 +15,15 @@ use Rattle.dds_tool.specs.declared.request.Request.{Request}
 use Rattle.dds_tool.specs.declared.request.Request.TheVariants as asked
 use Rattle.dds_tool.specs.declared.request.NoRequest.{NoRequest}
 use Rattle.dds_tool.specs.declared.request.NoRequest.TheVariants as none
-use Rattle.dds_tool.specs.declared.answer.Answer.{Answer}
-use Rattle.dds_tool.specs.declared.fault.ToolFault.{ToolFault}
-use Rattle.dds_tool.specs.Answers.{Gives, GivesOneOf}
-use Rattle.dds_tool.specs.Outcome.{Outcome, file_outcome, match_file_outcome}
-use Rattle.dds_tool.specs.Migrations.{MayMigrateFor}
-use Rattle.dds_tool.specs.Proposals.{MayProposeFor}
+use Rattle.dds_answers.specs.declared.answer.Answer.{Answer}
+use Rattle.dds_answers.specs.declared.fault.ToolFault.{ToolFault}
+use Rattle.dds_answers.specs.Answers.{Gives, GivesOneOf}
+use Rattle.dds_answers.specs.Outcome.{Outcome, file_outcome, match_file_outcome}
+use Rattle.dds_answers.specs.Migrations.{MayMigrateFor}
+use Rattle.dds_answers.specs.Proposals.{MayProposeFor}
 use Rattle.dds_tool.specs.RunEnds.{GivesRun, MayRun}
-use Rattle.dds_tool.specs.Searches.{MayFindFor}
-use Rattle.dds_tool.specs.Report.{output_of, status_of}
+use Rattle.dds_answers.specs.Searches.{MayFindFor}
+use Rattle.dds_answers.specs.Report.{output_of, status_of}
 
 -- a file that has to be named
 abbrev pub file_rule : Text → Rule

@@ -1,13 +1,4 @@
-pub mod Fault
-pub mod Reading
-pub mod Matches
-pub mod Outcome
 pub mod Running
-pub mod Proposals
-pub mod Searches
-pub mod Migrations
-pub mod Report
-pub mod Answers
 pub mod RunEnds
 pub mod Wishes
 pub mod Asking

@@ -3,24 +3,25 @@ use Rattle.std.specs.Prelude.{◌≡◌, ◌⊎◌, List, length, Result, Ok, Er
 use Rattle.dds_book.specs.declared.entry.Entry.{Entry}
 use Rattle.dds_book.specs.Journal.{IsJournal}
 use Rattle.dds_peers.specs.declared.player.AppEnd.{AppEnd}
-use Rattle.dds_tool.specs.declared.answer.Answer.{Answer}
-use Rattle.dds_tool.specs.declared.fault.ToolFault.{ToolFault}
-use Rattle.dds_tool.specs.declared.fault.ToolFault.TheVariants as fault
-use Rattle.dds_tool.specs.Answers.{IsAnswer, SaysNothing}
-use Rattle.dds_tool.specs.Outcome.{Outcome, accepted, refused, compared, proposed, unproposed, migrated, ran, bad_deployment, bad_certificate, too_large}
-use Rattle.dds_tool.specs.Report.{Ends}
+use Rattle.dds_answers.specs.declared.answer.Answer.{Answer}
+use Rattle.dds_answers.specs.declared.fault.ToolFault.{ToolFault}
+use Rattle.dds_answers.specs.declared.fault.ToolFault.TheVariants as fault
+use Rattle.dds_answers.specs.Answers.{IsAnswer, SaysNothing}
+use Rattle.dds_answers.specs.Outcome.{Outcome, accepted, refused, compared, proposed, unproposed, migrated, ran, bad_deployment, bad_certificate, too_large}
+use Rattle.dds_answers.specs.Report.{Ends}
+use Rattle.dds_tool.specs.Running.{all_stopped, app_names, run_lines}
 
 -- what a run of files may come to whose check ends so: where the certificate is accepted, the deployment ran, by a journal of its plan, and the
 -- thread of each application ended; every other end is that of the check
 abbrev pub MayRun : Outcome → Outcome → Type 0
 MayRun (accepted d c) end =
-    (journal : List Entry) × (ends : List AppEnd) × IsJournal d journal × (length ends ≡ length d.applications.entries) × (end ≡ ran d journal ends)
+    (journal : List Entry) × (ends : List AppEnd) × IsJournal d journal × (length ends ≡ length d.applications.entries) × (end ≡ ran (run_lines (app_names d) journal ends) (all_stopped ends))
 MayRun (refused first d c) end = end ≡ refused first d c
 MayRun (compared d) end = end ≡ compared d
 MayRun (proposed d c) end = end ≡ proposed d c
 MayRun unproposed end = end ≡ unproposed
 MayRun (migrated text) end = end ≡ migrated text
-MayRun (ran d journal ends) end = end ≡ ran d journal ends
+MayRun (ran lines stopped) end = end ≡ ran lines stopped
 MayRun (bad_deployment flaw) end = end ≡ bad_deployment flaw
 MayRun (bad_certificate flaw) end = end ≡ bad_certificate flaw
 MayRun too_large end = end ≡ too_large

@@ -3,15 +3,13 @@ ghost use Rattle.std.specs.Prelude.{◌≡◌, ◌⊎◌, ◌≤◌, IfErr, IfOk
 ghost use Rattle.std.specs.List.{count_by};
 ghost use Rattle.dds_book.specs.Journal.{IsJournal};
 ghost use Rattle.dds_peers.specs.Kept.{AreOwners, entries_of};
-ghost use Rattle.dds_tool.specs.Fault.{fault_status};
-ghost use Rattle.dds_tool.specs.Outcome.{accepted, outcome};
+ghost use Rattle.dds_answers.specs.Fault.{fault_status};
+ghost use Rattle.dds_answers.specs.Outcome.{accepted, outcome};
 ghost use Rattle.dds_tool.specs.RunEnds.{GivesRun};
 ghost use Rattle.dds_tool.specs.Running.{all_stopped, app_line, app_names, end_word, is_taken, is_written, run_lines};
 
-use crate::answer::{Answer, reported};
-use crate::fault::ToolFault;
-use crate::report::{Report, answer_check};
 use crate::wishes::Wishes;
+use dds_answers::{Answer, Report, ToolFault, answer_check, reported};
 use dds_base::{AppNo, Reply};
 use dds_book::{Entry, Gauge, GaugeSeat, Journal};
 use dds_cert::naming::name_at;

@@ -1,29 +1,12 @@
 //! `ddscheck`, over the files and the standard streams of the system.
 #![tactic(auto)]
 
-use dds_tool::{Sources, ToolFault, tell_fault, tool};
+use dds_answers::{Disk, ToolFault, tell_fault};
+use dds_tool::tool;
 use std::alloc::Global;
 use std::env::{self, Env};
+use std::io;
 use std::process::ExitCode;
-use std::rt::Files;
-use std::{fs, io};
-
-/// The files of the system.
-#[derive(Drop)]
-struct Disk<'a, F> {
-    rt: &'a F,
-}
-
-impl<'a, F: Files> Sources for Disk<'a, F> {
-    type R = F::File;
-
-    fn open(&mut self, path: &str) -> Option<F::File> {
-        match fs::open(self.rt, path) {
-            Ok(file) => Some(file),
-            Err(_) => None,
-        }
-    }
-}
 
 /// The words of the command line, of which the first is the program's name.
 fn words<R: Env + AllocGlobal>(rt: &R) -> io::Result<Vec<String>> {
@@ -52,7 +35,7 @@ fn main(rt: HostRuntime) -> ExitCode {
             return ExitCode::from(tell_fault(rt.alloc(), &mut err, &fault));
         }
     };
-    let mut files = Disk { rt: &rt };
+    let mut files = Disk::new(&rt);
     ExitCode::from(tool(
         &rt,
         rt.alloc(),

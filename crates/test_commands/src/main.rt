@@ -2,7 +2,8 @@
 //! in which this runs. The stored run has its command lines in `stdin`, what is expected in `stdout` and the files in `data`.
 #![tactic(auto)]
 
-use dds_tool::{Sources, tool};
+use dds_answers::Sources;
+use dds_tool::tool;
 use std::alloc::{AllocError, Global};
 use std::rt::Files;
 use std::sync::Wait;

@@ -1,5 +1,5 @@
 use Rattle.std.proofs.Common.{◌≡◌, ◌<◌, ◌≤◌, ◌∙◌, ℕ, List, Option, ap, ap₂, Err, IfSome, inl, inr, length, subst}
-use Rattle.dds_tool.specs.Outcome.{Outcome, outcome}
+use Rattle.dds_answers.specs.Outcome.{Outcome, outcome}
 use Rattle.dds_tool.specs.RunEnds.{GivesRun}
 use Rattle.dds_tool.proofs.RunGives.{file_gives, passed_gives}
 use Rattle.dds_tool.proofs.commands.run_files.Goals as goal

@@ -1,4 +1,4 @@
-use Rattle.dds_tool.specs.Outcome.{outcome}
+use Rattle.dds_answers.specs.Outcome.{outcome}
 use Rattle.dds_tool.proofs.RunGives.{told_gives}
 use Rattle.dds_tool.proofs.running.run_answer.Goals as goal
 

@@ -1,0 +1,5 @@
+mod Telling
+mod Proposals
+pub mod Searches
+mod Migrations
+pub mod Names

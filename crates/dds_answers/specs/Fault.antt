@@ -1,0 +1,36 @@
+-- What users are told of a fault.
+use Rattle.std.specs.Prelude.{ℕ, List, ◌++◌, length, codes, string_bytes, ◌==◌, if◌then◌else◌}
+use Rattle.std.specs.Fmt.{decimal}
+use Rattle.dds_fields.specs.FaultTable as deployment
+use Rattle.dds_cert.specs.Faults.{kind_entry}
+use Rattle.dds_answers.specs.declared.fault.ToolFault.{ToolFault}
+use Rattle.dds_answers.specs.declared.fault.ToolFault.TheVariants as fault
+
+-- the file, the number and the word of a flaw, and its path; an empty path is left out with the blank before it
+abbrev pub flaw_line : List ℕ → ℕ → List ℕ → List ℕ → List ℕ
+flaw_line file number name path =
+    if length path == 0
+    then codes "ddscheck: " ++ (file ++ (codes " " ++ (decimal number ++ (codes " " ++ (name ++ codes "\n")))))
+    else codes "ddscheck: " ++ (file ++ (codes " " ++ (decimal number ++ (codes " " ++ (name ++ (codes " " ++ (path ++ codes "\n")))))))
+
+-- the line that is told of a fault
+abbrev pub fault_line : ToolFault → List ℕ
+fault_line (fault.Usage text) = string_bytes text
+fault_line (fault.Deployment flaw) = flaw_line (codes "deployment") (deployment.number_of flaw.kind) (deployment.name_of flaw.kind) (string_bytes flaw.path)
+fault_line (fault.Certificate flaw) = flaw_line (codes "certificate") (kind_entry flaw.kind).0 (kind_entry flaw.kind).1 (string_bytes flaw.path)
+fault_line fault.TooLarge = codes "ddscheck: 4 TooLarge\n"
+fault_line fault.Read = codes "ddscheck: 5 Read\n"
+fault_line fault.Write = codes "ddscheck: 6 Write\n"
+fault_line fault.NoMemory = codes "ddscheck: 7 NoMemory\n"
+fault_line fault.Run = codes "ddscheck: 8 Run\n"
+
+-- the exit status of a fault
+abbrev pub fault_status : ToolFault → ℕ
+fault_status (fault.Usage text) = 4
+fault_status (fault.Deployment flaw) = 2
+fault_status (fault.Certificate flaw) = 2
+fault_status fault.TooLarge = 2
+fault_status fault.Read = 3
+fault_status fault.Write = 3
+fault_status fault.NoMemory = 3
+fault_status fault.Run = 3

@@ -1,0 +1,140 @@
+-- What a check answers, and the lines that tell it.
+use Rattle.std.specs.Prelude.{ℕ, List, [], ◌++◌, slice_get, ◌≡◌, length, if◌then◌else◌, codes, flat_map, string_bytes, Result, Ok, Err}
+use Rattle.std.specs.Fmt.{decimal}
+use Rattle.std.specs.Option.{option_map_or}
+use Rattle.dds_fields.specs.declared.fault.ReadFault.{ReadFault}
+use Rattle.dds_fields.specs.declared.fault.ReadFault.TheVariants as unread
+use Rattle.dds_deploy.specs.Lists.{Lists}
+use Rattle.dds_deploy.specs.Sections.{key_name}
+use Rattle.dds_deploy.specs.declared.sections.Origin.{Origin}
+use Rattle.dds_cert.specs.declared.fault.CertFault.{CertFault}
+use Rattle.dds_cert.specs.declared.fault.CertFault.TheVariants as uncertified
+use Rattle.dds_cert.specs.Faults.{kind_of}
+use Rattle.dds_cert.specs.Lists.{Certificate}
+use Rattle.dds_cert.specs.Views.{certificate_view}
+use Rattle.dds_cert.specs.declared.certificate.Bound.{Bound}
+use Rattle.dds_cert.specs.declared.certificate.Total.{Total}
+use Rattle.dds_check.specs.Verdict.{number_of, name_of}
+use Rattle.dds_check.specs.declared.verdict.No.{No}
+use Rattle.dds_check.specs.declared.verdict.Subject.{Subject}
+use Rattle.dds_check.specs.declared.verdict.Subject.TheVariants as subject
+use Rattle.dds_match.specs.Plan.{network_of}
+use Rattle.dds_answers.specs.Matches.{is_as_intended, lines_of}
+use Rattle.dds_cert.specs.Naming.{name_at, reader_key, writer_key, row_name}
+use Rattle.dds_cert.specs.Text.{certificate_text}
+use Rattle.dds_answers.specs.Outcome.{Outcome, accepted, refused, bad_deployment, bad_certificate, too_large, compared, proposed, unproposed, migrated, ran}
+use Rattle.dds_answers.specs.declared.fault.ToolFault.{ToolFault}
+use Rattle.dds_answers.specs.declared.fault.ToolFault.TheVariants as fault
+use Rattle.dds_answers.specs.declared.report.Report.{Report}
+use Rattle.dds_answers.specs.declared.report.Report.TheVariants as answer
+
+-- how the check ended that gave a report
+abbrev pub outcome_of : Report → Outcome
+outcome_of (answer.Yes checked) = accepted checked.plan checked.certificate
+outcome_of (answer.Refused first lists cert) = refused first lists (certificate_view cert)
+
+-- how the check ended that gave this report or fault; want of memory says nothing of it
+abbrev pub Tells : Result Report ToolFault → Outcome → Type 0
+Tells (Ok report) end = end ≡ outcome_of report
+Tells (Err (fault.Deployment flaw)) end = end ≡ bad_deployment (flaw.kind, string_bytes flaw.path)
+Tells (Err (fault.Certificate flaw)) end = end ≡ bad_certificate (kind_of flaw.kind, string_bytes flaw.path)
+Tells (Err fault.NoMemory) end = Unit {0}
+Tells (Err (fault.Usage text)) end = ⊥
+Tells (Err fault.TooLarge) end = ⊥
+Tells (Err fault.Read) end = ⊥
+Tells (Err fault.Write) end = ⊥
+Tells (Err fault.Run) end = ⊥
+
+-- two words, with a blank between them
+abbrev pub two_words : List ℕ → List ℕ → List ℕ
+two_words x y = x ++ (codes " " ++ y)
+
+-- three words, with blanks between them
+abbrev pub three_words : List ℕ → List ℕ → List ℕ → List ℕ
+three_words x y z = x ++ (codes " " ++ (y ++ (codes " " ++ z)))
+
+-- the name of a rule's entry, and the key where the rule stands for one
+abbrev pub origin_text : Lists → Origin → List ℕ
+origin_text d o = option_map_or (λ k. two_words (name_at d.rules.names o.name) (key_name d.topics k.0 k.1)) o.key (name_at d.rules.names o.name)
+
+abbrev pub rule_text : Lists → ℕ → List ℕ
+rule_text d u = option_map_or (origin_text d) (slice_get d.rules.origins u) []
+
+-- the names of what a condition speaks of
+abbrev pub subject_text : Lists → Certificate → Subject → List ℕ
+subject_text d c (subject.Pair w r) = two_words (name_at d.writers.names w) (name_at d.readers.names r)
+subject_text d c (subject.Instance r k) = two_words (name_at d.readers.names r) (reader_key d r k)
+subject_text d c (subject.Reader r) = name_at d.readers.names r
+subject_text d c (subject.Writer w) = name_at d.writers.names w
+subject_text d c (subject.RowInstance n r k) = three_words (row_name c n) (name_at d.readers.names r) (reader_key d r k)
+subject_text d c (subject.RowRule n u) = two_words (row_name c n) (rule_text d u)
+subject_text d c (subject.RowWriterKey n w k) = three_words (row_name c n) (name_at d.writers.names w) (writer_key d w k)
+
+-- the line of a refusal
+abbrev pub refusal_line : Lists → Certificate → No → List ℕ
+refusal_line d c first =
+    codes "no " ++ (decimal (number_of first.number) ++ (codes " " ++ (name_of first.number ++ (codes " " ++ (subject_text d c first.subject ++ codes "\n")))))
+
+-- the line of a bound
+abbrev pub bound_line : Lists → Bound → List ℕ
+bound_line d b =
+    codes "bound " ++ (name_at d.readers.names b.reader ++ (codes " " ++ (reader_key d b.reader b.key ++ (codes " " ++ (decimal b.bound ++ codes "\n")))))
+
+-- the line of a total
+abbrev pub total_line : Lists → Total → List ℕ
+total_line d t = codes "total " ++ (name_at d.readers.names t.reader ++ (codes " " ++ (decimal t.bound ++ codes "\n")))
+
+-- the lines of an acceptance: yes, each bound, each total
+abbrev pub acceptance_lines : Lists → Certificate → List ℕ
+acceptance_lines d c = (codes "yes\n" ++ flat_map (bound_line d) c.bounds) ++ flat_map (total_line d) c.totals
+
+-- what a command writes to its output; of a bad file nothing
+unfoldable pub output_of : Outcome → List ℕ
+output_of (accepted d c) = acceptance_lines d c
+output_of (refused first d c) = refusal_line d c first
+output_of (compared d) = lines_of d (length d.writers.entries) (length d.readers.entries)
+output_of (proposed d c) = certificate_text d c
+output_of unproposed = codes "none\n"
+output_of (migrated text) = text
+output_of (ran lines stopped) = lines
+output_of (bad_deployment flaw) = []
+output_of (bad_certificate flaw) = []
+output_of too_large = []
+
+-- the lines of a report
+abbrev pub report_text_of : Report → List ℕ
+report_text_of report = output_of (outcome_of report)
+
+-- the exit status: 0 yes, 1 no, 2 a bad file
+unfoldable pub status_of : Outcome → ℕ
+status_of (accepted d c) = 0
+status_of (refused first d c) = 1
+status_of (compared d) = if is_as_intended (network_of d) then 0 else 1
+status_of (proposed d c) = 0
+status_of unproposed = 1
+status_of (migrated text) = 0
+status_of (ran lines stopped) = if stopped then 0 else 1
+status_of (bad_deployment flaw) = 2
+status_of (bad_certificate flaw) = 2
+status_of too_large = 2
+
+-- the fault with which a command ends that ends so, or a fault of memory or of a device
+abbrev pub Ends : ToolFault → Outcome → Type 0
+Ends (fault.Deployment flaw) end = end ≡ bad_deployment (flaw.kind, string_bytes flaw.path)
+Ends (fault.Certificate flaw) end = end ≡ bad_certificate (kind_of flaw.kind, string_bytes flaw.path)
+Ends fault.TooLarge end = end ≡ too_large
+Ends fault.Read end = Unit {0}
+Ends fault.Write end = Unit {0}
+Ends fault.NoMemory end = Unit {0}
+Ends (fault.Usage text) end = ⊥
+Ends fault.Run end = ⊥
+
+-- the fault of a deployment that could not be read
+abbrev pub IsDeploymentFault : ReadFault → ToolFault → Type 0
+IsDeploymentFault (unread.At flaw) told = told ≡ fault.Deployment flaw
+IsDeploymentFault unread.NoMemory told = told ≡ fault.NoMemory
+
+-- the fault of a certificate that could not be read
+abbrev pub IsCertificateFault : CertFault → ToolFault → Type 0
+IsCertificateFault (uncertified.At flaw) told = told ≡ fault.Certificate flaw
+IsCertificateFault uncertified.NoMemory told = told ≡ fault.NoMemory

@@ -1,0 +1,202 @@
+//! What each command answers to the bytes of its files.
+ghost use Rattle.std.specs.Prelude.{◌≡◌, ◌≤◌, IfErr, IfOk, IsOk, Ok, OnOk};
+ghost use Rattle.dds_cert.specs.Views.{certificate_view};
+ghost use Rattle.dds_answers.specs.Answers.{Gives, GivesOneOf, answer_status};
+ghost use Rattle.dds_answers.specs.Fault.{fault_status};
+ghost use Rattle.dds_answers.specs.Outcome.{Outcome, compared, match_outcome, outcome, proposed, unproposed};
+ghost use Rattle.dds_answers.specs.Migrations.{MayMigrate};
+ghost use Rattle.dds_answers.specs.Proposals.{MayPropose};
+ghost use Rattle.dds_answers.specs.Report.{outcome_of};
+ghost use Rattle.dds_deploy.specs.Sections.{read as deployment_read, read_up_to};
+
+use crate::fault::ToolFault;
+use crate::matches::{is_as_intended, match_text};
+use crate::report::{Report, answer_check, deployment_fault, report_text};
+use dds_cert::{Certificate, certificate_text};
+use dds_deploy::{Deployment, migrate, read_deployment};
+use dds_match::Plan;
+use dds_match::planning::plan;
+use dds_propose::propose;
+use std::alloc::{AllocError, Global};
+
+/// A text for the output, and whether the answer is yes. The exit status is 0 for yes and 1 for no.
+#[derive(Drop)]
+pub struct Answer {
+    pub text: String,
+    pub is_yes: bool,
+    /// What the user is told besides, on standard error.
+    pub note: Option<String>,
+}
+
+impl Answer {
+    /// The exit status: 0 yes, 1 no.
+    pub fn status(&self) -> u8
+        ensures { result ≡ answer_status self.now.is_yes }
+    {
+        if self.is_yes { 0 } else { 1 }
+    }
+}
+
+/// The answer with a text, if there was memory for it.
+fn answered(text: Result<String, AllocError>, is_yes: bool) -> Result<Answer, ToolFault>
+    ensures answer { IfOk result (λ a. (a.is_yes ≡ is_yes) × IfOk text (λ t. a.text ≡ t)) }
+    ensures text { OnOk result (IsOk text) }
+    ensures memory { IfErr result (λ e. e ≡ ToolFault.NoMemory) }
+{
+    match text {
+        Ok(text) => Ok(Answer {
+            text,
+            is_yes,
+            note: None,
+        }),
+        Err(_) => Err(ToolFault::NoMemory),
+    }
+}
+
+/// The answer that tells a report, which is needed no longer: yes where the certificate is accepted.
+#[tactic(auto, unfolding(crate::specs::Report::output_of, crate::specs::Report::status_of))]
+pub fn reported(alloc: Global, report: Report) -> Result<Answer, ToolFault>
+    ensures gives { Gives result (outcome_of report) }
+    ensures no_usage { IfErr result (λ e. fault_status e ≤ 3) }
+{
+    let is_yes = matches!(&report, Report::Yes(_));
+    let answer = answered(report_text(alloc, &report), is_yes);
+    drop(report);
+    answer
+}
+
+/// The answer of `check` to the bytes of a deployment and of a certificate: yes where the certificate is accepted. It is that of the report on them.
+pub fn check_answer(
+    alloc: Global,
+    deployment: &[u8],
+    certificate: &[u8],
+) -> Result<Answer, ToolFault>
+    ensures gives { Gives result (outcome deployment.now certificate.now) }
+    ensures no_usage { IfErr result (λ e. fault_status e ≤ 3) }
+{
+    match answer_check(alloc, deployment, certificate) {
+        Ok(report) => reported(alloc, report),
+        Err(fault) => Err(fault),
+    }
+}
+
+/// The answer to which endpoints of a plan match, which is needed no longer.
+#[tactic(auto, unfolding(crate::specs::Report::output_of, crate::specs::Report::status_of))]
+fn compared(alloc: Global, plan: Plan) -> Result<Answer, ToolFault>
+    ensures gives { Gives result (compared plan) }
+    ensures no_usage { IfErr result (λ e. fault_status e ≤ 3) }
+{
+    let answer = answered(match_text(alloc, &plan), is_as_intended(&plan));
+    drop(plan);
+    answer
+}
+
+/// The answer to which endpoints of the lists of a deployment match.
+fn lists_compared(alloc: Global, lists: Deployment) -> Result<Answer, ToolFault>
+    ensures gives { Gives result (compared lists) }
+    ensures no_usage { IfErr result (λ e. fault_status e ≤ 3) }
+{
+    match plan(alloc, lists) {
+        Ok(plan) => compared(alloc, plan),
+        Err((_, lists)) => {
+            drop(lists);
+            Err(ToolFault::NoMemory)
+        }
+    }
+}
+
+/// The answer of `match` to the bytes of a deployment: yes where exactly the pairs of the connections match.
+pub fn match_answer(alloc: Global, deployment: &[u8]) -> Result<Answer, ToolFault>
+    ensures gives { Gives result (match_outcome deployment.now) }
+    ensures no_usage { IfErr result (λ e. fault_status e ≤ 3) }
+{
+    match read_deployment(alloc, deployment) {
+        Ok(lists) => lists_compared(alloc, lists),
+        Err(fault) => Err(deployment_fault(fault)),
+    }
+}
+
+/// The answer with the text of a certificate that was proposed.
+#[tactic(auto, unfolding(crate::specs::Report::output_of, crate::specs::Report::status_of))]
+pub(crate) fn certified(
+    alloc: Global,
+    plan: &Plan,
+    certificate: &Certificate,
+) -> Result<Answer, ToolFault>
+    ensures gives { Gives result (proposed plan.now (certificate_view certificate.now)) }
+    ensures no_usage { IfErr result (λ e. fault_status e ≤ 3) }
+{
+    match certificate_text(alloc, plan, certificate) {
+        Ok(text) => Ok(Answer {
+            text,
+            is_yes: true,
+            note: None,
+        }),
+        Err(_) => Err(ToolFault::NoMemory),
+    }
+}
+
+/// The answer where no certificate was found.
+#[tactic(auto, unfolding(crate::specs::Report::output_of, crate::specs::Report::status_of))]
+fn unproposed(alloc: Global) -> Result<Answer, ToolFault>
+    ensures gives { Gives result unproposed }
+    ensures no_usage { IfErr result (λ e. fault_status e ≤ 3) }
+{
+    answered(String::from_str(alloc, "none\n"), false)
+}
+
+/// The answer to what is proposed for a plan.
+fn sought(alloc: Global, plan: &Plan) -> Result<Answer, ToolFault>
+    ensures gives { (end : Outcome) × MayPropose (Ok plan.now) end × Gives result end }
+    ensures no_usage { IfErr result (λ e. fault_status e ≤ 3) }
+{
+    match propose(alloc, plan) {
+        Ok(Some(certificate)) => certified(alloc, plan, &certificate),
+        Ok(None) => unproposed(alloc),
+        Err(_) => Err(ToolFault::NoMemory),
+    }
+}
+
+/// The answer to what is proposed for the lists of a deployment.
+fn lists_sought(alloc: Global, lists: Deployment) -> Result<Answer, ToolFault>
+    ensures gives { (end : Outcome) × MayPropose (Ok lists) end × Gives result end }
+    ensures no_usage { IfErr result (λ e. fault_status e ≤ 3) }
+{
+    match plan(alloc, lists) {
+        Ok(plan) => {
+            let answer = sought(alloc, &plan);
+            drop(plan);
+            answer
+        }
+        Err((_, lists)) => {
+            drop(lists);
+            Err(ToolFault::NoMemory)
+        }
+    }
+}
+
+/// The answer of `propose` to the bytes of a deployment: yes with the text of a certificate that is accepted, or no where none was found.
+pub fn propose_answer(alloc: Global, deployment: &[u8]) -> Result<Answer, ToolFault>
+    ensures gives { (end : Outcome) × MayPropose (deployment_read deployment.now) end × Gives result end }
+    ensures no_usage { IfErr result (λ e. fault_status e ≤ 3) }
+{
+    match read_deployment(alloc, deployment) {
+        Ok(lists) => lists_sought(alloc, lists),
+        Err(fault) => Err(deployment_fault(fault)),
+    }
+}
+
+/// The answer of `migrate` to the bytes of a deployment of version 1: yes with a text of version 2 that stands for the same lists.
+pub fn migrate_answer(alloc: Global, deployment: &[u8]) -> Result<Answer, ToolFault>
+    ensures gives { GivesOneOf (MayMigrate deployment.now (read_up_to 1 deployment.now)) result }
+    ensures no_usage { IfErr result (λ e. fault_status e ≤ 3) }
+{
+    match migrate(alloc, deployment) {
+        Ok(text) => Ok(Answer {
+            text,
+            is_yes: true,
+            note: None,
+        }),
+        Err(fault) => Err(deployment_fault(fault)),
+    }
+}

@@ -1,0 +1,93 @@
+//! Why a command gave no answer, and what users are told of it.
+ghost use Rattle.std.specs.Prelude.{◌≡◌, IfOk, string_bytes};
+ghost use Rattle.dds_answers.specs.Fault.{fault_line, fault_status, flaw_line};
+
+use dds_cert::CertFlaw;
+use dds_fields::fault::Fault;
+use std::alloc::{AllocError, Global};
+
+/// Why a command gave no answer. Users are told the numbers.
+#[derive(Debug, Drop)]
+pub enum ToolFault {
+    /// 1: the words are no request. The text says what is wrong with them.
+    Usage(String),
+    /// 2: the deployment has a fault.
+    Deployment(Fault),
+    /// 3: the certificate has a fault.
+    Certificate(CertFlaw),
+    /// 4: a file has more than 1,048,576 bytes.
+    TooLarge,
+    /// 5: a file does not open, a read failed, or 1,001 reads were interrupted.
+    Read,
+    /// 6: the output was not written whole.
+    Write,
+    /// 7: memory ran out.
+    NoMemory,
+    /// 8: a run of the deployment came to no end of its own.
+    Run,
+}
+
+/// What is told of the flaw of a file: the number and the word of its kind, and where it is. An empty path is left out with the blank before it.
+fn flaw_text(
+    alloc: Global,
+    file: &str,
+    number: u8,
+    name: &str,
+    path: &str,
+) -> Result<String, AllocError>
+    ensures { IfOk result (λ text. string_bytes text ≡ flaw_line file.now number name.now path.now) }
+{
+    if path.is_empty() {
+        format!(in alloc; "ddscheck: {file} {number} {name}\n")
+    } else {
+        format!(in alloc; "ddscheck: {file} {number} {name} {path}\n")
+    }
+}
+
+/// The line that is told to users of a fault. Only want of memory is an error.
+pub fn fault_text(alloc: Global, fault: &ToolFault) -> Result<String, AllocError>
+    ensures { IfOk result (λ text. string_bytes text ≡ fault_line fault.now) }
+{
+    match fault {
+        ToolFault::Usage(text) => String::from_str(alloc, text.as_str()),
+        ToolFault::Deployment(flaw) => {
+            let kind = flaw.kind;
+            flaw_text(
+                alloc,
+                "deployment",
+                kind.number(),
+                kind.name(),
+                flaw.path.as_str(),
+            )
+        }
+        ToolFault::Certificate(flaw) => {
+            let kind = flaw.kind;
+            flaw_text(
+                alloc,
+                "certificate",
+                kind.number(),
+                kind.name(),
+                flaw.path.as_str(),
+            )
+        }
+        ToolFault::TooLarge => String::from_str(alloc, "ddscheck: 4 TooLarge\n"),
+        ToolFault::Read => String::from_str(alloc, "ddscheck: 5 Read\n"),
+        ToolFault::Write => String::from_str(alloc, "ddscheck: 6 Write\n"),
+        ToolFault::NoMemory => String::from_str(alloc, NO_MEMORY),
+        ToolFault::Run => String::from_str(alloc, "ddscheck: 8 Run\n"),
+    }
+}
+
+/// The line that is told to users where memory ran out.
+pub const NO_MEMORY: &str = "ddscheck: 7 NoMemory\n";
+
+/// The exit status of a fault: 2 for a bad file, 3 for memory, a device or a run, 4 for words that are no request.
+pub fn fault_status(fault: &ToolFault) -> u8
+    ensures { result ≡ fault_status fault.now }
+{
+    match fault {
+        ToolFault::Usage(_) => 4,
+        ToolFault::Deployment(_) | ToolFault::Certificate(_) | ToolFault::TooLarge => 2,
+        ToolFault::Read | ToolFault::Write | ToolFault::NoMemory | ToolFault::Run => 3,
+    }
+}

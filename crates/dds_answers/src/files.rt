@@ -1,0 +1,107 @@
+//! What each command answers to its files, which are read whole before any is parsed.
+ghost use Rattle.std.specs.Prelude.{◌≡◌, ℕ, List, ◌≤◌, ◌<◌, Some, IfOk, IfErr, IfSome, IsErrOf, length};
+ghost use Rattle.dds_answers.specs.Answers.{Gives, GivesOneOf};
+ghost use Rattle.dds_answers.specs.Fault.{fault_status};
+ghost use Rattle.dds_answers.specs.Outcome.{Outcome, file_outcome, match_file_outcome};
+ghost use Rattle.dds_answers.specs.Migrations.{MayMigrateFor};
+ghost use Rattle.dds_answers.specs.Proposals.{MayProposeFor};
+ghost use Rattle.dds_answers.specs.Searches.{MayFindFor};
+ghost use Rattle.dds_answers.specs.Reading.{IsReadingFault};
+
+use crate::answer::{Answer, check_answer, match_answer, migrate_answer, propose_answer};
+use crate::counted::Counted;
+use crate::fault::ToolFault;
+use crate::reading::read_all;
+use crate::sources::Sources;
+use crate::thorough::thorough_answer;
+use std::alloc::Global;
+
+/// The bytes of the file at a path.
+pub fn read_file<S: Sources>(alloc: Global, files: &mut S, path: &str) -> Result<Vec<u8>, ToolFault>
+    ensures bytes { IfOk result (λ bytes. IfSome (S.holds files.old path.now) (λ xs. (bytes.items ≡ xs) × (length xs ≤ 1048576))) }
+    ensures faults { IfErr result IsReadingFault }
+    ensures too_large { IsErrOf result ToolFault.TooLarge → IfSome (S.holds files.old path.now) (λ xs. 1048576 < length xs) }
+    ensures others { S.holds files.new ≡ S.holds files.old }
+{
+    let Some(reader) = files.open(path) else {
+        return Err(ToolFault::Read);
+    };
+    let mut counted = Counted::new(reader);
+    read_all(alloc, &mut counted)
+}
+
+/// The answer of `check` to two files. Both are read whole, the deployment first, before either is parsed.
+#[tactic(auto, unfolding(crate::specs::Outcome::file_outcome))]
+pub fn check_files<S: Sources>(
+    alloc: Global,
+    deployment: &str,
+    certificate: &str,
+    files: &mut S,
+) -> Result<Answer, ToolFault>
+    ensures gives { (d c : List ℕ) → S.holds files.old deployment.now ≡ Some d → S.holds files.old certificate.now ≡ Some c
+        → Gives result (file_outcome d c) }
+    ensures no_usage { IfErr result (λ e. fault_status e ≤ 3) }
+{
+    let deployment = read_file(alloc, files, deployment)?;
+    let certificate = read_file(alloc, files, certificate)?;
+    check_answer(alloc, deployment.as_slice(), certificate.as_slice())
+}
+
+/// The answer of `match` to a file, which is read whole before it is parsed.
+#[tactic(auto, unfolding(crate::specs::Outcome::match_file_outcome))]
+pub fn match_file<S: Sources>(
+    alloc: Global,
+    deployment: &str,
+    files: &mut S,
+) -> Result<Answer, ToolFault>
+    ensures gives { (d : List ℕ) → S.holds files.old deployment.now ≡ Some d → Gives result (match_file_outcome d) }
+    ensures no_usage { IfErr result (λ e. fault_status e ≤ 3) }
+{
+    let deployment = read_file(alloc, files, deployment)?;
+    match_answer(alloc, deployment.as_slice())
+}
+
+/// The answer of `propose` to a file, which is read whole before it is parsed.
+pub fn propose_file<S: Sources>(
+    alloc: Global,
+    deployment: &str,
+    files: &mut S,
+) -> Result<Answer, ToolFault>
+    ensures gives { (d : List ℕ) → S.holds files.old deployment.now ≡ Some d → (end : Outcome) × MayProposeFor d end × Gives result end }
+    ensures no_usage { IfErr result (λ e. fault_status e ≤ 3) }
+{
+    match read_file(alloc, files, deployment) {
+        Ok(bytes) => propose_answer(alloc, bytes.as_slice()),
+        Err(fault) => Err(fault),
+    }
+}
+
+/// The answer of `propose --thorough` to a file, which is read whole before it is parsed.
+pub fn thorough_file<S: Sources>(
+    alloc: Global,
+    deployment: &str,
+    files: &mut S,
+) -> Result<Answer, ToolFault>
+    ensures gives { (d : List ℕ) → S.holds files.old deployment.now ≡ Some d → (end : Outcome) × MayFindFor d end × Gives result end }
+    ensures no_usage { IfErr result (λ e. fault_status e ≤ 3) }
+{
+    match read_file(alloc, files, deployment) {
+        Ok(bytes) => thorough_answer(alloc, bytes.as_slice()),
+        Err(fault) => Err(fault),
+    }
+}
+
+/// The answer of `migrate` to a file, which is read whole before it is parsed.
+pub fn migrate_file<S: Sources>(
+    alloc: Global,
+    deployment: &str,
+    files: &mut S,
+) -> Result<Answer, ToolFault>
+    ensures gives { (d : List ℕ) → S.holds files.old deployment.now ≡ Some d → GivesOneOf (MayMigrateFor d) result }
+    ensures no_usage { IfErr result (λ e. fault_status e ≤ 3) }
+{
+    match read_file(alloc, files, deployment) {
+        Ok(bytes) => migrate_answer(alloc, bytes.as_slice()),
+        Err(fault) => Err(fault),
+    }
+}

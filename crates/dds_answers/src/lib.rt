@@ -1,0 +1,28 @@
+//! What the commands on files answer, over any files and any two writers. A file is read whole through a reader that counts its failed reads; two files
+//! get a report, which is the first of these: the fault of the deployment, the fault of the certificate, the first condition of the checker that fails, or
+//! yes. The text of every answer and its exit status are stated functions of the bytes of the files.
+#![tactic(auto)]
+
+mod answer;
+mod counted;
+mod disk;
+mod fault;
+mod files;
+mod giving;
+mod matches;
+mod reading;
+mod report;
+mod sources;
+mod thorough;
+
+pub use answer::{Answer, check_answer, match_answer, migrate_answer, propose_answer, reported};
+pub use counted::Counted;
+pub use disk::Disk;
+pub use fault::{ToolFault, fault_status, fault_text};
+pub use files::{check_files, match_file, migrate_file, propose_file, read_file, thorough_file};
+pub use giving::{give, print, tell_fault};
+pub use matches::{is_as_intended, match_text};
+pub use reading::{MAX_FILE, read_all};
+pub use report::{Report, answer_check, report_text};
+pub use sources::Sources;
+pub use thorough::thorough_answer;

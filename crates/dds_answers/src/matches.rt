@@ -1,0 +1,140 @@
+//! Which endpoints of a deployment match, line by line, and whether these are the connections.
+ghost use Rattle.std.specs.Prelude.{◌≡◌, ◌++◌, ◌∷◌, [], IfOk, codes, filter, length, map, string_bytes};
+ghost use Rattle.std.specs.List.{join_by};
+ghost use Rattle.dds_qos.specs.Compatibility.{contains, name_of, policies};
+ghost use Rattle.dds_match.specs.Plan.{network_of};
+ghost use Rattle.dds_answers.specs.Matches.{is_as_intended, is_same, is_writer_as_intended, lines_of, pair_line, reason_words, writer_lines};
+
+use dds_base::{ReaderNo, WriterNo};
+use dds_cert::naming::name_at;
+use dds_match::{Plan, WhyNot};
+use dds_qos::{Policy, PolicySet};
+use std::alloc::{AllocError, Global};
+
+/// Adds the name of a policy, if it is in the set.
+fn push_name(
+    names: &mut Vec<&'static str>,
+    set: PolicySet,
+    policy: &Policy,
+) -> Result<(), AllocError>
+    ensures { IfOk result (λ _. map (λ s. s.now) names.new.items ≡ map (λ s. s.now) names.old.items ++ map name_of (filter (contains set) (policy.now ∷ []))) }
+{
+    if set.contains(*policy) {
+        names.push(policy.name())?;
+    }
+    Ok(())
+}
+
+/// The names of the policies of a set, with commas between them.
+fn policies_text(alloc: Global, set: PolicySet) -> Result<String, AllocError>
+    ensures { IfOk result (λ text. string_bytes text ≡ join_by name_of (codes ",") (filter (contains set) policies)) }
+{
+    let mut names = Vec::new(alloc);
+    for policy in &Policy::ALL {
+        push_name(&mut names, set, policy)?;
+    }
+    names.join(alloc, ",")
+}
+
+/// A reason in words.
+fn reason_text(alloc: Global, reason: WhyNot) -> Result<String, AllocError>
+    ensures { IfOk result (λ text. string_bytes text ≡ reason_words reason) }
+{
+    match reason {
+        WhyNot::OtherDomain => String::from_str(alloc, "domain"),
+        WhyNot::OtherTopic => String::from_str(alloc, "topic"),
+        WhyNot::Partitions => String::from_str(alloc, "partition"),
+        WhyNot::Policies(set) => {
+            let names = policies_text(alloc, set)?;
+            format!(in alloc; "policies {names}")
+        }
+    }
+}
+
+/// The line of a writer and a reader.
+fn pair_text(
+    alloc: Global,
+    plan: &Plan,
+    writer: WriterNo,
+    reader: ReaderNo,
+) -> Result<String, AllocError>
+    ensures { IfOk result (λ text. string_bytes text ≡ pair_line plan.now writer reader) }
+{
+    let lists = plan.lists();
+    let writer_name = name_at(lists.writer_names(), writer.number());
+    let reader_name = name_at(lists.reader_names(), reader.number());
+    match plan.why_not(writer, reader) {
+        None => format!(in alloc; "match {writer_name} {reader_name}\n"),
+        Some(reason) => {
+            let reason = reason_text(alloc, reason)?;
+            format!(in alloc; "none {writer_name} {reader_name} {reason}\n")
+        }
+    }
+}
+
+/// Adds the lines of a writer, by readers in file order.
+fn push_writer(
+    alloc: Global,
+    text: &mut String,
+    plan: &Plan,
+    writer: WriterNo,
+    readers: usize,
+) -> Result<(), AllocError>
+    ensures { IfOk result (λ _. string_bytes text.new ≡ string_bytes text.old ++ writer_lines plan.now readers writer) }
+{
+    for r in 0..readers {
+        let line = pair_text(alloc, plan, writer, ReaderNo::new(r))?;
+        text.push_str(line.as_str())?;
+    }
+    Ok(())
+}
+
+/// The lines that tell of each writer and reader, in file order, whether they match. Only want of memory is an error.
+pub fn match_text(alloc: Global, plan: &Plan) -> Result<String, AllocError>
+    ensures { IfOk result (λ text. string_bytes text ≡ lines_of plan.now (length plan.now.writers.entries) (length plan.now.readers.entries)) }
+{
+    let writers = plan.lists().writers();
+    let readers = plan.lists().readers();
+    let mut text = String::new(alloc);
+    for w in 0..writers {
+        push_writer(alloc, &mut text, plan, WriterNo::new(w), readers)?;
+    }
+    Ok(text)
+}
+
+/// Whether the pair matches exactly where a connection joins it.
+fn is_pair_as_intended(plan: &Plan, writer: WriterNo, reader: ReaderNo) -> bool
+    ensures { result ≡ is_same ((network_of plan.now).matched writer reader) ((network_of plan.now).intended writer reader) }
+{
+    if plan.matched(writer, reader) {
+        plan.intended(writer, reader)
+    } else {
+        !plan.intended(writer, reader)
+    }
+}
+
+/// Whether a writer matches exactly the readers to which a connection joins it.
+#[tactic(auto, using(dds_check::proofs::First::all_below_start, dds_check::proofs::First::all_below_more))]
+fn is_writer_as_intended(plan: &Plan, writer: WriterNo) -> bool
+    ensures { result ≡ is_writer_as_intended (network_of plan.now) writer }
+{
+    let mut all = true;
+    for r in 0..plan.lists().readers() {
+        let same = is_pair_as_intended(plan, writer, ReaderNo::new(r));
+        all = all && same;
+    }
+    all
+}
+
+/// Whether exactly the pairs of the connections match.
+#[tactic(auto, using(dds_check::proofs::First::all_below_start, dds_check::proofs::First::all_below_more))]
+pub fn is_as_intended(plan: &Plan) -> bool
+    ensures { result ≡ is_as_intended (network_of plan.now) }
+{
+    let mut all = true;
+    for w in 0..plan.lists().writers() {
+        let same = is_writer_as_intended(plan, WriterNo::new(w));
+        all = all && same;
+    }
+    all
+}

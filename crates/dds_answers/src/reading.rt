@@ -1,0 +1,57 @@
+//! Reads a file whole.
+ghost use Rattle.std.specs.Prelude.{◌≡◌, ◌+◌, ◌^◌, ◌<◌, ◌≤◌, ◌⊎◌, length, IfOk, IfErr, IfSome, IsErrOf, OnOk};
+ghost use Rattle.std.specs.Io.KnownBytes.{IsAtEnd, Consumes};
+ghost use Rattle.dds_answers.specs.Reading.{IsReadingFault};
+
+use crate::counted::Counted;
+use crate::fault::ToolFault;
+use std::alloc::Global;
+use std::io::{ErrorKind, Read};
+
+/// The most bytes that a file may have.
+pub const MAX_FILE: usize = 1_048_576;
+
+/// The most interrupted reads that one call bears.
+const MAX_INTERRUPTED: u64 = 1_000;
+
+const CHUNK: usize = 4_096;
+
+/// All bytes that the reader has left, at most `MAX_FILE`. More are `TooLarge`. A failed read is `Read`, and so is the 1,001st interrupted one.
+/// `NoMemory` comes where there is no room for the bytes. After an error the reader stands where its reads left it.
+pub fn read_all<R: Read>(alloc: Global, reader: &mut Counted<R>) -> Result<Vec<u8>, ToolFault>
+    requires failed { reader.old.failed < 2 ^ 63 }
+    requires interrupted { reader.old.interrupted < 2 ^ 63 }
+    ensures whole { IfOk result (λ bytes. IfSome (R.remaining reader.old.reader) (λ left. bytes.items ≡ left)) }
+    ensures end { OnOk result (IsAtEnd (R.remaining reader.new.reader)) }
+    ensures bounded { IfOk result (λ bytes. length bytes.items ≤ 1048576) }
+    ensures faults { IfErr result IsReadingFault }
+    ensures too_large { IsErrOf result ToolFault.TooLarge
+        → IfSome (R.remaining reader.old.reader) (λ left. 1048576 < length left) }
+    ensures read { IsErrOf result ToolFault.Read
+        → (reader.old.failed < reader.new.failed) ⊎ (reader.old.interrupted + 1001 ≤ reader.new.interrupted) }
+    ensures borne { OnOk result ((reader.new.failed ≡ reader.old.failed) × (reader.new.interrupted ≤ reader.old.interrupted + 1000)) }
+{
+    let mut bytes = Vec::new(alloc);
+    let mut chunk = [0u8; CHUNK];
+    let mut interrupted = 0u64;
+    while interrupted <= MAX_INTERRUPTED && bytes.len() <= MAX_FILE {
+        match reader.read(&mut chunk) {
+            Ok(0) => return Ok(bytes),
+            Ok(count) => {
+                if bytes.extend_from_slice(&chunk[..count]).is_err() {
+                    return Err(ToolFault::NoMemory);
+                }
+            }
+            Err(error) => {
+                if error.kind() != ErrorKind::Interrupted {
+                    return Err(ToolFault::Read);
+                }
+                interrupted += 1;
+            }
+        }
+    }
+    if bytes.len() > MAX_FILE {
+        return Err(ToolFault::TooLarge);
+    }
+    Err(ToolFault::Read)
+}

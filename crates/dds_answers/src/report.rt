@@ -1,0 +1,260 @@
+//! The answer to two files, and its text.
+ghost use Rattle.std.specs.Prelude.{◌≡◌, ◌++◌, IfOk, flat_map, string_bytes, true};
+ghost use Rattle.dds_match.specs.Plan.{network_of};
+ghost use Rattle.dds_cert.specs.Fits.{fits};
+ghost use Rattle.dds_cert.specs.Views.{certificate_view};
+ghost use Rattle.dds_check.specs.Accepts.{first_no};
+ghost use Rattle.dds_answers.specs.Outcome.{judged, outcome, verdict};
+ghost use Rattle.dds_cert.specs.Sections.{read as certificate_read};
+ghost use Rattle.dds_answers.specs.Report.{IsCertificateFault, IsDeploymentFault, Tells, acceptance_lines, bound_line, refusal_line, outcome_of, report_text_of, rule_text, subject_text, total_line};
+
+use crate::fault::ToolFault;
+use dds_base::RuleNo;
+use dds_cert::naming::{name_at, reader_key, row_name, writer_key};
+use dds_cert::{Bound, CertFault, Certificate, Total, read_certificate};
+use dds_check::{Checked, No, Subject, check};
+use dds_deploy::{DeployFault, Deployment, read_deployment};
+use dds_match::Plan;
+use dds_match::planning::plan;
+use std::alloc::{AllocError, Global};
+
+/// What a check of two files that could be read answers.
+#[derive(Drop)]
+pub enum Report {
+    /// The certificate is accepted.
+    Yes(Checked),
+    /// The first condition that fails, for this plan and this certificate.
+    Refused(No, Plan, Certificate),
+}
+
+pub(crate) fn deployment_fault(fault: DeployFault) -> ToolFault
+    ensures { IsDeploymentFault fault result }
+{
+    match fault {
+        DeployFault::At(flaw) => ToolFault::Deployment(flaw),
+        DeployFault::NoMemory => ToolFault::NoMemory,
+    }
+}
+
+fn certificate_fault(fault: CertFault) -> ToolFault
+    ensures { IsCertificateFault fault result }
+{
+    match fault {
+        CertFault::At(flaw) => ToolFault::Certificate(flaw),
+        CertFault::NoMemory => ToolFault::NoMemory,
+    }
+}
+
+/// The report on a plan and a certificate that fits it.
+fn verdict(plan: Plan, certificate: Certificate) -> Report
+    requires { fits (network_of plan) (certificate_view certificate) ≡ true }
+    ensures { outcome_of result ≡ verdict (first_no plan (certificate_view certificate)) plan (certificate_view certificate) }
+{
+    match check(plan, certificate) {
+        Ok(checked) => Report::Yes(checked),
+        Err((no, plan, certificate)) => Report::Refused(no, plan, certificate),
+    }
+}
+
+/// The report on a plan and the bytes of a certificate.
+fn judge(alloc: Global, plan: Plan, certificate: &[u8]) -> Result<Report, ToolFault>
+    ensures { Tells result (judged plan (certificate_read plan certificate.now)) }
+{
+    match read_certificate(alloc, &plan, certificate) {
+        Ok(certificate) => Ok(verdict(plan, certificate)),
+        Err(fault) => {
+            drop(plan);
+            Err(certificate_fault(fault))
+        }
+    }
+}
+
+/// The report on the bytes of a deployment and of a certificate. The deployment is read, then the certificate for its lists, then the conditions of
+/// the checker are asked in their order. The first fault of a file is `Deployment` or `Certificate`, and `NoMemory` comes where memory ran out.
+#[tactic(auto, unfolding(crate::specs::Outcome::outcome))]
+pub fn answer_check(
+    alloc: Global,
+    deployment: &[u8],
+    certificate: &[u8],
+) -> Result<Report, ToolFault>
+    ensures { Tells result (outcome deployment.now certificate.now) }
+{
+    let lists = match read_deployment(alloc, deployment) {
+        Ok(lists) => lists,
+        Err(fault) => return Err(deployment_fault(fault)),
+    };
+    match plan(alloc, lists) {
+        Ok(plan) => judge(alloc, plan, certificate),
+        Err((_, lists)) => {
+            drop(lists);
+            Err(ToolFault::NoMemory)
+        }
+    }
+}
+
+/// The names of what a condition speaks of, with blanks between them.
+fn subject_text(
+    alloc: Global,
+    lists: &Deployment,
+    certificate: &Certificate,
+    subject: Subject,
+) -> Result<String, AllocError>
+    ensures { IfOk result (λ text. string_bytes text ≡ subject_text lists.now (certificate_view certificate.now) subject) }
+{
+    match subject {
+        Subject::Pair { writer, reader } => {
+            let writer = name_at(lists.writer_names(), writer.number());
+            let reader = name_at(lists.reader_names(), reader.number());
+            format!(in alloc; "{writer} {reader}")
+        }
+        Subject::Instance { reader, key } => {
+            let key = reader_key(lists, reader, key);
+            let reader = name_at(lists.reader_names(), reader.number());
+            format!(in alloc; "{reader} {key}")
+        }
+        Subject::Reader(reader) => String::from_str(
+            alloc,
+            name_at(lists.reader_names(), reader.number()),
+        ),
+        Subject::Writer(writer) => String::from_str(
+            alloc,
+            name_at(lists.writer_names(), writer.number()),
+        ),
+        Subject::RowInstance { row, reader, key } => {
+            let row = row_name(certificate, row);
+            let key = reader_key(lists, reader, key);
+            let reader = name_at(lists.reader_names(), reader.number());
+            format!(in alloc; "{row} {reader} {key}")
+        }
+        Subject::RowRule { row, rule } => {
+            let row = row_name(certificate, row);
+            let rule = rule_text(alloc, lists, rule)?;
+            format!(in alloc; "{row} {rule}")
+        }
+        Subject::RowWriterKey { row, writer, key } => {
+            let row = row_name(certificate, row);
+            let key = writer_key(lists, writer, key);
+            let writer = name_at(lists.writer_names(), writer.number());
+            format!(in alloc; "{row} {writer} {key}")
+        }
+    }
+}
+
+// The name of a rule's entry, and the key where the rule stands for one.
+fn rule_text(alloc: Global, lists: &Deployment, rule: RuleNo) -> Result<String, AllocError>
+    ensures { IfOk result (λ text. string_bytes text ≡ rule_text lists.now rule) }
+{
+    match lists.rule_origin(rule) {
+        Some(origin) => {
+            let name = name_at(lists.rule_names(), origin.name);
+            match origin.key {
+                Some((topic, key)) => {
+                    let key = lists.key_name(topic, key);
+                    format!(in alloc; "{name} {key}")
+                }
+                None => String::from_str(alloc, name),
+            }
+        }
+        None => Ok(String::new(alloc)),
+    }
+}
+
+/// The line of a refusal.
+pub(crate) fn refusal_text(
+    alloc: Global,
+    no: No,
+    lists: &Deployment,
+    certificate: &Certificate,
+) -> Result<String, AllocError>
+    ensures { IfOk result (λ text. string_bytes text ≡ refusal_line lists.now (certificate_view certificate.now) no) }
+{
+    let subject = subject_text(alloc, lists, certificate, no.subject)?;
+    let number = no.number.number();
+    let name = no.number.name();
+    format!(in alloc; "no {number} {name} {subject}\n")
+}
+
+/// The line of a bound.
+fn bound_text(alloc: Global, lists: &Deployment, bound: &Bound) -> Result<String, AllocError>
+    ensures { IfOk result (λ text. string_bytes text ≡ bound_line lists.now bound.now) }
+{
+    let reader = name_at(lists.reader_names(), bound.reader.number());
+    let key = reader_key(lists, bound.reader, bound.key);
+    let number = bound.bound;
+    format!(in alloc; "bound {reader} {key} {number}\n")
+}
+
+/// The line of a total.
+fn total_text(alloc: Global, lists: &Deployment, total: &Total) -> Result<String, AllocError>
+    ensures { IfOk result (λ text. string_bytes text ≡ total_line lists.now total.now) }
+{
+    let reader = name_at(lists.reader_names(), total.reader.number());
+    let number = total.bound;
+    format!(in alloc; "total {reader} {number}\n")
+}
+
+/// Adds the line of each bound.
+fn push_bounds(
+    alloc: Global,
+    text: &mut String,
+    lists: &Deployment,
+    bounds: &[Bound],
+) -> Result<(), AllocError>
+    ensures { IfOk result (λ _. string_bytes text.new ≡ string_bytes text.old ++ flat_map (bound_line lists.now) bounds.now) }
+{
+    for bound in bounds {
+        let line = bound_text(alloc, lists, bound)?;
+        text.push_str(line.as_str())?;
+    }
+    Ok(())
+}
+
+/// Adds the line of each total.
+fn push_totals(
+    alloc: Global,
+    text: &mut String,
+    lists: &Deployment,
+    totals: &[Total],
+) -> Result<(), AllocError>
+    ensures { IfOk result (λ _. string_bytes text.new ≡ string_bytes text.old ++ flat_map (total_line lists.now) totals.now) }
+{
+    for total in totals {
+        let line = total_text(alloc, lists, total)?;
+        text.push_str(line.as_str())?;
+    }
+    Ok(())
+}
+
+/// The lines of an acceptance.
+fn acceptance_text(
+    alloc: Global,
+    lists: &Deployment,
+    certificate: &Certificate,
+) -> Result<String, AllocError>
+    ensures { IfOk result (λ text. string_bytes text ≡ acceptance_lines lists.now (certificate_view certificate.now)) }
+{
+    let mut text = String::from_str(alloc, "yes\n")?;
+    push_bounds(alloc, &mut text, lists, certificate.bounds.as_slice())?;
+    push_totals(alloc, &mut text, lists, certificate.totals.as_slice())?;
+    Ok(text)
+}
+
+/// The lines of a report. Only want of memory is an error.
+#[tactic(auto, unfolding(crate::specs::Report::output_of))]
+pub fn report_text(alloc: Global, report: &Report) -> Result<String, AllocError>
+    ensures { IfOk result (λ text. string_bytes text ≡ report_text_of report.now) }
+{
+    match report {
+        Report::Yes(checked) => acceptance_text(
+            alloc,
+            checked.plan().lists(),
+            checked.certificate(),
+        ),
+        Report::Refused(no, plan, certificate) => refusal_text(
+            alloc,
+            *no,
+            plan.lists(),
+            certificate,
+        ),
+    }
+}

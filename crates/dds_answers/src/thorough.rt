@@ -1,0 +1,183 @@
+//! What `propose --thorough` answers to the bytes of a deployment.
+ghost use Rattle.std.specs.Prelude.{◌≡◌, ◌≤◌, IfErr, IfOk, Ok};
+ghost use Rattle.dds_answers.specs.Answers.{Gives};
+ghost use Rattle.dds_answers.specs.Fault.{fault_status};
+ghost use Rattle.dds_answers.specs.Outcome.{Outcome, unproposed};
+ghost use Rattle.dds_answers.specs.Searches.{MayFind};
+ghost use Rattle.dds_deploy.specs.Sections.{read as deployment_read};
+
+use crate::answer::{Answer, certified};
+use crate::fault::ToolFault;
+use crate::report::{deployment_fault, refusal_text};
+use dds_base::ReaderNo;
+use dds_cert::Certificate;
+use dds_cert::naming::{name_at, reader_key};
+use dds_check::No;
+use dds_deploy::{Deployment, read_deployment};
+use dds_match::Plan;
+use dds_match::planning::plan;
+use dds_propose::propose;
+use dds_propose::targets::Target;
+use dds_search::{Found, Least, Missing, search};
+use std::alloc::{AllocError, Global};
+
+/// The name of the limit of a key of a reader: its depth where it keeps the last samples alone.
+fn instance_limit(plan: &Plan, reader: ReaderNo) -> &'static str {
+    if reader.number() >= plan.lists().readers() {
+        return "the limit";
+    }
+    match plan.reader_limits(reader).keep_last {
+        Some(_) => "the history depth",
+        None => "max_samples_per_instance",
+    }
+}
+
+/// The limit of a target, with the names of the reader and of the key.
+fn limit_text(alloc: Global, plan: &Plan, target: &Target) -> Result<String, AllocError> {
+    let lists = plan.lists();
+    match target {
+        Target::Instance { reader, key } => {
+            let limit = instance_limit(plan, *reader);
+            let key = reader_key(lists, *reader, *key);
+            let reader = name_at(lists.reader_names(), reader.number());
+            format!(in alloc; "{limit} of {reader} {key}")
+        }
+        Target::Reader(reader) => {
+            let reader = name_at(lists.reader_names(), reader.number());
+            format!(in alloc; "max_samples of {reader}")
+        }
+    }
+}
+
+/// What shows the bounds that are compared: of the samples of a reader a single row.
+fn shown_by(target: &Target) -> &'static str {
+    match target {
+        Target::Instance { .. } => "weights show",
+        Target::Reader(_) => "one row of weights shows",
+    }
+}
+
+/// What is known of the bounds for a limit that has no certificate.
+fn least_text(
+    alloc: Global,
+    limit: &str,
+    shower: &str,
+    least: Least,
+) -> Result<String, AllocError> {
+    match least {
+        Least::Shown(bound) => format!(in alloc;
+            "ddscheck: no weights show {limit}; the least bound that {shower} is {bound}\n"
+        ),
+        Least::Unbounded => format!(in alloc;
+            "ddscheck: no weights show {limit}, nor any other bound\n"
+        ),
+        Least::Unknown => format!(in alloc;
+            "ddscheck: no weights were found that show {limit}: the numbers became too large or the search too long\n"
+        ),
+    }
+}
+
+/// The line of a refusal that names no row.
+fn refusal_line(alloc: Global, lists: &Deployment, no: No) -> Result<String, AllocError> {
+    let nothing = Certificate {
+        rows: Vec::new(alloc),
+        bounds: Vec::new(alloc),
+        totals: Vec::new(alloc),
+    };
+    refusal_text(alloc, no, lists, &nothing)
+}
+
+/// Why no certificate was found.
+fn missing_text(alloc: Global, plan: &Plan, missing: Missing) -> Result<String, AllocError> {
+    match missing {
+        Missing::Structure(no) => {
+            let line = refusal_line(alloc, plan.lists(), no)?;
+            format!(in alloc; "ddscheck: whatever the certificate, {line}")
+        }
+        Missing::Limit { target, least } => {
+            let limit = limit_text(alloc, plan, &target)?;
+            least_text(alloc, limit.as_str(), shown_by(&target), least)
+        }
+        Missing::Rows => String::from_str(
+            alloc,
+            "ddscheck: each limit has weights that show it, but more than 64 rows of them are needed\n",
+        ),
+        Missing::Refused(no) => {
+            let line = refusal_line(alloc, plan.lists(), no)?;
+            format!(in alloc; "ddscheck: what was found isn't accepted: {line}")
+        }
+    }
+}
+
+/// The answer where no certificate was found: why is told to the user.
+#[tactic(auto, unfolding(crate::specs::Report::output_of, crate::specs::Report::status_of))]
+fn unfound(alloc: Global, plan: &Plan, missing: Missing) -> Result<Answer, ToolFault>
+    ensures gives { Gives result unproposed }
+    ensures no_usage { IfErr result (λ e. fault_status e ≤ 3) }
+{
+    let Ok(note) = missing_text(alloc, plan, missing) else {
+        return Err(ToolFault::NoMemory);
+    };
+    match String::from_str(alloc, "none\n") {
+        Ok(text) => Ok(Answer {
+            text,
+            is_yes: false,
+            note: Some(note),
+        }),
+        Err(_) => Err(ToolFault::NoMemory),
+    }
+}
+
+/// The answer where the search found nothing: the rounds may still find a certificate, since their numbers are smaller.
+fn by_rounds(alloc: Global, plan: &Plan, missing: Missing) -> Result<Answer, ToolFault>
+    ensures gives { (end : Outcome) × MayFind (Ok plan.now) end × Gives result end }
+    ensures no_usage { IfErr result (λ e. fault_status e ≤ 3) }
+{
+    match propose(alloc, plan) {
+        Ok(Some(certificate)) => certified(alloc, plan, &certificate),
+        Ok(None) => unfound(alloc, plan, missing),
+        Err(_) => Err(ToolFault::NoMemory),
+    }
+}
+
+/// The answer to what is found for a plan.
+fn sought(alloc: Global, plan: &Plan) -> Result<Answer, ToolFault>
+    ensures gives { (end : Outcome) × MayFind (Ok plan.now) end × Gives result end }
+    ensures no_usage { IfErr result (λ e. fault_status e ≤ 3) }
+{
+    match search(alloc, plan) {
+        Ok(Found::Certificate(certificate)) => certified(alloc, plan, &certificate),
+        Ok(Found::Missing(missing)) => by_rounds(alloc, plan, missing),
+        Err(_) => Err(ToolFault::NoMemory),
+    }
+}
+
+/// The answer to what is found for the lists of a deployment.
+fn lists_sought(alloc: Global, lists: Deployment) -> Result<Answer, ToolFault>
+    ensures gives { (end : Outcome) × MayFind (Ok lists) end × Gives result end }
+    ensures no_usage { IfErr result (λ e. fault_status e ≤ 3) }
+{
+    match plan(alloc, lists) {
+        Ok(plan) => {
+            let answer = sought(alloc, &plan);
+            drop(plan);
+            answer
+        }
+        Err((_, lists)) => {
+            drop(lists);
+            Err(ToolFault::NoMemory)
+        }
+    }
+}
+
+/// The answer of `propose --thorough` to the bytes of a deployment: yes with the text of a certificate that is accepted, or no where none was
+/// found, and then with a note that says why.
+pub fn thorough_answer(alloc: Global, deployment: &[u8]) -> Result<Answer, ToolFault>
+    ensures gives { (end : Outcome) × MayFind (deployment_read deployment.now) end × Gives result end }
+    ensures no_usage { IfErr result (λ e. fault_status e ≤ 3) }
+{
+    match read_deployment(alloc, deployment) {
+        Ok(lists) => lists_sought(alloc, lists),
+        Err(fault) => Err(deployment_fault(fault)),
+    }
+}

@@ -1,5 +1,0 @@
-use Rattle.dds_tool.proofs.Searches.{memory_finds}
-use Rattle.dds_tool.proofs.thorough.by_rounds.Goals as goal
-
-pub returns-in-Err-clause-gives : goal.returns-in-Err-clause-gives
-returns-in-Err-clause-gives c = memory_finds c.args.plan.now

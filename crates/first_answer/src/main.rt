@@ -1,0 +1,74 @@
+//! The commands of `ddscheck` whose words are a command and the names of its files, for the toolchain's interpreter: it reads such words itself, so that
+//! the interpreter hasn't to compile `clap`, and answers in half the time. Where nothing is built, `./ddscheck` hands these words to it.
+#![tactic(auto)]
+
+use dds_answers::{
+    Answer, Disk, Sources, ToolFault, check_files, give, match_file, migrate_file, propose_file,
+    tell_fault,
+};
+use std::alloc::Global;
+use std::env::{self, Env};
+use std::io;
+use std::process::ExitCode;
+
+/// The words of the command line, of which the first is the program's name.
+fn words<R: Env + AllocGlobal>(rt: &R) -> io::Result<Vec<String>> {
+    Ok(env::args(rt)?.collect(rt.alloc())?)
+}
+
+/// What is told of words that ask for something else.
+fn other_words(alloc: Global) -> ToolFault {
+    match String::from_str(alloc, "error: these words need the built program\n") {
+        Ok(text) => ToolFault::Usage(text),
+        Err(_) => ToolFault::NoMemory,
+    }
+}
+
+/// The answer to a command on one file.
+fn answer_to_one<S: Sources>(
+    alloc: Global,
+    command: &str,
+    deployment: &str,
+    files: &mut S,
+) -> Result<Answer, ToolFault> {
+    match command {
+        "match" => match_file(alloc, deployment, files),
+        "propose" => propose_file(alloc, deployment, files),
+        "migrate" => migrate_file(alloc, deployment, files),
+        _ => Err(other_words(alloc)),
+    }
+}
+
+/// The answer to words, of which the first is the program's name, the second a command, and the others name its files.
+fn answer_to<S: Sources>(
+    alloc: Global,
+    words: &[String],
+    files: &mut S,
+) -> Result<Answer, ToolFault> {
+    match words {
+        [_, command, deployment] => {
+            answer_to_one(alloc, command.as_str(), deployment.as_str(), files)
+        }
+        [_, command, deployment, certificate] if command.as_str() == "check" => {
+            check_files(alloc, deployment.as_str(), certificate.as_str(), files)
+        }
+        _ => Err(other_words(alloc)),
+    }
+}
+
+fn main(rt: HostRuntime) -> ExitCode {
+    let alloc = rt.alloc();
+    let mut out = io::writer(&rt);
+    let err = rt.stderr();
+    let mut err = io::writer(&err);
+    let mut files = Disk::new(&rt);
+    let answer = match words(&rt) {
+        Ok(words) => answer_to(alloc, words.as_slice(), &mut files),
+        Err(_) => Err(other_words(alloc)),
+    };
+    let status = match give(answer, &mut out, &mut err) {
+        Ok(status) => status,
+        Err(fault) => tell_fault(alloc, &mut err, &fault),
+    };
+    ExitCode::from(status)
+}

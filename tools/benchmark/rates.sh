@@ -1,0 +1,21 @@
+#!/bin/sh
+# Samples a second of examples/ping by the peers of this project and, where idlc and Cyclone DDS's library are installed (Debian's cyclonedds-dev), by Cyclone
+# DDS, in one process each: at no loss, and where 1, 6 and 19 of 64 packets are lost. Of Cyclone DDS loss wants its network, so it is told once within the
+# process and then over the loopback device. rates.sh [SAMPLES], 10000 of each application if left out. The program is built by 'rt run' in crates/bench_peers.
+here=$(CDPATH='' cd -- "$(dirname -- "$0")/../.." && pwd)
+peers=$here/crates/bench_peers/out/bench_peers
+samples=${1:-10000}
+room=$(mktemp -d) || exit 1
+trap 'rm -rf "$room"' EXIT
+
+[ -x "$peers" ] || { echo "there is no program at $peers: run 'rt run' in crates/bench_peers" >&2 && exit 1; }
+for lost in 0 1 6 19; do
+    echo "peers, $lost of 64 lost: $("$peers" "$samples" $lost 2>&1 | tr '\n' ' ')"
+done
+command -v idlc >/dev/null || { echo 'idlc of Cyclone DDS is not installed' && exit; }
+cp "$here"/tools/benchmark/cyclone/* "$room" && cd "$room" || exit 1
+idlc Number.idl && cc -O2 -o ping ping.c Number.c -lddsc -lpthread || exit 1
+echo "Cyclone DDS within the process: $(./ping local "$samples")"
+for permille in 0 16 94 297; do
+    echo "Cyclone DDS over loopback, $permille of 1000 lost: $(timeout 120 ./ping net "$samples" $permille 2>/dev/null || echo 'more than 120 seconds')"
+done
