@@ -1,4 +1,9 @@
-pub mod KeyLaws
+pub mod MapLaws
+pub mod PairLaws
+pub mod QueueLaws
+pub mod PlaceLaws
+pub mod CountLaws
+pub mod LeastLaws
+pub mod ReleasedLaws
 pub mod StoredLaws
 pub mod TakeLaws
-pub mod ReleasedLaws

@@ -1,35 +1,48 @@
--- A writer's number in the list of writers.
-use Rattle.std.proofs.Common.{◌≡◌, ℕ, ◌<◌, Bool, false, ◌==◌, Option, Some, None, List, length, get_or, refl, sym, ◌∙◌, arith, inl, inr, position}
-use Rattle.std.specs.List.{position_or_len}
-use Rattle.std.proofs.lemmas.List.Recursion.{found_at, found_nowhere}
-use Rattle.std.proofs.lemmas.List.Quantifiers.{position-Some}
-use Rattle.std.proofs.lemmas.List.Sums.{fails_before_first}
-use Rattle.std.proofs.lemmas.Bool.{cases_lt, cond-true, lt-ltb}
+-- The list of writers and what is released of each, after a release.
+use Rattle.std.proofs.Common.{◌≡◌, ℕ, max, true, false, cond, ◌||◌, ◌==◌, List, [], ◌∷◌, get_or, refl, sym, ap, ◌∙◌, inl, inr}
+use Rattle.std.proofs.lemmas.List.Elements.{All-map}
+use Rattle.std.proofs.lemmas.List.Folds.{list_any_at}
+use Rattle.std.proofs.lemmas.Bool.{cases_Bool, eq-eqb, eqb-true}
+use Rattle.dds_base.specs.declared.sample.Sample.{Sample}
 use Rattle.dds_cache.specs.declared.released.Released.{Released}
-use Rattle.dds_cache.specs.Released.{released_of}
+use Rattle.dds_cache.specs.Released.{is_listed, released_of, opened, lifted, raised}
+use Rattle.dds_cache.specs.Least.{IsUniform, AreListed}
 
--- a place is not nowhere
-some_none : {o : Option ℕ} {n : ℕ} → o ≡ Some n → o ≡ None → ⊥
-some_none e f = let h = sym e ∙ f in cc
-
--- the entry is of the writer
-abbrev pub Of : ℕ → Released → Bool
-Of w r = r.writer == w
-
--- the entry found has the released number
-pub released_at : (w : ℕ) (rs : List Released) (i : ℕ) (d : Released) → position (Of w) rs ≡ Some i → (get_or rs i d).upto ≡ released_of w rs
-released_at w rs i d e =
-    let h = position-Some (Of w) rs i d e in
-    sym (found_at (released_of w) (Of w) (λ r. r.upto) 0 refl (λ _ _. refl) rs i d h.0 h.2 h.1)
-
--- no entry is of a writer that is nowhere
-none_at : (w : ℕ) (rs : List Released) (k : ℕ) (d : Released) → k < length rs → position (Of w) rs ≡ None → Of w (get_or rs k d) ≡ false
-none_at w rs k d within e = elim (cases_lt (position_or_len (Of w) rs) (length rs)) [
-  | inl found ↦ absurd (some_none (cond-true _ (Some (position_or_len (Of w) rs)) None (lt-ltb _ _ found)) e)
-  | inr past ↦ fails_before_first (Of w) rs k d (omega arith)
+-- at first nothing is released
+released_opened : (w : ℕ) (ws : List ℕ) → released_of w (opened ws) ≡ 0
+released_opened w [] = refl
+released_opened w (v ∷ ws) = elim (cases_Bool (v == w)) [
+  | inl hit ↦ rw hit refl
+  | inr miss ↦ rw miss (released_opened w ws)
 ]
 
--- nothing is released of a writer that is nowhere
-pub released_none : (w : ℕ) (rs : List Released) (d : Released) → position (Of w) rs ≡ None → 0 ≡ released_of w rs
-released_none w rs d e =
-    sym (found_nowhere (released_of w) (Of w) (λ r. r.upto) 0 refl (λ _ _. refl) rs d (λ k within. none_at w rs k d within e))
+-- so all entries agree
+pub uniform_opened : (ws : List ℕ) → IsUniform (opened ws)
+uniform_opened ws =
+    All-map (λ r. r.upto ≡ released_of r.writer (opened ws)) (λ (w : ℕ). record { writer = w; upto = 0 }) ws
+    (λ i d within. sym (released_opened (get_or ws i d) ws))
+
+-- a release lists the same writers
+listed_raised : (w v upto : ℕ) (rs : List Released) → is_listed w (raised v upto rs) ≡ is_listed w rs
+listed_raised w v upto [] = refl
+listed_raised w v upto (r ∷ rs) = ap (λ b. (r.writer == w) || b) (listed_raised w v upto rs)
+
+-- what is released of a listed writer after a release
+released_raised : (w v upto : ℕ) (rs : List Released) → is_listed w rs ≡ true
+    → released_of w (raised v upto rs) ≡ cond (w == v) (max (released_of w rs) upto) (released_of w rs)
+released_raised w v upto [] listed = (let e : false ≡ true = listed in cc)
+released_raised w v upto (r ∷ rs) listed = elim (cases_Bool (r.writer == w)) [
+  | inl hit ↦ rw hit (ap (λ (q : ℕ). cond (q == v) (max r.upto upto) r.upto) (eqb-true r.writer w hit))
+  | inr miss ↦ rw miss (released_raised w v upto rs (sym (ap (λ b. b || is_listed w rs) miss) ∙ listed))
+]
+
+-- entries that agree agree after a release
+pub uniform_raised : (v upto : ℕ) (rs : List Released) → IsUniform rs → IsUniform (raised v upto rs)
+uniform_raised v upto rs uniform = All-map (λ r. r.upto ≡ released_of r.writer (raised v upto rs)) (lifted v upto) rs (λ i d within.
+    let r = get_or rs i d in
+    ap (λ (n : ℕ). cond (r.writer == v) (max n upto) n) (uniform i d within)
+    ∙ sym (released_raised r.writer v upto rs (list_any_at (λ a. a.writer == r.writer) rs i d within (eq-eqb r.writer r.writer refl))))
+
+-- and the writers of the stored samples are listed still
+pub all_listed_raised : (v upto : ℕ) (rs : List Released) (xs : List Sample) → AreListed xs rs → AreListed xs (raised v upto rs)
+all_listed_raised v upto rs xs listed = λ i d within. listed_raised (get_or xs i d).writer v upto rs ∙ listed i d within

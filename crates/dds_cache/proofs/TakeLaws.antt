@@ -1,28 +1,48 @@
--- What a walk over the stored samples finds, in the words of the contract of `take`.
-use Rattle.std.proofs.Common.{◌≡◌, ℕ, Bool, leb, ◌&&◌, [], get_or, refl, subst, sym, inl, inr}
-use Rattle.std.proofs.lemmas.Bool.{and_from, and_parts, eq-eqb, eqb-true, le-leb, leb-true, lt-leb, cases_eq, ne_eqb, and_right}
+-- What was found by tickets, in the words of the contract of `take`.
+use Rattle.std.proofs.Common.{◌≡◌, ℕ, ◌≤◌, Bool, true, leb, ◌&&◌, List, [], Some, get_or, subst, sym, ap, ◌∙◌, inl, inr}
+use Rattle.std.specs.Prelude.{filter}
+use Rattle.std.specs.Ordering.{nat_cmp}
+use Rattle.std.specs.BTreeMap.{IsOrdered, values}
+use Rattle.std.proofs.lemmas.Bool.{and_from, and_parts, eq-eqb, eqb-true, le-leb, leb-true, cases_Bool}
 use Rattle.dds_base.specs.declared.sample.Sample.{Sample}
 use Rattle.dds_qos.specs.Samples.{has_key}
 use Rattle.dds_qos.specs.Taking.{IsLeastOfWriter}
 use Rattle.dds_qos.proofs.TakingLaws.{least_at, none_at}
-use Rattle.dds_cache.specs.Cache.{CacheState, available}
-use Rattle.dds_cache.specs.Least.{IsLeastAt, NoneAvailable}
+use Rattle.dds_cache.specs.declared.released.Released.{Released}
+use Rattle.dds_cache.specs.Least.{IsAvailableAt, IsLeastAt, NoneAvailable}
+use Rattle.dds_cache.specs.Order.{Samples, at}
 use Rattle.dds_cache.specs.Released.{released_of}
+use Rattle.dds_cache.proofs.PlaceLaws.{place_at, at_place}
+use Rattle.dds_cache.proofs.MapLaws.{some_same}
 
 -- an available sample of the key
-abbrev passes : CacheState → ℕ → Sample → Bool
-passes c key s = has_key key s && leb s.sn (released_of s.writer c.writers)
+abbrev pub passes : List Released → ℕ → Sample → Bool
+passes ws key s = has_key key s && leb s.sn (released_of s.writer ws)
 
--- the place with the least number has a sample that may be given
-pub taken_at : (c : CacheState) (key at : ℕ) (x : Sample) → IsLeastAt c key at → x ≡ get_or c.stored at x → IsLeastOfWriter x (available c key)
-taken_at c key at x found is = subst (λ y. IsLeastOfWriter y (available c key)) (sym is) (least_at (passes c key) c.stored at x found.within
-    (and_from _ _ (eq-eqb _ key (found.of_key x)) (le-leb _ _ (found.available x)))
-    (λ k within h w. let p = and_parts (has_key key (get_or c.stored k x)) (leb (get_or c.stored k x).sn (released_of (get_or c.stored k x).writer c.writers)) h in
-    found.least k x within (eqb-true (get_or c.stored k x).key key p.0) (leb-true (get_or c.stored k x).sn (released_of (get_or c.stored k x).writer c.writers) p.1)))
+-- the sample of a ticket passes
+available_at : (m : Samples) (ws : List Released) (key t : ℕ) (x : Sample) → at m t ≡ Some x → passes ws key x ≡ true → IsAvailableAt m ws key t x
+available_at m ws key t x there h =
+    let p = and_parts (has_key key x) (leb x.sn (released_of x.writer ws)) h in
+    record { here = there; of_key = eqb-true x.key key p.0; available = leb-true x.sn (released_of x.writer ws) p.1 }
 
--- where nothing is available, nothing may be given
-pub none_taken : (c : CacheState) (key : ℕ) → NoneAvailable c key → available c key ≡ []
-none_taken c key none = none_at (passes c key) c.stored (λ k d within. elim (cases_eq (get_or c.stored k d).key key) [
-  | inl e ↦ and_right (has_key key (get_or c.stored k d)) (leb (get_or c.stored k d).sn (released_of (get_or c.stored k d).writer c.writers)) (lt-leb _ _ (none k d within e))
-  | inr ne ↦ rw (ne_eqb (get_or c.stored k d).key key ne) refl
+-- the sample of the least ticket may be given
+pub taken_least : (m : Samples) (ws : List Released) (key t : ℕ) (x : Sample) → IsOrdered nat_cmp m → IsLeastAt m ws key t → at m t ≡ Some x
+    → IsLeastOfWriter x (filter (passes ws key) (values m))
+taken_least m ws key t x ordered found there =
+    let a = place_at m t x there in
+    let av = found.1 in
+    let same : found.0 ≡ x = some_same av.here there in
+    let own : passes ws key found.0 ≡ true = and_from _ _ (eq-eqb _ key av.of_key) (le-leb _ _ av.available) in
+    subst (λ (y : Sample). IsLeastOfWriter y (filter (passes ws key) (values m))) a.2 (least_at (passes ws key) (values m) a.0 x a.1
+    (ap (passes ws key) (a.2 ∙ sym same) ∙ own)
+    (λ k within h w.
+    let s = at_place m k x ordered within in
+    let y = get_or (values m) k x in
+    subst (λ (z : Sample). z.sn ≤ y.sn) (same ∙ sym a.2) (found.2 s.0 y (available_at m ws key s.0 y s.1 h))))
+
+-- where nothing is available nothing may be given
+pub none_taken : (m : Samples) (ws : List Released) (key : ℕ) → IsOrdered nat_cmp m → NoneAvailable m ws key → filter (passes ws key) (values m) ≡ []
+none_taken m ws key ordered none = none_at (passes ws key) (values m) (λ k d within. elim (cases_Bool (passes ws key (get_or (values m) k d))) [
+  | inl h ↦ (let s = at_place m k d ordered within in absurd (none s.0 (get_or (values m) k d) (available_at m ws key s.0 (get_or (values m) k d) s.1 h)))
+  | inr h ↦ h
 ])

@@ -1,5 +1,6 @@
 pub mod Released
 pub mod Cache
-pub mod Contents
+pub mod Order
+pub mod Queues
 pub mod Least
 pub mod View

@@ -1,21 +1,20 @@
--- What the fields of the plain cache stand for.
-use Rattle.std.specs.Prelude.{◌≡◌, length}
+-- What the fields of the cache stand for.
+use Rattle.std.specs.BTreeMap.{keys, values}
 use Rattle.std.specs.FinSet as set
-use Rattle.std.specs.Ordering.{nat_cmp}
 use Rattle.dds_cache.specs.declared.cache.Cache.TheInside.{Inside}
 use Rattle.dds_cache.specs.Cache.{CacheState}
-use Rattle.dds_cache.specs.Contents.{IsApart}
+use Rattle.dds_cache.specs.Least.{IsUniform, AreListed}
 
--- the state that the fields stand for: the keys as a set, all else as it is
+-- the state that the fields stand for: the samples in order of their tickets, the counted keys as a set, all else as it is
 abbrev pub view_of : Inside → CacheState
 view_of a = record {
   limits = a.limits;
-  stored = a.contents.stored.items;
-  keys = set.from_list a.contents.keys.items;
+  stored = values a.contents.order.samples;
+  keys = set.from_list (keys a.contents.counts);
   writers = a.writers.items;
 }
 
--- no key stands twice, so the list of keys is as long as the set, and no sample is stored twice
+-- each stored sample's writer is listed, with one released number
 pub record IsSound (a : Inside) : Type 0 where
-  pub counted : set.len (set.from_list {R = nat_cmp} a.contents.keys.items) ≡ length a.contents.keys.items
-  pub apart : IsApart a.contents.stored.items
+  pub uniform : IsUniform a.writers.items
+  pub listed : AreListed (values a.contents.order.samples) a.writers.items

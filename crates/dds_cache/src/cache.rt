@@ -5,12 +5,11 @@ ghost use Rattle.std.specs.FinSet as set;
 ghost use Rattle.dds_qos.specs.Samples.{IsFresh, in_instance, without};
 ghost use Rattle.dds_qos.specs.Admission.{is_reached, admission, stored_after, keys_after};
 ghost use Rattle.dds_qos.specs.Taking.{IsLeastOfWriter};
-ghost use Rattle.dds_cache.specs.Released.{is_listed, opened, raised, released_of};
-ghost use Rattle.dds_cache.specs.Cache.{is_available, available};
-ghost use Rattle.dds_cache.specs.Least.{IsLeastAt, NoneAvailable};
+ghost use Rattle.dds_cache.specs.Released.{is_listed, opened, raised};
+ghost use Rattle.dds_cache.specs.Cache.{available};
 
-use crate::contents::{Contents, first_of};
-use crate::released::{Released, raise, released_upto};
+use crate::contents::Contents;
+use crate::released::{Released, raise};
 use dds_base::{KeyNo, Rejection, Sample, WriterNo};
 use dds_qos::{Admit, ReaderLimits};
 use std::alloc::{AllocError, Global};
@@ -76,14 +75,14 @@ impl Cache {
     pub fn stored(&self) -> usize
         ensures { result ≡ length self.now.stored }
     {
-        self.contents.stored.len()
+        self.contents.stored()
     }
 
     /// How many instances the cache has: the different keys of all samples that it ever stored, also of those that are gone.
     pub fn instances(&self) -> usize
         ensures { result ≡ set.len self.now.keys }
     {
-        self.contents.keys.len()
+        self.contents.instances()
     }
 
     /// How many samples of the key are stored, available or not.
@@ -105,11 +104,7 @@ impl Cache {
         }
         let unread = self.unread(sample.key);
         if is_reached(self.limits.keep_last, unread) {
-            let oldest = match first_of(&self.contents.stored, sample.key) {
-                Some(at) => self.contents.stored[at],
-                None => *sample,
-            };
-            return Admit::Overwrote(oldest);
+            return Admit::Overwrote(self.contents.oldest(sample));
         }
         if is_reached(self.limits.max_samples, self.stored()) {
             return Admit::Rejected(Rejection::SamplesLimit);
@@ -166,46 +161,14 @@ impl Cache {
         ensures answer { MatchOption result (available self.old key ≡ []) (λ x. IsLeastOfWriter x (available self.old key)) }
         ensures state { MatchOption result (self.new ≡ self.old) (λ x. self.new ≡ record self.old { stored = without x self.old.stored }) }
     {
-        match self.least(key) {
-            Some(at) => Some(self.contents.stored.remove(at)),
-            None => None,
-        }
+        let ticket = self.contents.least(&self.writers, key)?;
+        self.contents.remove(ticket)
     }
 
     fn knows(&self, key: KeyNo) -> bool
         ensures { result ≡ set.contains self.now.keys key }
     {
         self.contents.knows(key)
-    }
-
-    // Up to which number the writer's samples are available.
-    fn released(&self, writer: WriterNo) -> u64
-        ensures { result ≡ released_of writer self.now.writers }
-    {
-        released_upto(&self.writers, writer)
-    }
-
-    fn is_available(&self, sample: &Sample) -> bool
-        ensures { result ≡ is_available self.now sample.now }
-    {
-        sample.sn <= self.released(sample.writer)
-    }
-
-    // The place of the available sample of the key with the least number of all.
-    fn least(&self, key: KeyNo) -> Option<usize>
-        ensures { MatchOption result (NoneAvailable self.now key) (IsLeastAt self.now key) }
-    {
-        let mut best = None;
-        for at in 0..self.contents.stored.len() {
-            let sample = &self.contents.stored[at];
-            if sample.key == key && self.is_available(sample) {
-                best = match best {
-                    Some(b) if self.contents.stored[b].sn <= sample.sn => Some(b),
-                    _ => Some(at),
-                };
-            }
-        }
-        best
     }
 }
 

@@ -1,7 +1,7 @@
 //! Up to which number the samples of each writer are available.
 
-ghost use Rattle.std.specs.Prelude.{◌≡◌, ◌==◌, position};
-ghost use Rattle.dds_cache.specs.Released.{lifted, raised, released_of};
+ghost use Rattle.std.specs.Prelude.{◌≡◌};
+ghost use Rattle.dds_cache.specs.Released.{lifted, raised};
 
 use dds_base::WriterNo;
 
@@ -11,22 +11,6 @@ pub struct Released {
     pub writer: WriterNo,
     /// Its samples with this number and below are available: 0 to 2^64 - 1, 0 where none is yet.
     pub upto: u64,
-}
-
-fn place_of(writers: &[Released], writer: WriterNo) -> Option<usize>
-    ensures { result ≡ position (λ r. r.writer == writer) writers.now }
-{
-    writers.iter().position(|r| r.writer == writer)
-}
-
-// Up to which number a writer's samples are available.
-pub(crate) fn released_upto(writers: &[Released], writer: WriterNo) -> u64
-    ensures { result ≡ released_of writer writers.now }
-{
-    match place_of(writers, writer) {
-        Some(at) => writers[at].upto,
-        None => 0,
-    }
 }
 
 // Makes one writer's samples up to a number available. A number below what is released already changes nothing.

@@ -1,3 +1,4 @@
 pub mod BaseLaws
 pub mod NoteLaws
 pub mod TakingLaws
+pub mod KeySets

@@ -8,3 +8,4 @@ pub mod Taking
 pub mod Reading
 pub mod Writing
 pub mod Notes
+pub mod Counted

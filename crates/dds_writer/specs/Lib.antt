@@ -1,5 +1,4 @@
 pub mod Proxies
 pub mod History
-pub mod Counted
 pub mod Writer
 pub mod View

@@ -1,26 +1,22 @@
-use Rattle.std.proofs.Common.{◌∙◌, sym, refl, subst}
-use Rattle.dds_qos.specs.Samples.{IsFresh}
-use Rattle.std.specs.FinSet as set
+use Rattle.std.proofs.Common.{◌≡◌, subst, sym, List, true, IsTrue}
+use Rattle.std.specs.BTreeMap.{values}
+use Rattle.dds_base.specs.declared.sample.Sample.{Sample}
+use Rattle.dds_qos.specs.Samples.{first_of}
 use Rattle.dds_cache.specs.Cache.{CacheState}
-use Rattle.dds_cache.proofs.KeyLaws.{counted_learned, from_list_learned}
-use Rattle.dds_cache.proofs.StoredLaws.{apart_after, stored_as, keys_as}
+use Rattle.dds_cache.specs.Released.{is_listed}
+use Rattle.dds_cache.specs.Least.{AreListed}
+use Rattle.dds_cache.proofs.StoredLaws.{All-stored}
 use Rattle.dds_cache.proofs.cache.Cache.admit.Goals as goal
 
 pub invariant_of-self-2 : goal.invariant_of-self-2
-invariant_of-self-2 c = record {
-  counted = rw c.in_ok-store.ensures.keys (counted_learned _ _ c.self.invariant.counted);
-  apart = rw c.in_ok-store.ensures.stored (apart_after _ _ _ _ c.self.invariant.apart (subst (λ (v : CacheState). IsFresh v.stored c.args.sample) (sym c.self.view_is) c.requires.fresh));
-}
-
-pub returns-clause-state : goal.returns-clause-state
-returns-clause-state c =
-    let taken = sym c.is_rejected.ensures ∙ c.if-is_rejected.false in
-    rw (
-      c.in_ok-store.ensures.stored,
-      c.in_ok-store.ensures.keys,
-      from_list_learned c.self.inside.contents.keys.items c.args.sample.key,
-      c.is_overwrote.ensures,
-      ← c.self.view_is,
-      stored_as c.admission-answer.result c.self.inside.contents.stored.items c.args.sample taken,
-      keys_as c.admission-answer.result (set.from_list c.self.inside.contents.keys.items) c.args.sample taken,
-    ) refl
+invariant_of-self-2 c =
+    let ws = c.self.inside.writers.items in
+    let stored = values c.self.inside.contents.order.samples in
+    let own : is_listed c.args.sample.writer ws ≡ true =
+    subst (λ (v : CacheState). IsTrue (is_listed c.args.sample.writer v.writers)) (sym c.self.view_is) c.requires.listed in
+    record {
+      uniform = c.self.invariant.uniform;
+      listed = subst (λ (l : List Sample). AreListed l ws) (sym c.in_ok-store.ensures.stored)
+          (All-stored (λ x. is_listed x.writer ws ≡ true) stored c.args.sample (first_of c.args.sample.key stored) c.is_overwrote.result
+          c.self.invariant.listed own);
+    }

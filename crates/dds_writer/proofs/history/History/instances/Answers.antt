@@ -1,7 +1,7 @@
 use Rattle.std.proofs.Common.{sym, ◌∙◌}
 use Rattle.std.specs.BTreeMap.{keys}
 use Rattle.std.proofs.lemmas.Map.Entries.{length-keys_of}
-use Rattle.dds_writer.proofs.KeySets.{len_sorted}
+use Rattle.dds_qos.proofs.KeySets.{len_sorted}
 use Rattle.dds_writer.proofs.history.History.instances.Goals as goal
 
 pub returns : goal.returns

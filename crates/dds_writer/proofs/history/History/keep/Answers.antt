@@ -1,5 +1,5 @@
 use Rattle.std.proofs.Common.{◌+◌, rules}
-use Rattle.dds_writer.proofs.KeySets.{keys_more}
+use Rattle.dds_qos.proofs.KeySets.{keys_more}
 use Rattle.dds_writer.proofs.history.History.keep.Goals as goal
 
 pub returns-then-awaited-clause-keys : goal.returns-then-awaited-clause-keys

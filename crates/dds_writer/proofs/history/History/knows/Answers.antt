@@ -2,7 +2,7 @@ use Rattle.std.proofs.Common.{◌∙◌, ap}
 use Rattle.std.specs.Prelude.{is_some}
 use Rattle.std.specs.Ordering.{nat_cmp}
 use Rattle.std.specs.BTreeMap as tree
-use Rattle.dds_writer.proofs.KeySets.{knows_is}
+use Rattle.dds_qos.proofs.KeySets.{knows_is}
 use Rattle.dds_writer.proofs.history.History.knows.Goals as goal
 
 pub returns : goal.returns
