@@ -63,6 +63,11 @@ first_in_more xs f i j x same here none passes =
     let at : at_item xs f j ≡ None = rw here passes in
     first_below_more (at_item xs f) i none (subst (λ n. at_item xs f n ≡ None) same at)
 
+-- the loop goes on, whether there was one or not
+pub first_in_next : {X A : Type 0} (xs : List X) (f : X → ℕ → Option A) (n : ℕ) (x : X) (was now : Option A) → slice_get xs n ≡ Some x → was ≡ first_below n (at_item xs f) → now ≡ (was orElse f x n) → now ≡ first_below (n + 1) (at_item xs f)
+unfolding first_below
+first_in_next xs f n x was now here before joined = rw (add-one, here, ← before) joined
+
 pub first_in_none : {X A : Type 0} (xs : List X) (f : X → ℕ → Option A) → first_in xs f ≡ None → (i : ℕ) (x : X) → slice_get xs i ≡ Some x → f x i ≡ None
 first_in_none {X} {A} xs f none i x here =
     let at = first_below_none (at_item xs f) (length xs) none i (slice_get_within xs i x here) in

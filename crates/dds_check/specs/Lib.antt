@@ -6,6 +6,7 @@ pub mod Profile
 pub mod Tables
 pub mod Limits
 pub mod Rows
+pub mod Spreads
 pub mod Shown
 pub mod Accepts
 pub mod Claims

@@ -1,5 +1,5 @@
 -- Numbers 30 to 32: no take, no firing and no write raises the weighted sum of a row.
-use Rattle.std.specs.Prelude.{ℕ, ◌&&◌, nat_lt, List, length, Option}
+use Rattle.std.specs.Prelude.{ℕ, ◌≡◌, ◌+◌, ◌*◌, ◌<◌, ◌&&◌, nat_lt, List, length, slice_index, Option}
 use Rattle.dds_match.specs.Network.{Network, weighed}
 use Rattle.dds_cert.specs.Lists as lists
 use Rattle.dds_check.specs.declared.verdict.No.{No}
@@ -40,3 +40,8 @@ rows_no net rows =
     first_in rows (row_take_raises net)
     orElse first_in rows (row_rule_raises net)
     orElse first_in rows (row_write_raises net)
+
+-- the place of key k of writer w has what a write there puts in flight, weighed
+pub record ShowsSpreads (net : Network) (row : Row) (cells : List ℕ) : Type 0 where
+  pub len : length cells ≡ 16384
+  pub shown : (w k : ℕ) → w < net.writers → k < net.keys → slice_index cells (w * 64 + k) ≡ spread net row w k

@@ -13,6 +13,7 @@ mod profile;
 mod rows;
 mod shown;
 mod sizes;
+mod spreads;
 mod tables;
 pub mod verdict;
 

@@ -1,13 +1,14 @@
 //! Numbers 30 to 32: no take, no firing of a rule and no write raises the weighted sum of a row.
-ghost use Rattle.std.specs.Prelude.{◌≡◌, ◌&&◌, ◌≤◌, ◌<◌, ◌*◌, ◌^◌, if◌then◌else◌, length, slice_get, Some};
+ghost use Rattle.std.specs.Prelude.{◌≡◌, ◌<◌, ◌≤◌};
 ghost use Rattle.dds_match.specs.Plan.{network_of};
 ghost use Rattle.dds_cert.specs.Views.{certificate_view};
-ghost use Rattle.dds_check.specs.First.{first_below, first_in};
-ghost use Rattle.dds_check.specs.Accepted.{row_of, spread};
+ghost use Rattle.dds_check.specs.First.{◌orElse◌, first_below, first_in};
+ghost use Rattle.dds_check.specs.Accepted.{row_of};
 ghost use Rattle.dds_check.specs.Tables.{IsTabled};
-ghost use Rattle.dds_check.specs.Rows.{take_raises, row_take_raises, rule_raises, row_rule_raises, write_raises, row_write_raises, rows_no};
+ghost use Rattle.dds_check.specs.Rows.{take_raises, row_take_raises, rule_raises, row_rule_raises, write_raises, row_write_raises, rows_no, ShowsSpreads};
 
 use crate::sizes::{KEYS, readers_of, rules_of, writers_of};
+use crate::spreads::{CELLS, spreads_of};
 use crate::tables::{Tables, tables_of};
 use crate::verdict::{No, Number, Subject, refusal_if};
 use dds_base::{KeyNo, ReaderNo, RuleNo, WriterNo};
@@ -53,19 +54,6 @@ fn row_take_raises(plan: &Plan, weights: &Tables, row: usize) -> Option<No>
     None
 }
 
-fn first_take_raises(plan: &Plan, certificate: &Certificate) -> Option<No>
-    requires { IsTabled (certificate_view certificate.now) }
-    ensures { result ≡ first_in (certificate_view certificate.now).rows (row_take_raises (network_of plan.now)) }
-{
-    for n in 0..certificate.rows.len() {
-        let weights = tables_of(certificate, n);
-        if let Some(no) = row_take_raises(plan, &weights, n) {
-            return Some(no);
-        }
-    }
-    None
-}
-
 fn rule_raises(plan: &Plan, weights: &Tables, row: usize, u: RuleNo) -> Option<No>
     requires { u < (network_of plan.now).rules }
     ensures { result ≡ rule_raises (network_of plan.now) (row_of weights.now) row u }
@@ -91,56 +79,22 @@ fn row_rule_raises(plan: &Plan, weights: &Tables, row: usize) -> Option<No>
     None
 }
 
-fn first_rule_raises(plan: &Plan, certificate: &Certificate) -> Option<No>
-    requires { IsTabled (certificate_view certificate.now) }
-    ensures { result ≡ first_in (certificate_view certificate.now).rows (row_rule_raises (network_of plan.now)) }
-{
-    for n in 0..certificate.rows.len() {
-        let weights = tables_of(certificate, n);
-        if let Some(no) = row_rule_raises(plan, &weights, n) {
-            return Some(no);
-        }
-    }
-    None
-}
-
-fn heard_weight(
-    plan: &Plan,
-    weights: &Tables,
-    writer: WriterNo,
-    reader: ReaderNo,
-    key: KeyNo,
-) -> u32
-    ensures { result ≡ (if (network_of plan.now).matched writer reader && (network_of plan.now).hears reader key then (row_of weights.now).samples reader key else 0) }
-{
-    if plan.matched(writer, reader) && plan.hears(reader, key) {
-        weights.sample(reader, key)
-    } else {
-        0
-    }
-}
-
-fn spread(plan: &Plan, weights: &Tables, writer: WriterNo, key: KeyNo) -> u128
-    ensures { result ≡ spread (network_of plan.now) (row_of weights.now) writer key }
-{
-    let mut total: u128 = 0;
-    for r in 0..readers_of(plan) {
-        total += u128::from(heard_weight(plan, weights, writer, ReaderNo::new(r), key));
-    }
-    total
-}
-
 fn write_raises(
     plan: &Plan,
     weights: &Tables,
+    spreads: &[u64; CELLS],
     row: usize,
     writer: WriterNo,
     key: KeyNo,
 ) -> Option<No>
+    requires spreads { ShowsSpreads (network_of plan.now) (row_of weights.now) spreads.now }
+    requires writer { writer < (network_of plan.now).writers }
+    requires few { (network_of plan.now).writers ≤ 256 }
+    requires key { key < (network_of plan.now).keys }
     ensures { result ≡ write_raises (network_of plan.now) (row_of weights.now) row writer key }
 {
-    let raises = plan.writes_key(writer, key)
-        && u128::from(weights.permit(writer, key)) < spread(plan, weights, writer, key);
+    let spread = spreads[writer.number() * KEYS + key.number()];
+    let raises = plan.writes_key(writer, key) && u64::from(weights.permit(writer, key)) < spread;
     refusal_if(
         raises,
         Number::WriteRaises,
@@ -148,11 +102,20 @@ fn write_raises(
     )
 }
 
-fn writer_write_raises(plan: &Plan, weights: &Tables, row: usize, writer: WriterNo) -> Option<No>
+fn writer_write_raises(
+    plan: &Plan,
+    weights: &Tables,
+    spreads: &[u64; CELLS],
+    row: usize,
+    writer: WriterNo,
+) -> Option<No>
+    requires spreads { ShowsSpreads (network_of plan.now) (row_of weights.now) spreads.now }
+    requires writer { writer < (network_of plan.now).writers }
+    requires few { (network_of plan.now).writers ≤ 256 }
     ensures { result ≡ first_below (network_of plan.now).keys (write_raises (network_of plan.now) (row_of weights.now) row writer) }
 {
     for k in 0..KEYS {
-        if let Some(no) = write_raises(plan, weights, row, writer, KeyNo::new(k)) {
+        if let Some(no) = write_raises(plan, weights, spreads, row, writer, KeyNo::new(k)) {
             return Some(no);
         }
     }
@@ -162,25 +125,65 @@ fn writer_write_raises(plan: &Plan, weights: &Tables, row: usize, writer: Writer
 fn row_write_raises(plan: &Plan, weights: &Tables, row: usize) -> Option<No>
     ensures { result ≡ row_write_raises (network_of plan.now) weights.now row }
 {
+    let spreads = spreads_of(plan, weights);
     for w in 0..writers_of(plan) {
-        if let Some(no) = writer_write_raises(plan, weights, row, WriterNo::new(w)) {
+        if let Some(no) = writer_write_raises(plan, weights, &spreads, row, WriterNo::new(w)) {
             return Some(no);
         }
     }
     None
 }
 
-fn first_write_raises(plan: &Plan, certificate: &Certificate) -> Option<No>
-    requires { IsTabled (certificate_view certificate.now) }
-    ensures { result ≡ first_in (certificate_view certificate.now).rows (row_write_raises (network_of plan.now)) }
-{
-    for n in 0..certificate.rows.len() {
-        let weights = tables_of(certificate, n);
-        if let Some(no) = row_write_raises(plan, &weights, n) {
-            return Some(no);
+/// The first refusal of each number by some rows.
+#[derive(Clone, Copy)]
+struct Refusals {
+    take: Option<No>,
+    rule: Option<No>,
+    write: Option<No>,
+}
+
+impl Refusals {
+    /// The first refusal of each number with those of one more row, which comes after the others.
+    fn with_row(self, plan: &Plan, weights: &Tables, row: usize) -> Refusals
+        ensures take { result.take ≡ (self.take orElse row_take_raises (network_of plan.now) weights.now row) }
+        ensures rule { result.rule ≡ (self.rule orElse row_rule_raises (network_of plan.now) weights.now row) }
+        ensures write { result.write ≡ (self.write orElse row_write_raises (network_of plan.now) weights.now row) }
+    {
+        let Refusals { take, rule, write } = self;
+        Refusals {
+            take: match take {
+                Some(no) => Some(no),
+                None => row_take_raises(plan, weights, row),
+            },
+            rule: match rule {
+                Some(no) => Some(no),
+                None => row_rule_raises(plan, weights, row),
+            },
+            write: match write {
+                Some(no) => Some(no),
+                None => row_write_raises(plan, weights, row),
+            },
         }
     }
-    None
+}
+
+/// The first refusal of each number by all rows. It fills the tables of each row once.
+fn refusals_of(plan: &Plan, certificate: &Certificate) -> Refusals
+    requires { IsTabled (certificate_view certificate.now) }
+    ensures take { result.take ≡ first_in (certificate_view certificate.now).rows (row_take_raises (network_of plan.now)) }
+    ensures rule { result.rule ≡ first_in (certificate_view certificate.now).rows (row_rule_raises (network_of plan.now)) }
+    ensures write { result.write ≡ first_in (certificate_view certificate.now).rows (row_write_raises (network_of plan.now)) }
+{
+    let mut found = Refusals {
+        take: None,
+        rule: None,
+        write: None,
+    };
+    for n in 0..certificate.rows.len() {
+        let weights = tables_of(certificate, n);
+        found = found.with_row(plan, &weights, n);
+    }
+    found
 }
 
 /// The first take, firing or write that can raise the sum of a row: by number, then by row, by endpoint or rule, by key.
@@ -189,11 +192,12 @@ pub(crate) fn rows_no(plan: &Plan, certificate: &Certificate) -> Option<No>
     requires { IsTabled (certificate_view certificate.now) }
     ensures { result ≡ rows_no (network_of plan.now) (certificate_view certificate.now).rows }
 {
-    if let Some(no) = first_take_raises(plan, certificate) {
+    let Refusals { take, rule, write } = refusals_of(plan, certificate);
+    if let Some(no) = take {
         return Some(no);
     }
-    if let Some(no) = first_rule_raises(plan, certificate) {
+    if let Some(no) = rule {
         return Some(no);
     }
-    first_write_raises(plan, certificate)
+    write
 }
