@@ -1,4 +1,4 @@
-//! Programs of calls on a cache, each call with the answer that Eclipse Cyclone DDS 0.10.2 gave.
+//! Programs of calls on a cache of either form, each call with the answer that Eclipse Cyclone DDS 0.10.2 gave.
 //!
 //! A program is a line: the depth of KEEP_LAST, max_samples, max_instances and max_samples_per_instance, each `-` where there is none,
 //! and then its calls in order. A call is a key, `a` to `d`, and its answer. Of a sample that arrives with the next number: `N` stored,
@@ -9,7 +9,10 @@ mod earlier;
 mod later;
 
 use crate::caches::Fed;
+use crate::forms::CacheForm;
 use dds_base::{Rejection, Sample};
+use dds_cache::Cache;
+use dds_plain::PlainCache;
 use dds_qos::{Admit, ReaderLimits};
 use std::alloc::{AllocError, Global};
 use std::process::Abort;
@@ -90,17 +93,25 @@ fn limit(word: Option<&str>) -> Option<u32> {
 }
 
 /// Makes a call, where the next sample has this number. A sample is available at once.
-fn make(fed: &mut Fed, call: &Written, next: u64) -> Result<Option<Answer>, AllocError> {
+fn make<C: CacheForm>(
+    fed: &mut Fed<C>,
+    call: &Written,
+    next: u64,
+) -> Result<Option<Answer>, AllocError> {
     if call.letter == b'T' || call.letter == b'E' {
         return Ok(Some(taken(fed.take(call.key))));
     }
-    let answer = fed.admit(next, call.key)?;
-    fed.release(next);
+    let answer = fed.admit(0, next, call.key)?;
+    fed.release(0, next);
     Ok(answer.map(admitted))
 }
 
 /// Makes the calls of a program, and answers how many there are.
-fn expect(rt: &impl Abort, alloc: Global, program: &str) -> Result<usize, AllocError> {
+fn expect<C: CacheForm>(
+    rt: &impl Abort,
+    alloc: Global,
+    program: &str,
+) -> Result<usize, AllocError> {
     let mut words = program.split(' ');
     let limits = ReaderLimits {
         keep_last: limit(words.next()),
@@ -109,7 +120,7 @@ fn expect(rt: &impl Abort, alloc: Global, program: &str) -> Result<usize, AllocE
         max_samples_per_instance: limit(words.next()),
     };
     let calls = calls(alloc, words.next().unwrap_or(""))?;
-    let mut fed = Fed::new(alloc, limits)?;
+    let mut fed = Fed::<C>::new(alloc, limits)?;
     let mut next: u64 = 1;
     for call in &calls {
         let want = wanted(call);
@@ -130,7 +141,12 @@ fn expect(rt: &impl Abort, alloc: Global, program: &str) -> Result<usize, AllocE
 fn admits_as_elsewhere(rt: HostRuntime) -> Result<(), Fail> {
     let mut programs: u64 = 0;
     for program in earlier::PROGRAMS.lines().chain(later::PROGRAMS.lines()) {
-        assert_eq!(rt; expect(&rt, rt.alloc(), program)?, 40, "{program}");
+        assert_eq!(rt; expect::<Cache>(&rt, rt.alloc(), program)?, 40, "{program}");
+        assert_eq!(rt;
+            expect::<PlainCache>(&rt, rt.alloc(), program)?,
+            40,
+            "{program}"
+        );
         programs = programs.wrapping_add(1);
     }
     assert_eq!(rt; programs, 1200);

@@ -1,32 +1,34 @@
-//! Caches call by call: which samples their limits let in, which they give, and from when on.
-ghost use Rattle.std.specs.Prelude.{◌≡◌, ◌≤◌, cond, true};
+//! Caches call by call: which samples their limits let in, which they give, and from when on. Each run is made on both forms.
+ghost use Rattle.std.specs.Prelude.{◌≡◌, ℕ, ◌<◌, ◌≤◌, cond, true, slice_index_or};
 ghost use Rattle.std.specs.List.{All};
 ghost use Rattle.dds_qos.specs.Admission.{is_rejected};
 ghost use Rattle.dds_cache.specs.Released.{is_listed};
 
+use crate::forms::CacheForm;
 use dds_base::{KeyNo, Rejection, Sample, WriterNo};
 use dds_cache::Cache;
+use dds_plain::PlainCache;
 use dds_qos::{Admit, ReaderLimits};
 use std::alloc::{AllocError, Global};
 use std::process::Abort;
 use std::test::Fail;
 
-/// A cache of the samples of the writer 0, which come in order of number.
+/// A cache of the samples of the writers 0 and 1, which come in order of number from each of the two.
 #[derive(Drop)]
-pub(crate) struct Fed {
-    cache: Cache,
-    // the greatest number that was stored, 0 at first
-    last: u64,
-    ghost listed: { is_listed 0 cache.writers ≡ true },
-    ghost below: { All (λ s. s.sn ≤ last) cache.stored },
+pub(crate) struct Fed<C: CacheForm> {
+    cache: C,
+    // the greatest number of each writer that was stored, 0 at first
+    last: [u64; 2],
+    ghost listed: { (w : ℕ) → w < 2 → is_listed w (C.state cache).writers ≡ true },
+    ghost below: { All (λ s. s.sn ≤ slice_index_or last s.writer 0) (C.state cache).stored },
 }
 
-pub(crate) fn sample(sn: u64, key: usize) -> Sample
-    ensures writer { result.writer ≡ 0 }
+pub(crate) fn sample(writer: usize, sn: u64, key: usize) -> Sample
+    ensures writer { result.writer ≡ writer }
     ensures number { result.sn ≡ sn }
 {
     Sample {
-        writer: WriterNo::new(0),
+        writer: WriterNo::new(writer),
         sn,
         key: KeyNo::new(key),
         payload: [(sn % 251) as u8; 32],
@@ -40,25 +42,41 @@ fn last_after(answer: &Admit, last: u64, sn: u64) -> u64
     if answer.is_rejected() { last } else { sn }
 }
 
-impl Fed {
-    pub(crate) fn new(alloc: Global, limits: ReaderLimits) -> Result<Fed, AllocError> {
-        let cache = Cache::new(alloc, limits, &[WriterNo::new(0)])?;
-        Ok(Fed { cache, last: 0 })
+impl<C: CacheForm> Fed<C> {
+    pub(crate) fn new(alloc: Global, limits: ReaderLimits) -> Result<Fed<C>, AllocError> {
+        let cache = C::new(alloc, limits, &[WriterNo::new(0), WriterNo::new(1)])?;
+        Ok(Fed {
+            cache,
+            last: [0; 2],
+        })
     }
 
-    /// A sample of the key arrives. `None` for a number that isn't above each one that was stored.
-    pub(crate) fn admit(&mut self, sn: u64, key: usize) -> Result<Option<Admit>, AllocError> {
-        if sn <= self.last {
+    /// The greatest number of the writer that was stored, 0 where none was.
+    pub(crate) fn last(&self, writer: usize) -> u64 {
+        if writer < 2 { self.last[writer] } else { 0 }
+    }
+
+    /// A sample of the writer and the key arrives. `None` for another writer than the two, and for a number that isn't above each one of
+    /// the writer that was stored.
+    pub(crate) fn admit(
+        &mut self,
+        writer: usize,
+        sn: u64,
+        key: usize,
+    ) -> Result<Option<Admit>, AllocError> {
+        if writer >= 2 || sn <= self.last[writer] {
             return Ok(None);
         }
-        let answer = self.cache.admit(sample(sn, key))?;
-        self.last = last_after(&answer, self.last, sn);
+        let answer = self.cache.admit(sample(writer, sn, key))?;
+        self.last[writer] = last_after(&answer, self.last[writer], sn);
         Ok(Some(answer))
     }
 
-    /// The samples up to this number are available from now on.
-    pub(crate) fn release(&mut self, upto: u64) {
-        self.cache.release(WriterNo::new(0), upto);
+    /// The samples of the writer up to this number are available from now on.
+    pub(crate) fn release(&mut self, writer: usize, upto: u64) {
+        if writer < 2 {
+            self.cache.release(WriterNo::new(writer), upto);
+        }
     }
 
     pub(crate) fn take(&mut self, key: usize) -> Option<Sample> {
@@ -66,7 +84,7 @@ impl Fed {
     }
 }
 
-/// One call of a cache of the writer 0.
+/// One call of a cache, on the samples of the writer 0.
 #[derive(Clone, Copy, Debug)]
 enum Call {
     /// A sample with this number and key.
@@ -88,9 +106,9 @@ enum Answer {
     Wrong,
 }
 
-/// Whether the sample is one that came.
-fn is_sent(got: &Sample, key: usize) -> bool {
-    *got == sample(got.sn, key)
+/// Whether the sample is one that the writer 0 sent.
+pub(crate) fn is_sent(got: &Sample, key: usize) -> bool {
+    *got == sample(0, got.sn, key)
 }
 
 fn admitted(answer: Option<Admit>, key: usize) -> Answer {
@@ -111,20 +129,26 @@ fn taken(took: Option<Sample>, key: usize) -> Answer {
 }
 
 /// What a cache shows of its samples and keys.
-#[derive(Clone, Copy, PartialEq, Eq)]
-struct Seen {
+#[derive(Clone, Copy, Debug, PartialEq, Eq)]
+pub(crate) struct Seen {
     stored: usize,
     instances: usize,
-    unread: usize,
+    /// How many samples of each of the first keys are stored.
+    unread: [usize; 4],
 }
 
-impl Fed {
+impl<C: CacheForm> Fed<C> {
     /// What tells whether a call changed something.
-    fn seen(&self) -> Seen {
+    pub(crate) fn seen(&self) -> Seen {
         Seen {
             stored: self.cache.stored(),
             instances: self.cache.instances(),
-            unread: self.cache.unread(KeyNo::new(0)),
+            unread: [
+                self.cache.unread(KeyNo::new(0)),
+                self.cache.unread(KeyNo::new(1)),
+                self.cache.unread(KeyNo::new(2)),
+                self.cache.unread(KeyNo::new(3)),
+            ],
         }
     }
 
@@ -139,9 +163,9 @@ impl Fed {
 
     fn attempt(&mut self, call: Call) -> Result<Answer, AllocError> {
         match call {
-            Call::Admit(sn, key) => Ok(admitted(self.admit(sn, key)?, key)),
+            Call::Admit(sn, key) => Ok(admitted(self.admit(0, sn, key)?, key)),
             Call::Release(upto) => {
-                self.release(upto);
+                self.release(0, upto);
                 Ok(Answer::Released)
             }
             Call::Take(key) => Ok(taken(self.take(key), key)),
@@ -231,15 +255,15 @@ static RUNS: [Run; 3] = [
 ];
 
 /// A cache, made once more where no memory was left for it.
-fn cache_of(alloc: Global, limits: ReaderLimits) -> Result<Fed, AllocError> {
+fn cache_of<C: CacheForm>(alloc: Global, limits: ReaderLimits) -> Result<Fed<C>, AllocError> {
     match Fed::new(alloc, limits) {
         Err(_) => Fed::new(alloc, limits),
         made => made,
     }
 }
 
-fn expect(rt: &impl Abort, alloc: Global, run: &Run) -> Result<(), AllocError> {
-    let mut fed = cache_of(alloc, run.limits)?;
+fn expect<C: CacheForm>(rt: &impl Abort, alloc: Global, run: &Run) -> Result<(), AllocError> {
+    let mut fed = cache_of::<C>(alloc, run.limits)?;
     for (call, answer, stored, known) in run.calls {
         assert_eq!(rt; fed.call(*call)?, *answer, "{}: {call:?}", run.about);
         assert_eq!(rt; fed.cache.stored(), *stored, "{}: {call:?}", run.about);
@@ -252,7 +276,8 @@ fn expect(rt: &impl Abort, alloc: Global, run: &Run) -> Result<(), AllocError> {
 #[test]
 fn caches_call_by_call(rt: HostRuntime) -> Result<(), Fail> {
     for run in &RUNS {
-        expect(&rt, rt.alloc(), run)?;
+        expect::<Cache>(&rt, rt.alloc(), run)?;
+        expect::<PlainCache>(&rt, rt.alloc(), run)?;
     }
     Ok(())
 }

@@ -6,6 +6,10 @@ mod admissions;
 #[cfg(test)]
 mod caches;
 #[cfg(test)]
+mod drawn;
+#[cfg(test)]
+mod forms;
+#[cfg(test)]
 mod ledger;
 #[cfg(test)]
 mod readers;

@@ -1,9 +1,14 @@
 //! Readers call by call: limits, messages that come twice or out of order, numbers that are lost or irrelevant, and ACKNACKs; and watchers.
+//! Each run is made on both forms.
 ghost use Rattle.std.specs.Prelude.{◌≡◌};
 
+use crate::caches::{is_sent, sample};
+use crate::forms::ReaderForm;
 use dds_base::{
-    Arrival, DataMsg, GapMsg, Heartbeat, KeyNo, ReaderNo, Rejection, Sample, SnSet, WriterNo,
+    AckNack, Arrival, DataMsg, GapMsg, Heartbeat, KeyNo, ReaderNo, Rejection, Sample, SnSet,
+    WriterNo,
 };
+use dds_plain::PlainReader;
 use dds_qos::ReaderLimits;
 use dds_reader::Reader;
 use std::alloc::{AllocError, Global};
@@ -61,48 +66,52 @@ enum Answer {
 }
 
 /// What a reader shows of its marks, its notes and its samples.
-#[derive(Clone, Copy, PartialEq, Eq)]
-struct Seen {
-    base: u64,
-    owes: bool,
+#[derive(Clone, Copy, Debug, PartialEq, Eq)]
+pub(crate) struct Seen {
+    /// The bases of the writers 0 and 1.
+    base: [u64; 2],
+    /// Whether an ACKNACK is owed to each of them.
+    owes: [bool; 2],
     stored: usize,
-    unread: usize,
+    /// How many samples of each of the first keys are stored.
+    unread: [usize; 4],
 }
 
 /// A reader and its number, which its messages name.
 #[derive(Drop)]
-struct Listener {
+pub(crate) struct Listener<R: ReaderForm> {
     me: ReaderNo,
-    reader: Reader,
-    ghost named: { reader.me ≡ me },
+    reader: R,
+    ghost named: { (R.state reader).me ≡ me },
 }
 
-fn sample(writer: usize, sn: u64, key: usize) -> Sample {
-    Sample {
-        writer: WriterNo::new(writer),
-        sn,
-        key: KeyNo::new(key),
-        payload: [(sn % 251) as u8; 32],
+/// The answer to a message that came, or `Wrong` where there is no such message.
+fn arrived(arrival: Option<Arrival>, key: usize) -> Answer {
+    match arrival {
+        Some(Arrival::New) => Answer::New,
+        Some(Arrival::Repeat) => Answer::Repeat,
+        Some(Arrival::Irrelevant(count)) => Answer::Irrelevant(count),
+        Some(Arrival::Overwrote(old)) if is_sent(&old, key) => Answer::Overwrote(old.sn),
+        Some(Arrival::Rejected(why)) => Answer::Rejected(why),
+        Some(Arrival::Heard) => Answer::Heard,
+        Some(Arrival::Lost(count)) => Answer::Lost(count),
+        Some(Arrival::Stranger) => Answer::Stranger,
+        Some(Arrival::Overwrote(_)) | None => Answer::Wrong,
     }
 }
 
-/// Whether the sample is one that the writer 0 sent.
-fn is_sent(got: &Sample, key: usize) -> bool {
-    *got == sample(0, got.sn, key)
+fn acknacked(acknack: Option<AckNack>) -> Answer {
+    match acknack {
+        Some(acknack) => asked(&acknack.set),
+        None => Answer::NoAckNack,
+    }
 }
 
-/// The answer to a sample that came, or the number of it where another one took its place.
-fn arrived(arrival: Arrival, key: usize) -> Answer {
-    match arrival {
-        Arrival::New => Answer::New,
-        Arrival::Repeat => Answer::Repeat,
-        Arrival::Irrelevant(count) => Answer::Irrelevant(count),
-        Arrival::Overwrote(old) if is_sent(&old, key) => Answer::Overwrote(old.sn),
-        Arrival::Overwrote(_) => Answer::Wrong,
-        Arrival::Rejected(why) => Answer::Rejected(why),
-        Arrival::Heard => Answer::Heard,
-        Arrival::Lost(count) => Answer::Lost(count),
-        Arrival::Stranger => Answer::Stranger,
+fn taken(took: Option<Sample>, key: usize) -> Answer {
+    match took {
+        Some(took) if is_sent(&took, key) => Answer::Took(took.sn),
+        Some(_) => Answer::Wrong,
+        None => Answer::Empty,
     }
 }
 
@@ -128,73 +137,94 @@ fn asked(set: &SnSet) -> Answer {
     }
 }
 
-impl Listener {
-    fn new(alloc: Global, limits: ReaderLimits, filter: &[KeyNo]) -> Result<Listener, AllocError> {
-        let me = ReaderNo::new(5);
-        let reader = Reader::new(alloc, me, limits, filter, &[WriterNo::new(0)])?;
-        Ok(Listener { me, reader })
-    }
-
-    fn watching(
+impl<R: ReaderForm> Listener<R> {
+    /// A watcher, or a reliable reader.
+    pub(crate) fn new(
         alloc: Global,
+        watching: bool,
         limits: ReaderLimits,
         filter: &[KeyNo],
-    ) -> Result<Listener, AllocError> {
+        writers: &[WriterNo],
+    ) -> Result<Listener<R>, AllocError> {
         let me = ReaderNo::new(5);
-        let reader = Reader::watching(alloc, me, limits, filter, &[WriterNo::new(0)])?;
+        let reader = if watching {
+            R::watching(alloc, me, limits, filter, writers)?
+        } else {
+            R::new(alloc, me, limits, filter, writers)?
+        };
         Ok(Listener { me, reader })
     }
 
-    fn data(&mut self, writer: usize, sn: u64, key: usize) -> Result<Answer, AllocError> {
+    /// The base of a writer.
+    pub(crate) fn base(&self, writer: usize) -> u64 {
+        self.reader.base(WriterNo::new(writer))
+    }
+
+    /// A DATA arrives. `None` where there is no such message, as of the two below.
+    pub(crate) fn data(
+        &mut self,
+        writer: usize,
+        sn: u64,
+        key: usize,
+    ) -> Result<Option<Arrival>, AllocError> {
         let Some(data) = DataMsg::new(self.me, sample(writer, sn, key)) else {
-            return Ok(Answer::Wrong);
+            return Ok(None);
         };
         let arrival = self.reader.on_data(&data)?;
-        Ok(arrived(arrival, key))
+        Ok(Some(arrival))
     }
 
-    fn gap(&mut self, start: u64, base: u64, numbers: &[u64]) -> Result<Answer, AllocError> {
+    pub(crate) fn gap(
+        &mut self,
+        writer: usize,
+        start: u64,
+        base: u64,
+        numbers: &[u64],
+    ) -> Result<Option<Arrival>, AllocError> {
         let Some(set) = SnSet::new(base, numbers) else {
-            return Ok(Answer::Wrong);
+            return Ok(None);
         };
-        let Some(gap) = GapMsg::new(WriterNo::new(0), self.me, start, set) else {
-            return Ok(Answer::Wrong);
+        let Some(gap) = GapMsg::new(WriterNo::new(writer), self.me, start, set) else {
+            return Ok(None);
         };
         let arrival = self.reader.on_gap(&gap)?;
-        Ok(arrived(arrival, 0))
+        Ok(Some(arrival))
     }
 
-    fn heartbeat(&mut self, first: u64, last: u64) -> Result<Answer, AllocError> {
-        let Some(heartbeat) = Heartbeat::new(WriterNo::new(0), self.me, first, last) else {
-            return Ok(Answer::Wrong);
+    pub(crate) fn heartbeat(
+        &mut self,
+        writer: usize,
+        first: u64,
+        last: u64,
+    ) -> Result<Option<Arrival>, AllocError> {
+        let Some(heartbeat) = Heartbeat::new(WriterNo::new(writer), self.me, first, last) else {
+            return Ok(None);
         };
         let arrival = self.reader.on_heartbeat(&heartbeat)?;
-        Ok(arrived(arrival, 0))
+        Ok(Some(arrival))
     }
 
-    fn acknack(&mut self, writer: usize) -> Answer {
-        match self.reader.acknack(WriterNo::new(writer)) {
-            Some(acknack) => asked(&acknack.set),
-            None => Answer::NoAckNack,
-        }
+    pub(crate) fn acknack(&mut self, writer: usize) -> Option<AckNack> {
+        self.reader.acknack(WriterNo::new(writer))
     }
 
-    fn take(&mut self, key: usize) -> Answer {
-        match self.reader.take(KeyNo::new(key)) {
-            Some(took) if is_sent(&took, key) => Answer::Took(took.sn),
-            Some(_) => Answer::Wrong,
-            None => Answer::Empty,
-        }
+    pub(crate) fn take(&mut self, key: usize) -> Option<Sample> {
+        self.reader.take(KeyNo::new(key))
     }
 
     /// What tells whether a call changed something.
-    fn seen(&self) -> Seen {
-        let writer = WriterNo::new(0);
+    pub(crate) fn seen(&self) -> Seen {
+        let (first, second) = (WriterNo::new(0), WriterNo::new(1));
         Seen {
-            base: self.reader.base(writer),
-            owes: self.reader.owes(writer),
+            base: [self.reader.base(first), self.reader.base(second)],
+            owes: [self.reader.owes(first), self.reader.owes(second)],
             stored: self.reader.stored(),
-            unread: self.reader.unread(KeyNo::new(0)),
+            unread: [
+                self.reader.unread(KeyNo::new(0)),
+                self.reader.unread(KeyNo::new(1)),
+                self.reader.unread(KeyNo::new(2)),
+                self.reader.unread(KeyNo::new(3)),
+            ],
         }
     }
 
@@ -209,16 +239,16 @@ impl Listener {
 
     fn attempt(&mut self, call: Call) -> Result<Answer, AllocError> {
         match call {
-            Call::Data(sn, key) => self.data(0, sn, key),
-            Call::StrangeData => self.data(1, 1, 0),
-            Call::Gap(start, base, numbers) => self.gap(start, base, numbers),
-            Call::Heartbeat(first, last) => self.heartbeat(first, last),
-            Call::AckNack => Ok(self.acknack(0)),
-            Call::StrangeAckNack => Ok(self.acknack(1)),
-            Call::Take(key) => Ok(self.take(key)),
+            Call::Data(sn, key) => Ok(arrived(self.data(0, sn, key)?, key)),
+            Call::StrangeData => Ok(arrived(self.data(1, 1, 0)?, 0)),
+            Call::Gap(start, base, numbers) => Ok(arrived(self.gap(0, start, base, numbers)?, 0)),
+            Call::Heartbeat(first, last) => Ok(arrived(self.heartbeat(0, first, last)?, 0)),
+            Call::AckNack => Ok(acknacked(self.acknack(0))),
+            Call::StrangeAckNack => Ok(acknacked(self.acknack(1))),
+            Call::Take(key) => Ok(taken(self.take(key), key)),
             Call::Stored => Ok(Answer::Stores(self.reader.stored())),
             Call::Owes => Ok(Answer::Owes(self.reader.owes(WriterNo::new(0)))),
-            Call::Base => Ok(Answer::Base(self.reader.base(WriterNo::new(0)))),
+            Call::Base => Ok(Answer::Base(self.base(0))),
         }
     }
 }
@@ -538,30 +568,26 @@ const THREE_OF_A_KEY: ReaderLimits = ReaderLimits {
 };
 
 /// The reader of a run, which takes the first keys.
-fn reader_of(alloc: Global, run: &Run) -> Result<Listener, AllocError> {
+fn reader_of<R: ReaderForm>(alloc: Global, run: &Run) -> Result<Listener<R>, AllocError> {
     let both = [KeyNo::new(0), KeyNo::new(1)];
     let filter = if run.keys == 1 {
         &both[..1]
     } else {
         both.as_slice()
     };
-    if run.watching {
-        Listener::watching(alloc, run.limits, filter)
-    } else {
-        Listener::new(alloc, run.limits, filter)
-    }
+    Listener::new(alloc, run.watching, run.limits, filter, &[WriterNo::new(0)])
 }
 
 /// The reader of a run, made once more where no memory was left for it.
-fn made_for(alloc: Global, run: &Run) -> Result<Listener, AllocError> {
+fn made_for<R: ReaderForm>(alloc: Global, run: &Run) -> Result<Listener<R>, AllocError> {
     match reader_of(alloc, run) {
         Err(_) => reader_of(alloc, run),
         made => made,
     }
 }
 
-fn expect(rt: &impl Abort, alloc: Global, run: &Run) -> Result<(), AllocError> {
-    let mut listener = made_for(alloc, run)?;
+fn expect<R: ReaderForm>(rt: &impl Abort, alloc: Global, run: &Run) -> Result<(), AllocError> {
+    let mut listener = made_for::<R>(alloc, run)?;
     for (call, answer) in run.calls {
         assert_eq!(rt; listener.call(*call)?, *answer, "{}: {call:?}", run.about);
     }
@@ -572,7 +598,8 @@ fn expect(rt: &impl Abort, alloc: Global, run: &Run) -> Result<(), AllocError> {
 #[test]
 fn readers_call_by_call(rt: HostRuntime) -> Result<(), Fail> {
     for run in &RUNS {
-        expect(&rt, rt.alloc(), run)?;
+        expect::<Reader>(&rt, rt.alloc(), run)?;
+        expect::<PlainReader>(&rt, rt.alloc(), run)?;
     }
     Ok(())
 }

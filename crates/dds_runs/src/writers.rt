@@ -1,9 +1,16 @@
 //! A writer with two readers, of which the first takes key 0 alone, call by call; a writer with a watcher; and one at the end of its numbers.
+//! Each run is made on both forms.
 
-use dds_base::{AckNack, KeyNo, ReaderNo, SnSet, WriterNo};
+ghost use Rattle.std.specs.Prelude.{◌≤◌};
+ghost use Rattle.dds_base.specs.Sets.{last_number};
+
+use crate::forms::WriterForm;
+use dds_base::{AckNack, DataMsg, GapMsg, Heartbeat, KeyNo, ReaderNo, SnSet, WriterNo};
+use dds_plain::PlainWriter;
 use dds_qos::{Due, WriterLimits};
 use dds_writer::{Proxy, WriteRefused, Writer};
 use std::alloc::{AllocError, Global};
+use std::process::Abort;
 use std::test::Fail;
 
 const NO_LIMITS: WriterLimits = WriterLimits {
@@ -26,17 +33,29 @@ const TWO_SAMPLES: WriterLimits = WriterLimits {
 
 /// A writer.
 #[derive(Drop)]
-struct Speaker {
-    writer: Writer,
+pub(crate) struct Speaker<W: WriterForm> {
+    writer: W,
 }
 
-impl Speaker {
+impl<W: WriterForm> Speaker<W> {
     fn new(
         alloc: Global,
         limits: WriterLimits,
         proxies: Vec<Proxy>,
-    ) -> Result<Speaker, AllocError> {
-        let writer = Writer::new(alloc, WriterNo::new(7), limits, proxies)?;
+    ) -> Result<Speaker<W>, AllocError> {
+        Speaker::starting(alloc, limits, proxies, 0)
+    }
+
+    /// A writer of which so many samples are written.
+    pub(crate) fn starting(
+        alloc: Global,
+        limits: WriterLimits,
+        proxies: Vec<Proxy>,
+        written: u64,
+    ) -> Result<Speaker<W>, AllocError>
+        requires { written ≤ last_number }
+    {
+        let writer = W::starting(alloc, WriterNo::new(7), limits, proxies, written)?;
         Ok(Speaker { writer })
     }
 
@@ -44,26 +63,27 @@ impl Speaker {
         self.writer.kept()
     }
 
-    // How many samples are written and kept.
-    fn counts(&self) -> (u64, usize) {
+    /// How many samples are written and kept.
+    pub(crate) fn counts(&self) -> (u64, usize) {
         (self.writer.written(), self.writer.kept())
     }
 
-    fn attempt(&mut self, key: usize) -> Result<u64, WriteRefused> {
-        self.writer.write(KeyNo::new(key), [0; 32])
+    /// Writes a sample of the key, whose bytes are all this one.
+    pub(crate) fn attempt(&mut self, key: usize, byte: u8) -> Result<u64, WriteRefused> {
+        self.writer.write(KeyNo::new(key), [byte; 32])
     }
 
     // Writes, and once more where no memory was left and nothing changed.
     fn write(&mut self, key: usize) -> Result<u64, WriteRefused> {
         let before = self.counts();
-        match self.attempt(key) {
-            Err(WriteRefused::NoMemory) if self.counts() == before => self.attempt(key),
+        match self.attempt(key, 0) {
+            Err(WriteRefused::NoMemory) if self.counts() == before => self.attempt(key, 0),
             answer => answer,
         }
     }
 
-    // An ACKNACK that asks for these numbers.
-    fn acknack(&mut self, reader: usize, base: u64, numbers: &[u64]) {
+    /// An ACKNACK that asks for these numbers. Nothing where there is no such message.
+    pub(crate) fn acknack(&mut self, reader: usize, base: u64, numbers: &[u64]) {
         let writer = self.writer.number();
         if let Some(set) = SnSet::new(base, numbers) {
             let acknack = AckNack {
@@ -75,11 +95,11 @@ impl Speaker {
         }
     }
 
-    fn note_sent(&mut self, reader: usize, sn: u64) {
+    pub(crate) fn note_sent(&mut self, reader: usize, sn: u64) {
         self.writer.note_sent(ReaderNo::new(reader), sn);
     }
 
-    fn base(&self, reader: usize) -> Option<u64> {
+    pub(crate) fn base(&self, reader: usize) -> Option<u64> {
         let reader = ReaderNo::new(reader);
         if self.writer.is_matched(reader) {
             Some(self.writer.base(reader))
@@ -88,7 +108,7 @@ impl Speaker {
         }
     }
 
-    fn due(&self, reader: usize) -> Option<Due> {
+    pub(crate) fn due(&self, reader: usize) -> Option<Due> {
         let reader = ReaderNo::new(reader);
         if self.writer.is_matched(reader) {
             self.writer.due(reader)
@@ -97,37 +117,94 @@ impl Speaker {
         }
     }
 
-    // The number of the DATA, if there is one.
-    fn data(&self, reader: usize, sn: u64) -> Option<u64> {
+    pub(crate) fn data_to(&self, reader: usize, sn: u64) -> Option<DataMsg> {
         let reader = ReaderNo::new(reader);
-        if !self.writer.is_matched(reader) {
+        if self.writer.is_matched(reader) {
+            self.writer.data(reader, sn)
+        } else {
+            None
+        }
+    }
+
+    pub(crate) fn gap_to(&self, reader: usize, start: u64) -> Option<GapMsg> {
+        let reader = ReaderNo::new(reader);
+        if self.writer.is_matched(reader) {
+            self.writer.gap(reader, start)
+        } else {
+            None
+        }
+    }
+
+    /// The HEARTBEAT to a matched reader. None for a watcher.
+    pub(crate) fn heartbeat_to(&self, reader: usize) -> Option<Heartbeat> {
+        let reader = ReaderNo::new(reader);
+        if !self.writer.is_matched(reader) || self.writer.is_watcher(reader) {
             return None;
         }
-        match self.writer.data(reader, sn) {
-            Some(data) => Some(data.sample.sn),
-            None => None,
-        }
+        Some(self.writer.heartbeat(reader))
+    }
+
+    // The number of the DATA, if there is one.
+    fn data(&self, reader: usize, sn: u64) -> Option<u64> {
+        let data = self.data_to(reader, sn)?;
+        Some(data.sample.sn)
     }
 
     // The start and the end of the GAP, if there is one, and whether its set is empty.
     fn gap(&self, reader: usize, start: u64) -> Option<(u64, u64, bool)> {
-        let reader = ReaderNo::new(reader);
-        if !self.writer.is_matched(reader) {
-            return None;
-        }
-        let gap = self.writer.gap(reader, start)?;
+        let gap = self.gap_to(reader, start)?;
         let empty = SnSet::new(gap.set.base(), &[])?;
         Some((gap.start, gap.set.base(), gap.set == empty))
     }
 
     // The first and the last number of the HEARTBEAT to a matched reader. None for a watcher.
     fn heartbeat(&self, reader: usize) -> Option<(u64, u64)> {
-        let reader = ReaderNo::new(reader);
-        if !self.writer.is_matched(reader) || self.writer.is_watcher(reader) {
-            return None;
-        }
-        let heartbeat = self.writer.heartbeat(reader);
+        let heartbeat = self.heartbeat_to(reader)?;
         Some((heartbeat.first, heartbeat.last))
+    }
+}
+
+/// What a writer shows of one of its readers.
+#[derive(Clone, Copy, PartialEq, Eq)]
+struct SeenOf {
+    base: Option<u64>,
+    due: Option<Due>,
+    heartbeat: Option<Heartbeat>,
+    /// The DATA and the GAP of a number in the middle of the kept ones, and the DATA of the last one.
+    data: Option<DataMsg>,
+    gap: Option<GapMsg>,
+    last: Option<DataMsg>,
+}
+
+/// What a writer shows, also of its readers 1, 2 and 3.
+#[derive(Clone, Copy, PartialEq, Eq)]
+pub(crate) struct Seen {
+    written: u64,
+    kept: usize,
+    readers: [SeenOf; 3],
+}
+
+impl<W: WriterForm> Speaker<W> {
+    fn seen_of(&self, reader: usize) -> SeenOf {
+        let (written, kept) = self.counts();
+        let middle = written.wrapping_sub(kept as u64 / 2);
+        SeenOf {
+            base: self.base(reader),
+            due: self.due(reader),
+            heartbeat: self.heartbeat_to(reader),
+            data: self.data_to(reader, middle),
+            gap: self.gap_to(reader, middle),
+            last: self.data_to(reader, written),
+        }
+    }
+
+    pub(crate) fn seen(&self) -> Seen {
+        let (written, kept) = self.counts();
+        Seen {
+            written,
+            kept,
+            readers: [self.seen_of(1), self.seen_of(2), self.seen_of(3)],
+        }
     }
 }
 
@@ -140,8 +217,13 @@ fn keys_below(alloc: Global, count: usize) -> Result<Vec<KeyNo>, AllocError> {
     Ok(keys)
 }
 
-// A reader of the keys below this one.
-fn proxy(alloc: Global, reader: usize, keys: usize, watcher: bool) -> Result<Proxy, AllocError> {
+/// A reader of the keys below this one.
+pub(crate) fn proxy(
+    alloc: Global,
+    reader: usize,
+    keys: usize,
+    watcher: bool,
+) -> Result<Proxy, AllocError> {
     Ok(Proxy {
         reader: ReaderNo::new(reader),
         filter: keys_below(alloc, keys)?,
@@ -149,7 +231,7 @@ fn proxy(alloc: Global, reader: usize, keys: usize, watcher: bool) -> Result<Pro
     })
 }
 
-fn two_readers(alloc: Global) -> Result<Speaker, AllocError> {
+fn two_readers<W: WriterForm>(alloc: Global) -> Result<Speaker<W>, AllocError> {
     let limits = WriterLimits {
         max_samples: Some(3),
         max_instances: Some(2),
@@ -161,11 +243,9 @@ fn two_readers(alloc: Global) -> Result<Speaker, AllocError> {
     Speaker::new(alloc, limits, proxies)
 }
 
-// It passes also where any one allocation is refused.
-#[test]
-fn two_readers_call_by_call(rt: HostRuntime) -> Result<(), Fail> {
-    let made = match two_readers(rt.alloc()) {
-        Err(_) => two_readers(rt.alloc()),
+fn expect_of_two_readers<W: WriterForm>(rt: &impl Abort, alloc: Global) -> Result<(), AllocError> {
+    let made = match two_readers::<W>(alloc) {
+        Err(_) => two_readers::<W>(alloc),
         made => made,
     };
     let mut writer = made?;
@@ -200,18 +280,24 @@ fn two_readers_call_by_call(rt: HostRuntime) -> Result<(), Fail> {
     Ok(())
 }
 
+// It passes also where any one allocation is refused.
+#[test]
+fn two_readers_call_by_call(rt: HostRuntime) -> Result<(), Fail> {
+    expect_of_two_readers::<Writer>(&rt, rt.alloc())?;
+    expect_of_two_readers::<PlainWriter>(&rt, rt.alloc())?;
+    Ok(())
+}
+
 // A writer that may keep one sample, and a watcher of key 0.
-fn watcher_alone(alloc: Global) -> Result<Speaker, AllocError> {
+fn watcher_alone<W: WriterForm>(alloc: Global) -> Result<Speaker<W>, AllocError> {
     let mut proxies = Vec::new(alloc);
     proxies.push(proxy(alloc, 3, 1, true)?)?;
     Speaker::new(alloc, ONE_SAMPLE, proxies)
 }
 
-// It passes also where any one allocation is refused.
-#[test]
-fn a_watcher_call_by_call(rt: HostRuntime) -> Result<(), Fail> {
-    let made = match watcher_alone(rt.alloc()) {
-        Err(_) => watcher_alone(rt.alloc()),
+fn expect_of_a_watcher<W: WriterForm>(rt: &impl Abort, alloc: Global) -> Result<(), AllocError> {
+    let made = match watcher_alone::<W>(alloc) {
+        Err(_) => watcher_alone::<W>(alloc),
         made => made,
     };
     let mut writer = made?;
@@ -241,19 +327,28 @@ fn a_watcher_call_by_call(rt: HostRuntime) -> Result<(), Fail> {
     Ok(())
 }
 
+// It passes also where any one allocation is refused.
+#[test]
+fn a_watcher_call_by_call(rt: HostRuntime) -> Result<(), Fail> {
+    expect_of_a_watcher::<Writer>(&rt, rt.alloc())?;
+    expect_of_a_watcher::<PlainWriter>(&rt, rt.alloc())?;
+    Ok(())
+}
+
 // A writer that may keep two samples, a reliable reader and a watcher.
-fn watcher_beside(alloc: Global) -> Result<Speaker, AllocError> {
+fn watcher_beside<W: WriterForm>(alloc: Global) -> Result<Speaker<W>, AllocError> {
     let mut proxies = Vec::new(alloc);
     proxies.push(proxy(alloc, 1, 1, false)?)?;
     proxies.push(proxy(alloc, 3, 1, true)?)?;
     Speaker::new(alloc, TWO_SAMPLES, proxies)
 }
 
-// It passes also where any one allocation is refused.
-#[test]
-fn a_watcher_beside_a_reader(rt: HostRuntime) -> Result<(), Fail> {
-    let made = match watcher_beside(rt.alloc()) {
-        Err(_) => watcher_beside(rt.alloc()),
+fn expect_of_a_watcher_beside<W: WriterForm>(
+    rt: &impl Abort,
+    alloc: Global,
+) -> Result<(), AllocError> {
+    let made = match watcher_beside::<W>(alloc) {
+        Err(_) => watcher_beside::<W>(alloc),
         made => made,
     };
     let mut writer = made?;
@@ -281,22 +376,40 @@ fn a_watcher_beside_a_reader(rt: HostRuntime) -> Result<(), Fail> {
     Ok(())
 }
 
+// It passes also where any one allocation is refused.
 #[test]
-fn no_reader_keeps_nothing(rt: HostRuntime) -> Result<(), Fail> {
-    let mut writer = Speaker::new(rt.alloc(), NO_LIMITS, Vec::new(rt.alloc()))?;
+fn a_watcher_beside_a_reader(rt: HostRuntime) -> Result<(), Fail> {
+    expect_of_a_watcher_beside::<Writer>(&rt, rt.alloc())?;
+    expect_of_a_watcher_beside::<PlainWriter>(&rt, rt.alloc())?;
+    Ok(())
+}
+
+fn expect_of_no_reader<W: WriterForm>(rt: &impl Abort, alloc: Global) -> Result<(), AllocError> {
+    let mut writer = Speaker::<W>::new(alloc, NO_LIMITS, Vec::new(alloc))?;
     assert_eq!(rt; writer.write(0), Ok(1));
     assert_eq!(rt; writer.kept(), 0);
     Ok(())
 }
 
 #[test]
-fn the_numbers_end(rt: HostRuntime) -> Result<(), Fail> {
-    let key = KeyNo::new(0);
-    let proxies = Vec::new(rt.alloc());
+fn no_reader_keeps_nothing(rt: HostRuntime) -> Result<(), Fail> {
+    expect_of_no_reader::<Writer>(&rt, rt.alloc())?;
+    expect_of_no_reader::<PlainWriter>(&rt, rt.alloc())?;
+    Ok(())
+}
+
+fn expect_an_end<W: WriterForm>(rt: &impl Abort, alloc: Global) -> Result<(), AllocError> {
     let last = (1 << 63) - 1;
-    let mut writer = Writer::starting(rt.alloc(), WriterNo::new(0), NO_LIMITS, proxies, last - 1)?;
-    assert_eq!(rt; writer.write(key, [0; 32]), Ok(last));
-    assert_eq!(rt; writer.write(key, [0; 32]), Err(WriteRefused::SequenceEnd));
-    assert_eq!(rt; writer.written(), last);
+    let mut writer = Speaker::<W>::starting(alloc, NO_LIMITS, Vec::new(alloc), last - 1)?;
+    assert_eq!(rt; writer.write(0), Ok(last));
+    assert_eq!(rt; writer.write(0), Err(WriteRefused::SequenceEnd));
+    assert_eq!(rt; writer.counts(), (last, 0));
+    Ok(())
+}
+
+#[test]
+fn the_numbers_end(rt: HostRuntime) -> Result<(), Fail> {
+    expect_an_end::<Writer>(&rt, rt.alloc())?;
+    expect_an_end::<PlainWriter>(&rt, rt.alloc())?;
     Ok(())
 }

@@ -1,8 +1,10 @@
-use Rattle.dds_runs.proofs.FedLaws.{below_taken, writers_taken}
+use Rattle.dds_runs.proofs.FedLaws.{below_taken}
 use Rattle.dds_runs.proofs.caches.Fed.take.Goals as goal
 
 pub invariant_of-self : goal.invariant_of-self
-invariant_of-self c = record {
-  listed = rw (writers_taken c.args.self.now.cache c.take.new.self c.take.result c.take.ensures.state) c.args.self.now.listed;
-  below = below_taken c.args.self.now.cache c.take.new.self c.take.result c.args.self.now.last c.args.self.now.below c.take.ensures.state;
-}
+invariant_of-self g c =
+    let before = g.C.CacheForm.state c.args.self.now.cache in
+    record {
+      listed = rw c.take.ensures.writers c.args.self.now.listed;
+      below = below_taken c.args.self.now.last before.stored (g.C.CacheForm.state c.take.new.self).stored c.take.result c.args.self.now.below c.take.ensures.stored;
+    }

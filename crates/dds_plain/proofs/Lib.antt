@@ -1,0 +1,6 @@
+mod KeyLaws
+mod StoredLaws
+mod TakeLaws
+mod ReleasedLaws
+mod CountLaws
+mod PushLaws
