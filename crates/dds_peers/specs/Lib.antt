@@ -1,4 +1,5 @@
 pub mod Diary
+pub mod Ends
 pub mod Fates
 pub mod Kept
 pub mod Steady

@@ -1,5 +1,6 @@
 //! The thread of an application.
 ghost use Rattle.std.specs.Prelude.{◌≡◌, Some};
+ghost use Rattle.dds_peers.specs.Ends.{end_of};
 ghost use Rattle.dds_peers.specs.Kept.{IsCounted, done_by};
 
 use crate::app::{Act, App, Gate};
@@ -32,7 +33,8 @@ pub enum AppEnd {
     NoMemory,
     /// The application asked for an event that isn't its own.
     NotYours,
-    /// The book was stopped, or its journal is full.
+    /// The book was stopped, or its journal is full. The book of a run is stopped when no application plays any more, and a run whose journal was full
+    /// gives a fault in place of its ends; so no end that `run_peers` gives is this one.
     Cut,
 }
 
@@ -196,7 +198,9 @@ impl<A: App, N: Name> Player<A, N> {
 }
 
 // How an application's thread ends after a fault of the book.
-fn end_of(fault: BookFault) -> AppEnd {
+fn end_of(fault: BookFault) -> AppEnd
+    ensures { result ≡ end_of fault }
+{
     match fault {
         BookFault::Closed | BookFault::JournalFull => AppEnd::Cut,
         BookFault::NotYours => AppEnd::NotYours,

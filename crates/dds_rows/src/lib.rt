@@ -1,4 +1,4 @@
-//! The whole tool over files in memory: devices that fail or are slow, every beginning of a file, and files before and after `migrate`.
+//! The whole tool over files in memory: devices that fail or are slow, every beginning of a file, files before and after `migrate`, and runs over and over.
 #![tactic(auto)]
 
 #[cfg(test)]
@@ -7,3 +7,5 @@ mod devices;
 mod files;
 #[cfg(test)]
 mod migrated;
+#[cfg(test)]
+mod runs;

@@ -1,0 +1,179 @@
+//! The deployment of `examples/ping` in a domain that one thread drives: a sample goes to the other side and another one comes back, so many times. The words are
+//! the number of these round trips, and after how many samples a reader acknowledges. It prints what is kept and stored at the end, and to the error output how
+//! long it took.
+#![tactic(auto)]
+
+use dds_base::{Arrival, Event, KeyNo, ReaderNo, Reply, RuleNo, WriterNo};
+use dds_cert::read_certificate;
+use dds_check::{Checked, check};
+use dds_deploy::read_deployment;
+use dds_domain::Domain;
+use dds_files::texts::{PING, PING_CERT};
+use dds_match::planning::plan;
+use std::alloc::Global;
+use std::env::{self, Env};
+use std::io;
+use std::process::ExitCode;
+use std::time::{Clock, Duration, Instant};
+
+/// The checked deployment.
+fn checked(alloc: Global) -> Option<Checked> {
+    let deployment = read_deployment(alloc, PING.as_bytes()).ok()?;
+    let plan = match plan(alloc, deployment) {
+        Ok(plan) => plan,
+        Err((_, deployment)) => {
+            drop(deployment);
+            return None;
+        }
+    };
+    let Ok(certificate) = read_certificate(alloc, &plan, PING_CERT.as_bytes()) else {
+        drop(plan);
+        return None;
+    };
+    match check(plan, certificate) {
+        Ok(checked) => Some(checked),
+        Err(refused) => {
+            drop(refused);
+            None
+        }
+    }
+}
+
+/// The domain before the first event.
+fn opened(alloc: Global) -> Option<Domain> {
+    match Domain::open(alloc, checked(alloc)?) {
+        Ok(domain) => Some(domain),
+        Err((_, checked)) => {
+            drop(checked);
+            None
+        }
+    }
+}
+
+/// Makes an event that does what it is for: it gives the number of what was written, the place of what was sent, and 0 for what came, was taken or fired.
+/// `None` where the event did something else.
+fn made(domain: &mut Domain, event: Event) -> Option<u64> {
+    match domain.step(event) {
+        Ok(Reply::Written(sn)) => Some(sn),
+        Ok(Reply::Sent(Some(place))) => Some(place as u64),
+        Ok(Reply::Arrived(Arrival::New) | Reply::Took(_) | Reply::Fired | Reply::Acked) => Some(0),
+        _ => None,
+    }
+}
+
+/// One direction: a writer, its reader, and the rule that spends what is taken there.
+#[derive(Clone, Copy)]
+struct Way {
+    writer: WriterNo,
+    reader: ReaderNo,
+    rule: RuleNo,
+}
+
+impl Way {
+    fn new(writer: usize, rule: usize) -> Way {
+        Way {
+            writer: WriterNo::new(writer),
+            reader: ReaderNo::new(writer),
+            rule: RuleNo::new(rule),
+        }
+    }
+
+    /// Writes and sends a sample, which arrives.
+    fn send(&self, domain: &mut Domain) -> Option<()> {
+        let Way { writer, reader, .. } = *self;
+        let write = Event::Write {
+            writer,
+            key: KeyNo::new(0),
+            payload: [7; 32],
+        };
+        let sn = made(domain, write)?;
+        let place = made(domain, Event::SendData { writer, reader, sn })? as usize;
+        made(domain, Event::Deliver { place, keep: false })?;
+        Some(())
+    }
+
+    /// Takes a sample and spends it.
+    fn take(&self, domain: &mut Domain) -> Option<()> {
+        let take = Event::Take {
+            reader: self.reader,
+            key: KeyNo::new(0),
+        };
+        made(domain, take)?;
+        made(domain, Event::Fire { rule: self.rule })?;
+        Some(())
+    }
+
+    /// Acknowledges what arrived.
+    fn acknowledge(&self, domain: &mut Domain) -> Option<()> {
+        let Way { writer, reader, .. } = *self;
+        let place = made(domain, Event::SendAckNack { reader, writer })? as usize;
+        made(domain, Event::Deliver { place, keep: false })?;
+        Some(())
+    }
+
+    fn cross(&self, domain: &mut Domain, acknowledges: bool) -> Option<()> {
+        self.send(domain)?;
+        self.take(domain)?;
+        if acknowledges {
+            self.acknowledge(domain)?;
+        }
+        Some(())
+    }
+}
+
+/// Makes so many round trips, with an acknowledgement after each `every` samples of a writer. `None` where an event did something else than it is for.
+fn round_trips(domain: &mut Domain, trips: usize, every: usize) -> Option<()> {
+    let to = Way::new(0, 1);
+    let back = Way::new(1, 0);
+    for trip in 0..trips {
+        let acknowledges = trip.checked_rem(every)? == 0;
+        to.cross(domain, acknowledges)?;
+        back.cross(domain, acknowledges)?;
+    }
+    to.acknowledge(domain)?;
+    back.acknowledge(domain)
+}
+
+/// How long the round trips took. `None` where an event did something else than it is for, or the clock failed.
+fn timed<R: Clock>(rt: &R, domain: &mut Domain, trips: usize, every: usize) -> Option<Duration> {
+    let began = Instant::now(rt).ok()?;
+    round_trips(domain, trips, every)?;
+    began.elapsed(rt).ok()
+}
+
+fn number(words: &[String], at: usize) -> Option<usize> {
+    words.get(at)?.as_str().parse::<usize>().ok()
+}
+
+fn main(rt: HostRuntime) -> ExitCode {
+    let alloc = rt.alloc();
+    let Ok(words) = env::args(&rt) else {
+        return ExitCode::from(3);
+    };
+    let Ok(words) = words.collect::<Vec<String>>(alloc) else {
+        return ExitCode::from(3);
+    };
+    let (Some(trips), Some(every)) = (number(words.as_slice(), 1), number(words.as_slice(), 2))
+    else {
+        return ExitCode::from(4);
+    };
+    let Some(mut domain) = opened(alloc) else {
+        return ExitCode::from(3);
+    };
+    let took = timed(&rt, &mut domain, trips, every);
+    let kept = [domain.kept(WriterNo::new(0)), domain.kept(WriterNo::new(1))];
+    let stored = [
+        domain.stored(ReaderNo::new(0)),
+        domain.stored(ReaderNo::new(1)),
+    ];
+    drop(domain);
+    let Some(took) = took else {
+        return ExitCode::from(3);
+    };
+    let _ = println!(rt;
+        "{trips} round trips; kept {} and {}, stored {} and {}",
+        kept[0], kept[1], stored[0], stored[1]
+    );
+    let _ = eprintln!(rt; "{} ms", took.as_millis());
+    ExitCode::from(0)
+}
