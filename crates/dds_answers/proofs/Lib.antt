@@ -3,3 +3,4 @@ mod Proposals
 pub mod Searches
 mod Migrations
 pub mod Names
+pub mod Opened

@@ -34,3 +34,14 @@ fault_status fault.Read = 3
 fault_status fault.Write = 3
 fault_status fault.NoMemory = 3
 fault_status fault.Run = 3
+
+-- the faults that an answer to the bytes of files can end in: a flaw of a file, or want of memory
+abbrev pub IsAnswerFault : ToolFault → Type 0
+IsAnswerFault (fault.Deployment flaw) = Unit {0}
+IsAnswerFault (fault.Certificate flaw) = Unit {0}
+IsAnswerFault fault.NoMemory = Unit {0}
+IsAnswerFault (fault.Usage text) = ⊥
+IsAnswerFault fault.TooLarge = ⊥
+IsAnswerFault fault.Read = ⊥
+IsAnswerFault fault.Write = ⊥
+IsAnswerFault fault.Run = ⊥

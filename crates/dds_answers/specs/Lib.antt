@@ -7,3 +7,5 @@ pub mod Searches
 pub mod Migrations
 pub mod Report
 pub mod Answers
+pub mod Opened
+pub mod Telling

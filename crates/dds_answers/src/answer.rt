@@ -2,7 +2,7 @@
 ghost use Rattle.std.specs.Prelude.{◌≡◌, ◌≤◌, IfErr, IfOk, IsOk, Ok, OnOk};
 ghost use Rattle.dds_cert.specs.Views.{certificate_view};
 ghost use Rattle.dds_answers.specs.Answers.{Gives, GivesOneOf, answer_status};
-ghost use Rattle.dds_answers.specs.Fault.{fault_status};
+ghost use Rattle.dds_answers.specs.Fault.{IsAnswerFault, fault_status};
 ghost use Rattle.dds_answers.specs.Outcome.{Outcome, compared, match_outcome, outcome, proposed, unproposed};
 ghost use Rattle.dds_answers.specs.Migrations.{MayMigrate};
 ghost use Rattle.dds_answers.specs.Proposals.{MayPropose};
@@ -57,6 +57,7 @@ fn answered(text: Result<String, AllocError>, is_yes: bool) -> Result<Answer, To
 #[tactic(auto, unfolding(crate::specs::Report::output_of, crate::specs::Report::status_of))]
 pub fn reported(alloc: Global, report: Report) -> Result<Answer, ToolFault>
     ensures gives { Gives result (outcome_of report) }
+    ensures fault { IfErr result IsAnswerFault }
     ensures no_usage { IfErr result (λ e. fault_status e ≤ 3) }
 {
     let is_yes = matches!(&report, Report::Yes(_));
@@ -72,6 +73,7 @@ pub fn check_answer(
     certificate: &[u8],
 ) -> Result<Answer, ToolFault>
     ensures gives { Gives result (outcome deployment.now certificate.now) }
+    ensures fault { IfErr result IsAnswerFault }
     ensures no_usage { IfErr result (λ e. fault_status e ≤ 3) }
 {
     match answer_check(alloc, deployment, certificate) {
@@ -84,6 +86,7 @@ pub fn check_answer(
 #[tactic(auto, unfolding(crate::specs::Report::output_of, crate::specs::Report::status_of))]
 fn compared(alloc: Global, plan: Plan) -> Result<Answer, ToolFault>
     ensures gives { Gives result (compared plan) }
+    ensures fault { IfErr result IsAnswerFault }
     ensures no_usage { IfErr result (λ e. fault_status e ≤ 3) }
 {
     let answer = answered(match_text(alloc, &plan), is_as_intended(&plan));
@@ -94,6 +97,7 @@ fn compared(alloc: Global, plan: Plan) -> Result<Answer, ToolFault>
 /// The answer to which endpoints of the lists of a deployment match.
 fn lists_compared(alloc: Global, lists: Deployment) -> Result<Answer, ToolFault>
     ensures gives { Gives result (compared lists) }
+    ensures fault { IfErr result IsAnswerFault }
     ensures no_usage { IfErr result (λ e. fault_status e ≤ 3) }
 {
     match plan(alloc, lists) {
@@ -108,6 +112,7 @@ fn lists_compared(alloc: Global, lists: Deployment) -> Result<Answer, ToolFault>
 /// The answer of `match` to the bytes of a deployment: yes where exactly the pairs of the connections match.
 pub fn match_answer(alloc: Global, deployment: &[u8]) -> Result<Answer, ToolFault>
     ensures gives { Gives result (match_outcome deployment.now) }
+    ensures fault { IfErr result IsAnswerFault }
     ensures no_usage { IfErr result (λ e. fault_status e ≤ 3) }
 {
     match read_deployment(alloc, deployment) {
@@ -124,6 +129,7 @@ pub(crate) fn certified(
     certificate: &Certificate,
 ) -> Result<Answer, ToolFault>
     ensures gives { Gives result (proposed plan.now (certificate_view certificate.now)) }
+    ensures fault { IfErr result IsAnswerFault }
     ensures no_usage { IfErr result (λ e. fault_status e ≤ 3) }
 {
     match certificate_text(alloc, plan, certificate) {
@@ -140,6 +146,7 @@ pub(crate) fn certified(
 #[tactic(auto, unfolding(crate::specs::Report::output_of, crate::specs::Report::status_of))]
 fn unproposed(alloc: Global) -> Result<Answer, ToolFault>
     ensures gives { Gives result unproposed }
+    ensures fault { IfErr result IsAnswerFault }
     ensures no_usage { IfErr result (λ e. fault_status e ≤ 3) }
 {
     answered(String::from_str(alloc, "none\n"), false)
@@ -148,6 +155,7 @@ fn unproposed(alloc: Global) -> Result<Answer, ToolFault>
 /// The answer to what is proposed for a plan.
 fn sought(alloc: Global, plan: &Plan) -> Result<Answer, ToolFault>
     ensures gives { (end : Outcome) × MayPropose (Ok plan.now) end × Gives result end }
+    ensures fault { IfErr result IsAnswerFault }
     ensures no_usage { IfErr result (λ e. fault_status e ≤ 3) }
 {
     match propose(alloc, plan) {
@@ -160,6 +168,7 @@ fn sought(alloc: Global, plan: &Plan) -> Result<Answer, ToolFault>
 /// The answer to what is proposed for the lists of a deployment.
 fn lists_sought(alloc: Global, lists: Deployment) -> Result<Answer, ToolFault>
     ensures gives { (end : Outcome) × MayPropose (Ok lists) end × Gives result end }
+    ensures fault { IfErr result IsAnswerFault }
     ensures no_usage { IfErr result (λ e. fault_status e ≤ 3) }
 {
     match plan(alloc, lists) {
@@ -178,6 +187,7 @@ fn lists_sought(alloc: Global, lists: Deployment) -> Result<Answer, ToolFault>
 /// The answer of `propose` to the bytes of a deployment: yes with the text of a certificate that is accepted, or no where none was found.
 pub fn propose_answer(alloc: Global, deployment: &[u8]) -> Result<Answer, ToolFault>
     ensures gives { (end : Outcome) × MayPropose (deployment_read deployment.now) end × Gives result end }
+    ensures fault { IfErr result IsAnswerFault }
     ensures no_usage { IfErr result (λ e. fault_status e ≤ 3) }
 {
     match read_deployment(alloc, deployment) {
@@ -189,6 +199,7 @@ pub fn propose_answer(alloc: Global, deployment: &[u8]) -> Result<Answer, ToolFa
 /// The answer of `migrate` to the bytes of a deployment of version 1: yes with a text of version 2 that stands for the same lists.
 pub fn migrate_answer(alloc: Global, deployment: &[u8]) -> Result<Answer, ToolFault>
     ensures gives { GivesOneOf (MayMigrate deployment.now (read_up_to 1 deployment.now)) result }
+    ensures fault { IfErr result IsAnswerFault }
     ensures no_usage { IfErr result (λ e. fault_status e ≤ 3) }
 {
     match migrate(alloc, deployment) {

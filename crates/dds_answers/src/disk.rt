@@ -7,14 +7,8 @@ use std::rt::Files;
 /// The files of the system, by their paths. What they hold isn't known.
 #[derive(Drop)]
 pub struct Disk<'a, F> {
-    rt: &'a F,
-}
-
-impl<'a, F: Files> Disk<'a, F> {
-    /// The files that this part of the system gives.
-    pub fn new(rt: &'a F) -> Disk<'a, F> {
-        Disk { rt }
-    }
+    /// The part of the system that gives them.
+    pub rt: &'a F,
 }
 
 impl<'a, F: Files> Sources for Disk<'a, F> {

@@ -1,7 +1,8 @@
 //! What each command answers to its files, which are read whole before any is parsed.
-ghost use Rattle.std.specs.Prelude.{◌≡◌, ℕ, List, ◌≤◌, ◌<◌, Some, IfOk, IfErr, IfSome, IsErrOf, length};
+ghost use Rattle.std.specs.Prelude.{◌≡◌, ℕ, List, [], ◌∷◌, ◌≤◌, ◌<◌, Some, IfOk, IfErr, IfSome, IsErrOf, OnOk, length};
 ghost use Rattle.dds_answers.specs.Answers.{Gives, GivesOneOf};
 ghost use Rattle.dds_answers.specs.Fault.{fault_status};
+ghost use Rattle.dds_answers.specs.Opened.{Opens, OpensAll};
 ghost use Rattle.dds_answers.specs.Outcome.{Outcome, file_outcome, match_file_outcome};
 ghost use Rattle.dds_answers.specs.Migrations.{MayMigrateFor};
 ghost use Rattle.dds_answers.specs.Proposals.{MayProposeFor};
@@ -22,6 +23,7 @@ pub fn read_file<S: Sources>(alloc: Global, files: &mut S, path: &str) -> Result
     ensures faults { IfErr result IsReadingFault }
     ensures too_large { IsErrOf result ToolFault.TooLarge → IfSome (S.holds files.old path.now) (λ xs. 1048576 < length xs) }
     ensures others { S.holds files.new ≡ S.holds files.old }
+    ensures opened { OpensAll (S.opened files.old) (S.opened files.new) (path.now ∷ []) }
 {
     let Some(reader) = files.open(path) else {
         return Err(ToolFault::Read);
@@ -41,6 +43,8 @@ pub fn check_files<S: Sources>(
     ensures gives { (d c : List ℕ) → S.holds files.old deployment.now ≡ Some d → S.holds files.old certificate.now ≡ Some c
         → Gives result (file_outcome d c) }
     ensures no_usage { IfErr result (λ e. fault_status e ≤ 3) }
+    ensures opened { Opens (S.opened files.old) (S.opened files.new) (deployment.now ∷ certificate.now ∷ []) }
+    ensures all_opened { OnOk result (OpensAll (S.opened files.old) (S.opened files.new) (deployment.now ∷ certificate.now ∷ [])) }
 {
     let deployment = read_file(alloc, files, deployment)?;
     let certificate = read_file(alloc, files, certificate)?;
@@ -56,6 +60,7 @@ pub fn match_file<S: Sources>(
 ) -> Result<Answer, ToolFault>
     ensures gives { (d : List ℕ) → S.holds files.old deployment.now ≡ Some d → Gives result (match_file_outcome d) }
     ensures no_usage { IfErr result (λ e. fault_status e ≤ 3) }
+    ensures opened { OpensAll (S.opened files.old) (S.opened files.new) (deployment.now ∷ []) }
 {
     let deployment = read_file(alloc, files, deployment)?;
     match_answer(alloc, deployment.as_slice())
@@ -69,6 +74,7 @@ pub fn propose_file<S: Sources>(
 ) -> Result<Answer, ToolFault>
     ensures gives { (d : List ℕ) → S.holds files.old deployment.now ≡ Some d → (end : Outcome) × MayProposeFor d end × Gives result end }
     ensures no_usage { IfErr result (λ e. fault_status e ≤ 3) }
+    ensures opened { OpensAll (S.opened files.old) (S.opened files.new) (deployment.now ∷ []) }
 {
     match read_file(alloc, files, deployment) {
         Ok(bytes) => propose_answer(alloc, bytes.as_slice()),
@@ -84,6 +90,7 @@ pub fn thorough_file<S: Sources>(
 ) -> Result<Answer, ToolFault>
     ensures gives { (d : List ℕ) → S.holds files.old deployment.now ≡ Some d → (end : Outcome) × MayFindFor d end × Gives result end }
     ensures no_usage { IfErr result (λ e. fault_status e ≤ 3) }
+    ensures opened { OpensAll (S.opened files.old) (S.opened files.new) (deployment.now ∷ []) }
 {
     match read_file(alloc, files, deployment) {
         Ok(bytes) => thorough_answer(alloc, bytes.as_slice()),
@@ -99,6 +106,7 @@ pub fn migrate_file<S: Sources>(
 ) -> Result<Answer, ToolFault>
     ensures gives { (d : List ℕ) → S.holds files.old deployment.now ≡ Some d → GivesOneOf (MayMigrateFor d) result }
     ensures no_usage { IfErr result (λ e. fault_status e ≤ 3) }
+    ensures opened { OpensAll (S.opened files.old) (S.opened files.new) (deployment.now ∷ []) }
 {
     match read_file(alloc, files, deployment) {
         Ok(bytes) => migrate_answer(alloc, bytes.as_slice()),

@@ -1,9 +1,10 @@
 //! How an answer or a fault is told.
-ghost use Rattle.std.specs.Prelude.{◌≡◌, ◌≤◌, ◌⊎◌, OnOk, IfOk, IfErr, Err};
+ghost use Rattle.std.specs.Prelude.{◌≡◌, ◌≢◌, ◌≤◌, ◌⊎◌, true, OnOk, OnErr, IfOk, IfErr, Err};
 ghost use Rattle.std.specs.Io.KnownBytes.{Appends, Keeps};
 ghost use Rattle.dds_answers.specs.Answers.{Gives};
 ghost use Rattle.dds_answers.specs.Fault.{fault_line, fault_status};
 ghost use Rattle.dds_answers.specs.Outcome.{Outcome};
+ghost use Rattle.dds_answers.specs.Telling.{TellsFault};
 ghost use Rattle.dds_answers.specs.Report.{Ends, output_of, status_of};
 
 use crate::answer::Answer;
@@ -33,7 +34,7 @@ fn note<E: Write>(answer: &Answer, err: &mut E) {
 }
 
 /// Writes the text of an answer to `out` and nothing else, and answers its status: 0 yes, 1 no. Only a failed write can leave a part of the text
-/// written. What the answer has besides is told to `err`.
+/// written. What the answer has besides is told to `err`, which a fault leaves as it is.
 pub fn give<O: Write, E: Write>(
     answer: Result<Answer, ToolFault>,
     out: &mut O,
@@ -46,6 +47,7 @@ pub fn give<O: Write, E: Write>(
     ensures no_usage { IfErr answer (λ e. fault_status e ≤ 3) → IfErr result (λ e. fault_status e ≤ 3) }
     ensures status { IfOk result (λ status. status ≤ 1) }
     ensures nothing { IfErr result (λ e. (e ≡ ToolFault.Write) ⊎ Keeps (O.contents out.old) (O.contents out.new)) }
+    ensures untold { OnErr result (err.new ≡ err.old) }
 {
     match answer {
         Ok(answer) => {
@@ -75,12 +77,30 @@ fn tell<E: Write>(alloc: Global, err: &mut E, fault: &ToolFault) -> Result<u8, T
     }
 }
 
-/// The status of a fault of which the user is told. Where that cannot be written, it is not told.
-pub fn tell_fault<E: Write>(alloc: Global, err: &mut E, fault: &ToolFault) -> u8
-    ensures { (result ≡ fault_status fault.now) ⊎ (result ≡ 3) }
+/// The status of a fault, and whether the user was told of it.
+#[derive(Clone, Copy, Debug, PartialEq, Eq)]
+pub struct Told {
+    /// The exit status, 2 to 4.
+    pub status: u8,
+    /// Whether the error output took the whole line.
+    pub is_told: bool,
+}
+
+/// Tells the user of a fault in a line of its own, or of want of memory, status 3, where there is no memory for that line. Where the error output does not
+/// take it, it is not told.
+pub fn tell_fault<E: Write>(alloc: Global, err: &mut E, fault: &ToolFault) -> Told
+    ensures status { (result.status ≡ fault_status fault.now) ⊎ (result.status ≡ 3) }
+    ensures told { result.is_told ≡ true → TellsFault result.status (E.contents err.old) (E.contents err.new) }
+    ensures which { result.is_told ≡ true → result.status ≢ 3 → Appends (E.contents err.old) (E.contents err.new) (fault_line fault.now) }
 {
     match tell(alloc, err, fault) {
-        Ok(status) => status,
-        Err(_) => fault_status(fault),
+        Ok(status) => Told {
+            status,
+            is_told: true,
+        },
+        Err(_) => Told {
+            status: fault_status(fault),
+            is_told: false,
+        },
     }
 }

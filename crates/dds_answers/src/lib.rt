@@ -20,7 +20,7 @@ pub use counted::Counted;
 pub use disk::Disk;
 pub use fault::{ToolFault, fault_status, fault_text};
 pub use files::{check_files, match_file, migrate_file, propose_file, read_file, thorough_file};
-pub use giving::{give, print, tell_fault};
+pub use giving::{Told, give, print, tell_fault};
 pub use matches::{is_as_intended, match_text};
 pub use reading::{MAX_FILE, read_all};
 pub use report::{Report, answer_check, report_text};

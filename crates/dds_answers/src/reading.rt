@@ -1,5 +1,5 @@
 //! Reads a file whole.
-ghost use Rattle.std.specs.Prelude.{◌≡◌, ◌+◌, ◌^◌, ◌<◌, ◌≤◌, ◌⊎◌, length, IfOk, IfErr, IfSome, IsErrOf, OnOk};
+ghost use Rattle.std.specs.Prelude.{◌≡◌, ◌≢◌, ◌+◌, ◌^◌, ◌<◌, ◌≤◌, ◌⊎◌, length, IfOk, IfErr, IfSome, IsErrOf, OnOk};
 ghost use Rattle.std.specs.Io.KnownBytes.{IsAtEnd, Consumes};
 ghost use Rattle.dds_answers.specs.Reading.{IsReadingFault};
 
@@ -16,8 +16,8 @@ const MAX_INTERRUPTED: u64 = 1_000;
 
 const CHUNK: usize = 4_096;
 
-/// All bytes that the reader has left, at most `MAX_FILE`. More are `TooLarge`. A failed read is `Read`, and so is the 1,001st interrupted one.
-/// `NoMemory` comes where there is no room for the bytes. After an error the reader stands where its reads left it.
+/// All bytes that the reader has left, at most `MAX_FILE`. More are `TooLarge`. A failed read is `Read`, and so is the 1,001st interrupted one: no read is made
+/// after either. `NoMemory` comes where there is no room for the bytes. After an error the reader stands where its reads left it.
 pub fn read_all<R: Read>(alloc: Global, reader: &mut Counted<R>) -> Result<Vec<u8>, ToolFault>
     requires failed { reader.old.failed < 2 ^ 63 }
     requires interrupted { reader.old.interrupted < 2 ^ 63 }
@@ -28,8 +28,10 @@ pub fn read_all<R: Read>(alloc: Global, reader: &mut Counted<R>) -> Result<Vec<u
     ensures too_large { IsErrOf result ToolFault.TooLarge
         → IfSome (R.remaining reader.old.reader) (λ left. 1048576 < length left) }
     ensures read { IsErrOf result ToolFault.Read
-        → (reader.old.failed < reader.new.failed) ⊎ (reader.old.interrupted + 1001 ≤ reader.new.interrupted) }
+        → ((reader.new.failed ≡ reader.old.failed + 1) × (reader.new.interrupted ≤ reader.old.interrupted + 1000))
+        ⊎ ((reader.new.failed ≡ reader.old.failed) × (reader.new.interrupted ≡ reader.old.interrupted + 1001)) }
     ensures borne { OnOk result ((reader.new.failed ≡ reader.old.failed) × (reader.new.interrupted ≤ reader.old.interrupted + 1000)) }
+    ensures borne_err { IfErr result (λ e. e ≢ ToolFault.Read → (reader.new.failed ≡ reader.old.failed) × (reader.new.interrupted ≤ reader.old.interrupted + 1000)) }
 {
     let mut bytes = Vec::new(alloc);
     let mut chunk = [0u8; CHUNK];

@@ -1,5 +1,5 @@
 //! Where files come from.
-ghost use Rattle.std.specs.Prelude.{◌≡◌, ℕ, List, Option, Some, None, IfSome};
+ghost use Rattle.std.specs.Prelude.{◌≡◌, ◌++◌, [], ◌∷◌, ℕ, List, Option, Some, None, IfSome};
 
 use std::io::Read;
 
@@ -11,8 +11,12 @@ pub trait Sources {
     /// The bytes of the file at a path, where they are known.
     ghost holds: { Self → List ℕ → Option (List ℕ) } = { λ _ _. None };
 
+    /// The paths that were asked for, in order, where they are known.
+    ghost opened: { Self → Option (List (List ℕ)) } = { λ _. None };
+
     /// A reader of the file at a path, or `None` where it does not open. What the files hold stays the same.
     fn open(&mut self, path: &str) -> Option<Self::R>
         ensures bytes { IfSome result (λ r. IfSome (holds self.old path.now) (λ xs. Self.R.remaining r ≡ Some xs)) }
-        ensures others { holds self.new ≡ holds self.old };
+        ensures others { holds self.new ≡ holds self.old }
+        ensures opened { IfSome (opened self.old) (λ paths. opened self.new ≡ Some (paths ++ path.now ∷ [])) };
 }

@@ -1,7 +1,7 @@
 //! What `propose --thorough` answers to the bytes of a deployment.
 ghost use Rattle.std.specs.Prelude.{◌≡◌, ◌≤◌, IfErr, IfOk, Ok};
 ghost use Rattle.dds_answers.specs.Answers.{Gives};
-ghost use Rattle.dds_answers.specs.Fault.{fault_status};
+ghost use Rattle.dds_answers.specs.Fault.{IsAnswerFault, fault_status};
 ghost use Rattle.dds_answers.specs.Outcome.{Outcome, unproposed};
 ghost use Rattle.dds_answers.specs.Searches.{MayFind};
 ghost use Rattle.dds_deploy.specs.Sections.{read as deployment_read};
@@ -113,6 +113,7 @@ fn missing_text(alloc: Global, plan: &Plan, missing: Missing) -> Result<String, 
 #[tactic(auto, unfolding(crate::specs::Report::output_of, crate::specs::Report::status_of))]
 fn unfound(alloc: Global, plan: &Plan, missing: Missing) -> Result<Answer, ToolFault>
     ensures gives { Gives result unproposed }
+    ensures fault { IfErr result IsAnswerFault }
     ensures no_usage { IfErr result (λ e. fault_status e ≤ 3) }
 {
     let Ok(note) = missing_text(alloc, plan, missing) else {
@@ -131,6 +132,7 @@ fn unfound(alloc: Global, plan: &Plan, missing: Missing) -> Result<Answer, ToolF
 /// The answer where the search found nothing: the rounds may still find a certificate, since their numbers are smaller.
 fn by_rounds(alloc: Global, plan: &Plan, missing: Missing) -> Result<Answer, ToolFault>
     ensures gives { (end : Outcome) × MayFind (Ok plan.now) end × Gives result end }
+    ensures fault { IfErr result IsAnswerFault }
     ensures no_usage { IfErr result (λ e. fault_status e ≤ 3) }
 {
     match propose(alloc, plan) {
@@ -143,6 +145,7 @@ fn by_rounds(alloc: Global, plan: &Plan, missing: Missing) -> Result<Answer, Too
 /// The answer to what is found for a plan.
 fn sought(alloc: Global, plan: &Plan) -> Result<Answer, ToolFault>
     ensures gives { (end : Outcome) × MayFind (Ok plan.now) end × Gives result end }
+    ensures fault { IfErr result IsAnswerFault }
     ensures no_usage { IfErr result (λ e. fault_status e ≤ 3) }
 {
     match search(alloc, plan) {
@@ -155,6 +158,7 @@ fn sought(alloc: Global, plan: &Plan) -> Result<Answer, ToolFault>
 /// The answer to what is found for the lists of a deployment.
 fn lists_sought(alloc: Global, lists: Deployment) -> Result<Answer, ToolFault>
     ensures gives { (end : Outcome) × MayFind (Ok lists) end × Gives result end }
+    ensures fault { IfErr result IsAnswerFault }
     ensures no_usage { IfErr result (λ e. fault_status e ≤ 3) }
 {
     match plan(alloc, lists) {
@@ -174,6 +178,7 @@ fn lists_sought(alloc: Global, lists: Deployment) -> Result<Answer, ToolFault>
 /// found, and then with a note that says why.
 pub fn thorough_answer(alloc: Global, deployment: &[u8]) -> Result<Answer, ToolFault>
     ensures gives { (end : Outcome) × MayFind (deployment_read deployment.now) end × Gives result end }
+    ensures fault { IfErr result IsAnswerFault }
     ensures no_usage { IfErr result (λ e. fault_status e ≤ 3) }
 {
     match read_deployment(alloc, deployment) {

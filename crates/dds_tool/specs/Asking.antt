@@ -106,6 +106,15 @@ Asks words (asked.Migrate d) = Names words (codes "migrate") (codes "deployment"
 Asks words (asked.Check d c) = Names words (codes "check") (codes "deployment") d.now × Names words (codes "check") (codes "certificate") c.now
 Asks words (asked.Run d c wishes) = Runs words d.now c.now wishes
 
+-- the paths of the files that a request names, in the order of the words
+abbrev pub paths_of : Request → List Text
+paths_of (asked.Match d) = d.now ∷ []
+paths_of (asked.Propose d) = d.now ∷ []
+paths_of (asked.ProposeThoroughly d) = d.now ∷ []
+paths_of (asked.Migrate d) = d.now ∷ []
+paths_of (asked.Check d c) = d.now ∷ c.now ∷ []
+paths_of (asked.Run d c wishes) = d.now ∷ c.now ∷ []
+
 -- help or the version was asked for
 abbrev pub IsHelp : NoRequest → Type 0
 IsHelp (none.Help text) = Unit {0}

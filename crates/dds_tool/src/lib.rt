@@ -8,7 +8,7 @@ mod request;
 mod running;
 mod wishes;
 
-pub use commands::tool;
+pub use commands::{tell_tool, tool};
 pub use request::{NoRequest, Request, read_request};
 pub use running::run_answer;
 pub use wishes::Wishes;

@@ -32,10 +32,10 @@ fn main(rt: HostRuntime) -> ExitCode {
         Ok(words) => words,
         Err(error) => {
             let fault = fault_of(rt.alloc(), &error);
-            return ExitCode::from(tell_fault(rt.alloc(), &mut err, &fault));
+            return ExitCode::from(tell_fault(rt.alloc(), &mut err, &fault).status);
         }
     };
-    let mut files = Disk::new(&rt);
+    let mut files = Disk { rt: &rt };
     ExitCode::from(tool(
         &rt,
         rt.alloc(),

@@ -61,14 +61,14 @@ fn main(rt: HostRuntime) -> ExitCode {
     let mut out = io::writer(&rt);
     let err = rt.stderr();
     let mut err = io::writer(&err);
-    let mut files = Disk::new(&rt);
+    let mut files = Disk { rt: &rt };
     let answer = match words(&rt) {
         Ok(words) => answer_to(alloc, words.as_slice(), &mut files),
         Err(_) => Err(other_words(alloc)),
     };
     let status = match give(answer, &mut out, &mut err) {
         Ok(status) => status,
-        Err(fault) => tell_fault(alloc, &mut err, &fault),
+        Err(fault) => tell_fault(alloc, &mut err, &fault).status,
     };
     ExitCode::from(status)
 }

@@ -2,31 +2,14 @@
 //! in which this runs. The stored run has its command lines in `stdin`, what is expected in `stdout` and the files in `data`.
 #![tactic(auto)]
 
-use dds_answers::Sources;
+use dds_answers::Disk;
 use dds_tool::tool;
 use std::alloc::{AllocError, Global};
+use std::io;
 use std::rt::Files;
 use std::sync::Wait;
 use std::thread::Threads;
 use std::time::Clock;
-use std::{fs, io};
-
-/// The files of the system.
-#[derive(Drop)]
-struct Disk<'a, F> {
-    rt: &'a F,
-}
-
-impl<'a, F: Files> Sources for Disk<'a, F> {
-    type R = F::File;
-
-    fn open(&mut self, path: &str) -> Option<F::File> {
-        match fs::open(self.rt, path) {
-            Ok(file) => Some(file),
-            Err(_) => None,
-        }
-    }
-}
 
 /// The words of a line.
 fn words_of(alloc: Global, line: &str) -> Result<Vec<&str>, AllocError> {

@@ -1,5 +1,6 @@
 use Rattle.std.proofs.Common.{◌≡◌, ◌<◌, ◌≤◌, ◌∙◌, ℕ, List, Option, ap, ap₂, Err, IfSome, inl, inr, length, subst}
 use Rattle.dds_answers.specs.Outcome.{Outcome, outcome}
+use Rattle.dds_answers.proofs.Opened.{both_open}
 use Rattle.dds_tool.specs.RunEnds.{GivesRun}
 use Rattle.dds_tool.proofs.RunGives.{file_gives, passed_gives}
 use Rattle.dds_tool.proofs.commands.run_files.Goals as goal
@@ -30,3 +31,13 @@ returns-clause-gives g c = λ x y held_x held_y.
     let second = subst (AreRead c.in_ok-certificate.certificate.items) held c.in_ok-certificate.ensures.bytes in
     file_gives x y c.run_answer.result first.1 second.1
     (subst (λ (end : Outcome). GivesRun end c.run_answer.result) (ap₂ outcome (c.as_slice.ensures.value ∙ first.0) (c.as_slice-2.ensures.value ∙ second.0)) c.run_answer.ensures.gives)
+
+pub returns-in_err-certificate-clause-opened : goal.returns-in_err-certificate-clause-opened
+returns-in_err-certificate-clause-opened g c =
+    both_open (g.S.Sources.opened c.args.files.now) (g.S.Sources.opened c.read_file.new.files) _ c.args.deployment.now c.args.certificate.now
+    c.in_ok-deployment.ensures.opened c.in_err-certificate.ensures.opened
+
+pub returns-clause-opened : goal.returns-clause-opened
+returns-clause-opened g c =
+    both_open (g.S.Sources.opened c.args.files.now) (g.S.Sources.opened c.read_file.new.files) _ c.args.deployment.now c.args.certificate.now
+    c.in_ok-deployment.ensures.opened c.in_ok-certificate.ensures.opened
