@@ -11,7 +11,6 @@ use Rattle.dds_cert.specs.declared.fault.CertFault.{CertFault}
 use Rattle.dds_cert.specs.declared.fault.CertFault.TheVariants.{At, NoMemory}
 use Rattle.dds_answers.specs.declared.fault.ToolFault.{ToolFault}
 use Rattle.dds_answers.specs.declared.fault.ToolFault.TheVariants as fault
-use Rattle.dds_answers.specs.Fault.{fault_status}
 use Rattle.dds_answers.specs.Outcome.{Outcome, comparison, judged}
 use Rattle.dds_answers.specs.Report.{Ends, IsCertificateFault, IsDeploymentFault, Tells}
 
@@ -26,11 +25,6 @@ pub uncompared_ends : (read : Read Lists) (f : ReadFault) (t : ToolFault) → Fa
 uncompared_ends read (unread.At flaw) t fails is = rw (is, fails) refl
 uncompared_ends read unread.NoMemory t fails is = rw is tt
 
--- its status is not that of a fault of usage
-pub unread_status : (f : ReadFault) (t : ToolFault) → IsDeploymentFault f t → fault_status t ≤ 3
-unread_status (unread.At flaw) t is = rw is (omega arith)
-unread_status unread.NoMemory t is = rw is (omega arith)
-
 -- what a report tells of the end of a check is given
 pub reported_ends : (e : ToolFault) (end : Outcome) → Tells (Err e) end → Ends e end
 reported_ends (fault.Deployment flaw) end tells = tells
@@ -41,14 +35,3 @@ reported_ends fault.TooLarge end tells = absurd tells
 reported_ends fault.Read end tells = absurd tells
 reported_ends fault.Write end tells = absurd tells
 reported_ends fault.Run end tells = absurd tells
-
--- its status is not that of a fault of usage
-pub reported_status : (e : ToolFault) (end : Outcome) → Tells (Err e) end → fault_status e ≤ 3
-reported_status (fault.Deployment flaw) end tells = omega arith
-reported_status (fault.Certificate flaw) end tells = omega arith
-reported_status fault.NoMemory end tells = omega arith
-reported_status (fault.Usage text) end tells = absurd tells
-reported_status fault.TooLarge end tells = absurd tells
-reported_status fault.Read end tells = absurd tells
-reported_status fault.Write end tells = absurd tells
-reported_status fault.Run end tells = absurd tells

@@ -1,14 +1,21 @@
 -- What a command gives to the output.
 use Rattle.std.specs.Prelude.{ℕ, ◌≡◌, ◌⊎◌, Bool, Result, Ok, Err, MatchResult, string_bytes, if◌then◌else◌}
 use Rattle.dds_answers.specs.declared.answer.Answer.{Answer}
+use Rattle.dds_answers.specs.Exit.{exit_status}
+use Rattle.dds_answers.specs.declared.exit.Exit.{Exit}
+use Rattle.dds_answers.specs.declared.exit.Exit.TheVariants as exit
 use Rattle.dds_answers.specs.declared.fault.ToolFault.{ToolFault}
 use Rattle.dds_answers.specs.declared.fault.ToolFault.TheVariants as fault
 use Rattle.dds_answers.specs.Outcome.{Outcome}
 use Rattle.dds_answers.specs.Report.{Ends, output_of, status_of}
 
--- the exit status of an answer: 0 yes, 1 no
+-- how a command ends with an answer
+abbrev pub answer_exit : Bool → Exit
+answer_exit is_yes = if is_yes then exit.Yes else exit.No
+
+-- its exit status
 abbrev pub answer_status : Bool → ℕ
-answer_status is_yes = if is_yes then 0 else 1
+answer_status is_yes = exit_status (answer_exit is_yes)
 
 -- the text and the status are those of this end
 abbrev pub IsAnswer : Answer → Outcome → Type 0

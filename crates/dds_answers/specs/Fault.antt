@@ -3,6 +3,9 @@ use Rattle.std.specs.Prelude.{ℕ, List, ◌++◌, length, codes, string_bytes, 
 use Rattle.std.specs.Fmt.{decimal}
 use Rattle.dds_fields.specs.FaultTable as deployment
 use Rattle.dds_cert.specs.Faults.{kind_entry}
+use Rattle.dds_answers.specs.Exit.{exit_status}
+use Rattle.dds_answers.specs.declared.exit.Exit.{Exit}
+use Rattle.dds_answers.specs.declared.exit.Exit.TheVariants as exit
 use Rattle.dds_answers.specs.declared.fault.ToolFault.{ToolFault}
 use Rattle.dds_answers.specs.declared.fault.ToolFault.TheVariants as fault
 
@@ -24,16 +27,20 @@ fault_line fault.Write = codes "ddscheck: 6 Write\n"
 fault_line fault.NoMemory = codes "ddscheck: 7 NoMemory\n"
 fault_line fault.Run = codes "ddscheck: 8 Run\n"
 
+-- how a command ends with a fault
+abbrev pub exit_of : ToolFault → Exit
+exit_of (fault.Usage text) = exit.Usage
+exit_of (fault.Deployment flaw) = exit.BadFile
+exit_of (fault.Certificate flaw) = exit.BadFile
+exit_of fault.TooLarge = exit.BadFile
+exit_of fault.Read = exit.Device
+exit_of fault.Write = exit.Device
+exit_of fault.NoMemory = exit.NoMemory
+exit_of fault.Run = exit.Run
+
 -- the exit status of a fault
 abbrev pub fault_status : ToolFault → ℕ
-fault_status (fault.Usage text) = 4
-fault_status (fault.Deployment flaw) = 2
-fault_status (fault.Certificate flaw) = 2
-fault_status fault.TooLarge = 2
-fault_status fault.Read = 3
-fault_status fault.Write = 3
-fault_status fault.NoMemory = 3
-fault_status fault.Run = 3
+fault_status f = exit_status (exit_of f)
 
 -- the faults that an answer to the bytes of files can end in: a flaw of a file, or want of memory
 abbrev pub IsAnswerFault : ToolFault → Type 0

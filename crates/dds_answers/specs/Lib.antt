@@ -1,4 +1,6 @@
+pub mod Exit
 pub mod Fault
+pub mod Causes
 pub mod Reading
 pub mod Matches
 pub mod Outcome

@@ -1,5 +1,5 @@
 -- What a counted reader counts, and how a reading of a whole file ends.
-use Rattle.std.specs.Prelude.{ℕ, ◌≡◌, ◌≢◌, ◌+◌, ◌-◌, ◌^◌, min, MatchResult, Result}
+use Rattle.std.specs.Prelude.{ℕ, Bool, ◌≡◌, ◌≢◌, ◌+◌, ◌-◌, ◌^◌, ◌||◌, min, nat_lt, MatchResult, Result}
 use Rattle.std.specs.IoError.{error_kind}
 use Rattle.std.specs.declared.io.Error.{Error}
 use Rattle.std.specs.declared.io.ErrorKind.TheVariants.{Interrupted}
@@ -16,6 +16,10 @@ CountsRead answer old new = MatchResult answer
     (λ _. (new.0 ≡ old.0) × (new.1 ≡ old.1))
     (λ e. (error_kind e ≡ Interrupted → (new.0 ≡ old.0) × (new.1 ≡ one_more old.1))
     × (error_kind e ≢ Interrupted → (new.0 ≡ one_more old.0) × (new.1 ≡ old.1)))
+
+-- after a read that failed, or more than 1,000 that were interrupted, no reader is read on
+abbrev pub is_worn : (failed interrupted : ℕ) → Bool
+is_worn failed interrupted = nat_lt 0 failed || nat_lt 1000 interrupted
 
 -- the faults that the reading of a whole file can end in
 abbrev pub IsReadingFault : ToolFault → Type 0

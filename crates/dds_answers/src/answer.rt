@@ -1,14 +1,15 @@
 //! What each command answers to the bytes of its files.
 ghost use Rattle.std.specs.Prelude.{◌≡◌, ◌≤◌, IfErr, IfOk, IsOk, Ok, OnOk};
 ghost use Rattle.dds_cert.specs.Views.{certificate_view};
-ghost use Rattle.dds_answers.specs.Answers.{Gives, GivesOneOf, answer_status};
-ghost use Rattle.dds_answers.specs.Fault.{IsAnswerFault, fault_status};
+ghost use Rattle.dds_answers.specs.Answers.{Gives, GivesOneOf, answer_exit};
+ghost use Rattle.dds_answers.specs.Fault.{IsAnswerFault};
 ghost use Rattle.dds_answers.specs.Outcome.{Outcome, compared, match_outcome, outcome, proposed, unproposed};
 ghost use Rattle.dds_answers.specs.Migrations.{MayMigrate};
 ghost use Rattle.dds_answers.specs.Proposals.{MayPropose};
 ghost use Rattle.dds_answers.specs.Report.{outcome_of};
 ghost use Rattle.dds_deploy.specs.Sections.{read as deployment_read, read_up_to};
 
+use crate::exit::Exit;
 use crate::fault::ToolFault;
 use crate::matches::{is_as_intended, match_text};
 use crate::report::{Report, answer_check, deployment_fault, report_text};
@@ -19,7 +20,7 @@ use dds_match::planning::plan;
 use dds_propose::propose;
 use std::alloc::{AllocError, Global};
 
-/// A text for the output, and whether the answer is yes. The exit status is 0 for yes and 1 for no.
+/// A text for the output, and whether the answer is yes.
 #[derive(Drop)]
 pub struct Answer {
     pub text: String,
@@ -29,11 +30,11 @@ pub struct Answer {
 }
 
 impl Answer {
-    /// The exit status: 0 yes, 1 no.
-    pub fn status(&self) -> u8
-        ensures { result ≡ answer_status self.now.is_yes }
+    /// How a command ends with it: yes or no.
+    pub fn exit(&self) -> Exit
+        ensures { result ≡ answer_exit self.now.is_yes }
     {
-        if self.is_yes { 0 } else { 1 }
+        if self.is_yes { Exit::Yes } else { Exit::No }
     }
 }
 
@@ -58,7 +59,6 @@ fn answered(text: Result<String, AllocError>, is_yes: bool) -> Result<Answer, To
 pub fn reported(alloc: Global, report: Report) -> Result<Answer, ToolFault>
     ensures gives { Gives result (outcome_of report) }
     ensures fault { IfErr result IsAnswerFault }
-    ensures no_usage { IfErr result (λ e. fault_status e ≤ 3) }
 {
     let is_yes = matches!(&report, Report::Yes(_));
     let answer = answered(report_text(alloc, &report), is_yes);
@@ -74,7 +74,6 @@ pub fn check_answer(
 ) -> Result<Answer, ToolFault>
     ensures gives { Gives result (outcome deployment.now certificate.now) }
     ensures fault { IfErr result IsAnswerFault }
-    ensures no_usage { IfErr result (λ e. fault_status e ≤ 3) }
 {
     match answer_check(alloc, deployment, certificate) {
         Ok(report) => reported(alloc, report),
@@ -87,7 +86,6 @@ pub fn check_answer(
 fn compared(alloc: Global, plan: Plan) -> Result<Answer, ToolFault>
     ensures gives { Gives result (compared plan) }
     ensures fault { IfErr result IsAnswerFault }
-    ensures no_usage { IfErr result (λ e. fault_status e ≤ 3) }
 {
     let answer = answered(match_text(alloc, &plan), is_as_intended(&plan));
     drop(plan);
@@ -98,7 +96,6 @@ fn compared(alloc: Global, plan: Plan) -> Result<Answer, ToolFault>
 fn lists_compared(alloc: Global, lists: Deployment) -> Result<Answer, ToolFault>
     ensures gives { Gives result (compared lists) }
     ensures fault { IfErr result IsAnswerFault }
-    ensures no_usage { IfErr result (λ e. fault_status e ≤ 3) }
 {
     match plan(alloc, lists) {
         Ok(plan) => compared(alloc, plan),
@@ -113,7 +110,6 @@ fn lists_compared(alloc: Global, lists: Deployment) -> Result<Answer, ToolFault>
 pub fn match_answer(alloc: Global, deployment: &[u8]) -> Result<Answer, ToolFault>
     ensures gives { Gives result (match_outcome deployment.now) }
     ensures fault { IfErr result IsAnswerFault }
-    ensures no_usage { IfErr result (λ e. fault_status e ≤ 3) }
 {
     match read_deployment(alloc, deployment) {
         Ok(lists) => lists_compared(alloc, lists),
@@ -130,7 +126,6 @@ pub(crate) fn certified(
 ) -> Result<Answer, ToolFault>
     ensures gives { Gives result (proposed plan.now (certificate_view certificate.now)) }
     ensures fault { IfErr result IsAnswerFault }
-    ensures no_usage { IfErr result (λ e. fault_status e ≤ 3) }
 {
     match certificate_text(alloc, plan, certificate) {
         Ok(text) => Ok(Answer {
@@ -147,7 +142,6 @@ pub(crate) fn certified(
 fn unproposed(alloc: Global) -> Result<Answer, ToolFault>
     ensures gives { Gives result unproposed }
     ensures fault { IfErr result IsAnswerFault }
-    ensures no_usage { IfErr result (λ e. fault_status e ≤ 3) }
 {
     answered(String::from_str(alloc, "none\n"), false)
 }
@@ -156,7 +150,6 @@ fn unproposed(alloc: Global) -> Result<Answer, ToolFault>
 fn sought(alloc: Global, plan: &Plan) -> Result<Answer, ToolFault>
     ensures gives { (end : Outcome) × MayPropose (Ok plan.now) end × Gives result end }
     ensures fault { IfErr result IsAnswerFault }
-    ensures no_usage { IfErr result (λ e. fault_status e ≤ 3) }
 {
     match propose(alloc, plan) {
         Ok(Some(certificate)) => certified(alloc, plan, &certificate),
@@ -169,7 +162,6 @@ fn sought(alloc: Global, plan: &Plan) -> Result<Answer, ToolFault>
 fn lists_sought(alloc: Global, lists: Deployment) -> Result<Answer, ToolFault>
     ensures gives { (end : Outcome) × MayPropose (Ok lists) end × Gives result end }
     ensures fault { IfErr result IsAnswerFault }
-    ensures no_usage { IfErr result (λ e. fault_status e ≤ 3) }
 {
     match plan(alloc, lists) {
         Ok(plan) => {
@@ -188,7 +180,6 @@ fn lists_sought(alloc: Global, lists: Deployment) -> Result<Answer, ToolFault>
 pub fn propose_answer(alloc: Global, deployment: &[u8]) -> Result<Answer, ToolFault>
     ensures gives { (end : Outcome) × MayPropose (deployment_read deployment.now) end × Gives result end }
     ensures fault { IfErr result IsAnswerFault }
-    ensures no_usage { IfErr result (λ e. fault_status e ≤ 3) }
 {
     match read_deployment(alloc, deployment) {
         Ok(lists) => lists_sought(alloc, lists),
@@ -200,7 +191,6 @@ pub fn propose_answer(alloc: Global, deployment: &[u8]) -> Result<Answer, ToolFa
 pub fn migrate_answer(alloc: Global, deployment: &[u8]) -> Result<Answer, ToolFault>
     ensures gives { GivesOneOf (MayMigrate deployment.now (read_up_to 1 deployment.now)) result }
     ensures fault { IfErr result IsAnswerFault }
-    ensures no_usage { IfErr result (λ e. fault_status e ≤ 3) }
 {
     match migrate(alloc, deployment) {
         Ok(text) => Ok(Answer {

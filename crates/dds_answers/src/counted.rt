@@ -2,9 +2,12 @@
 ghost use Rattle.std.specs.Prelude.{◌≡◌};
 ghost use Rattle.std.specs.Io.{ReadsAtMost};
 ghost use Rattle.std.specs.Io.KnownBytes.{ReadConsumes};
-ghost use Rattle.dds_answers.specs.Reading.{CountsRead};
+ghost use Rattle.dds_answers.specs.Reading.{CountsRead, is_worn};
 
 use std::io::{self, ErrorKind, Read};
+
+/// The most interrupted reads of a file that are borne.
+pub(crate) const MAX_INTERRUPTED: u64 = 1_000;
 
 /// A reader, with the number of its reads that failed and of those that were interrupted. Each
 /// count begins at 0 and stays at 2^64 - 1.
@@ -27,6 +30,13 @@ impl<R> Counted<R> {
             failed: 0,
             interrupted: 0,
         }
+    }
+
+    /// Whether a read has failed, or more than 1,000 were interrupted.
+    pub fn is_worn(&self) -> bool
+        ensures { result ≡ is_worn self.now.failed self.now.interrupted }
+    {
+        self.failed > 0 || self.interrupted > MAX_INTERRUPTED
     }
 }
 

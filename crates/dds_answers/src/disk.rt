@@ -1,5 +1,8 @@
 //! The files of the system.
+ghost use Rattle.std.specs.Prelude.{◌≡◌, ◌||◌};
+ghost use Rattle.dds_answers.specs.Reading.{is_worn};
 
+use crate::counted::Counted;
 use crate::sources::Sources;
 use std::fs;
 use std::rt::Files;
@@ -9,15 +12,30 @@ use std::rt::Files;
 pub struct Disk<'a, F> {
     /// The part of the system that gives them.
     pub rt: &'a F,
+    /// Whether a file did not open, or a reader was given back that is worn.
+    pub has_failed: bool,
 }
 
 impl<'a, F: Files> Sources for Disk<'a, F> {
     type R = F::File;
 
+    ghost has_failed = { λ d. d.has_failed };
+
     fn open(&mut self, path: &str) -> Option<F::File> {
         match fs::open(self.rt, path) {
             Ok(file) => Some(file),
-            Err(_) => None,
+            Err(_) => {
+                self.has_failed = true;
+                None
+            }
+        }
+    }
+
+    fn close(&mut self, reader: Counted<F::File>)
+        ensures { self.new.has_failed ≡ (is_worn reader.failed reader.interrupted || self.old.has_failed) }
+    {
+        if reader.is_worn() {
+            self.has_failed = true;
         }
     }
 }

@@ -1,7 +1,8 @@
 //! Why a command gave no answer, and what users are told of it.
 ghost use Rattle.std.specs.Prelude.{◌≡◌, IfOk, string_bytes};
-ghost use Rattle.dds_answers.specs.Fault.{fault_line, fault_status, flaw_line};
+ghost use Rattle.dds_answers.specs.Fault.{exit_of, fault_line, flaw_line};
 
+use crate::exit::Exit;
 use dds_cert::CertFlaw;
 use dds_fields::fault::Fault;
 use std::alloc::{AllocError, Global};
@@ -81,13 +82,15 @@ pub fn fault_text(alloc: Global, fault: &ToolFault) -> Result<String, AllocError
 /// The line that is told to users where memory ran out.
 pub const NO_MEMORY: &str = "ddscheck: 7 NoMemory\n";
 
-/// The exit status of a fault: 2 for a bad file, 3 for memory, a device or a run, 4 for words that are no request.
-pub fn fault_status(fault: &ToolFault) -> u8
-    ensures { result ≡ fault_status fault.now }
+/// How a command ends with a fault.
+pub fn exit_of(fault: &ToolFault) -> Exit
+    ensures { result ≡ exit_of fault.now }
 {
     match fault {
-        ToolFault::Usage(_) => 4,
-        ToolFault::Deployment(_) | ToolFault::Certificate(_) | ToolFault::TooLarge => 2,
-        ToolFault::Read | ToolFault::Write | ToolFault::NoMemory | ToolFault::Run => 3,
+        ToolFault::Usage(_) => Exit::Usage,
+        ToolFault::Deployment(_) | ToolFault::Certificate(_) | ToolFault::TooLarge => Exit::BadFile,
+        ToolFault::Read | ToolFault::Write => Exit::Device,
+        ToolFault::NoMemory => Exit::NoMemory,
+        ToolFault::Run => Exit::Run,
     }
 }

@@ -1,7 +1,7 @@
 //! What each command answers to its files, which are read whole before any is parsed.
 ghost use Rattle.std.specs.Prelude.{◌≡◌, ℕ, List, [], ◌∷◌, ◌≤◌, ◌<◌, Some, IfOk, IfErr, IfSome, IsErrOf, OnOk, length};
 ghost use Rattle.dds_answers.specs.Answers.{Gives, GivesOneOf};
-ghost use Rattle.dds_answers.specs.Fault.{fault_status};
+ghost use Rattle.dds_answers.specs.Causes.{IsFileFault};
 ghost use Rattle.dds_answers.specs.Opened.{Opens, OpensAll};
 ghost use Rattle.dds_answers.specs.Outcome.{Outcome, file_outcome, match_file_outcome};
 ghost use Rattle.dds_answers.specs.Migrations.{MayMigrateFor};
@@ -17,10 +17,11 @@ use crate::sources::Sources;
 use crate::thorough::thorough_answer;
 use std::alloc::Global;
 
-/// The bytes of the file at a path.
+/// The bytes of the file at a path. `Read` comes only where the file has failed. The file is given back before the answer.
 pub fn read_file<S: Sources>(alloc: Global, files: &mut S, path: &str) -> Result<Vec<u8>, ToolFault>
     ensures bytes { IfOk result (λ bytes. IfSome (S.holds files.old path.now) (λ xs. (bytes.items ≡ xs) × (length xs ≤ 1048576))) }
     ensures faults { IfErr result IsReadingFault }
+    ensures causes { IfErr result (IsFileFault (S.has_failed files.new)) }
     ensures too_large { IsErrOf result ToolFault.TooLarge → IfSome (S.holds files.old path.now) (λ xs. 1048576 < length xs) }
     ensures others { S.holds files.new ≡ S.holds files.old }
     ensures opened { OpensAll (S.opened files.old) (S.opened files.new) (path.now ∷ []) }
@@ -29,7 +30,9 @@ pub fn read_file<S: Sources>(alloc: Global, files: &mut S, path: &str) -> Result
         return Err(ToolFault::Read);
     };
     let mut counted = Counted::new(reader);
-    read_all(alloc, &mut counted)
+    let bytes = read_all(alloc, &mut counted);
+    files.close(counted);
+    bytes
 }
 
 /// The answer of `check` to two files. Both are read whole, the deployment first, before either is parsed.
@@ -42,7 +45,7 @@ pub fn check_files<S: Sources>(
 ) -> Result<Answer, ToolFault>
     ensures gives { (d c : List ℕ) → S.holds files.old deployment.now ≡ Some d → S.holds files.old certificate.now ≡ Some c
         → Gives result (file_outcome d c) }
-    ensures no_usage { IfErr result (λ e. fault_status e ≤ 3) }
+    ensures causes { IfErr result (IsFileFault (S.has_failed files.new)) }
     ensures opened { Opens (S.opened files.old) (S.opened files.new) (deployment.now ∷ certificate.now ∷ []) }
     ensures all_opened { OnOk result (OpensAll (S.opened files.old) (S.opened files.new) (deployment.now ∷ certificate.now ∷ [])) }
 {
@@ -59,7 +62,7 @@ pub fn match_file<S: Sources>(
     files: &mut S,
 ) -> Result<Answer, ToolFault>
     ensures gives { (d : List ℕ) → S.holds files.old deployment.now ≡ Some d → Gives result (match_file_outcome d) }
-    ensures no_usage { IfErr result (λ e. fault_status e ≤ 3) }
+    ensures causes { IfErr result (IsFileFault (S.has_failed files.new)) }
     ensures opened { OpensAll (S.opened files.old) (S.opened files.new) (deployment.now ∷ []) }
 {
     let deployment = read_file(alloc, files, deployment)?;
@@ -73,7 +76,7 @@ pub fn propose_file<S: Sources>(
     files: &mut S,
 ) -> Result<Answer, ToolFault>
     ensures gives { (d : List ℕ) → S.holds files.old deployment.now ≡ Some d → (end : Outcome) × MayProposeFor d end × Gives result end }
-    ensures no_usage { IfErr result (λ e. fault_status e ≤ 3) }
+    ensures causes { IfErr result (IsFileFault (S.has_failed files.new)) }
     ensures opened { OpensAll (S.opened files.old) (S.opened files.new) (deployment.now ∷ []) }
 {
     match read_file(alloc, files, deployment) {
@@ -89,7 +92,7 @@ pub fn thorough_file<S: Sources>(
     files: &mut S,
 ) -> Result<Answer, ToolFault>
     ensures gives { (d : List ℕ) → S.holds files.old deployment.now ≡ Some d → (end : Outcome) × MayFindFor d end × Gives result end }
-    ensures no_usage { IfErr result (λ e. fault_status e ≤ 3) }
+    ensures causes { IfErr result (IsFileFault (S.has_failed files.new)) }
     ensures opened { OpensAll (S.opened files.old) (S.opened files.new) (deployment.now ∷ []) }
 {
     match read_file(alloc, files, deployment) {
@@ -105,7 +108,7 @@ pub fn migrate_file<S: Sources>(
     files: &mut S,
 ) -> Result<Answer, ToolFault>
     ensures gives { (d : List ℕ) → S.holds files.old deployment.now ≡ Some d → GivesOneOf (MayMigrateFor d) result }
-    ensures no_usage { IfErr result (λ e. fault_status e ≤ 3) }
+    ensures causes { IfErr result (IsFileFault (S.has_failed files.new)) }
     ensures opened { OpensAll (S.opened files.old) (S.opened files.new) (deployment.now ∷ []) }
 {
     match read_file(alloc, files, deployment) {

@@ -1,106 +1,82 @@
 //! How an answer or a fault is told.
-ghost use Rattle.std.specs.Prelude.{◌≡◌, ◌≢◌, ◌≤◌, ◌⊎◌, true, OnOk, OnErr, IfOk, IfErr, Err};
+ghost use Rattle.std.specs.Prelude.{◌≡◌, ◌≢◌, ◌≤◌, ◌⊎◌, true, false, OnOk, OnErr, IfOk, IfErr, Err};
 ghost use Rattle.std.specs.Io.KnownBytes.{Appends, Keeps};
 ghost use Rattle.dds_answers.specs.Answers.{Gives};
-ghost use Rattle.dds_answers.specs.Fault.{fault_line, fault_status};
+ghost use Rattle.dds_answers.specs.Exit.{exit_status};
+ghost use Rattle.dds_answers.specs.Fault.{exit_of, fault_line};
 ghost use Rattle.dds_answers.specs.Outcome.{Outcome};
 ghost use Rattle.dds_answers.specs.Telling.{TellsFault};
 ghost use Rattle.dds_answers.specs.Report.{Ends, output_of, status_of};
 
 use crate::answer::Answer;
-use crate::fault::{NO_MEMORY, ToolFault, fault_status, fault_text};
+use crate::exit::Exit;
+use crate::fault::{NO_MEMORY, ToolFault, exit_of, fault_text};
+use crate::output::Output;
 use std::alloc::Global;
-use std::io::Write;
 
-/// Writes a text and nothing else.
-pub fn print<O: Write>(out: &mut O, text: &str) -> Result<(), ToolFault>
+/// Writes a text and nothing else. `Write` comes only from an output that has failed.
+pub fn print<O: Output>(out: &mut O, text: &str) -> Result<(), ToolFault>
     ensures written { OnOk result (Appends (O.contents out.old) (O.contents out.new) text.now) }
-    ensures fault { IfErr result (λ e. e ≡ ToolFault.Write) }
+    ensures fault { IfErr result (λ e. (e ≡ ToolFault.Write) × (O.has_failed out.new ≡ true)) }
 {
-    if out.write_all(text.as_bytes()).is_err() {
-        return Err(ToolFault::Write);
-    }
-    match out.flush() {
+    match out.put(text) {
         Ok(()) => Ok(()),
         Err(_) => Err(ToolFault::Write),
     }
 }
 
-/// Tells the user what an answer has besides. Where that cannot be written, it is not told.
-fn note<E: Write>(answer: &Answer, err: &mut E) {
-    if let Some(note) = &answer.note {
-        let _ = print(err, note.as_str());
+/// Writes a text to the error output. Where that does not take it, it is not told.
+fn say<E: Output>(err: &mut E, text: &str)
+    ensures { E.has_failed err.new ≡ false → Appends (E.contents err.old) (E.contents err.new) text.now }
+{
+    match err.put(text) {
+        Ok(()) | Err(_) => {}
     }
 }
 
-/// Writes the text of an answer to `out` and nothing else, and answers its status: 0 yes, 1 no. Only a failed write can leave a part of the text
+/// Writes the text of an answer to `out` and nothing else, and tells how the command ended: yes or no. Only a failed write can leave a part of the text
 /// written. What the answer has besides is told to `err`, which a fault leaves as it is.
-pub fn give<O: Write, E: Write>(
+pub fn give<O: Output, E: Output>(
     answer: Result<Answer, ToolFault>,
     out: &mut O,
     err: &mut E,
-) -> Result<u8, ToolFault>
+) -> Result<Exit, ToolFault>
     ensures answer { (end : Outcome) → Gives answer end
-        → IfOk result (λ status. (status ≡ status_of end) × Appends (O.contents out.old) (O.contents out.new) (output_of end)) }
+        → IfOk result (λ exit. (exit_status exit ≡ status_of end) × Appends (O.contents out.old) (O.contents out.new) (output_of end)) }
     ensures fault { (end : Outcome) → Gives answer end → IfErr result (λ e. Ends e end) }
     ensures passed { IfErr answer (λ e. result ≡ Err e) }
-    ensures no_usage { IfErr answer (λ e. fault_status e ≤ 3) → IfErr result (λ e. fault_status e ≤ 3) }
-    ensures status { IfOk result (λ status. status ≤ 1) }
+    ensures failed { OnOk answer (IfErr result (λ e. (e ≡ ToolFault.Write) × (O.has_failed out.new ≡ true))) }
+    ensures exit { IfOk result (λ exit. exit_status exit ≤ 1) }
     ensures nothing { IfErr result (λ e. (e ≡ ToolFault.Write) ⊎ Keeps (O.contents out.old) (O.contents out.new)) }
     ensures untold { OnErr result (err.new ≡ err.old) }
 {
     match answer {
         Ok(answer) => {
             print(out, answer.text.as_str())?;
-            note(&answer, err);
-            Ok(answer.status())
+            if let Some(note) = &answer.note {
+                say(err, note.as_str());
+            }
+            Ok(answer.exit())
         }
         Err(fault) => Err(fault),
     }
 }
 
-/// Tells the user of a fault, and answers its status. Where there is no memory for its text, users are told of that, status 3.
-fn tell<E: Write>(alloc: Global, err: &mut E, fault: &ToolFault) -> Result<u8, ToolFault>
-    ensures told { IfOk result (λ status. ((status ≡ fault_status fault.now) × Appends (E.contents err.old) (E.contents err.new) (fault_line fault.now))
-        ⊎ ((status ≡ 3) × Appends (E.contents err.old) (E.contents err.new) (fault_line ToolFault.NoMemory))) }
-    ensures write { IfErr result (λ e. e ≡ ToolFault.Write) }
+/// Tells the user of a fault in a line of its own, and how the command ends with it. Where there is no memory for that line, users are told of that, and the
+/// command ends so. Where the error output does not take the line, it is not told.
+pub fn tell_fault<E: Output>(alloc: Global, err: &mut E, fault: &ToolFault) -> Exit
+    ensures exit { (result ≡ exit_of fault.now) ⊎ (result ≡ Exit.NoMemory) }
+    ensures told { E.has_failed err.new ≡ false → TellsFault result (E.contents err.old) (E.contents err.new) }
+    ensures which { E.has_failed err.new ≡ false → result ≢ Exit.NoMemory → Appends (E.contents err.old) (E.contents err.new) (fault_line fault.now) }
 {
     match fault_text(alloc, fault) {
         Ok(text) => {
-            print(err, text.as_str())?;
-            Ok(fault_status(fault))
+            say(err, text.as_str());
+            exit_of(fault)
         }
         Err(_) => {
-            print(err, NO_MEMORY)?;
-            Ok(3)
+            say(err, NO_MEMORY);
+            Exit::NoMemory
         }
-    }
-}
-
-/// The status of a fault, and whether the user was told of it.
-#[derive(Clone, Copy, Debug, PartialEq, Eq)]
-pub struct Told {
-    /// The exit status, 2 to 4.
-    pub status: u8,
-    /// Whether the error output took the whole line.
-    pub is_told: bool,
-}
-
-/// Tells the user of a fault in a line of its own, or of want of memory, status 3, where there is no memory for that line. Where the error output does not
-/// take it, it is not told.
-pub fn tell_fault<E: Write>(alloc: Global, err: &mut E, fault: &ToolFault) -> Told
-    ensures status { (result.status ≡ fault_status fault.now) ⊎ (result.status ≡ 3) }
-    ensures told { result.is_told ≡ true → TellsFault result.status (E.contents err.old) (E.contents err.new) }
-    ensures which { result.is_told ≡ true → result.status ≢ 3 → Appends (E.contents err.old) (E.contents err.new) (fault_line fault.now) }
-{
-    match tell(alloc, err, fault) {
-        Ok(status) => Told {
-            status,
-            is_told: true,
-        },
-        Err(_) => Told {
-            status: fault_status(fault),
-            is_told: false,
-        },
     }
 }

@@ -1,4 +1,4 @@
-//! What the commands on files answer, over any files and any two writers. A file is read whole through a reader that counts its failed reads; two files
+//! What the commands on files answer, over any files and any two outputs. A file is read whole through a reader that counts its failed reads; two files
 //! get a report, which is the first of these: the fault of the deployment, the fault of the certificate, the first condition of the checker that fails, or
 //! yes. The text of every answer and its exit status are stated functions of the bytes of the files.
 #![tactic(auto)]
@@ -6,10 +6,12 @@
 mod answer;
 mod counted;
 mod disk;
+mod exit;
 mod fault;
 mod files;
 mod giving;
 mod matches;
+mod output;
 mod reading;
 mod report;
 mod sources;
@@ -18,10 +20,12 @@ mod thorough;
 pub use answer::{Answer, check_answer, match_answer, migrate_answer, propose_answer, reported};
 pub use counted::Counted;
 pub use disk::Disk;
-pub use fault::{ToolFault, fault_status, fault_text};
+pub use exit::Exit;
+pub use fault::{ToolFault, exit_of, fault_text};
 pub use files::{check_files, match_file, migrate_file, propose_file, read_file, thorough_file};
-pub use giving::{Told, give, print, tell_fault};
+pub use giving::{give, print, tell_fault};
 pub use matches::{is_as_intended, match_text};
+pub use output::{Output, Stream};
 pub use reading::{MAX_FILE, read_all};
 pub use report::{Report, answer_check, report_text};
 pub use sources::Sources;

@@ -3,16 +3,13 @@ ghost use Rattle.std.specs.Prelude.{◌≡◌, ◌≢◌, ◌+◌, ◌^◌, ◌<
 ghost use Rattle.std.specs.Io.KnownBytes.{IsAtEnd, Consumes};
 ghost use Rattle.dds_answers.specs.Reading.{IsReadingFault};
 
-use crate::counted::Counted;
+use crate::counted::{Counted, MAX_INTERRUPTED};
 use crate::fault::ToolFault;
 use std::alloc::Global;
 use std::io::{ErrorKind, Read};
 
 /// The most bytes that a file may have.
 pub const MAX_FILE: usize = 1_048_576;
-
-/// The most interrupted reads that one call bears.
-const MAX_INTERRUPTED: u64 = 1_000;
 
 const CHUNK: usize = 4_096;
 

@@ -1,7 +1,7 @@
 //! What `propose --thorough` answers to the bytes of a deployment.
 ghost use Rattle.std.specs.Prelude.{◌≡◌, ◌≤◌, IfErr, IfOk, Ok};
 ghost use Rattle.dds_answers.specs.Answers.{Gives};
-ghost use Rattle.dds_answers.specs.Fault.{IsAnswerFault, fault_status};
+ghost use Rattle.dds_answers.specs.Fault.{IsAnswerFault};
 ghost use Rattle.dds_answers.specs.Outcome.{Outcome, unproposed};
 ghost use Rattle.dds_answers.specs.Searches.{MayFind};
 ghost use Rattle.dds_deploy.specs.Sections.{read as deployment_read};
@@ -114,7 +114,6 @@ fn missing_text(alloc: Global, plan: &Plan, missing: Missing) -> Result<String, 
 fn unfound(alloc: Global, plan: &Plan, missing: Missing) -> Result<Answer, ToolFault>
     ensures gives { Gives result unproposed }
     ensures fault { IfErr result IsAnswerFault }
-    ensures no_usage { IfErr result (λ e. fault_status e ≤ 3) }
 {
     let Ok(note) = missing_text(alloc, plan, missing) else {
         return Err(ToolFault::NoMemory);
@@ -133,7 +132,6 @@ fn unfound(alloc: Global, plan: &Plan, missing: Missing) -> Result<Answer, ToolF
 fn by_rounds(alloc: Global, plan: &Plan, missing: Missing) -> Result<Answer, ToolFault>
     ensures gives { (end : Outcome) × MayFind (Ok plan.now) end × Gives result end }
     ensures fault { IfErr result IsAnswerFault }
-    ensures no_usage { IfErr result (λ e. fault_status e ≤ 3) }
 {
     match propose(alloc, plan) {
         Ok(Some(certificate)) => certified(alloc, plan, &certificate),
@@ -146,7 +144,6 @@ fn by_rounds(alloc: Global, plan: &Plan, missing: Missing) -> Result<Answer, Too
 fn sought(alloc: Global, plan: &Plan) -> Result<Answer, ToolFault>
     ensures gives { (end : Outcome) × MayFind (Ok plan.now) end × Gives result end }
     ensures fault { IfErr result IsAnswerFault }
-    ensures no_usage { IfErr result (λ e. fault_status e ≤ 3) }
 {
     match search(alloc, plan) {
         Ok(Found::Certificate(certificate)) => certified(alloc, plan, &certificate),
@@ -159,7 +156,6 @@ fn sought(alloc: Global, plan: &Plan) -> Result<Answer, ToolFault>
 fn lists_sought(alloc: Global, lists: Deployment) -> Result<Answer, ToolFault>
     ensures gives { (end : Outcome) × MayFind (Ok lists) end × Gives result end }
     ensures fault { IfErr result IsAnswerFault }
-    ensures no_usage { IfErr result (λ e. fault_status e ≤ 3) }
 {
     match plan(alloc, lists) {
         Ok(plan) => {
@@ -179,7 +175,6 @@ fn lists_sought(alloc: Global, lists: Deployment) -> Result<Answer, ToolFault>
 pub fn thorough_answer(alloc: Global, deployment: &[u8]) -> Result<Answer, ToolFault>
     ensures gives { (end : Outcome) × MayFind (deployment_read deployment.now) end × Gives result end }
     ensures fault { IfErr result IsAnswerFault }
-    ensures no_usage { IfErr result (λ e. fault_status e ≤ 3) }
 {
     match read_deployment(alloc, deployment) {
         Ok(lists) => lists_sought(alloc, lists),

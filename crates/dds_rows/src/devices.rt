@@ -1,7 +1,7 @@
 //! Files that are as large as they may be or too large, every beginning of a file, readers that are slow or fail, and an output that fails, by
 //! each command.
 use crate::files::{Pair, readable, text_of};
-use dds_answers::MAX_FILE;
+use dds_answers::{Exit, MAX_FILE, Stream};
 use dds_files::proposed::PING_PROPOSED;
 use dds_files::texts::{PING, PING_CERT};
 use dds_tool::tool;
@@ -46,12 +46,12 @@ fn expect<R: Threads + Wait + Clock + Sync + Abort>(
     output: &str,
     errors: &str,
 ) {
-    let mut out = Vec::new(alloc);
-    let mut err = Vec::new(alloc);
+    let mut out = Stream::new(Vec::new(alloc));
+    let mut err = Stream::new(Vec::new(alloc));
     let answer = tool(rt, alloc, words, &mut files, &mut out, &mut err);
-    assert_eq!(rt; text_of(out.as_slice()), output, "{words:?}");
-    assert_eq!(rt; text_of(err.as_slice()), errors, "{words:?}");
-    assert_eq!(rt; answer, status, "{words:?}");
+    assert_eq!(rt; text_of(out.writer.as_slice()), output, "{words:?}");
+    assert_eq!(rt; text_of(err.writer.as_slice()), errors, "{words:?}");
+    assert_eq!(rt; answer.status(), status, "{words:?}");
 }
 
 /// Each command answers these files as it answers PING.
@@ -119,6 +119,8 @@ fn rough(interruptions: u32, chunk: usize, fails_after: usize) -> Pair<'static> 
         chunk,
         fails_after,
         opened: 0,
+        closed: 0,
+        has_failed: false,
     }
 }
 
@@ -164,14 +166,16 @@ fn expect_opened<R: Threads + Wait + Clock + Sync + Abort>(
     opened: u64,
 ) {
     let mut files = readable(PING.as_bytes(), PING_CERT.as_bytes());
-    let mut out = Vec::new(alloc);
-    let mut err = Vec::new(alloc);
+    let mut out = Stream::new(Vec::new(alloc));
+    let mut err = Stream::new(Vec::new(alloc));
     tool(rt, alloc, words, &mut files, &mut out, &mut err);
     assert_eq!(rt; files.opened, opened, "{words:?}");
+    assert_eq!(rt; files.closed, opened, "{words:?}");
+    assert!(rt; !files.has_failed, "{words:?}");
 }
 
 #[test]
-fn opens_each_file_once(rt: HostRuntime) -> Result<(), Fail> {
+fn opens_and_closes_each_file_once(rt: HostRuntime) -> Result<(), Fail> {
     let rows: [(&[&str], u64); 9] = [
         (&["ddscheck", "check", "d", "c"], 2),
         (&["ddscheck", "match", "d"], 1),
@@ -218,10 +222,17 @@ fn expect_write_fault<R: Threads + Wait + Clock + Sync + Abort>(
     room: usize,
 ) {
     let mut files = readable(PING.as_bytes(), PING_CERT.as_bytes());
-    let mut err = Vec::new(alloc);
-    let status = tool(rt, alloc, words, &mut files, &mut Full { room }, &mut err);
-    assert_eq!(rt; status, 3, "{words:?}");
-    assert_eq!(rt; text_of(err.as_slice()), "ddscheck: 6 Write\n", "{words:?}");
+    let mut err = Stream::new(Vec::new(alloc));
+    let mut out = Stream::new(Full { room });
+    let exit = tool(rt, alloc, words, &mut files, &mut out, &mut err);
+    assert_eq!(rt; exit, Exit::Device, "{words:?}");
+    assert_eq!(rt; exit.status(), 3, "{words:?}");
+    assert!(rt; out.has_failed, "{words:?}");
+    assert_eq!(rt;
+        text_of(err.writer.as_slice()),
+        "ddscheck: 6 Write\n",
+        "{words:?}"
+    );
 }
 
 #[test]
@@ -240,11 +251,12 @@ fn answers_the_status_without_an_error_output(rt: HostRuntime) -> Result<(), Fai
     let alloc = rt.alloc();
     for command in &COMMANDS {
         let mut files = readable(b"", PING_CERT.as_bytes());
-        let mut out = Vec::new(alloc);
-        let mut err = Full { room: 0 };
-        let status = tool(&rt, alloc, command.words, &mut files, &mut out, &mut err);
-        assert_eq!(rt; status, 2, "{:?}", command.words);
-        assert_eq!(rt; out.len(), 0, "{:?}", command.words);
+        let mut out = Stream::new(Vec::new(alloc));
+        let mut err = Stream::new(Full { room: 0 });
+        let exit = tool(&rt, alloc, command.words, &mut files, &mut out, &mut err);
+        assert_eq!(rt; exit.status(), 2, "{:?}", command.words);
+        assert_eq!(rt; out.writer.len(), 0, "{:?}", command.words);
+        assert!(rt; err.has_failed, "{:?}", command.words);
     }
     Ok(())
 }
@@ -257,10 +269,10 @@ fn expect_an_answer<R: Threads + Wait + Clock + Sync + Abort>(
     mut files: Pair,
     end: usize,
 ) {
-    let mut out = Vec::new(alloc);
-    let mut err = Vec::new(alloc);
-    let status = tool(rt, alloc, words, &mut files, &mut out, &mut err);
-    assert!(rt; status <= 2, "{words:?} {end}");
+    let mut out = Stream::new(Vec::new(alloc));
+    let mut err = Stream::new(Vec::new(alloc));
+    let exit = tool(rt, alloc, words, &mut files, &mut out, &mut err);
+    assert!(rt; exit.status() <= 2, "{words:?} {end}");
 }
 
 /// A command reads every beginning of a deployment.

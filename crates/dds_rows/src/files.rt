@@ -1,5 +1,8 @@
 //! Files in memory, and readers that fail.
-use dds_answers::Sources;
+ghost use Rattle.std.specs.Prelude.{◌≡◌, ◌||◌};
+ghost use Rattle.dds_answers.specs.Reading.{is_worn};
+
+use dds_answers::{Counted, Sources};
 use std::io::{self, ErrorKind, Read};
 use std::str;
 
@@ -37,7 +40,8 @@ impl<'a> Read for Rough<'a> {
     }
 }
 
-/// A deployment at the path `d` and a certificate at the path `c`, and no other file. It counts the files that were opened.
+/// A deployment at the path `d` and a certificate at the path `c`, and no other file. It counts the files that were opened, those that
+/// were given back, and notes whether one has failed.
 #[derive(Clone, Copy)]
 pub struct Pair<'a> {
     pub deployment: &'a [u8],
@@ -46,6 +50,8 @@ pub struct Pair<'a> {
     pub chunk: usize,
     pub fails_after: usize,
     pub opened: u64,
+    pub closed: u64,
+    pub has_failed: bool,
 }
 
 /// Two files that are read without a fault.
@@ -57,18 +63,25 @@ pub fn readable<'a>(deployment: &'a [u8], certificate: &'a [u8]) -> Pair<'a> {
         chunk: usize::MAX,
         fails_after: usize::MAX,
         opened: 0,
+        closed: 0,
+        has_failed: false,
     }
 }
 
 impl<'a> Sources for Pair<'a> {
     type R = Rough<'a>;
 
+    ghost has_failed = { λ p. p.has_failed };
+
     fn open(&mut self, path: &str) -> Option<Rough<'a>> {
         self.opened = self.opened.saturating_add(1);
         let bytes = match path {
             "d" => self.deployment,
             "c" => self.certificate,
-            _ => return None,
+            _ => {
+                self.has_failed = true;
+                return None;
+            }
         };
         Some(Rough {
             bytes,
@@ -76,6 +89,15 @@ impl<'a> Sources for Pair<'a> {
             chunk: self.chunk,
             fails_after: self.fails_after,
         })
+    }
+
+    fn close(&mut self, reader: Counted<Rough<'a>>)
+        ensures { self.new.has_failed ≡ (is_worn reader.entry.failed reader.entry.interrupted || self.old.has_failed) }
+    {
+        self.closed = self.closed.saturating_add(1);
+        if reader.is_worn() {
+            self.has_failed = true;
+        }
     }
 }
 

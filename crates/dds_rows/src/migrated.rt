@@ -1,5 +1,6 @@
 //! A file of version 1 and what `migrate` prints of it have the same answers: of worked files, and of drawn ones.
 use crate::files::{readable, text_of};
+use dds_answers::Stream;
 use dds_files::drawn::deployment;
 use dds_files::texts::{LOOP, LOOP_CERT, PING, PING_CERT, SMALL, SMALL_CERT, TWO, TWO_CERT};
 use dds_tool::tool;
@@ -43,10 +44,14 @@ fn answered<R: Threads + Wait + Clock + Sync>(
     certificate: &str,
 ) -> Answer {
     let mut files = readable(deployment.as_bytes(), certificate.as_bytes());
-    let mut out = Vec::new(alloc);
-    let mut err = Vec::new(alloc);
-    let status = tool(rt, alloc, words, &mut files, &mut out, &mut err);
-    Answer { status, out, err }
+    let mut out = Stream::new(Vec::new(alloc));
+    let mut err = Stream::new(Vec::new(alloc));
+    let exit = tool(rt, alloc, words, &mut files, &mut out, &mut err);
+    Answer {
+        status: exit.status(),
+        out: out.writer,
+        err: err.writer,
+    }
 }
 
 /// The words answer both deployments alike.

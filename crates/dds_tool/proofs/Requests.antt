@@ -8,7 +8,9 @@ use Rattle.dds_tool.specs.declared.request.Request.TheVariants as asked
 use Rattle.dds_answers.specs.declared.answer.Answer.{Answer}
 use Rattle.dds_answers.specs.Answers.{Gives, GivesOneOf, SaysNothing}
 use Rattle.dds_tool.specs.Asking.{Answers, GivesTo, Said}
+use Rattle.dds_answers.specs.Exit.{exit_status}
 use Rattle.dds_answers.specs.Fault.{fault_status}
+use Rattle.dds_answers.specs.declared.exit.Exit.{Exit}
 use Rattle.dds_answers.specs.Migrations.{MayMigrateFor}
 use Rattle.dds_answers.specs.Outcome.{Outcome, file_outcome, match_file_outcome, too_large, unproposed}
 use Rattle.dds_answers.specs.Report.{Ends, output_of, status_of}
@@ -89,7 +91,7 @@ one_faulted May (Err e) f status old new (inl failed) ends nothing told =
     inl (elim told [ inl h ↦ h ∙ all | inr h ↦ h ])
 
 -- a fault is passed on
-abbrev Passes : Result Answer ToolFault → Result ℕ ToolFault → Type 0
+abbrev Passes : Result Answer ToolFault → Result Exit ToolFault → Type 0
 Passes given r = IfErr given (λ e. r ≡ Err e)
 
 -- the fault that was passed on is the same
@@ -97,16 +99,16 @@ same_fault : (given : Result Answer ToolFault) (f : ToolFault) → Passes given 
 same_fault (Ok answer) f passed = tt
 same_fault (Err e) f passed = cc
 
-no_fault : (status : ℕ) (e : ToolFault) → Passes (Err e) (Ok status) → ⊥
-no_fault status e passed = cc
+no_fault : (exit : Exit) (e : ToolFault) → Passes (Err e) (Ok exit) → ⊥
+no_fault exit e passed = cc
 
 -- an end that a run may come to was said, where a fault is passed on
-run_said : (checked : Outcome) (given : Result Answer ToolFault) (status : ℕ) (old new : Option (List ℕ)) → GivesRun checked given
-    → ((end : Outcome) → Gives given end → (status ≡ status_of end) × Appends old new (output_of end))
-    → Passes given (Ok status)
-    → (status ≡ 3) ⊎ ((end : Outcome) × MayRun checked end × Said end status old new)
-run_said checked (Ok answer) status old new (end, may, is) written passed = inr (end, may, inl (written end is))
-run_said checked (Err e) status old new gives written passed = absurd (no_fault status e passed)
+run_said : (checked : Outcome) (given : Result Answer ToolFault) (exit : Exit) (old new : Option (List ℕ)) → GivesRun checked given
+    → ((end : Outcome) → Gives given end → (exit_status exit ≡ status_of end) × Appends old new (output_of end))
+    → Passes given (Ok exit)
+    → (exit_status exit ≡ 3) ⊎ ((end : Outcome) × MayRun checked end × Said end (exit_status exit) old new)
+run_said checked (Ok answer) exit old new (end, may, is) written passed = inr (end, may, inl (written end is))
+run_said checked (Err e) exit old new gives written passed = absurd (no_fault exit e passed)
 
 -- a fault is said of one of the ends that a run may come to, or of the run, of memory or of a device
 run_faulted : (checked : Outcome) (given : Result Answer ToolFault) (f : ToolFault) (status : ℕ) (old new : Option (List ℕ)) → GivesRun checked given
@@ -117,18 +119,18 @@ run_faulted checked (Err e) f status old new (inr gives) ends nothing passed tol
 run_faulted checked (Err e) f status old new (inl run) ends nothing passed told = inl (elim told [ inl h ↦ h ∙ ap fault_status (passed ∙ run) | inr h ↦ h ])
 
 -- an answer that was written is what is said of the request
-pub answered : (holds : List ℕ → Option (List ℕ)) (request : Request) (given : Result Answer ToolFault) (r : Result ℕ ToolFault) (old new : Option (List ℕ))
+pub answered : (holds : List ℕ → Option (List ℕ)) (request : Request) (given : Result Answer ToolFault) (r : Result Exit ToolFault) (old new : Option (List ℕ))
     → GivesTo holds request given
-    → ((end : Outcome) → Gives given end → IfOk r (λ status. (status ≡ status_of end) × Appends old new (output_of end)))
+    → ((end : Outcome) → Gives given end → IfOk r (λ exit. (exit_status exit ≡ status_of end) × Appends old new (output_of end)))
     → Passes given r
-    → IfOk r (λ status. Answers holds request status old new)
-answered holds (asked.Check d b) given (Ok status) old new gives written passed = λ x y hx hy. inl (written (file_outcome x y) (gives x y hx hy))
-answered holds (asked.Match d) given (Ok status) old new gives written passed = λ x hx. inl (written (match_file_outcome x) (gives x hx))
-answered holds (asked.Propose d) given (Ok status) old new gives written passed = λ x hx. let g = gives x hx in (g.0, g.1, inl (written g.0 g.2))
-answered holds (asked.ProposeThoroughly d) given (Ok status) old new gives written passed = λ x hx. let g = gives x hx in (g.0, g.1, inl (written g.0 g.2))
-answered holds (asked.Migrate d) given (Ok status) old new gives written passed = λ x hx. one_said (MayMigrateFor x) given status old new (gives x hx) written
-answered holds (asked.Run d b wishes) given (Ok status) old new gives written passed =
-    λ x y hx hy. run_said (file_outcome x y) given status old new (gives x y hx hy) written passed
+    → IfOk r (λ exit. Answers holds request (exit_status exit) old new)
+answered holds (asked.Check d b) given (Ok exit) old new gives written passed = λ x y hx hy. inl (written (file_outcome x y) (gives x y hx hy))
+answered holds (asked.Match d) given (Ok exit) old new gives written passed = λ x hx. inl (written (match_file_outcome x) (gives x hx))
+answered holds (asked.Propose d) given (Ok exit) old new gives written passed = λ x hx. let g = gives x hx in (g.0, g.1, inl (written g.0 g.2))
+answered holds (asked.ProposeThoroughly d) given (Ok exit) old new gives written passed = λ x hx. let g = gives x hx in (g.0, g.1, inl (written g.0 g.2))
+answered holds (asked.Migrate d) given (Ok exit) old new gives written passed = λ x hx. one_said (MayMigrateFor x) given (exit_status exit) old new (gives x hx) written
+answered holds (asked.Run d b wishes) given (Ok exit) old new gives written passed =
+    λ x y hx hy. run_said (file_outcome x y) given exit old new (gives x y hx hy) written passed
 answered holds (asked.Check d b) given (Err f) old new gives written passed = tt
 answered holds (asked.Match d) given (Err f) old new gives written passed = tt
 answered holds (asked.Propose d) given (Err f) old new gives written passed = tt
@@ -137,7 +139,7 @@ answered holds (asked.Migrate d) given (Err f) old new gives written passed = tt
 answered holds (asked.Run d b wishes) given (Err f) old new gives written passed = tt
 
 -- a fault is said of the request by its status, or by 3
-pub faulted : (holds : List ℕ → Option (List ℕ)) (request : Request) (given : Result Answer ToolFault) (r : Result ℕ ToolFault) (old new : Option (List ℕ))
+pub faulted : (holds : List ℕ → Option (List ℕ)) (request : Request) (given : Result Answer ToolFault) (r : Result Exit ToolFault) (old new : Option (List ℕ))
     → GivesTo holds request given
     → ((end : Outcome) → Gives given end → IfErr r (λ f. Ends f end))
     → IfErr r (λ f. (f ≡ fault.Write) ⊎ Keeps old new)
@@ -155,9 +157,9 @@ faulted holds (asked.Migrate d) given (Err f) old new gives ends nothing passed 
     λ status told x hx. one_faulted (MayMigrateFor x) given f status old new (gives x hx) ends nothing told
 faulted holds (asked.Run d b wishes) given (Err f) old new gives ends nothing passed =
     λ status told x y hx hy. run_faulted (file_outcome x y) given f status old new (gives x y hx hy) ends nothing (same_fault given f passed) told
-faulted holds (asked.Check d b) given (Ok status) old new gives ends nothing passed = tt
-faulted holds (asked.Match d) given (Ok status) old new gives ends nothing passed = tt
-faulted holds (asked.Propose d) given (Ok status) old new gives ends nothing passed = tt
-faulted holds (asked.ProposeThoroughly d) given (Ok status) old new gives ends nothing passed = tt
-faulted holds (asked.Migrate d) given (Ok status) old new gives ends nothing passed = tt
-faulted holds (asked.Run d b wishes) given (Ok status) old new gives ends nothing passed = tt
+faulted holds (asked.Check d b) given (Ok exit) old new gives ends nothing passed = tt
+faulted holds (asked.Match d) given (Ok exit) old new gives ends nothing passed = tt
+faulted holds (asked.Propose d) given (Ok exit) old new gives ends nothing passed = tt
+faulted holds (asked.ProposeThoroughly d) given (Ok exit) old new gives ends nothing passed = tt
+faulted holds (asked.Migrate d) given (Ok exit) old new gives ends nothing passed = tt
+faulted holds (asked.Run d b wishes) given (Ok exit) old new gives ends nothing passed = tt

@@ -34,12 +34,17 @@ pub names_len : {X : Type 0} (text : X → List ℕ) (names : List X) (d : Lists
 names_len text names d are =
     sym (length-map names text) ∙ (ap length are ∙ length-map-range_with_len (name_at d.applications.names) 0 (length d.applications.entries))
 
+-- the exit status of an answer
+told_status : (is_yes : Bool) → answer_status is_yes ≡ (if is_yes then 0 else 1)
+told_status true = refl
+told_status false = refl
+
 -- an answer with the lines of a run is what the run gives
 pub ran_gives : (d : Lists) (c : Certificate) (journal : List Entry) (ends : List AppEnd) (answer : Answer) → IsJournal d journal
     → length ends ≡ length d.applications.entries → string_bytes answer.text ≡ run_lines (app_names d) journal ends → answer.is_yes ≡ all_stopped ends
     → GivesRun (accepted d c) (Ok answer)
 unfolding output_of status_of
-ran_gives d c journal ends answer is count lines stopped = (ran (run_lines (app_names d) journal ends) (all_stopped ends), (journal, ends, is, count, refl), (lines, ap answer_status stopped))
+ran_gives d c journal ends answer is count lines stopped = (ran (run_lines (app_names d) journal ends) (all_stopped ends), (journal, ends, is, count, refl), (lines, ap answer_status stopped ∙ told_status (all_stopped ends)))
 
 -- a fault that a check tells is one that a run gives
 pub told_gives : (checked : Outcome) (e : ToolFault) → Tells (Err e) checked → GivesRun checked (Err e)

@@ -2,3 +2,4 @@ pub mod Running
 pub mod RunEnds
 pub mod Wishes
 pub mod Asking
+pub mod Causes

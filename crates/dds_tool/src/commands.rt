@@ -1,24 +1,26 @@
-//! The commands, over any files and any two writers.
-ghost use Rattle.std.specs.Prelude.{◌≡◌, ◌≢◌, ℕ, List, [], ◌∷◌, ◌≤◌, ◌⊎◌, Some, true, map, IfOk, IfErr, OnOk, OnErr};
+//! The commands, over any files and any two outputs.
+ghost use Rattle.std.specs.Prelude.{◌≡◌, ◌≢◌, ℕ, List, [], ◌∷◌, ◌≤◌, ◌⊎◌, Some, true, false, map, IfOk, IfErr, OnOk, OnErr};
 ghost use Rattle.std.specs.Io.KnownBytes.{Keeps};
 ghost use Rattle.clap.specs.Words.{takes};
 ghost use Rattle.dds_tool.specs.Asking.{Answers, Asks, GivesTo, IsHelp, paths_of, whole};
+ghost use Rattle.dds_answers.specs.Causes.{IsFileFault};
+ghost use Rattle.dds_answers.specs.Exit.{exit_status};
 ghost use Rattle.dds_answers.specs.Fault.{fault_status};
 ghost use Rattle.dds_answers.specs.Opened.{Opens, OpensAll};
 ghost use Rattle.dds_answers.specs.Outcome.{file_outcome};
 ghost use Rattle.dds_answers.specs.Telling.{TellsFault};
+ghost use Rattle.dds_tool.specs.Causes.{IsCaused, IsRequestFault, IsRun};
 ghost use Rattle.dds_tool.specs.RunEnds.{GivesRun};
 
 use crate::request::{NoRequest, Request, read_request};
 use crate::running::run_answer;
 use crate::wishes::Wishes;
 use dds_answers::{
-    Answer, Sources, Told, ToolFault, check_files, give, match_file, migrate_file, print,
+    Answer, Exit, Output, Sources, ToolFault, check_files, give, match_file, migrate_file, print,
     propose_file, read_file, tell_fault, thorough_file,
 };
 use std::alloc::Global;
 use std::convert::AsStr;
-use std::io::Write;
 use std::sync::Wait;
 use std::thread::Threads;
 use std::time::Clock;
@@ -34,7 +36,7 @@ fn run_files<R: Threads + Wait + Clock + Sync, S: Sources>(
 ) -> Result<Answer, ToolFault>
     ensures gives { (d c : List ℕ) → S.holds files.old deployment.now ≡ Some d → S.holds files.old certificate.now ≡ Some c
         → GivesRun (file_outcome d c) result }
-    ensures no_usage { IfErr result (λ e. fault_status e ≤ 3) }
+    ensures causes { IfErr result (λ e. (e ≡ ToolFault.Run) ⊎ IsFileFault (S.has_failed files.new) e) }
     ensures opened { Opens (S.opened files.old) (S.opened files.new) (deployment.now ∷ certificate.now ∷ []) }
     ensures all_opened { OnOk result (OpensAll (S.opened files.old) (S.opened files.new) (deployment.now ∷ certificate.now ∷ [])) }
 {
@@ -49,20 +51,18 @@ fn run_files<R: Threads + Wait + Clock + Sync, S: Sources>(
     )
 }
 
-/// What words that are no request come to: 0 where help was asked for and written, else the status of the fault of which the user is told.
-fn explain<O: Write, E: Write>(alloc: Global, reason: NoRequest, out: &mut O, err: &mut E) -> Told
-    ensures fault { ¬ IsHelp reason → (result.status ≡ 3) ⊎ (result.status ≡ 4) }
-    ensures memory { reason ≡ NoRequest.NoMemory → result.status ≡ 3 }
-    ensures nothing { result.status ≡ 4 → Keeps (O.contents out.old) (O.contents out.new) }
-    ensures status { (result.status ≡ 0) ⊎ (3 ≤ result.status × result.status ≤ 4) }
-    ensures told { result.is_told ≡ true → 2 ≤ result.status → TellsFault result.status (E.contents err.old) (E.contents err.new) }
+/// What words that are no request come to: yes where help was asked for and written, else the fault of which the user is told.
+fn explain<O: Output, E: Output>(alloc: Global, reason: NoRequest, out: &mut O, err: &mut E) -> Exit
+    ensures fault { ¬ IsHelp reason → (result ≡ Exit.Usage) ⊎ (result ≡ Exit.NoMemory) }
+    ensures memory { reason ≡ NoRequest.NoMemory → result ≡ Exit.NoMemory }
+    ensures nothing { result ≡ Exit.Usage → Keeps (O.contents out.old) (O.contents out.new) }
+    ensures exit { (result ≡ Exit.Yes) ⊎ ((result ≡ Exit.Usage) ⊎ ((result ≡ Exit.NoMemory) ⊎ (result ≡ Exit.Device))) }
+    ensures device { result ≡ Exit.Device → O.has_failed out.new ≡ true }
+    ensures told { E.has_failed err.new ≡ false → 2 ≤ exit_status result → TellsFault result (E.contents err.old) (E.contents err.new) }
 {
     match reason {
         NoRequest::Help(text) => match print(out, text.as_str()) {
-            Ok(()) => Told {
-                status: 0,
-                is_told: true,
-            },
+            Ok(()) => Exit::Yes,
             Err(fault) => tell_fault(alloc, err, &fault),
         },
         NoRequest::Usage(text) => tell_fault(alloc, err, &ToolFault::Usage(text)),
@@ -78,7 +78,7 @@ fn answer_of<R: Threads + Wait + Clock + Sync, S: Sources>(
     files: &mut S,
 ) -> Result<Answer, ToolFault>
     ensures gives { GivesTo (S.holds files.old) request.entry result }
-    ensures no_usage { IfErr result (λ e. fault_status e ≤ 3) }
+    ensures causes { IfErr result (IsRequestFault (S.has_failed files.new) request.entry) }
     ensures opened { Opens (S.opened files.old) (S.opened files.new) (paths_of request.entry) }
     ensures all_opened { OnOk result (OpensAll (S.opened files.old) (S.opened files.new) (paths_of request.entry)) }
 {
@@ -99,19 +99,19 @@ fn answer_of<R: Threads + Wait + Clock + Sync, S: Sources>(
     }
 }
 
-/// Does what a request asks for, and answers the status or the fault.
-fn run_request<R: Threads + Wait + Clock + Sync, S: Sources, O: Write, E: Write>(
+/// Does what a request asks for, and tells how the command ended: yes or no, or with a fault.
+fn run_request<R: Threads + Wait + Clock + Sync, S: Sources, O: Output, E: Output>(
     rt: &R,
     alloc: Global,
     request: Request,
     files: &mut S,
     out: &mut O,
     err: &mut E,
-) -> Result<u8, ToolFault>
-    ensures answer { IfOk result (λ status. Answers (S.holds files.old) request.entry status (O.contents out.old) (O.contents out.new)) }
+) -> Result<Exit, ToolFault>
+    ensures answer { IfOk result (λ exit. Answers (S.holds files.old) request.entry (exit_status exit) (O.contents out.old) (O.contents out.new)) }
     ensures fault { IfErr result (λ e. (status : ℕ) → (status ≡ fault_status e) ⊎ (status ≡ 3) → Answers (S.holds files.old) request.entry status (O.contents out.old) (O.contents out.new)) }
-    ensures status { IfOk result (λ status. status ≤ 1) }
-    ensures no_usage { IfErr result (λ e. fault_status e ≤ 3) }
+    ensures exit { IfOk result (λ exit. exit_status exit ≤ 1) }
+    ensures causes { IfErr result (IsCaused (S.has_failed files.new) (O.has_failed out.new) request.entry) }
     ensures nothing { IfErr result (λ e. (e ≡ ToolFault.Write) ⊎ Keeps (O.contents out.old) (O.contents out.new)) }
     ensures untold { OnErr result (err.new ≡ err.old) }
     ensures opened { Opens (S.opened files.old) (S.opened files.new) (paths_of request.entry) }
@@ -120,60 +120,36 @@ fn run_request<R: Threads + Wait + Clock + Sync, S: Sources, O: Write, E: Write>
     give(answer_of(rt, alloc, request, files), out, err)
 }
 
-/// Does what the words ask for, as `tool` does, and says besides whether the error output took what it was told.
-pub fn tell_tool<R: Threads + Wait + Clock + Sync, W: AsStr, S: Sources, O: Write, E: Write>(
+/// Does what the words ask for, of which the first is the program's name, and tells how the command ended. The answer goes to `out`, and a fault is told to
+/// `err`, as is why no certificate was found; where `err` fails, it is not told. The files are opened in the order of the words, each once; words that ask for
+/// nothing open none. The command ends with `Device` only where a file or the output has failed, and with `Run` only where a run was asked for.
+pub fn tool<R: Threads + Wait + Clock + Sync, W: AsStr, S: Sources, O: Output, E: Output>(
     rt: &R,
     alloc: Global,
     words: &[W],
     files: &mut S,
     out: &mut O,
     err: &mut E,
-) -> Told
-    ensures status { result.status ≤ 4 }
-    ensures answer { takes whole (map W.text words.now) ≡ true → result.status ≤ 2
-        → (r : _) × Asks (map W.text words.now) r × Answers (S.holds files.old) r result.status (O.contents out.old) (O.contents out.new) }
-    ensures nothing { 2 ≤ result.status → result.status ≢ 3 → Keeps (O.contents out.old) (O.contents out.new) }
-    ensures no_usage { takes whole (map W.text words.now) ≡ true → (r : _) → Asks (map W.text words.now) r → result.status ≢ 4 }
-    ensures told { result.is_told ≡ true → 2 ≤ result.status → TellsFault result.status (E.contents err.old) (E.contents err.new) }
+) -> Exit
+    ensures answer { takes whole (map W.text words.now) ≡ true → exit_status result ≤ 2
+        → (r : _) × Asks (map W.text words.now) r × Answers (S.holds files.old) r (exit_status result) (O.contents out.old) (O.contents out.new) }
+    ensures nothing { 2 ≤ exit_status result → exit_status result ≢ 3 → Keeps (O.contents out.old) (O.contents out.new) }
+    ensures no_usage { takes whole (map W.text words.now) ≡ true → (r : _) → Asks (map W.text words.now) r → result ≢ Exit.Usage }
+    ensures device { result ≡ Exit.Device → (S.has_failed files.new ≡ true) ⊎ (O.has_failed out.new ≡ true) }
+    ensures run { takes whole (map W.text words.now) ≡ true → result ≡ Exit.Run → (r : _) × Asks (map W.text words.now) r × IsRun r }
+    ensures told { E.has_failed err.new ≡ false → 2 ≤ exit_status result → TellsFault result (E.contents err.old) (E.contents err.new) }
     ensures opened { takes whole (map W.text words.now) ≡ true
         → (files.new ≡ files.old) ⊎ ((r : _) × Asks (map W.text words.now) r × Opens (S.opened files.old) (S.opened files.new) (paths_of r)) }
-    ensures all_opened { takes whole (map W.text words.now) ≡ true → result.status ≤ 1
+    ensures all_opened { takes whole (map W.text words.now) ≡ true → exit_status result ≤ 1
         → (r : _) × Asks (map W.text words.now) r × OpensAll (S.opened files.old) (S.opened files.new) (paths_of r) }
-    ensures unopened { result.status ≡ 4 → files.new ≡ files.old }
+    ensures unopened { result ≡ Exit.Usage → files.new ≡ files.old }
 {
     let request = match read_request(alloc, words) {
         Ok(request) => request,
         Err(reason) => return explain(alloc, reason, out, err),
     };
     match run_request(rt, alloc, request, files, out, err) {
-        Ok(status) => Told {
-            status,
-            is_told: true,
-        },
+        Ok(exit) => exit,
         Err(fault) => tell_fault(alloc, err, &fault),
     }
-}
-
-/// Does what the words ask for, of which the first is the program's name, and answers the exit status: 0 yes, 1 no, 2 a bad file, 3 want of memory or of
-/// a device or a run that failed, 4 words that ask for nothing. The answer goes to `out`, and a fault is told to `err`, as is why no certificate was found; where `err`
-/// does not take it, it is not told (`tell_tool` says whether it did). The files are opened in the order of the words, each once; words that ask for nothing open
-/// none.
-pub fn tool<R: Threads + Wait + Clock + Sync, W: AsStr, S: Sources, O: Write, E: Write>(
-    rt: &R,
-    alloc: Global,
-    words: &[W],
-    files: &mut S,
-    out: &mut O,
-    err: &mut E,
-) -> u8
-    ensures status { result ≤ 4 }
-    ensures answer { takes whole (map W.text words.now) ≡ true → result ≤ 2
-        → (r : _) × Asks (map W.text words.now) r × Answers (S.holds files.old) r result (O.contents out.old) (O.contents out.new) }
-    ensures nothing { 2 ≤ result → result ≢ 3 → Keeps (O.contents out.old) (O.contents out.new) }
-    ensures no_usage { takes whole (map W.text words.now) ≡ true → (r : _) → Asks (map W.text words.now) r → result ≢ 4 }
-    ensures opened { takes whole (map W.text words.now) ≡ true
-        → (files.new ≡ files.old) ⊎ ((r : _) × Asks (map W.text words.now) r × Opens (S.opened files.old) (S.opened files.new) (paths_of r)) }
-    ensures unopened { result ≡ 4 → files.new ≡ files.old }
-{
-    tell_tool(rt, alloc, words, files, out, err).status
 }

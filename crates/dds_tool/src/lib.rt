@@ -1,4 +1,4 @@
-//! The command line of `ddscheck`, over any files and any two writers: what its words ask for, the answer of each command on files (`dds_answers`), and
+//! The command line of `ddscheck`, over any files and any two outputs: what its words ask for, the answer of each command on files (`dds_answers`), and
 //! runs. What the words ask for, the text of every answer and its exit status are stated functions of words and files, and, where a deployment runs, of
 //! the journal of its run and of how the threads of its applications ended.
 #![tactic(auto)]
@@ -8,7 +8,7 @@ mod request;
 mod running;
 mod wishes;
 
-pub use commands::{tell_tool, tool};
+pub use commands::tool;
 pub use request::{NoRequest, Request, read_request};
 pub use running::run_answer;
 pub use wishes::Wishes;

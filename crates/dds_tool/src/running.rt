@@ -1,9 +1,9 @@
 //! What `run` answers: the deployment is checked, and where the answer is yes it runs, with a steady application for each that it names.
-ghost use Rattle.std.specs.Prelude.{◌≡◌, ◌⊎◌, ◌≤◌, IfErr, IfOk, length, map, string_bytes};
+ghost use Rattle.std.specs.Prelude.{◌≡◌, ◌⊎◌, IfErr, IfOk, length, map, string_bytes};
 ghost use Rattle.std.specs.List.{count_by};
 ghost use Rattle.dds_book.specs.Journal.{IsJournal};
 ghost use Rattle.dds_peers.specs.Kept.{AreOwners, entries_of};
-ghost use Rattle.dds_answers.specs.Fault.{fault_status};
+ghost use Rattle.dds_answers.specs.Fault.{IsAnswerFault};
 ghost use Rattle.dds_answers.specs.Outcome.{accepted, outcome};
 ghost use Rattle.dds_tool.specs.RunEnds.{GivesRun};
 ghost use Rattle.dds_tool.specs.Running.{all_stopped, app_line, app_names, end_word, is_taken, is_written, run_lines};
@@ -227,7 +227,7 @@ fn played<R: Threads + Wait + Clock + Sync>(
     wishes: &Wishes,
 ) -> Result<Answer, ToolFault>
     ensures gives { GivesRun (accepted checked.plan checked.certificate) result }
-    ensures no_usage { IfErr result (λ e. fault_status e ≤ 3) }
+    ensures fault { IfErr result (λ e. (e ≡ ToolFault.Run) ⊎ (e ≡ ToolFault.NoMemory)) }
 {
     let Ok(names) = names_of(alloc, checked.plan().lists()) else {
         drop(checked);
@@ -254,7 +254,7 @@ pub fn run_answer<R: Threads + Wait + Clock + Sync>(
     wishes: &Wishes,
 ) -> Result<Answer, ToolFault>
     ensures gives { GivesRun (outcome deployment.now certificate.now) result }
-    ensures no_usage { IfErr result (λ e. fault_status e ≤ 3) }
+    ensures fault { IfErr result (λ e. (e ≡ ToolFault.Run) ⊎ IsAnswerFault e) }
 {
     match answer_check(alloc, deployment, certificate) {
         Ok(Report::Yes(checked)) => played(rt, alloc, checked, wishes),

@@ -1,7 +1,7 @@
 //! `ddscheck`, over the files and the standard streams of the system.
 #![tactic(auto)]
 
-use dds_answers::{Disk, ToolFault, tell_fault};
+use dds_answers::{Disk, Stream, ToolFault, tell_fault};
 use dds_tool::tool;
 use std::alloc::Global;
 use std::env::{self, Env};
@@ -25,23 +25,27 @@ fn fault_of(alloc: Global, error: &io::Error) -> ToolFault {
 }
 
 fn main(rt: HostRuntime) -> ExitCode {
-    let mut out = io::writer(&rt);
+    let mut out = Stream::new(io::writer(&rt));
     let err = rt.stderr();
-    let mut err = io::writer(&err);
+    let mut err = Stream::new(io::writer(&err));
     let words = match words(&rt) {
         Ok(words) => words,
         Err(error) => {
             let fault = fault_of(rt.alloc(), &error);
-            return ExitCode::from(tell_fault(rt.alloc(), &mut err, &fault).status);
+            return ExitCode::from(tell_fault(rt.alloc(), &mut err, &fault).status());
         }
     };
-    let mut files = Disk { rt: &rt };
-    ExitCode::from(tool(
+    let mut files = Disk {
+        rt: &rt,
+        has_failed: false,
+    };
+    let exit = tool(
         &rt,
         rt.alloc(),
         words.as_slice(),
         &mut files,
         &mut out,
         &mut err,
-    ))
+    );
+    ExitCode::from(exit.status())
 }

@@ -3,8 +3,8 @@
 #![tactic(auto)]
 
 use dds_answers::{
-    Answer, Disk, Sources, ToolFault, check_files, give, match_file, migrate_file, propose_file,
-    tell_fault,
+    Answer, Disk, Sources, Stream, ToolFault, check_files, give, match_file, migrate_file,
+    propose_file, tell_fault,
 };
 use std::alloc::Global;
 use std::env::{self, Env};
@@ -58,17 +58,20 @@ fn answer_to<S: Sources>(
 
 fn main(rt: HostRuntime) -> ExitCode {
     let alloc = rt.alloc();
-    let mut out = io::writer(&rt);
+    let mut out = Stream::new(io::writer(&rt));
     let err = rt.stderr();
-    let mut err = io::writer(&err);
-    let mut files = Disk { rt: &rt };
+    let mut err = Stream::new(io::writer(&err));
+    let mut files = Disk {
+        rt: &rt,
+        has_failed: false,
+    };
     let answer = match words(&rt) {
         Ok(words) => answer_to(alloc, words.as_slice(), &mut files),
         Err(_) => Err(other_words(alloc)),
     };
-    let status = match give(answer, &mut out, &mut err) {
-        Ok(status) => status,
-        Err(fault) => tell_fault(alloc, &mut err, &fault).status,
+    let exit = match give(answer, &mut out, &mut err) {
+        Ok(exit) => exit,
+        Err(fault) => tell_fault(alloc, &mut err, &fault),
     };
-    ExitCode::from(status)
+    ExitCode::from(exit.status())
 }

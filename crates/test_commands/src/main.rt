@@ -2,7 +2,7 @@
 //! in which this runs. The stored run has its command lines in `stdin`, what is expected in `stdout` and the files in `data`.
 #![tactic(auto)]
 
-use dds_answers::Disk;
+use dds_answers::{Disk, Stream};
 use dds_tool::tool;
 use std::alloc::{AllocError, Global};
 use std::io;
@@ -30,15 +30,19 @@ fn outcome<R: Files + Threads + Wait + Clock + Sync>(
     alloc: Global,
     words: &[&str],
 ) -> Result<String, AllocError> {
-    let mut files = Disk { rt };
-    let mut out = Vec::new(alloc);
-    let mut err = Vec::new(alloc);
-    let status = tool(rt, alloc, words, &mut files, &mut out, &mut err);
-    let output = text_of(out.as_slice());
-    if err.is_empty() {
+    let mut files = Disk {
+        rt,
+        has_failed: false,
+    };
+    let mut out = Stream::new(Vec::new(alloc));
+    let mut err = Stream::new(Vec::new(alloc));
+    let exit = tool(rt, alloc, words, &mut files, &mut out, &mut err);
+    let status = exit.status();
+    let output = text_of(out.writer.as_slice());
+    if err.writer.is_empty() {
         return format!(in alloc; "{output}status {status}");
     }
-    let errors = text_of(err.as_slice());
+    let errors = text_of(err.writer.as_slice());
     format!(in alloc; "{output}errors:\n{errors}status {status}")
 }
 

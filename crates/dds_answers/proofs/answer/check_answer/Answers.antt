@@ -1,7 +1,7 @@
 use Rattle.std.proofs.Common.{subst, sym}
 use Rattle.dds_answers.specs.Answers.{Gives}
 use Rattle.dds_answers.specs.Outcome.{outcome}
-use Rattle.dds_answers.proofs.Telling.{reported_ends, reported_status}
+use Rattle.dds_answers.proofs.Telling.{reported_ends}
 use Rattle.dds_answers.proofs.answer.check_answer.Goals as goal
 
 pub returns-in-Ok-clause-gives : goal.returns-in-Ok-clause-gives
@@ -9,6 +9,3 @@ returns-in-Ok-clause-gives c = subst (Gives c.reported.result) (sym c.in-Ok.ensu
 
 pub returns-in-Err-clause-gives : goal.returns-in-Err-clause-gives
 returns-in-Err-clause-gives c = reported_ends c.in-Err.fault (outcome c.args.deployment.now c.args.certificate.now) c.in-Err.ensures
-
-pub returns-in-Err-clause-no_usage : goal.returns-in-Err-clause-no_usage
-returns-in-Err-clause-no_usage c = reported_status c.in-Err.fault (outcome c.args.deployment.now c.args.certificate.now) c.in-Err.ensures

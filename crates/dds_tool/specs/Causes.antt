@@ -1,0 +1,24 @@
+-- What a fault of a request says of the devices.
+use Rattle.std.specs.Prelude.{◌≡◌, ◌⊎◌, Bool, true}
+use Rattle.dds_answers.specs.Causes.{IsFileFault}
+use Rattle.dds_answers.specs.declared.fault.ToolFault.{ToolFault}
+use Rattle.dds_answers.specs.declared.fault.ToolFault.TheVariants as fault
+use Rattle.dds_tool.specs.declared.request.Request.{Request}
+use Rattle.dds_tool.specs.declared.request.Request.TheVariants as asked
+
+-- a deployment is to run
+abbrev pub IsRun : Request → Type 0
+IsRun (asked.Run d c wishes) = Unit {0}
+IsRun (asked.Match d) = ⊥
+IsRun (asked.Propose d) = ⊥
+IsRun (asked.ProposeThoroughly d) = ⊥
+IsRun (asked.Migrate d) = ⊥
+IsRun (asked.Check d c) = ⊥
+
+-- the faults with which a request can end before anything is written: those of commands on files, and of a run that it came to no end of its own
+abbrev pub IsRequestFault : (file_failed : Bool) → Request → ToolFault → Type 0
+IsRequestFault file_failed request e = (IsRun request × (e ≡ fault.Run)) ⊎ IsFileFault file_failed e
+
+-- the faults with which it can end: also a failed write, but only where the output has failed
+abbrev pub IsCaused : (file_failed output_failed : Bool) → Request → ToolFault → Type 0
+IsCaused file_failed output_failed request e = ((e ≡ fault.Write) × (output_failed ≡ true)) ⊎ IsRequestFault file_failed request e
