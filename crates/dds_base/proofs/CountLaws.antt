@@ -1,6 +1,6 @@
 -- Laws of counting the numbers of an interval that pass a test.
 use Rattle.std.specs.Prelude.{◌≡◌, ℕ, ◌+◌, ◌-◌, ◌<◌, ◌≤◌, Bool, true, false}
-use Rattle.std.proofs.Common.{zero, suc, refl, sym, ap, ◌∙◌, arith, add-suc, add-zero, add_assoc, inl, inr}
+use Rattle.std.proofs.Common.{zero, suc, refl, arith, add-suc, add-zero, add_assoc, inl, inr}
 use Rattle.std.proofs.lemmas.Bool.{cases_Bool}
 use Rattle.dds_base.specs.Counts.{count_from, count_between}
 

@@ -3,3 +3,4 @@ pub mod SumLaws
 pub mod CountLaws
 pub mod FlagLaws
 pub mod SetLaws
+pub mod NumberedLaws

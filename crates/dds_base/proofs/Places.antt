@@ -23,7 +23,7 @@ at_head : {A : Type 0} (p : A → Bool) (x : A) (xs : List A) (b : Bool) → p x
 at_head p x xs true e h = rw e (grind (arith, nat_tests))
 at_head p x xs false e h = rw (e, h) (grind (arith, nat_tests))
 
-list_any-position : {A : Type 0} (p : A → Bool) (xs : List A) → list_any p xs ≡ nat_lt (position_or_len p xs) (length xs)
+pub list_any-position : {A : Type 0} (p : A → Bool) (xs : List A) → list_any p xs ≡ nat_lt (position_or_len p xs) (length xs)
 list_any-position p [] = refl
 list_any-position p (x ∷ xs) = at_head p x xs (p x) refl (list_any-position p xs)
 

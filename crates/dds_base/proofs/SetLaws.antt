@@ -1,6 +1,5 @@
 -- Laws of sets of numbers: what a set has, and when two are equal.
-use Rattle.std.proofs.Common.{◌≡◌, ℕ, ◌+◌, ◌-◌, ◌<◌, ◌≤◌, leb, ltb, Bool, true, false, ◌&&◌, List, length, get_or, map, refl, sym, ap, ◌∙◌, arith, inl, inr}
-use Rattle.std.specs.List.{range_with_len}
+use Rattle.std.proofs.Common.{◌≡◌, ℕ, ◌+◌, ◌-◌, ◌<◌, ◌≤◌, ◌⊎◌, leb, ltb, Bool, true, false, ◌&&◌, List, length, get_or, refl, sym, ap, ◌∙◌, arith, inl, inr}
 use Rattle.std.proofs.lemmas.List.{ext_get_or, get_or_past}
 use Rattle.std.proofs.lemmas.List.FromFn.{get_or-map-range_with_len, length-map-range_with_len}
 use Rattle.std.proofs.lemmas.Bool.{cases_lt, lt-leb, le-leb, lt-ltb, le-ltb, and_right}
@@ -56,3 +55,11 @@ has_within s n top long high = elim (cases_lt n top) [
     and_true : (b : Bool) → (b && true) ≡ b
     and_true true = refl
     and_true false = refl
+
+-- of flags that are cleared one by one from a first one on, at the end those up to the end are
+pub cut_whole : (first k end j : ℕ) → end ≤ k → (k ≡ first) ⊎ (k ≤ end) → (leb first j && ltb j k) ≡ (leb first j && ltb j end)
+cut_whole first k end j past (inr low) = let e : k ≡ end = omega arith in rw e refl
+cut_whole first k end j past (inl e) = elim (cases_lt j first) [
+  | inl below ↦ rw (lt-leb first j below) refl
+  | inr above ↦ rw (e, le-ltb j first above, le-ltb j end (omega arith)) refl
+]

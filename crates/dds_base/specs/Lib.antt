@@ -3,3 +3,4 @@ pub mod Sums
 pub mod Counts
 pub mod Sets
 pub mod Messages
+pub mod Numbered

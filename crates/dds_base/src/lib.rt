@@ -6,6 +6,7 @@
 pub mod events;
 pub mod messages;
 pub mod names;
+pub mod numbered;
 pub mod numbers;
 pub mod portion;
 pub mod sample;
@@ -14,6 +15,7 @@ pub mod sets;
 pub use events::{Event, Fate, Refusal, Reply};
 pub use messages::{AckNack, DataMsg, GapMsg, Heartbeat, Packet};
 pub use names::{NameFault, Names, is_name, is_name_byte};
+pub use numbered::{Numbered, are_rising, place_of};
 pub use numbers::{AppNo, Endpoint, KeyNo, ParticipantNo, ReaderNo, RuleNo, TopicNo, WriterNo};
 pub use portion::Portion;
 pub use sample::{Arrival, Data, Rejection, Sample};

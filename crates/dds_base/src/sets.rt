@@ -1,6 +1,6 @@
 //! Sets of sequence numbers, as GAP and ACKNACK carry them.
 
-ghost use Rattle.std.specs.Prelude.{◌≡◌, ℕ, ◌+◌, ◌<◌, ◌≤◌, ◌^◌, ◌==◌, ◌&&◌, true, false, IsTrue, MatchOption, length, slice_index_or};
+ghost use Rattle.std.specs.Prelude.{◌≡◌, ℕ, ◌+◌, ◌<◌, ◌≤◌, ◌^◌, ◌==◌, ◌&&◌, not, leb, ltb, true, false, IsTrue, MatchOption, length, slice_index_or};
 ghost use Rattle.dds_base.specs.Sets.{has, set_of, last_number, is_listed, FitsSet};
 
 use std::marker::Model;
@@ -74,5 +74,42 @@ impl SnSet {
         ensures in_range { IsTrue result → n ≤ last_number }
     {
         n >= self.base && n - self.base < 256 && self.flags[(n - self.base) as usize]
+    }
+
+    /// The set without the numbers from one to another.
+    pub fn without(&self, from: u64, to: u64) -> SnSet
+        ensures { result ≡ set_of self.now.base (λ n. has self.now n && not (leb from n && leb n to)) }
+    {
+        let mut flags = self.flags;
+        let end = flags_up_to(self.base, to);
+        for k in flags_below(self.base, from)..end {
+            flags[k] = false;
+        }
+        let base = self.base;
+        SnSet { base, flags }
+    }
+}
+
+// How many of the 256 flags from a base on are of numbers below this one.
+fn flags_below(base: u64, n: u64) -> usize
+    ensures few { result ≤ 256 }
+    ensures answer { (k : ℕ) → k < 256 → leb result k ≡ leb n (base + k) }
+{
+    if n < base {
+        0
+    } else {
+        (n - base).min(256) as usize
+    }
+}
+
+// How many of them are of numbers up to this one.
+fn flags_up_to(base: u64, n: u64) -> usize
+    ensures few { result ≤ 256 }
+    ensures answer { (k : ℕ) → k < 256 → ltb k result ≡ leb (base + k) n }
+{
+    if n < base {
+        0
+    } else {
+        (n - base).min(255) as usize + 1
     }
 }

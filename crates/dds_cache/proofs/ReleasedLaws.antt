@@ -3,7 +3,9 @@ use Rattle.std.proofs.Common.{◌≡◌, ℕ, max, true, false, cond, ◌||◌, 
 use Rattle.std.proofs.lemmas.List.Elements.{All-map}
 use Rattle.std.proofs.lemmas.List.Folds.{list_any_at}
 use Rattle.std.proofs.lemmas.Bool.{cases_Bool, eq-eqb, eqb-true}
+use Rattle.dds_base.specs.Numbered.{AreRising}
 use Rattle.dds_base.specs.declared.sample.Sample.{Sample}
+use Rattle.dds_base.proofs.NumberedLaws.{rising_stays}
 use Rattle.dds_cache.specs.declared.released.Released.{Released}
 use Rattle.dds_cache.specs.Released.{is_listed, released_of, opened, lifted, raised}
 use Rattle.dds_cache.specs.Least.{IsUniform, AreListed}
@@ -46,3 +48,11 @@ uniform_raised v upto rs uniform = All-map (λ r. r.upto ≡ released_of r.write
 -- and the writers of the stored samples are listed still
 pub all_listed_raised : (v upto : ℕ) (rs : List Released) (xs : List Sample) → AreListed xs rs → AreListed xs (raised v upto rs)
 all_listed_raised v upto rs xs listed = λ i d within. listed_raised (get_or xs i d).writer v upto rs ∙ listed i d within
+
+-- a release changes the entry of no other writer
+pub lifted_other : (w upto : ℕ) (r : Released) → (r.writer == w) ≡ false → lifted w upto r ≡ r
+lifted_other w upto r miss = rw miss refl
+
+-- and it keeps the order of the writers
+pub rising_raised : (w upto : ℕ) (rs : List Released) → AreRising (λ r. r.writer) rs → AreRising (λ r. r.writer) (raised w upto rs)
+rising_raised w upto rs rising = rising_stays (λ r. r.writer) (lifted w upto) rs (λ r. refl) rising

@@ -1,6 +1,8 @@
 -- What the fields of the cache stand for.
+use Rattle.std.specs.Prelude.{IsTrue}
 use Rattle.std.specs.BTreeMap.{keys, values}
 use Rattle.std.specs.FinSet as set
+use Rattle.dds_base.specs.Numbered.{AreRising}
 use Rattle.dds_cache.specs.declared.cache.Cache.TheInside.{Inside}
 use Rattle.dds_cache.specs.Cache.{CacheState}
 use Rattle.dds_cache.specs.Least.{IsUniform, AreListed}
@@ -14,7 +16,8 @@ view_of a = record {
   writers = a.writers.items;
 }
 
--- each stored sample's writer is listed, with one released number
+-- each stored sample's writer is listed, with one released number, and the writers stand in order of their numbers where the flag says so
 pub record IsSound (a : Inside) : Type 0 where
   pub uniform : IsUniform a.writers.items
   pub listed : AreListed (values a.contents.order.samples) a.writers.items
+  pub rising : IsTrue a.rising → AreRising (λ r. r.writer) a.writers.items

@@ -10,7 +10,7 @@ ghost use Rattle.dds_cache.specs.Cache.{available};
 
 use crate::contents::Contents;
 use crate::released::{Released, raise};
-use dds_base::{KeyNo, Rejection, Sample, WriterNo};
+use dds_base::{KeyNo, Rejection, Sample, WriterNo, are_rising};
 use dds_qos::{Admit, ReaderLimits};
 use std::alloc::{AllocError, Global};
 use std::marker::Model;
@@ -24,6 +24,8 @@ pub struct Cache {
     limits: ReaderLimits,
     contents: Contents,
     writers: Vec<Released>,
+    // Whether the writers stand in order of their numbers, so that one is found by halving.
+    rising: bool,
 }
 
 impl Model for Cache {
@@ -64,10 +66,12 @@ impl Cache {
                 upto: 0,
             });
         }
+        let rising = are_rising(&listed);
         Ok(Cache {
             limits,
             contents: Contents::new(alloc),
             writers: listed,
+            rising,
         })
     }
 
@@ -151,7 +155,7 @@ impl Cache {
         requires { IsTrue (is_listed writer self.old.writers) }
         ensures { self.new ≡ record self.old { writers = raised writer upto self.old.writers } }
     {
-        raise(&mut self.writers, writer, upto);
+        raise(&mut self.writers, self.rising, writer, upto);
     }
 
     /// Gives an available sample of the key, which leaves the cache: of some writer, the one with the least number among that writer's

@@ -7,7 +7,8 @@
 //!
 //! The samples stand in a map by the ticket of their admission, and beside it the tickets of each key, for each key and writer the
 //! numbers in order, and for each key ever stored how many samples it has. So no call walks over the stored samples: each takes a few
-//! steps in such maps, `take` a few for each writer, and `new` and `release` walk over the writers alone.
+//! steps in such maps, `take` a few for each writer, and `new` walks over the writers alone. `release` finds its writer by halving
+//! where the writers stand in order of their numbers, and walks over them where they don't.
 #![tactic(auto)]
 
 pub mod cache;

@@ -4,3 +4,4 @@ mod TakeLaws
 mod ReleasedLaws
 mod CountLaws
 mod PushLaws
+pub mod FlagWalks

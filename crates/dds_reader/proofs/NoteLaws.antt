@@ -1,12 +1,14 @@
 -- The notes of the proxies.
-use Rattle.std.proofs.Common.{◌≡◌, ℕ, ◌<◌, ◌≤◌, max, Bool, true, false, ◌||◌, ◌==◌, Some, None, List, [], ◌∷◌, length, get_or, refl, sym, ap, ◌∙◌, arith, inl, inr, position}
+use Rattle.std.proofs.Common.{◌≡◌, ℕ, ◌<◌, ◌≤◌, max, Bool, true, false, ◌||◌, ◌==◌, Option, Some, None, List, [], ◌∷◌, length, get_or, refl, sym, ap, ◌∙◌, arith, inl, inr, position}
 use Rattle.std.specs.List.{All, list_any, position_or_len}
 use Rattle.std.proofs.lemmas.List.Elements.{All-map, All-weaker}
 use Rattle.std.proofs.lemmas.List.Recursion.{found_at, found_nowhere}
 use Rattle.std.proofs.lemmas.List.Quantifiers.{position-Some}
 use Rattle.std.proofs.lemmas.List.Sums.{fails_before_first}
 use Rattle.std.proofs.lemmas.Bool.{cases_Bool, or_parts, cases_lt, cond-true, lt-ltb}
+use Rattle.dds_base.specs.Numbered.{AreRising}
 use Rattle.dds_base.specs.Sets.{last_number}
+use Rattle.dds_base.proofs.NumberedLaws.{rising_stays}
 use Rattle.dds_reader.specs.declared.notes.WriterProxy.{WriterProxy}
 use Rattle.dds_reader.specs.Notes.{hears, hears_one, pays, pays_one, heard_in, owes_in}
 
@@ -90,3 +92,29 @@ listed_hears v w last (p ∷ ps) = elim (cases_Bool (p.writer == w)) [
   | inl t ↦ rw t (ap (λ b. (p.writer == v) || b) (listed_hears v w last ps))
   | inr f ↦ rw f (ap (λ b. (p.writer == v) || b) (listed_hears v w last ps))
 ]
+
+-- a HEARTBEAT changes the note of no other writer
+pub hears_one_other : (w last : ℕ) (p : WriterProxy) → (p.writer == w) ≡ false → hears_one w last p ≡ p
+hears_one_other w last p miss = rw miss refl
+
+-- nor does an ACKNACK
+pub pays_one_other : (w : ℕ) (p : WriterProxy) → (p.writer == w) ≡ false → pays_one w p ≡ p
+pays_one_other w p miss = rw miss refl
+
+-- a note stays the note of its writer
+hears_one_writer : (w last : ℕ) (p : WriterProxy) → (hears_one w last p).writer ≡ p.writer
+hears_one_writer w last p = elim (cases_Bool (p.writer == w)) [ inl t ↦ rw t refl | inr f ↦ rw f refl ]
+
+pays_one_writer : (w : ℕ) (p : WriterProxy) → (pays_one w p).writer ≡ p.writer
+pays_one_writer w p = elim (cases_Bool (p.writer == w)) [ inl t ↦ rw t refl | inr f ↦ rw f refl ]
+
+-- so the notes keep their order
+pub rising_hears : (w last : ℕ) (ps : List WriterProxy) → AreRising (λ p. p.writer) ps → AreRising (λ p. p.writer) (hears w last ps)
+rising_hears w last ps rising = rising_stays (λ p. p.writer) (hears_one w last) ps (hears_one_writer w last) rising
+
+pub rising_pays : (w : ℕ) (ps : List WriterProxy) → AreRising (λ p. p.writer) ps → AreRising (λ p. p.writer) (pays w ps)
+rising_pays w ps rising = rising_stays (λ p. p.writer) (pays_one w) ps (pays_one_writer w) rising
+
+-- the place that is found by the number of a writer
+pub placed : (n w : ℕ) (ps : List WriterProxy) (place : Option ℕ) → n ≡ w → place ≡ position (Of n) ps → position (Of w) ps ≡ place
+placed n w ps place same found = ap (λ (m : ℕ). position (Of m) ps) (sym same) ∙ sym found

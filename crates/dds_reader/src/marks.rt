@@ -1,6 +1,6 @@
 //! Which numbers of each writer are marked.
 
-ghost use Rattle.std.specs.Prelude.{◌≡◌, ℕ, ◌+◌, ◌≤◌, ◌==◌, true, false, not, IfOk, OnOk, OnErr, IsTrue};
+ghost use Rattle.std.specs.Prelude.{◌≡◌, ℕ, ◌+◌, ◌<◌, ◌≤◌, ◌==◌, true, false, not, IfOk, OnOk, OnErr, IsTrue};
 ghost use Rattle.std.proofs.Common.{◌⊎◌};
 ghost use Rattle.std.specs.List.{list_any};
 ghost use Rattle.dds_base.specs.Counts.{count_between};
@@ -151,6 +151,17 @@ fn wants(marks: &Marks, writer: WriterNo, n: u64, heard: u64) -> bool
     n <= heard && !marks.is_marked(writer, n)
 }
 
+// How many of the 256 numbers from the base on are heard of.
+fn heard_of(base: u64, heard: u64) -> usize
+    ensures few { result ≤ 256 }
+    ensures rest { (k : ℕ) → result ≤ k → k < 256 → heard < base + k }
+{
+    if heard < base {
+        return 0;
+    }
+    (heard - base).min(255) as usize + 1
+}
+
 // The numbers to ask for: of the 256 from the base on those that are heard of and not marked.
 pub(crate) fn missing(marks: &Marks, writer: WriterNo, base: u64, heard: u64) -> SnSet
     requires low { 1 ≤ base }
@@ -159,7 +170,7 @@ pub(crate) fn missing(marks: &Marks, writer: WriterNo, base: u64, heard: u64) ->
     ensures { result ≡ set_of base (is_wanted (in_marks marks.now writer) heard) }
 {
     let mut members = [false; 256];
-    for i in 0..256 {
+    for i in 0..heard_of(base, heard) {
         members[i] = wants(marks, writer, base + i as u64, heard);
     }
     SnSet::from_flags(base, members)

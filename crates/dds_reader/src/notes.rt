@@ -1,11 +1,12 @@
 //! What a reader notes of each of its writers.
 
-ghost use Rattle.std.specs.Prelude.{◌≡◌, ◌≤◌, ◌==◌, IfOk, position};
+ghost use Rattle.std.specs.Prelude.{◌≡◌, ◌≤◌, IfOk, IsTrue};
 ghost use Rattle.std.specs.List.{All};
+ghost use Rattle.dds_base.specs.Numbered.{AreRising};
 ghost use Rattle.dds_base.specs.Sets.{last_number};
 ghost use Rattle.dds_reader.specs.Notes.{has_writer, heard_in, hears, hears_one, opened, owes_in, pays, pays_one};
 
-use dds_base::WriterNo;
+use dds_base::{Numbered, WriterNo, place_of};
 use std::alloc::{AllocError, Global};
 
 /// What a reader notes of one of its writers (DDSI-RTPS 2.5, clause 8.4.10.4), its marks aside.
@@ -16,6 +17,14 @@ pub struct WriterProxy {
     pub heard: u64,
     /// Whether a HEARTBEAT came since the last ACKNACK to the writer was built.
     pub owes: bool,
+}
+
+impl Numbered for WriterProxy {
+    ghost number_of = { λ p. p.writer };
+
+    fn number(&self) -> usize {
+        self.writer.number()
+    }
 }
 
 // The notes of writers of which nothing is heard.
@@ -33,48 +42,54 @@ pub(crate) fn opened(alloc: Global, writers: &[WriterNo]) -> Result<Vec<WriterPr
     Ok(proxies)
 }
 
-pub(crate) fn has_writer(proxies: &[WriterProxy], writer: WriterNo) -> bool
+// In what follows `rising` tells that the notes stand in order of their writers' numbers, so that one is found by halving.
+
+// Whether a writer is noted.
+pub(crate) fn has_writer(proxies: &[WriterProxy], rising: bool, writer: WriterNo) -> bool
+    requires { IsTrue rising → AreRising (λ p. p.writer) proxies.now }
     ensures { result ≡ has_writer writer proxies.now }
 {
-    proxies.iter().any(|p| p.writer == writer)
-}
-
-fn place_of(proxies: &[WriterProxy], writer: WriterNo) -> Option<usize>
-    ensures { result ≡ position (λ p. p.writer == writer) proxies.now }
-{
-    proxies.iter().position(|p| p.writer == writer)
+    place_of(proxies, rising, writer.number()).is_some()
 }
 
 // The greatest last number heard from a writer.
-pub(crate) fn heard_from(proxies: &[WriterProxy], writer: WriterNo) -> u64
-    requires { All (λ p. p.heard ≤ last_number) proxies.now }
+pub(crate) fn heard_from(proxies: &[WriterProxy], rising: bool, writer: WriterNo) -> u64
+    requires order { IsTrue rising → AreRising (λ p. p.writer) proxies.now }
+    requires fits { All (λ p. p.heard ≤ last_number) proxies.now }
     ensures heard { result ≡ heard_in writer proxies.now }
     ensures small { result ≤ last_number }
 {
-    match place_of(proxies, writer) {
+    match place_of(proxies, rising, writer.number()) {
         Some(at) => proxies[at].heard,
         None => 0,
     }
 }
 
 // Whether an ACKNACK is owed to a writer.
-pub(crate) fn owes_to(proxies: &[WriterProxy], writer: WriterNo) -> bool
+pub(crate) fn owes_to(proxies: &[WriterProxy], rising: bool, writer: WriterNo) -> bool
+    requires { IsTrue rising → AreRising (λ p. p.writer) proxies.now }
     ensures { result ≡ owes_in writer proxies.now }
 {
-    match place_of(proxies, writer) {
+    match place_of(proxies, rising, writer.number()) {
         Some(at) => proxies[at].owes,
         None => false,
     }
 }
 
 // Notes a HEARTBEAT of a writer with this last number.
-pub(crate) fn hear(proxies: &mut Vec<WriterProxy>, writer: WriterNo, last: u64)
+pub(crate) fn hear(proxies: &mut Vec<WriterProxy>, rising: bool, writer: WriterNo, last: u64)
+    requires { IsTrue rising → AreRising (λ p. p.writer) proxies.old.items }
     ensures { proxies.new.items ≡ hears writer last proxies.old.items }
 {
-    hear_all(proxies, writer, last);
+    if !rising {
+        hear_each(proxies, writer, last);
+    } else if let Some(at) = place_of(proxies, true, writer.number()) {
+        proxies[at] = hear_one(proxies[at], writer, last);
+    }
 }
 
-fn hear_all(proxies: &mut [WriterProxy], writer: WriterNo, last: u64)
+// The same by a walk, in whatever order the notes stand.
+fn hear_each(proxies: &mut [WriterProxy], writer: WriterNo, last: u64)
     ensures { proxies.new ≡ hears writer last proxies.old }
 {
     for proxy in proxies.iter_mut() {
@@ -97,13 +112,19 @@ fn hear_one(proxy: WriterProxy, writer: WriterNo, last: u64) -> WriterProxy
 }
 
 // Notes that an ACKNACK to a writer was built.
-pub(crate) fn pay(proxies: &mut Vec<WriterProxy>, writer: WriterNo)
+pub(crate) fn pay(proxies: &mut Vec<WriterProxy>, rising: bool, writer: WriterNo)
+    requires { IsTrue rising → AreRising (λ p. p.writer) proxies.old.items }
     ensures { proxies.new.items ≡ pays writer proxies.old.items }
 {
-    pay_all(proxies, writer);
+    if !rising {
+        pay_each(proxies, writer);
+    } else if let Some(at) = place_of(proxies, true, writer.number()) {
+        proxies[at] = pay_one(proxies[at], writer);
+    }
 }
 
-fn pay_all(proxies: &mut [WriterProxy], writer: WriterNo)
+// The same by a walk, in whatever order the notes stand.
+fn pay_each(proxies: &mut [WriterProxy], writer: WriterNo)
     ensures { proxies.new ≡ pays writer proxies.old }
 {
     for proxy in proxies.iter_mut() {

@@ -4,7 +4,7 @@ use Rattle.std.proofs.lemmas.Grind.{common_steps}
 use Rattle.dds_base.specs.Sets.{has, last_number}
 use Rattle.dds_base.proofs.SetLaws.{flags_are}
 use Rattle.dds_base.proofs.FlagLaws.{no_flag}
-use Rattle.dds_writer.proofs.FlagWalks.{flags_more, set_more}
+use Rattle.dds_plain.proofs.FlagWalks.{flags_more, set_more}
 use Rattle.dds_plain.proofs.proxies.without.Goals as goal
 
 pub loop-k-init : goal.loop-k-init

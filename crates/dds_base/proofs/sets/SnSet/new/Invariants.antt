@@ -1,4 +1,4 @@
-use Rattle.std.proofs.Common.{◌≡◌, ℕ, ◌+◌, ◌-◌, ◌<◌, ◌≤◌, ◌^◌, true, false, ◌==◌, length, take, get_or}
+use Rattle.std.proofs.Common.{◌≡◌, ℕ, ◌+◌, ◌≤◌, true, false, ◌==◌, length, take, get_or}
 use Rattle.std.specs.List.{All, list_any}
 use Rattle.dds_base.specs.Sets.{has_flag, FitsAfter, last_number}
 use Rattle.dds_base.proofs.sets.SnSet.new.Given as goal

@@ -19,4 +19,5 @@ invariant_of-self-2 c =
       listed = subst (λ (l : List Sample). AreListed l ws) (sym c.in_ok-store.ensures.stored)
           (All-stored (λ x. is_listed x.writer ws ≡ true) stored c.args.sample (first_of c.args.sample.key stored) c.is_overwrote.result
           c.self.invariant.listed own);
+      rising = c.self.invariant.rising;
     }

@@ -1,4 +1,4 @@
-use Rattle.std.proofs.Common.{◌≡◌, ◌∙◌, ap, subst, sym, ℕ, List}
+use Rattle.std.proofs.Common.{◌≡◌, ◌∙◌, ap, subst, sym, ℕ, List, rules}
 use Rattle.std.proofs.lemmas.List.{take_all}
 use Rattle.std.proofs.lemmas.List.Elements.{All-nil}
 use Rattle.dds_base.specs.declared.sample.Sample.{Sample}
@@ -15,4 +15,5 @@ invariant_of-result c =
     record {
       uniform = subst (λ (l : List Released). IsUniform l) (sym is) (uniform_opened c.args.writers.now);
       listed = subst (λ (l : List Sample). AreListed l c.loop-writer.listed.items) (sym c.new.ensures.stored) (All-nil _);
+      rising = search rules;
     }

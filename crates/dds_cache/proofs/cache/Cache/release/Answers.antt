@@ -2,10 +2,11 @@ use Rattle.std.proofs.Common.{◌≡◌, ◌∙◌, sym, subst, List, length, ru
 use Rattle.std.specs.BTreeMap.{values}
 use Rattle.std.specs.Vec.{with_items}
 use Rattle.std.proofs.lemmas.List.{with_items_is}
+use Rattle.dds_base.specs.Numbered.{AreRising}
 use Rattle.dds_cache.specs.declared.released.Released.{Released}
 use Rattle.dds_cache.specs.Released.{raised}
 use Rattle.dds_cache.specs.Least.{IsUniform, AreListed}
-use Rattle.dds_cache.proofs.ReleasedLaws.{uniform_raised, all_listed_raised}
+use Rattle.dds_cache.proofs.ReleasedLaws.{uniform_raised, all_listed_raised, rising_raised}
 use Rattle.dds_cache.proofs.cache.Cache.release.Goals as goal
 
 pub invariant_of-self : goal.invariant_of-self
@@ -19,4 +20,5 @@ invariant_of-self c =
     record {
       uniform = subst (λ (l : List Released). IsUniform l) (sym is) (uniform_raised c.args.writer c.args.upto ws c.self.invariant.uniform);
       listed = subst (λ (l : List Released). AreListed stored l) (sym is) (all_listed_raised c.args.writer c.args.upto ws stored c.self.invariant.listed);
+      rising = λ t. subst (λ (l : List Released). AreRising (λ r. r.writer) l) (sym is) (rising_raised c.args.writer c.args.upto ws (c.self.invariant.rising t));
     }

@@ -29,6 +29,7 @@ invariant_of-self c =
       listed = subst (λ es. AreListed (values_of es) ws) (sym c.remove.ensures.entries)
           (All-map-remove_entry (is_at (nat_cmp c.in_ok-ticket.ticket)) (λ (e : ℕ × Sample). e.1) (λ x. is_listed x.writer ws ≡ true) s.samples.entries
           c.self.invariant.listed);
+      rising = c.self.invariant.rising;
     }
 
 pub returns-clause-answer : goal.returns-clause-answer

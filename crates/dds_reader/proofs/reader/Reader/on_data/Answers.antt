@@ -51,6 +51,7 @@ pub invariant_of-self-2 : goal.invariant_of-self-2
 invariant_of-self-2 c = record {
   listed = λ v. c.in_ok-answer.ensures.cache.listed v ∙ c.self.invariant.listed v;
   heard = c.self.invariant.heard;
+  rising = c.self.invariant.rising;
   whole = whole_after (in_marks c.self.inside.held.marks) (in_marks c.store.new.self.marks) c.message.inside.sample.writer c.message.inside.sample.sn c.least_marked-from.result c.self.inside.watching (is_rejected c.in_ok-answer.answer) c.least_marked-from.ensures c.self.invariant.whole c.in_ok-answer.ensures.marks;
 }
 

@@ -1,6 +1,6 @@
 use Rattle.std.proofs.Common.{◌≡◌, ◌++◌, map, take, drop}
 use Rattle.dds_cache.specs.Released.{lifted}
-use Rattle.dds_cache.proofs.released.raise.Given as goal
+use Rattle.dds_cache.proofs.released.raise_each.Given as goal
 
 abbrev pub invariant-loop-listed : goal.invariant-loop-listed
 invariant-loop-listed l =

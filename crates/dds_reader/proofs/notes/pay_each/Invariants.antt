@@ -1,6 +1,6 @@
 use Rattle.std.proofs.Common.{◌≡◌, ◌++◌, map, take, drop}
 use Rattle.dds_reader.specs.Notes.{pays_one}
-use Rattle.dds_reader.proofs.notes.pay_all.Given as goal
+use Rattle.dds_reader.proofs.notes.pay_each.Given as goal
 
 abbrev pub invariant-loop-proxy : goal.invariant-loop-proxy
 invariant-loop-proxy l =

@@ -1,6 +1,6 @@
 use Rattle.std.proofs.Common.{◌≡◌, ◌++◌, map, take, drop}
 use Rattle.dds_writer.specs.Proxies.{after_acknack}
-use Rattle.dds_writer.proofs.proxies.acknowledge.Given as goal
+use Rattle.dds_writer.proofs.proxies.acknowledge_each.Given as goal
 
 abbrev pub invariant-loop-proxy : goal.invariant-loop-proxy
 invariant-loop-proxy l =

@@ -1,6 +1,6 @@
 use Rattle.std.proofs.lemmas.List.Edits.{map_over_more}
 use Rattle.dds_reader.specs.Notes.{hears_one}
-use Rattle.dds_reader.proofs.notes.hear_all.Goals as goal
+use Rattle.dds_reader.proofs.notes.hear_each.Goals as goal
 
 pub loop-proxy-preserved : goal.loop-proxy-preserved
 loop-proxy-preserved c =
