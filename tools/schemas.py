@@ -1,0 +1,111 @@
+#!/usr/bin/env python3
+"""Holds the schemas of docs/schemas against files whose answers are known.
+
+  tools/schemas.py                       # the command lines of crates/test_commands with what comes of them
+  tools/schemas.py FOLDER ..             # folders with files and expected.jsonl: a line {"words": [..], "out": .., "err": ..} for each command line
+
+A file that is read without a fault has to pass its schema. One whose first fault is WrongVersion, UnknownKey, MissingKey, WrongKind, OutOfRange, BadName or
+TooMany has to fail it, but for what a schema can't see: a whole number that is written as a float, and what short forms of version 2 come to. Of the other
+kinds a schema sees nothing: that a name is there, that names and entries stand once, who owns an endpoint, that depth and limits agree, and that the bytes
+are TOML. It wants Python's jsonschema (Debian's python3-jsonschema) and ends with status 2 where that is missing.
+"""
+import json
+import re
+import sys
+import tomllib
+from pathlib import Path
+
+ROOT = Path(__file__).resolve().parent.parent
+SEEN = {"WrongVersion", "UnknownKey", "MissingKey", "WrongKind", "OutOfRange", "BadName", "TooMany"}
+FAULT = re.compile(r"ddscheck: (deployment|certificate) \d+ (\w+)")
+TAKES_CERTIFICATE = {"check", "run"}
+
+
+def commands_of_the_repository():
+    """Each command line of test_commands, and what is written to the error output."""
+    words, errors, in_errors = None, "", False
+    for line in (ROOT / "crates/test_commands/stdout").read_text().splitlines():
+        if line.startswith("ddscheck "):
+            words, errors, in_errors = line.split()[1:], "", False
+        elif line == "errors:":
+            in_errors = True
+        elif re.fullmatch(r"status \d", line) and words:
+            yield ROOT / "crates/test_commands/data", words, errors
+            words = None
+        elif in_errors:
+            errors += line + "\n"
+
+
+def commands_of(folder):
+    for line in (folder / "expected.jsonl").read_text().splitlines():
+        case = json.loads(line)
+        if case["err"] is not None:
+            yield folder, case["words"], case["err"]
+
+
+def plain(value):
+    """The value as JSON has it; a float or a date, which no field takes, as an object."""
+    if isinstance(value, dict):
+        return {key: plain(part) for key, part in value.items()}
+    if isinstance(value, list):
+        return [plain(part) for part in value]
+    if isinstance(value, (bool, int, str)):
+        return value
+    return {"": str(value)}
+
+
+def has_short_rules(document):
+    rules = document.get("rules", [])
+    return isinstance(rules, list) and any(isinstance(rule, dict) and rule.get("each") is True for rule in rules)
+
+
+def answers(folder, words, errors):
+    """The files that a command line reads, each with its kind and the name of its fault; None where nothing is told of it."""
+    files = [word for word in words[1:] if not word.startswith("-")]
+    if not words or words[0] not in ("check", "match", "propose", "run", "migrate") or not files:
+        return
+    found = FAULT.match(errors)
+    if errors.startswith("error:") or re.match(r"ddscheck: [4-8] ", errors):
+        return
+    told = found.groups() if found else None
+    if words[0] != "migrate" or not (told and told[1] == "WrongVersion"):
+        yield folder / files[0], "deployment", told[1] if told and told[0] == "deployment" else ""
+    if words[0] in TAKES_CERTIFICATE and len(files) > 1 and not (told and told[0] == "deployment"):
+        yield folder / files[1], "certificate", told[1] if told else ""
+
+
+def main():
+    try:
+        from jsonschema import Draft202012Validator
+    except ImportError:
+        print("Python's jsonschema is not installed", file=sys.stderr)
+        return 2
+    validators = {}
+    for kind in ("deployment", "certificate"):
+        schema = json.loads((ROOT / f"docs/schemas/{kind}.schema.json").read_text())
+        Draft202012Validator.check_schema(schema)
+        validators[kind] = Draft202012Validator(schema)
+    sources = [commands_of(Path(name)) for name in sys.argv[1:]] or [commands_of_the_repository()]
+    owed = {(path, kind, fault) for source in sources for case in source for path, kind, fault in answers(*case)}
+    passed = failed = 0
+    for path, kind, fault in sorted(owed):
+        if fault and fault not in SEEN:
+            continue
+        try:
+            document = plain(tomllib.loads(path.read_bytes().decode()))
+        except (OSError, ValueError):
+            continue
+        if fault == "TooMany" and has_short_rules(document):
+            continue
+        wrong = next(validators[kind].iter_errors(document), None)
+        if bool(fault) == bool(wrong):
+            passed += 1
+        else:
+            failed += 1
+            print(f"{path}: {kind} {fault or 'without a fault'}: {wrong.message[:200] if wrong else 'passes the schema'}")
+    print(f"{passed} passed, {failed} failed")
+    return 1 if failed or not passed else 0
+
+
+if __name__ == "__main__":
+    sys.exit(main())
