@@ -1,10 +1,10 @@
 //! The thread of an application.
-ghost use Rattle.std.specs.Prelude.{◌≡◌, Some};
+ghost use Rattle.std.specs.Prelude.{◌≡◌, Some, [], ◌∷◌, ◌++◌, IfOk, OnErr};
 ghost use Rattle.dds_peers.specs.Ends.{end_of};
 ghost use Rattle.dds_peers.specs.Kept.{IsCounted, done_by};
 
 use crate::app::{Act, App, Gate};
-use dds_base::{AppNo, Event};
+use dds_base::{AppNo, Event, Reply};
 use dds_book::{Book, BookFault, Gauge, GaugeSeat, Name, Seat};
 use std::sync::Wait;
 use std::time::Clock;
@@ -74,7 +74,29 @@ impl<A: App, N: Name> Player<A, N> {
         self.seat.number()
     }
 
-    // Makes the call, counts it, and lets the application hear. After a fault nothing is counted or heard.
+    // Makes the call, and counts it. After a fault nothing is counted.
+    fn enter<R: Wait>(
+        &mut self,
+        rt: &R,
+        book: &Book<N>,
+        gauge: &Gauge,
+        event: Event,
+    ) -> Result<Reply, BookFault>
+        requires counted { IsCounted gauge.now.table self.old.seat self.old.counter }
+        ensures counted { IsCounted gauge.now.table self.new.seat self.new.counter }
+        ensures number { self.new.seat.number ≡ self.old.seat.number }
+        ensures app { self.new.app ≡ self.old.app }
+        ensures done { IfOk result (λ reply. done_by self.new.seat ≡ done_by self.old.seat ++ (event, reply) ∷ []) }
+        ensures undone { OnErr result (done_by self.new.seat ≡ done_by self.old.seat) }
+    {
+        let reply = book.call(rt, &mut self.seat, event)?;
+        let Ok(_) = gauge.bump(&mut self.counter) else {
+            unreachable!()
+        };
+        Ok(reply)
+    }
+
+    // Makes the call, and lets the application hear what came of it. After a fault nothing is heard.
     fn make<R: Wait>(
         &mut self,
         rt: &R,
@@ -88,10 +110,7 @@ impl<A: App, N: Name> Player<A, N> {
         ensures number { self.new.seat.number ≡ self.old.seat.number }
         ensures diary { done_by self.old.seat ≡ (A.notes self.old.app).entries → done_by self.new.seat ≡ (A.notes self.new.app).entries }
     {
-        let reply = book.call(rt, &mut self.seat, event)?;
-        let Ok(_) = gauge.bump(&mut self.counter) else {
-            unreachable!()
-        };
+        let reply = self.enter(rt, book, gauge, event)?;
         self.app.hear(&reply);
         Ok(())
     }

@@ -1,5 +1,6 @@
 //! The printed text of a run whose applications all stop, however its threads are scheduled.
 use crate::files::{readable, text_of};
+use dds_answers::Stream;
 use dds_files::texts::{PING, PING_CERT};
 use dds_tool::tool;
 use std::alloc::Global;
@@ -16,12 +17,12 @@ fn expect_fifty<R: Threads + Wait + Clock + Sync + Abort>(rt: &R, alloc: Global,
     let words = ["ddscheck", "run", "d", "c", "--fates", fates];
     for time in 0..50 {
         let mut files = readable(PING.as_bytes(), PING_CERT.as_bytes());
-        let mut out = Vec::new(alloc);
-        let mut err = Vec::new(alloc);
+        let mut out = Stream::new(Vec::new(alloc));
+        let mut err = Stream::new(Vec::new(alloc));
         let answer = tool(rt, alloc, words.as_slice(), &mut files, &mut out, &mut err);
-        assert_eq!(rt; text_of(out.as_slice()), ANSWERED, "{fates}, {time}");
-        assert_eq!(rt; text_of(err.as_slice()), "", "{fates}, {time}");
-        assert_eq!(rt; answer, 0, "{fates}, {time}");
+        assert_eq!(rt; text_of(out.writer.as_slice()), ANSWERED, "{fates}, {time}");
+        assert_eq!(rt; text_of(err.writer.as_slice()), "", "{fates}, {time}");
+        assert_eq!(rt; answer.status(), 0, "{fates}, {time}");
     }
 }
 

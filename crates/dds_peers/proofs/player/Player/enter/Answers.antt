@@ -1,6 +1,6 @@
-use Rattle.std.proofs.Common.{Some, ◌+◌, [], ◌∷◌, ◌++◌, ap, sym, ◌∙◌, arith}
+use Rattle.std.proofs.Common.{Some, ◌+◌, ap, sym, ◌∙◌, arith}
 use Rattle.dds_peers.proofs.KeptLaws.{done_more, count_more, count_low}
-use Rattle.dds_peers.proofs.player.Player.make.Goals as goal
+use Rattle.dds_peers.proofs.player.Player.enter.Goals as goal
 
 pub unreachable-requires : goal.unreachable-requires
 unreachable-requires g c =
@@ -21,8 +21,7 @@ returns-clause-counted g c =
       count = ap (λ s. s.count) seat ∙ c.in-Ok.ensures.count ∙ ap (λ n. n + 1) was.count ∙ sym more;
     }
 
-pub returns-clause-diary : goal.returns-clause-diary
-returns-clause-diary g c is =
+pub returns-clause-done : goal.returns-clause-done
+returns-clause-done g c =
     let call = c.in_ok-reply.ensures in
-    let more = done_more g.N.Name.plan c.args.self.now.seat c.call.new.seat c.args.event c.in_ok-reply.reply call.number call.call in
-    more ∙ ap (λ l. l ++ (c.args.event, c.in_ok-reply.reply) ∷ []) is ∙ sym (c.hear.ensures c.args.event c.requires.pending)
+    done_more g.N.Name.plan c.args.self.now.seat c.call.new.seat c.args.event c.in_ok-reply.reply call.number call.call
