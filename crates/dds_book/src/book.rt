@@ -81,10 +81,22 @@ impl<N: Name> Book<N> {
     pub fn wait_change<R: Wait + Clock>(&self, rt: &R, seen: u64) -> Option<u64>
         ensures { IfSome result (λ count. seen < count) }
     {
-        let short = Duration::from_millis(10);
+        self.wait_at_most(rt, seen, Duration::from_millis(10))
+    }
+
+    /// As `wait_change`, for at most 1 ms: for a thread that has more to do, and gives way to the others first.
+    pub fn wait_briefly<R: Wait + Clock>(&self, rt: &R, seen: u64) -> Option<u64>
+        ensures { IfSome result (λ count. seen < count) }
+    {
+        self.wait_at_most(rt, seen, Duration::from_millis(1))
+    }
+
+    fn wait_at_most<R: Wait + Clock>(&self, rt: &R, seen: u64, limit: Duration) -> Option<u64>
+        ensures { IfSome result (λ count. seen < count) }
+    {
         let (state, _) = self
             .changed
-            .wait_timeout_while(rt, self.state.lock(rt), short, |s| s.changes() <= seen);
+            .wait_timeout_while(rt, self.state.lock(rt), limit, |s| s.changes() <= seen);
         let count = state.changes();
         if count > seen { Some(count) } else { None }
     }

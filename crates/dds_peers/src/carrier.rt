@@ -11,6 +11,10 @@ use std::time::Clock;
 /// After so many turns in a row without an event a participant waits for a change. In eight turns it has looked at each kind of packet.
 const QUIET_TURNS: u32 = 8;
 
+/// After so many HEARTBEATs in a row, with nothing else sent between them, a participant gives way after each: whoever is to answer may not have the
+/// processor, and the events that a participant may make would be used up meanwhile.
+const HEARTBEATS: u32 = 8;
+
 /// A participant's seat, and how far its thread has come.
 #[derive(Drop)]
 pub(crate) struct Carrier<N: Name> {
@@ -18,6 +22,7 @@ pub(crate) struct Carrier<N: Name> {
     turn: u64,
     moved: usize,
     quiet: u32,
+    heartbeats: u32,
     seen: u64,
     events: u64,
     is_full: bool,
@@ -33,6 +38,7 @@ impl<N: Name> Carrier<N> {
             turn: 0,
             moved: 0,
             quiet: 0,
+            heartbeats: 0,
             seen: 0,
             events: 0,
             is_full: false,
@@ -46,12 +52,27 @@ impl<N: Name> Carrier<N> {
         self.is_full
     }
 
-    // Counts an event that it made. The next fate comes where a packet of the bus was moved.
+    // Counts an event that it made, which is a change that it has seen. The next fate comes where a packet of the bus was moved.
     fn count(&mut self, event: &Event) {
         self.events = self.events.saturating_add(1);
+        self.seen = self.seen.saturating_add(1);
         self.quiet = 0;
-        if matches!(event, Event::Deliver { .. } | Event::Lose { .. }) {
-            self.moved = self.moved.wrapping_add(1);
+        match event {
+            Event::Deliver { .. } | Event::Lose { .. } => {
+                self.moved = self.moved.wrapping_add(1);
+            }
+            Event::SendHeartbeat { .. } => self.heartbeats = self.heartbeats.saturating_add(1),
+            _ => self.heartbeats = 0,
+        }
+    }
+
+    // Waits for a short time for a change that another thread makes, if it has sent HEARTBEATs alone and this is one more.
+    fn give_way<R: Wait + Clock>(&mut self, rt: &R, book: &Book<N>, event: &Event) {
+        if self.heartbeats <= HEARTBEATS || !matches!(event, Event::SendHeartbeat { .. }) {
+            return;
+        }
+        if let Some(seen) = book.wait_briefly(rt, self.seen) {
+            self.seen = seen;
         }
     }
 
@@ -78,6 +99,7 @@ impl<N: Name> Carrier<N> {
         match answer {
             Ok(Some((event, _))) => {
                 self.count(&event);
+                self.give_way(rt, book, &event);
                 true
             }
             Ok(None) | Err(BookFault::NoMemory) => {

@@ -80,6 +80,8 @@ fn expect_book<N: Name, R: Wait + Clock + Abort>(rt: &R, alloc: Global, kit: Kit
     expect_calls(rt, &book, &mut seats);
     assert_eq!(rt; book.wait_change(rt, 4), Some(5));
     assert_eq!(rt; book.wait_change(rt, 5), None);
+    assert_eq!(rt; book.wait_briefly(rt, 4), Some(5));
+    assert_eq!(rt; book.wait_briefly(rt, 5), None);
     book.stop(rt);
     expect_closed(rt, &book, &mut seats);
     let journal = book.close(rt, seats);
