@@ -108,6 +108,9 @@ sweep propose "$loop/loop.toml" --thorough
 sweep migrate "$ping/ping.toml"
 sweep migrate "$frames/frames.toml"
 sweep migrate "$room/empty.toml"
+sweep show "$ping/ping.toml"
+sweep show "$loop/loop.toml"
+sweep show "$room/empty.toml"
 sweep check "$ping/ping.toml"
 sweep match
 sweep propose

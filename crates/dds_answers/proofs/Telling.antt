@@ -11,7 +11,7 @@ use Rattle.dds_cert.specs.declared.fault.CertFault.{CertFault}
 use Rattle.dds_cert.specs.declared.fault.CertFault.TheVariants.{At, NoMemory}
 use Rattle.dds_answers.specs.declared.fault.ToolFault.{ToolFault}
 use Rattle.dds_answers.specs.declared.fault.ToolFault.TheVariants as fault
-use Rattle.dds_answers.specs.Outcome.{Outcome, comparison, judged}
+use Rattle.dds_answers.specs.Outcome.{Outcome, comparison, judged, showing}
 use Rattle.dds_answers.specs.Report.{Ends, IsCertificateFault, IsDeploymentFault, Tells}
 
 -- the fault of a certificate that could not be read is that of the check
@@ -24,6 +24,11 @@ certificate_told lists read NoMemory t fails is = rw is tt
 pub uncompared_ends : (read : Read Lists) (f : ReadFault) (t : ToolFault) → Fails f read → IsDeploymentFault f t → Ends t (comparison read)
 uncompared_ends read (unread.At flaw) t fails is = rw (is, fails) refl
 uncompared_ends read unread.NoMemory t fails is = rw is tt
+
+-- the fault of a deployment that could not be read is one that its showing can end with
+pub unshown_ends : (read : Read Lists) (f : ReadFault) (t : ToolFault) → Fails f read → IsDeploymentFault f t → Ends t (showing read)
+unshown_ends read (unread.At flaw) t fails is = rw (is, fails) refl
+unshown_ends read unread.NoMemory t fails is = rw is tt
 
 -- what a report tells of the end of a check is given
 pub reported_ends : (e : ToolFault) (end : Outcome) → Tells (Err e) end → Ends e end

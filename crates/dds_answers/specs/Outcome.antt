@@ -9,7 +9,8 @@ use Rattle.dds_check.specs.Accepts.{first_no}
 use Rattle.dds_check.specs.declared.verdict.No.{No}
 
 -- the certificate is accepted, or a condition fails, or the endpoints are compared, or a certificate is proposed or none is found, or a deployment is
--- migrated to this text, or it ran, with these lines, and whether each of its applications stopped, or a file has a flaw, or a file has too many bytes
+-- migrated to this text, or it is shown, or it ran, with these lines, and whether each of its applications stopped, or a file has a flaw, or a
+-- file has too many bytes
 pub data Outcome : Type 0 where
   accepted : Lists → Certificate → Outcome
   refused : No → Lists → Certificate → Outcome
@@ -17,6 +18,7 @@ pub data Outcome : Type 0 where
   proposed : Lists → Certificate → Outcome
   unproposed : Outcome
   migrated : List ℕ → Outcome
+  shown : Lists → Outcome
   ran : List ℕ → Bool → Outcome
   bad_deployment : Flaw → Outcome
   bad_certificate : Flaw → Outcome
@@ -58,3 +60,16 @@ match_outcome d = comparison (deployment.read d)
 -- how a comparison of the endpoints of a file with these bytes ends: it is read whole before it is parsed
 unfoldable pub match_file_outcome : List ℕ → Outcome
 match_file_outcome d = if nat_le (length d) 1048576 then match_outcome d else too_large
+
+-- a deployment is shown, if the bytes are one
+abbrev pub showing : Read Lists → Outcome
+showing (Ok lists) = shown lists
+showing (Err flaw) = bad_deployment flaw
+
+-- how a showing of a deployment with these bytes ends
+unfoldable pub show_outcome : List ℕ → Outcome
+show_outcome d = showing (deployment.read d)
+
+-- how a showing of a file with these bytes ends: it is read whole before it is parsed
+unfoldable pub show_file_outcome : List ℕ → Outcome
+show_file_outcome d = if nat_le (length d) 1048576 then show_outcome d else too_large

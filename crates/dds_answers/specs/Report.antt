@@ -22,7 +22,8 @@ use Rattle.dds_match.specs.Plan.{network_of}
 use Rattle.dds_answers.specs.Matches.{is_as_intended, lines_of}
 use Rattle.dds_cert.specs.Naming.{name_at, reader_key, writer_key, row_name}
 use Rattle.dds_cert.specs.Text.{certificate_text}
-use Rattle.dds_answers.specs.Outcome.{Outcome, accepted, refused, bad_deployment, bad_certificate, too_large, compared, proposed, unproposed, migrated, ran}
+use Rattle.dds_show.specs.Json.{deployment_json}
+use Rattle.dds_answers.specs.Outcome.{Outcome, accepted, refused, bad_deployment, bad_certificate, too_large, compared, proposed, unproposed, migrated, shown, ran}
 use Rattle.dds_answers.specs.declared.fault.ToolFault.{ToolFault}
 use Rattle.dds_answers.specs.declared.fault.ToolFault.TheVariants as fault
 use Rattle.dds_answers.specs.declared.report.Report.{Report}
@@ -96,6 +97,7 @@ output_of (compared d) = lines_of d (length d.writers.entries) (length d.readers
 output_of (proposed d c) = certificate_text d c
 output_of unproposed = codes "none\n"
 output_of (migrated text) = text
+output_of (shown d) = deployment_json d
 output_of (ran lines stopped) = lines
 output_of (bad_deployment flaw) = []
 output_of (bad_certificate flaw) = []
@@ -113,6 +115,7 @@ status_of (compared d) = if is_as_intended (network_of d) then 0 else 1
 status_of (proposed d c) = 0
 status_of unproposed = 1
 status_of (migrated text) = 0
+status_of (shown d) = 0
 status_of (ran lines stopped) = if stopped then 0 else 1
 status_of (bad_deployment flaw) = 2
 status_of (bad_certificate flaw) = 2

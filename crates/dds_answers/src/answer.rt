@@ -3,7 +3,7 @@ ghost use Rattle.std.specs.Prelude.{◌≡◌, ◌≤◌, IfErr, IfOk, IsOk, Ok,
 ghost use Rattle.dds_cert.specs.Views.{certificate_view};
 ghost use Rattle.dds_answers.specs.Answers.{Gives, GivesOneOf, answer_exit};
 ghost use Rattle.dds_answers.specs.Fault.{IsAnswerFault};
-ghost use Rattle.dds_answers.specs.Outcome.{Outcome, compared, match_outcome, outcome, proposed, unproposed};
+ghost use Rattle.dds_answers.specs.Outcome.{Outcome, compared, match_outcome, outcome, proposed, show_outcome, shown, unproposed};
 ghost use Rattle.dds_answers.specs.Migrations.{MayMigrate};
 ghost use Rattle.dds_answers.specs.Proposals.{MayPropose};
 ghost use Rattle.dds_answers.specs.Report.{outcome_of};
@@ -18,6 +18,7 @@ use dds_deploy::{Deployment, migrate, read_deployment};
 use dds_match::Plan;
 use dds_match::planning::plan;
 use dds_propose::propose;
+use dds_show::deployment_json;
 use std::alloc::{AllocError, Global};
 
 /// A text for the output, and whether the answer is yes.
@@ -113,6 +114,28 @@ pub fn match_answer(alloc: Global, deployment: &[u8]) -> Result<Answer, ToolFaul
 {
     match read_deployment(alloc, deployment) {
         Ok(lists) => lists_compared(alloc, lists),
+        Err(fault) => Err(deployment_fault(fault)),
+    }
+}
+
+/// The answer that shows a deployment, which is needed no longer.
+#[tactic(auto, unfolding(crate::specs::Report::output_of, crate::specs::Report::status_of))]
+fn shown(alloc: Global, lists: Deployment) -> Result<Answer, ToolFault>
+    ensures gives { Gives result (shown lists) }
+    ensures fault { IfErr result IsAnswerFault }
+{
+    let answer = answered(deployment_json(alloc, &lists), true);
+    drop(lists);
+    answer
+}
+
+/// The answer of `show` to the bytes of a deployment: yes with the deployment as it was read, in JSON.
+pub fn show_answer(alloc: Global, deployment: &[u8]) -> Result<Answer, ToolFault>
+    ensures gives { Gives result (show_outcome deployment.now) }
+    ensures fault { IfErr result IsAnswerFault }
+{
+    match read_deployment(alloc, deployment) {
+        Ok(lists) => shown(alloc, lists),
         Err(fault) => Err(deployment_fault(fault)),
     }
 }

@@ -3,13 +3,15 @@ ghost use Rattle.std.specs.Prelude.{◌≡◌, ℕ, List, [], ◌∷◌, ◌≤�
 ghost use Rattle.dds_answers.specs.Answers.{Gives, GivesOneOf};
 ghost use Rattle.dds_answers.specs.Causes.{IsFileFault};
 ghost use Rattle.dds_answers.specs.Opened.{Opens, OpensAll};
-ghost use Rattle.dds_answers.specs.Outcome.{Outcome, file_outcome, match_file_outcome};
+ghost use Rattle.dds_answers.specs.Outcome.{Outcome, file_outcome, match_file_outcome, show_file_outcome};
 ghost use Rattle.dds_answers.specs.Migrations.{MayMigrateFor};
 ghost use Rattle.dds_answers.specs.Proposals.{MayProposeFor};
 ghost use Rattle.dds_answers.specs.Searches.{MayFindFor};
 ghost use Rattle.dds_answers.specs.Reading.{IsReadingFault};
 
-use crate::answer::{Answer, check_answer, match_answer, migrate_answer, propose_answer};
+use crate::answer::{
+    Answer, check_answer, match_answer, migrate_answer, propose_answer, show_answer,
+};
 use crate::counted::Counted;
 use crate::fault::ToolFault;
 use crate::reading::read_all;
@@ -115,4 +117,19 @@ pub fn migrate_file<S: Sources>(
         Ok(bytes) => migrate_answer(alloc, bytes.as_slice()),
         Err(fault) => Err(fault),
     }
+}
+
+/// The answer of `show` to a file, which is read whole before it is parsed.
+#[tactic(auto, unfolding(crate::specs::Outcome::show_file_outcome))]
+pub fn show_file<S: Sources>(
+    alloc: Global,
+    deployment: &str,
+    files: &mut S,
+) -> Result<Answer, ToolFault>
+    ensures gives { (d : List ℕ) → S.holds files.old deployment.now ≡ Some d → Gives result (show_file_outcome d) }
+    ensures causes { IfErr result (IsFileFault (S.has_failed files.new)) }
+    ensures opened { OpensAll (S.opened files.old) (S.opened files.new) (deployment.now ∷ []) }
+{
+    let deployment = read_file(alloc, files, deployment)?;
+    show_answer(alloc, deployment.as_slice())
 }

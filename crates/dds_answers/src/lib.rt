@@ -17,12 +17,16 @@ mod report;
 mod sources;
 mod thorough;
 
-pub use answer::{Answer, check_answer, match_answer, migrate_answer, propose_answer, reported};
+pub use answer::{
+    Answer, check_answer, match_answer, migrate_answer, propose_answer, reported, show_answer,
+};
 pub use counted::Counted;
 pub use disk::Disk;
 pub use exit::Exit;
 pub use fault::{ToolFault, exit_of, fault_text};
-pub use files::{check_files, match_file, migrate_file, propose_file, read_file, thorough_file};
+pub use files::{
+    check_files, match_file, migrate_file, propose_file, read_file, show_file, thorough_file,
+};
 pub use giving::{give, print, tell_fault};
 pub use matches::{is_as_intended, match_text};
 pub use output::{Output, Stream};

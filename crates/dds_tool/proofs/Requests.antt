@@ -12,7 +12,7 @@ use Rattle.dds_answers.specs.Exit.{exit_status}
 use Rattle.dds_answers.specs.Fault.{fault_status}
 use Rattle.dds_answers.specs.declared.exit.Exit.{Exit}
 use Rattle.dds_answers.specs.Migrations.{MayMigrateFor}
-use Rattle.dds_answers.specs.Outcome.{Outcome, file_outcome, match_file_outcome, too_large, unproposed}
+use Rattle.dds_answers.specs.Outcome.{Outcome, file_outcome, match_file_outcome, show_file_outcome, too_large, unproposed}
 use Rattle.dds_answers.specs.Report.{Ends, output_of, status_of}
 use Rattle.dds_tool.specs.RunEnds.{GivesRun, MayRun}
 
@@ -129,6 +129,7 @@ answered holds (asked.Match d) given (Ok exit) old new gives written passed = λ
 answered holds (asked.Propose d) given (Ok exit) old new gives written passed = λ x hx. let g = gives x hx in (g.0, g.1, inl (written g.0 g.2))
 answered holds (asked.ProposeThoroughly d) given (Ok exit) old new gives written passed = λ x hx. let g = gives x hx in (g.0, g.1, inl (written g.0 g.2))
 answered holds (asked.Migrate d) given (Ok exit) old new gives written passed = λ x hx. one_said (MayMigrateFor x) given (exit_status exit) old new (gives x hx) written
+answered holds (asked.Show d) given (Ok exit) old new gives written passed = λ x hx. inl (written (show_file_outcome x) (gives x hx))
 answered holds (asked.Run d b wishes) given (Ok exit) old new gives written passed =
     λ x y hx hy. run_said (file_outcome x y) given exit old new (gives x y hx hy) written passed
 answered holds (asked.Check d b) given (Err f) old new gives written passed = tt
@@ -136,6 +137,7 @@ answered holds (asked.Match d) given (Err f) old new gives written passed = tt
 answered holds (asked.Propose d) given (Err f) old new gives written passed = tt
 answered holds (asked.ProposeThoroughly d) given (Err f) old new gives written passed = tt
 answered holds (asked.Migrate d) given (Err f) old new gives written passed = tt
+answered holds (asked.Show d) given (Err f) old new gives written passed = tt
 answered holds (asked.Run d b wishes) given (Err f) old new gives written passed = tt
 
 -- a fault is said of the request by its status, or by 3
@@ -155,6 +157,8 @@ faulted holds (asked.ProposeThoroughly d) given (Err f) old new gives ends nothi
     λ status told x hx. let g = gives x hx in (g.0, g.1, fault_said g.0 f status old new (ends g.0 g.2) nothing told)
 faulted holds (asked.Migrate d) given (Err f) old new gives ends nothing passed =
     λ status told x hx. one_faulted (MayMigrateFor x) given f status old new (gives x hx) ends nothing told
+faulted holds (asked.Show d) given (Err f) old new gives ends nothing passed =
+    λ status told x hx. fault_said (show_file_outcome x) f status old new (ends (show_file_outcome x) (gives x hx)) nothing told
 faulted holds (asked.Run d b wishes) given (Err f) old new gives ends nothing passed =
     λ status told x y hx hy. run_faulted (file_outcome x y) given f status old new (gives x y hx hy) ends nothing (same_fault given f passed) told
 faulted holds (asked.Check d b) given (Ok exit) old new gives ends nothing passed = tt
@@ -162,4 +166,5 @@ faulted holds (asked.Match d) given (Ok exit) old new gives ends nothing passed 
 faulted holds (asked.Propose d) given (Ok exit) old new gives ends nothing passed = tt
 faulted holds (asked.ProposeThoroughly d) given (Ok exit) old new gives ends nothing passed = tt
 faulted holds (asked.Migrate d) given (Ok exit) old new gives ends nothing passed = tt
+faulted holds (asked.Show d) given (Ok exit) old new gives ends nothing passed = tt
 faulted holds (asked.Run d b wishes) given (Ok exit) old new gives ends nothing passed = tt

@@ -18,7 +18,7 @@ use Rattle.dds_tool.specs.declared.request.NoRequest.TheVariants as none
 use Rattle.dds_answers.specs.declared.answer.Answer.{Answer}
 use Rattle.dds_answers.specs.declared.fault.ToolFault.{ToolFault}
 use Rattle.dds_answers.specs.Answers.{Gives, GivesOneOf}
-use Rattle.dds_answers.specs.Outcome.{Outcome, file_outcome, match_file_outcome}
+use Rattle.dds_answers.specs.Outcome.{Outcome, file_outcome, match_file_outcome, show_file_outcome}
 use Rattle.dds_answers.specs.Migrations.{MayMigrateFor}
 use Rattle.dds_answers.specs.Proposals.{MayProposeFor}
 use Rattle.dds_tool.specs.RunEnds.{GivesRun, MayRun}
@@ -65,8 +65,10 @@ top_app = on_top (λ s. record s { subcommand_required = true; has_version = tru
 abbrev pub whole : App
 whole =
     with_subcommand
+    (with_subcommand
     (with_subcommand (with_subcommand (with_subcommand (with_subcommand top_app (one_file (codes "match")).top) (two_files (codes "check")).top) searching.top) running.top)
-    (one_file (codes "migrate")).top
+    (one_file (codes "migrate")).top)
+    (one_file (codes "show")).top
 
 -- the words name the subcommand, and the argument has this text
 abbrev pub Names : List Text → Text → Text → Text → Type 0
@@ -103,6 +105,7 @@ Asks words (asked.Match d) = Names words (codes "match") (codes "deployment") d.
 Asks words (asked.Propose d) = Looks words d.now false
 Asks words (asked.ProposeThoroughly d) = Looks words d.now true
 Asks words (asked.Migrate d) = Names words (codes "migrate") (codes "deployment") d.now
+Asks words (asked.Show d) = Names words (codes "show") (codes "deployment") d.now
 Asks words (asked.Check d c) = Names words (codes "check") (codes "deployment") d.now × Names words (codes "check") (codes "certificate") c.now
 Asks words (asked.Run d c wishes) = Runs words d.now c.now wishes
 
@@ -112,6 +115,7 @@ paths_of (asked.Match d) = d.now ∷ []
 paths_of (asked.Propose d) = d.now ∷ []
 paths_of (asked.ProposeThoroughly d) = d.now ∷ []
 paths_of (asked.Migrate d) = d.now ∷ []
+paths_of (asked.Show d) = d.now ∷ []
 paths_of (asked.Check d c) = d.now ∷ c.now ∷ []
 paths_of (asked.Run d c wishes) = d.now ∷ c.now ∷ []
 
@@ -128,6 +132,7 @@ GivesTo holds (asked.Match d) result = (x : List ℕ) → holds d.now ≡ Some x
 GivesTo holds (asked.Propose d) result = (x : List ℕ) → holds d.now ≡ Some x → (end : Outcome) × MayProposeFor x end × Gives result end
 GivesTo holds (asked.ProposeThoroughly d) result = (x : List ℕ) → holds d.now ≡ Some x → (end : Outcome) × MayFindFor x end × Gives result end
 GivesTo holds (asked.Migrate d) result = (x : List ℕ) → holds d.now ≡ Some x → GivesOneOf (MayMigrateFor x) result
+GivesTo holds (asked.Show d) result = (x : List ℕ) → holds d.now ≡ Some x → Gives result (show_file_outcome x)
 GivesTo holds (asked.Run d c wishes) result = (x y : List ℕ) → holds d.now ≡ Some x → holds c.now ≡ Some y → GivesRun (file_outcome x y) result
 
 -- the status and what is added to the output are those of this end, or memory or a device failed, and the status is 3
@@ -141,5 +146,6 @@ Answers holds (asked.Match d) status old new = (x : List ℕ) → holds d.now �
 Answers holds (asked.Propose d) status old new = (x : List ℕ) → holds d.now ≡ Some x → (end : Outcome) × MayProposeFor x end × Said end status old new
 Answers holds (asked.ProposeThoroughly d) status old new = (x : List ℕ) → holds d.now ≡ Some x → (end : Outcome) × MayFindFor x end × Said end status old new
 Answers holds (asked.Migrate d) status old new = (x : List ℕ) → holds d.now ≡ Some x → (status ≡ 3) ⊎ ((end : Outcome) × MayMigrateFor x end × Said end status old new)
+Answers holds (asked.Show d) status old new = (x : List ℕ) → holds d.now ≡ Some x → Said (show_file_outcome x) status old new
 Answers holds (asked.Run d c wishes) status old new =
     (x y : List ℕ) → holds d.now ≡ Some x → holds c.now ≡ Some y → (status ≡ 3) ⊎ ((end : Outcome) × MayRun (file_outcome x y) end × Said end status old new)

@@ -13,6 +13,7 @@ IsRun (asked.Match d) = ⊥
 IsRun (asked.Propose d) = ⊥
 IsRun (asked.ProposeThoroughly d) = ⊥
 IsRun (asked.Migrate d) = ⊥
+IsRun (asked.Show d) = ⊥
 IsRun (asked.Check d c) = ⊥
 
 -- the faults with which a request can end before anything is written: those of commands on files, and of a run that it came to no end of its own

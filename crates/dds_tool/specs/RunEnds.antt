@@ -7,7 +7,7 @@ use Rattle.dds_answers.specs.declared.answer.Answer.{Answer}
 use Rattle.dds_answers.specs.declared.fault.ToolFault.{ToolFault}
 use Rattle.dds_answers.specs.declared.fault.ToolFault.TheVariants as fault
 use Rattle.dds_answers.specs.Answers.{IsAnswer, SaysNothing}
-use Rattle.dds_answers.specs.Outcome.{Outcome, accepted, refused, compared, proposed, unproposed, migrated, ran, bad_deployment, bad_certificate, too_large}
+use Rattle.dds_answers.specs.Outcome.{Outcome, accepted, refused, compared, proposed, unproposed, migrated, shown, ran, bad_deployment, bad_certificate, too_large}
 use Rattle.dds_answers.specs.Report.{Ends}
 use Rattle.dds_tool.specs.Running.{all_stopped, app_names, run_lines}
 
@@ -21,6 +21,7 @@ MayRun (compared d) end = end ≡ compared d
 MayRun (proposed d c) end = end ≡ proposed d c
 MayRun unproposed end = end ≡ unproposed
 MayRun (migrated text) end = end ≡ migrated text
+MayRun (shown d) end = end ≡ shown d
 MayRun (ran lines stopped) end = end ≡ ran lines stopped
 MayRun (bad_deployment flaw) end = end ≡ bad_deployment flaw
 MayRun (bad_certificate flaw) end = end ≡ bad_certificate flaw

@@ -17,7 +17,7 @@ use crate::running::run_answer;
 use crate::wishes::Wishes;
 use dds_answers::{
     Answer, Exit, Output, Sources, ToolFault, check_files, give, match_file, migrate_file, print,
-    propose_file, read_file, tell_fault, thorough_file,
+    propose_file, read_file, show_file, tell_fault, thorough_file,
 };
 use std::alloc::Global;
 use std::convert::AsStr;
@@ -91,6 +91,7 @@ fn answer_of<R: Threads + Wait + Clock + Sync, S: Sources>(
         Request::Propose { deployment } => propose_file(alloc, deployment, files),
         Request::ProposeThoroughly { deployment } => thorough_file(alloc, deployment, files),
         Request::Migrate { deployment } => migrate_file(alloc, deployment, files),
+        Request::Show { deployment } => show_file(alloc, deployment, files),
         Request::Run {
             deployment,
             certificate,

@@ -53,6 +53,10 @@ pub enum Request<'a> {
     Migrate {
         deployment: &'a str,
     },
+    /// A deployment as it was read, in JSON.
+    Show {
+        deployment: &'a str,
+    },
     /// Whether a certificate shows that a deployment is safe.
     Check {
         deployment: &'a str,
@@ -204,7 +208,13 @@ fn whole_command<'a>(alloc: Global) -> Result<Command<'a>, AllocError>
         "migrate",
         "Prints a deployment file of version 1 as one of version 2",
     )?;
-    with_command(command, migrating)
+    let command = with_command(command, migrating)?;
+    let showing = one_file_command(
+        alloc,
+        "show",
+        "Prints a deployment as it was read, with every field, in JSON",
+    )?;
+    with_command(command, showing)
 }
 
 /// The words are no request, for this reason.
@@ -362,6 +372,17 @@ fn migrate_request<'a>(alloc: Global, matches: &ArgMatches<'a>) -> Result<Reques
     }
 }
 
+fn show_request<'a>(alloc: Global, matches: &ArgMatches<'a>) -> Result<Request<'a>, NoRequest>
+    ensures asked { (words : List Text) → subcommand_of whole words ≡ Some (codes "show", rows_of (found_of matches.now)) → IfOk result (Asks words) }
+    ensures fault { IfErr result (λ e. ¬ IsHelp e) }
+    ensures unasked { (words : List Text) → subcommand_of whole words ≡ Some (codes "show", rows_of (found_of matches.now)) → (r : _) → Asks words r → IfErr result (λ _. ⊥) }
+{
+    match argument(matches, "deployment") {
+        Some(deployment) => Ok(Request::Show { deployment }),
+        None => Err(usage(alloc, "error: a file is missing\n")),
+    }
+}
+
 /// What the words ask for, of which the first is the program's name. Words that the command does not take are `Usage`, unless they ask for help or the
 /// version; words that it takes are never `Help`. No file is opened.
 pub fn read_request<'a, S: AsStr>(alloc: Global, words: &'a [S]) -> Result<Request<'a>, NoRequest>
@@ -376,6 +397,7 @@ pub fn read_request<'a, S: AsStr>(alloc: Global, words: &'a [S]) -> Result<Reque
         Some(("propose", inner)) => propose_request(alloc, inner),
         Some(("run", inner)) => run_request(alloc, inner),
         Some(("migrate", inner)) => migrate_request(alloc, inner),
+        Some(("show", inner)) => show_request(alloc, inner),
         _ => Err(usage(alloc, "error: no such command\n")),
     }
 }

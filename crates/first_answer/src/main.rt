@@ -4,7 +4,7 @@
 
 use dds_answers::{
     Answer, Disk, Sources, Stream, ToolFault, check_files, give, match_file, migrate_file,
-    propose_file, tell_fault,
+    propose_file, show_file, tell_fault,
 };
 use std::alloc::Global;
 use std::env::{self, Env};
@@ -35,6 +35,7 @@ fn answer_to_one<S: Sources>(
         "match" => match_file(alloc, deployment, files),
         "propose" => propose_file(alloc, deployment, files),
         "migrate" => migrate_file(alloc, deployment, files),
+        "show" => show_file(alloc, deployment, files),
         _ => Err(other_words(alloc)),
     }
 }

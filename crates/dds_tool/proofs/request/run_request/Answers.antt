@@ -17,6 +17,9 @@ rows_at (Some p) = p.1
 no_run : (n : ℕ) → n < 114 → n ≡ 114 → ⊥
 no_run n less same = omega (arith, less, same)
 
+no_run_after : (n : ℕ) → 114 < n → n ≡ 114 → ⊥
+no_run_after n more same = omega (arith, more, same)
+
 missing : (text : Text) → None ≡ Some text → ⊥
 missing text e = cc
 
@@ -27,6 +30,7 @@ names_both words rows is (asked.Match d) asks = absurd (no_run 109 (omega arith)
 names_both words rows is (asked.Propose d) asks = absurd (no_run 112 (omega arith) (ap first_byte (sym asks.1 ∙ is)))
 names_both words rows is (asked.ProposeThoroughly d) asks = absurd (no_run 112 (omega arith) (ap first_byte (sym asks.1 ∙ is)))
 names_both words rows is (asked.Migrate d) asks = absurd (no_run 109 (omega arith) (ap first_byte (sym asks.1 ∙ is)))
+names_both words rows is (asked.Show d) asks = absurd (no_run_after 115 (omega arith) (ap first_byte (sym asks.1 ∙ is)))
 names_both words rows is (asked.Check d b) asks = absurd (no_run 99 (omega arith) (ap first_byte (sym asks.0.1 ∙ is)))
 names_both words rows is (asked.Run d b wishes) asks =
     let same : rows ≡ asks.0 = ap rows_at (sym is ∙ asks.1) in

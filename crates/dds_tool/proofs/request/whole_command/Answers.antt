@@ -12,4 +12,5 @@ returns c =
     let second = c.in_ok-command-2.ensures ∙ ap₂ joined first c.in_ok-checking.ensures.app in
     let third = c.in_ok-command-3.ensures ∙ ap₂ joined second c.in_ok-proposing.ensures.app in
     let fourth = c.in_ok-command-4.ensures ∙ ap₂ joined third c.in_ok-running.ensures.app in
-    IfOk-weaker c.with_command-5.result _ _ (λ r h. h ∙ ap₂ joined fourth c.in_ok-migrating.ensures.app) c.with_command-5.ensures
+    let fifth = c.in_ok-command-5.ensures ∙ ap₂ joined fourth c.in_ok-migrating.ensures.app in
+    IfOk-weaker c.with_command-6.result _ _ (λ r h. h ∙ ap₂ joined fifth c.in_ok-showing.ensures.app) c.with_command-6.ensures

@@ -1,0 +1,14 @@
+use Rattle.std.proofs.Common.{ap, subst, sym}
+use Rattle.dds_deploy.specs.Sections.{read}
+use Rattle.dds_answers.specs.Answers.{Gives}
+use Rattle.dds_answers.specs.Outcome.{show_outcome, showing}
+use Rattle.dds_answers.proofs.Telling.{unshown_ends}
+use Rattle.dds_answers.proofs.answer.show_answer.Goals as goal
+
+pub returns-in-Ok-clause-gives : goal.returns-in-Ok-clause-gives
+unfolding show_outcome
+returns-in-Ok-clause-gives c = subst (Gives c.shown.result) (sym (ap showing c.in-Ok.ensures)) c.shown.ensures.gives
+
+pub returns-in-Err-clause-gives : goal.returns-in-Err-clause-gives
+unfolding show_outcome
+returns-in-Err-clause-gives c = unshown_ends (read c.args.deployment.now) c.in-Err.fault c.deployment_fault.result c.in-Err.ensures c.deployment_fault.ensures

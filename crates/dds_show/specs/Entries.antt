@@ -1,0 +1,89 @@
+-- The entries of a deployment's sections in JSON.
+use Rattle.std.specs.Prelude.{codes, ℕ, List, [], ◌++◌, length, slice_get, Option, Some, None}
+use Rattle.std.specs.Fmt.{decimal}
+use Rattle.std.specs.Option.{option_map_or}
+use Rattle.dds_base.specs.declared.portion.Portion.{Portion}
+use Rattle.dds_qos.specs.declared.policies.Policies.{Policies}
+use Rattle.dds_deploy.specs.Lists.{Lists, Participant, Topic, Writer, Reader, Application, Rule, keys_at}
+use Rattle.dds_deploy.specs.Sections.{key_name}
+use Rattle.dds_deploy.specs.declared.sections.Origin.{Origin}
+use Rattle.dds_cert.specs.Naming.{name_at, reader_key, writer_key}
+use Rattle.dds_cert.specs.Text.{each_below}
+use Rattle.dds_show.specs.Pieces.{comma, name_items, quoted}
+use Rattle.dds_show.specs.Policies.{policies_fields}
+
+-- in quotes the name with the number at a place of a list
+abbrev pub numbered_item : List (List ℕ) → List ℕ → ℕ → List ℕ
+numbered_item names numbers i = comma i ++ quoted (option_map_or (name_at names) (slice_get numbers i) [])
+
+-- in quotes the names with these numbers
+abbrev pub numbered_items : List (List ℕ) → List ℕ → List ℕ
+numbered_items names numbers = each_below (length numbers) (numbered_item names numbers)
+
+abbrev pub participant_entry : List ℕ → Participant → List ℕ
+participant_entry name x = codes "{\"name\": \"" ++ (name ++ (codes "\", \"domain\": " ++ (decimal x.domain ++ codes "}")))
+
+abbrev pub topic_entry : List ℕ → Topic → List ℕ
+topic_entry name x =
+    codes "{\"name\": \"" ++ (name ++ (codes "\", \"type\": \"" ++ (x.type_name ++ (codes "\", \"keys\": [" ++ (name_items x.keys ++ codes "]}")))))
+
+-- the fields of a writer or a reader up to its policies: its name, participant and topic
+abbrev pub place_fields : Lists → List ℕ → ℕ → ℕ → List ℕ
+place_fields d name p t =
+    codes "\"name\": \"" ++ (name ++ (codes "\", \"participant\": \"" ++ (name_at d.participants.names p ++ (codes "\", \"topic\": \"" ++ (name_at d.topics.names t ++ codes "\"")))))
+
+-- its policies
+abbrev pub qos_fields : Policies → List (List ℕ) → List ℕ
+qos_fields p partitions = policies_fields p ++ (codes ", \"partitions\": [" ++ (name_items partitions ++ codes "]"))
+
+abbrev pub writer_entry : Lists → List ℕ → Writer → List ℕ
+writer_entry d name x = codes "{" ++ (place_fields d name x.participant x.topic ++ (codes ", " ++ (qos_fields x.qos.offered x.partitions ++ codes "}")))
+
+abbrev pub reader_entry : Lists → List ℕ → Reader → List ℕ
+reader_entry d name x =
+    codes "{" ++ (place_fields d name x.participant x.topic ++ (codes ", \"filter\": [" ++ (numbered_items (keys_at d.topics x.topic) x.filter ++ (codes "], "
+    ++ (qos_fields x.qos.requested x.partitions ++ codes "}")))))
+
+abbrev pub application_entry : Lists → List ℕ → Application → List ℕ
+application_entry d name x =
+    codes "{\"name\": \"" ++ (name ++ (codes "\", \"participant\": \"" ++ (name_at d.participants.names x.participant ++ (codes "\", \"writers\": ["
+    ++ (numbered_items d.writers.names x.writers ++ (codes "], \"readers\": [" ++ (numbered_items d.readers.names x.readers ++ codes "]}")))))))
+
+-- so many samples of a key at an endpoint of this side
+abbrev pub portion_entry : List ℕ → List ℕ → List ℕ → ℕ → List ℕ
+portion_entry side endpoint key count =
+    codes "{\"" ++ (side ++ (codes "\": \"" ++ (endpoint ++ (codes "\", \"key\": \"" ++ (key ++ (codes "\", \"count\": " ++ (decimal count ++ codes "}")))))))
+
+abbrev pub take_entry : Lists → Portion ℕ → List ℕ
+take_entry d x = portion_entry (codes "reader") (name_at d.readers.names x.endpoint) (reader_key d x.endpoint x.key) x.count
+
+abbrev pub write_entry : Lists → Portion ℕ → List ℕ
+write_entry d x = portion_entry (codes "writer") (name_at d.writers.names x.endpoint) (writer_key d x.endpoint x.key) x.count
+
+abbrev pub take_item : Lists → List (Portion ℕ) → ℕ → List ℕ
+take_item d xs i = comma i ++ option_map_or (take_entry d) (slice_get xs i) []
+
+abbrev pub write_item : Lists → List (Portion ℕ) → ℕ → List ℕ
+write_item d xs i = comma i ++ option_map_or (write_entry d) (slice_get xs i) []
+
+-- what a rule takes
+abbrev pub take_items : Lists → List (Portion ℕ) → List ℕ
+take_items d xs = each_below (length xs) (take_item d xs)
+
+-- what a rule writes
+abbrev pub write_items : Lists → List (Portion ℕ) → List ℕ
+write_items d xs = each_below (length xs) (write_item d xs)
+
+-- the name of a rule's entry, and the key where the rule stands for one
+abbrev pub origin_fields : Lists → Option Origin → List ℕ
+origin_fields d None = codes "\"name\": \"\""
+origin_fields d (Some o) =
+    codes "\"name\": \"" ++ (name_at d.rules.names o.name ++ option_map_or (λ k. codes "\", \"key\": \"" ++ (key_name d.topics k.0 k.1 ++ codes "\"")) o.key (codes "\""))
+
+abbrev pub rule_entry : Lists → Option Origin → Rule → List ℕ
+rule_entry d origin x =
+    codes "{" ++ (origin_fields d origin ++ (codes ", \"application\": \"" ++ (name_at d.applications.names x.application ++ (codes "\", \"takes\": [" ++ (take_items d x.takes
+    ++ (codes "], \"writes\": [" ++ (write_items d x.writes ++ (codes "], \"start\": " ++ (decimal x.start ++ codes "}")))))))))
+
+abbrev pub connection_entry : Lists → ℕ × ℕ → List ℕ
+connection_entry d pair = codes "{\"writer\": \"" ++ (name_at d.writers.names pair.0 ++ (codes "\", \"reader\": \"" ++ (name_at d.readers.names pair.1 ++ codes "\"}")))

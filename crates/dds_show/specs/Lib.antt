@@ -1,0 +1,5 @@
+pub mod Words
+pub mod Pieces
+pub mod Policies
+pub mod Entries
+pub mod Json

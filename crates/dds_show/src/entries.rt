@@ -1,0 +1,320 @@
+//! The entries of a deployment's sections in JSON.
+ghost use Rattle.std.specs.Prelude.{◌≡◌, ◌++◌, ◌<◌, IfOk, length, map, string_bytes};
+ghost use Rattle.dds_deploy.specs.Lists.{keys_at};
+ghost use Rattle.dds_deploy.specs.Views.{application_view, participant_view, reader_view, rule_view, topic_view, writer_view};
+ghost use Rattle.dds_cert.specs.Naming.{name_at};
+ghost use Rattle.dds_show.specs.Pieces.{comma, quoted};
+ghost use Rattle.dds_show.specs.Entries.{application_entry, connection_entry, numbered_items, origin_fields, participant_entry, place_fields, portion_entry, qos_fields, reader_entry, rule_entry, take_entry, take_item, take_items, topic_entry, write_entry, write_item, write_items, writer_entry};
+
+use crate::pieces::{comma, name_items, text_items};
+use crate::policies::policies_fields;
+use dds_base::{KeyNo, Names, ParticipantNo, Portion, ReaderNo, TopicNo, WriterNo};
+use dds_cert::naming::{name_at, reader_key, writer_key};
+use dds_deploy::{Application, Deployment, Origin, Participant, Reader, Rule, Topic, Writer};
+use dds_qos::Policies;
+use std::alloc::{AllocError, Global};
+
+/// Adds in quotes the name with a number.
+fn push_numbered(
+    alloc: Global,
+    text: &mut String,
+    names: &Names,
+    number: usize,
+    i: usize,
+) -> Result<(), AllocError>
+    ensures { IfOk result (λ _. string_bytes text.new ≡ string_bytes text.old ++ (comma i ++ quoted (name_at names.now number))) }
+{
+    let comma = comma(i);
+    let name = name_at(names, number);
+    let item = format!(in alloc; "{comma}\"{name}\"")?;
+    text.push_str(item.as_str())
+}
+
+/// In quotes the names of these keys.
+fn key_items(alloc: Global, names: &Names, keys: &[KeyNo]) -> Result<String, AllocError>
+    ensures { IfOk result (λ text. string_bytes text ≡ numbered_items names.now keys.now) }
+{
+    let mut text = String::new(alloc);
+    for i in 0..keys.len() {
+        push_numbered(alloc, &mut text, names, keys[i].number(), i)?;
+    }
+    Ok(text)
+}
+
+/// In quotes the names of these writers.
+fn writer_items(alloc: Global, names: &Names, writers: &[WriterNo]) -> Result<String, AllocError>
+    ensures { IfOk result (λ text. string_bytes text ≡ numbered_items names.now writers.now) }
+{
+    let mut text = String::new(alloc);
+    for i in 0..writers.len() {
+        push_numbered(alloc, &mut text, names, writers[i].number(), i)?;
+    }
+    Ok(text)
+}
+
+/// In quotes the names of these readers.
+fn reader_items(alloc: Global, names: &Names, readers: &[ReaderNo]) -> Result<String, AllocError>
+    ensures { IfOk result (λ text. string_bytes text ≡ numbered_items names.now readers.now) }
+{
+    let mut text = String::new(alloc);
+    for i in 0..readers.len() {
+        push_numbered(alloc, &mut text, names, readers[i].number(), i)?;
+    }
+    Ok(text)
+}
+
+pub(crate) fn participant_entry(
+    alloc: Global,
+    name: &str,
+    x: &Participant,
+) -> Result<String, AllocError>
+    ensures { IfOk result (λ text. string_bytes text ≡ participant_entry name.now (participant_view x.now)) }
+{
+    let domain = x.domain;
+    format!(in alloc; "{{\"name\": \"{name}\", \"domain\": {domain}}}")
+}
+
+pub(crate) fn topic_entry(alloc: Global, name: &str, x: &Topic) -> Result<String, AllocError>
+    ensures { IfOk result (λ text. string_bytes text ≡ topic_entry name.now (topic_view x.now)) }
+{
+    let type_name = x.type_name.as_str();
+    let keys = name_items(alloc, &x.keys)?;
+    format!(in alloc; "{{\"name\": \"{name}\", \"type\": \"{type_name}\", \"keys\": [{keys}]}}")
+}
+
+/// The fields of a writer or a reader up to its policies: its name, participant and topic.
+fn place_fields(
+    alloc: Global,
+    lists: &Deployment,
+    name: &str,
+    participant: ParticipantNo,
+    topic: TopicNo,
+) -> Result<String, AllocError>
+    ensures { IfOk result (λ text. string_bytes text ≡ place_fields lists.now name.now participant topic) }
+{
+    let participant = name_at(lists.participant_names(), participant.number());
+    let topic = name_at(lists.topic_names(), topic.number());
+    format!(in alloc;
+        "\"name\": \"{name}\", \"participant\": \"{participant}\", \"topic\": \"{topic}\""
+    )
+}
+
+/// The policies of a writer or a reader.
+fn qos_fields(alloc: Global, p: &Policies, partitions: &[String]) -> Result<String, AllocError>
+    ensures { IfOk result (λ text. string_bytes text ≡ qos_fields p.now (map string_bytes partitions.now)) }
+{
+    let policies = policies_fields(alloc, p)?;
+    let partitions = text_items(alloc, partitions)?;
+    format!(in alloc; "{policies}, \"partitions\": [{partitions}]")
+}
+
+pub(crate) fn writer_entry(
+    alloc: Global,
+    lists: &Deployment,
+    name: &str,
+    x: &Writer,
+) -> Result<String, AllocError>
+    ensures { IfOk result (λ text. string_bytes text ≡ writer_entry lists.now name.now (writer_view x.now)) }
+{
+    let place = place_fields(alloc, lists, name, x.participant, x.topic)?;
+    let qos = qos_fields(alloc, &x.qos.offered, x.partitions.as_slice())?;
+    format!(in alloc; "{{{place}, {qos}}}")
+}
+
+/// The keys of a topic, in the order of the file: none where there is no such topic.
+fn filter_items(
+    alloc: Global,
+    lists: &Deployment,
+    topic: TopicNo,
+    filter: &[KeyNo],
+) -> Result<String, AllocError>
+    requires { topic < length lists.now.topics.entries }
+    ensures { IfOk result (λ text. string_bytes text ≡ numbered_items (keys_at lists.now.topics topic) filter.now) }
+{
+    key_items(alloc, lists.keys(topic), filter)
+}
+
+pub(crate) fn reader_entry(
+    alloc: Global,
+    lists: &Deployment,
+    name: &str,
+    x: &Reader,
+) -> Result<String, AllocError>
+    requires { x.now.topic < length lists.now.topics.entries }
+    ensures { IfOk result (λ text. string_bytes text ≡ reader_entry lists.now name.now (reader_view x.now)) }
+{
+    let place = place_fields(alloc, lists, name, x.participant, x.topic)?;
+    let filter = filter_items(alloc, lists, x.topic, x.filter.as_slice())?;
+    let qos = qos_fields(alloc, &x.qos.requested, x.partitions.as_slice())?;
+    format!(in alloc; "{{{place}, \"filter\": [{filter}], {qos}}}")
+}
+
+pub(crate) fn application_entry(
+    alloc: Global,
+    lists: &Deployment,
+    name: &str,
+    x: &Application,
+) -> Result<String, AllocError>
+    ensures { IfOk result (λ text. string_bytes text ≡ application_entry lists.now name.now (application_view x.now)) }
+{
+    let participant = name_at(lists.participant_names(), x.participant.number());
+    let writers = writer_items(alloc, lists.writer_names(), x.writers.as_slice())?;
+    let readers = reader_items(alloc, lists.reader_names(), x.readers.as_slice())?;
+    format!(in alloc;
+        "{{\"name\": \"{name}\", \"participant\": \"{participant}\", \"writers\": [{writers}], \"readers\": [{readers}]}}"
+    )
+}
+
+/// So many samples of a key at an endpoint of this side.
+fn portion_entry(
+    alloc: Global,
+    side: &str,
+    endpoint: &str,
+    key: &str,
+    count: u16,
+) -> Result<String, AllocError>
+    ensures { IfOk result (λ text. string_bytes text ≡ portion_entry side.now endpoint.now key.now count) }
+{
+    format!(in alloc; "{{\"{side}\": \"{endpoint}\", \"key\": \"{key}\", \"count\": {count}}}")
+}
+
+fn take_entry(
+    alloc: Global,
+    lists: &Deployment,
+    x: &Portion<ReaderNo>,
+) -> Result<String, AllocError>
+    ensures { IfOk result (λ text. string_bytes text ≡ take_entry lists.now x.now) }
+{
+    let reader = name_at(lists.reader_names(), x.endpoint.number());
+    let key = reader_key(lists, x.endpoint, x.key);
+    portion_entry(alloc, "reader", reader, key, x.count)
+}
+
+fn write_entry(
+    alloc: Global,
+    lists: &Deployment,
+    x: &Portion<WriterNo>,
+) -> Result<String, AllocError>
+    ensures { IfOk result (λ text. string_bytes text ≡ write_entry lists.now x.now) }
+{
+    let writer = name_at(lists.writer_names(), x.endpoint.number());
+    let key = writer_key(lists, x.endpoint, x.key);
+    portion_entry(alloc, "writer", writer, key, x.count)
+}
+
+/// Adds what a rule takes, at a place of its list.
+fn push_take(
+    alloc: Global,
+    text: &mut String,
+    lists: &Deployment,
+    xs: &[Portion<ReaderNo>],
+    i: usize,
+) -> Result<(), AllocError>
+    requires { i < length xs.now }
+    ensures { IfOk result (λ _. string_bytes text.new ≡ string_bytes text.old ++ take_item lists.now xs.now i) }
+{
+    let entry = take_entry(alloc, lists, &xs[i])?;
+    let comma = comma(i);
+    let item = format!(in alloc; "{comma}{entry}")?;
+    text.push_str(item.as_str())
+}
+
+/// What a rule takes.
+fn take_items(
+    alloc: Global,
+    lists: &Deployment,
+    xs: &[Portion<ReaderNo>],
+) -> Result<String, AllocError>
+    ensures { IfOk result (λ text. string_bytes text ≡ take_items lists.now xs.now) }
+{
+    let mut text = String::new(alloc);
+    for i in 0..xs.len() {
+        push_take(alloc, &mut text, lists, xs, i)?;
+    }
+    Ok(text)
+}
+
+/// Adds what a rule writes, at a place of its list.
+fn push_write(
+    alloc: Global,
+    text: &mut String,
+    lists: &Deployment,
+    xs: &[Portion<WriterNo>],
+    i: usize,
+) -> Result<(), AllocError>
+    requires { i < length xs.now }
+    ensures { IfOk result (λ _. string_bytes text.new ≡ string_bytes text.old ++ write_item lists.now xs.now i) }
+{
+    let entry = write_entry(alloc, lists, &xs[i])?;
+    let comma = comma(i);
+    let item = format!(in alloc; "{comma}{entry}")?;
+    text.push_str(item.as_str())
+}
+
+/// What a rule writes.
+fn write_items(
+    alloc: Global,
+    lists: &Deployment,
+    xs: &[Portion<WriterNo>],
+) -> Result<String, AllocError>
+    ensures { IfOk result (λ text. string_bytes text ≡ write_items lists.now xs.now) }
+{
+    let mut text = String::new(alloc);
+    for i in 0..xs.len() {
+        push_write(alloc, &mut text, lists, xs, i)?;
+    }
+    Ok(text)
+}
+
+/// The name of a rule's entry, and the key where the rule stands for one.
+fn origin_fields(
+    alloc: Global,
+    lists: &Deployment,
+    origin: Option<Origin>,
+) -> Result<String, AllocError>
+    ensures { IfOk result (λ text. string_bytes text ≡ origin_fields lists.now origin) }
+{
+    match origin {
+        Some(origin) => {
+            let name = name_at(lists.rule_names(), origin.name);
+            match origin.key {
+                Some((topic, key)) => {
+                    let key = lists.key_name(topic, key);
+                    format!(in alloc; "\"name\": \"{name}\", \"key\": \"{key}\"")
+                }
+                None => format!(in alloc; "\"name\": \"{name}\""),
+            }
+        }
+        None => String::from_str(alloc, "\"name\": \"\""),
+    }
+}
+
+pub(crate) fn rule_entry(
+    alloc: Global,
+    lists: &Deployment,
+    origin: Option<Origin>,
+    x: &Rule,
+) -> Result<String, AllocError>
+    ensures { IfOk result (λ text. string_bytes text ≡ rule_entry lists.now origin (rule_view x.now)) }
+{
+    let origin = origin_fields(alloc, lists, origin)?;
+    let application = name_at(lists.application_names(), x.application.number());
+    let takes = take_items(alloc, lists, x.takes.as_slice())?;
+    let writes = write_items(alloc, lists, x.writes.as_slice())?;
+    let start = x.start;
+    format!(in alloc;
+        "{{{origin}, \"application\": \"{application}\", \"takes\": [{takes}], \"writes\": [{writes}], \"start\": {start}}}"
+    )
+}
+
+pub(crate) fn connection_entry(
+    alloc: Global,
+    lists: &Deployment,
+    pair: (usize, usize),
+) -> Result<String, AllocError>
+    ensures { IfOk result (λ text. string_bytes text ≡ connection_entry lists.now pair) }
+{
+    let writer = name_at(lists.writer_names(), pair.0);
+    let reader = name_at(lists.reader_names(), pair.1);
+    format!(in alloc; "{{\"writer\": \"{writer}\", \"reader\": \"{reader}\"}}")
+}

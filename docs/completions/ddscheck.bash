@@ -1,0 +1,24 @@
+# Completions of ddscheck for bash, made by tools/completions.py from the program's help.
+_ddscheck() {
+    local word=${COMP_WORDS[COMP_CWORD]} before=${COMP_WORDS[COMP_CWORD - 1]} options=""
+    case $before in
+    esac
+    if [ "$COMP_CWORD" = 1 ]; then
+        COMPREPLY=($(compgen -W "match check propose run migrate show help -h --help -V --version" -- "$word"))
+        return
+    fi
+    case ${COMP_WORDS[1]} in
+    help) COMPREPLY=($(compgen -W "match check propose run migrate show help" -- "$word")); return ;;
+    match) options="-h --help" ;;
+    check) options="-h --help" ;;
+    propose) options="--thorough -h --help" ;;
+    run) options="--fates --writes --takes -h --help" ;;
+    migrate) options="-h --help" ;;
+    show) options="-h --help" ;;
+    esac
+    case $word in
+    -*) COMPREPLY=($(compgen -W "$options" -- "$word")) ;;
+    *) COMPREPLY=($(compgen -f -X '!*.toml' -- "$word") $(compgen -d -- "$word")) ;;
+    esac
+}
+complete -o filenames -F _ddscheck ddscheck

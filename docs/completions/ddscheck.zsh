@@ -1,0 +1,53 @@
+#compdef ddscheck
+# Completions of ddscheck for zsh, made by tools/completions.py from the program's help.
+_ddscheck() {
+    local line state
+    _arguments -C '-h[Print help]' '--help[Print help]' '-V[Print version]' '--version[Print version]' '1:command:->command' '*::word:->words'
+    case $state in
+    command)
+        local -a commands=(
+            'match:Tells which writers and readers match, and why others don'\''t'
+            'check:Checks a certificate of a deployment'
+            'propose:Looks for a certificate of a deployment'
+            'run:Runs a deployment that a certificate shows to be safe'
+            'migrate:Prints a deployment file of version 1 as one of version 2'
+            'show:Prints a deployment as it was read, with every field, in JSON'
+            'help:Print this message or the help of the given subcommand(s)'
+        )
+        _describe command commands ;;
+    words)
+        case $line[1] in
+            match) _arguments \
+                '-h[Print help]' \
+                '--help[Print help]' \
+                '1:deployment:_files -g "*.toml"' ;;
+            check) _arguments \
+                '-h[Print help]' \
+                '--help[Print help]' \
+                '1:deployment:_files -g "*.toml"' \
+                '2:certificate:_files -g "*.toml"' ;;
+            propose) _arguments \
+                '--thorough[Searches by linear programming, for the least bounds, and tells which limit has no certificate]' \
+                '-h[Print help]' \
+                '--help[Print help]' \
+                '1:deployment:_files -g "*.toml"' ;;
+            run) _arguments \
+                '--fates[What befalls packets, in a circle: pass, keep, last, lose, with commas \[default: pass\]]:LIST:()' \
+                '--writes[How many samples each application writes \[default: 10\]]:N:()' \
+                '--takes[How many samples each application takes \[default: 10\]]:N:()' \
+                '-h[Print help]' \
+                '--help[Print help]' \
+                '1:deployment:_files -g "*.toml"' \
+                '2:certificate:_files -g "*.toml"' ;;
+            migrate) _arguments \
+                '-h[Print help]' \
+                '--help[Print help]' \
+                '1:deployment:_files -g "*.toml"' ;;
+            show) _arguments \
+                '-h[Print help]' \
+                '--help[Print help]' \
+                '1:deployment:_files -g "*.toml"' ;;
+        esac ;;
+    esac
+}
+_ddscheck "$@"

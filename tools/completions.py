@@ -1,0 +1,256 @@
+#!/usr/bin/env python3
+"""Makes the completions for bash, zsh and fish and the man page from the program's own help.
+
+  tools/completions.py           # writes docs/completions/ddscheck.{bash,zsh,fish} and docs/man/ddscheck.1
+  tools/completions.py --check   # tells which of these files fall behind; the last line is 'N passed, M failed'
+
+The help is read from the stored run of crates/test_commands, which the gate holds equal to what the program prints.
+"""
+import re
+import sys
+from dataclasses import dataclass, field
+from pathlib import Path
+
+ROOT = Path(__file__).resolve().parent.parent
+STORED = ROOT / "crates/test_commands/stdout"
+
+
+@dataclass
+class Option:
+    """An option of a command: its short and long name, what its value is called, and what help says of it."""
+
+    short: str
+    long: str
+    value: str
+    about: str
+
+    def values(self):
+        """The words that its value may be, where help lists them as `A or B`."""
+        words = re.fullmatch(r"([\w-]+(?: or [\w-]+)+)(?: \[default: .*\])?", self.about)
+        return words.group(1).split(" or ") if words else []
+
+
+@dataclass
+class Command:
+    """A command: what it is for, its files and its options."""
+
+    name: str
+    about: str
+    usage: str = ""
+    files: list = field(default_factory=list)
+    options: list = field(default_factory=list)
+
+
+def printed_for(words):
+    """What the program prints for these words, without the line of its status."""
+    lines = STORED.read_text().splitlines()
+    start = lines.index("ddscheck " + words) + 1
+    end = next(at for at in range(start, len(lines)) if re.fullmatch(r"status \d", lines[at]))
+    return lines[start:end]
+
+
+def part_of(lines, heading):
+    """The lines below a heading, up to the next empty line."""
+    if heading not in lines:
+        return []
+    below = lines[lines.index(heading) + 1 :]
+    return below[: below.index("")] if "" in below else below
+
+
+def option_of(line):
+    found = re.fullmatch(r"\s+(?:(-\w), )?\s*(--[\w-]+)(?: <(\w+)>)?\s\s+(.*)", line)
+    short, long, value, about = found.groups()
+    return Option(short or "", long, value or "", about)
+
+
+def command_of(name, about):
+    lines = printed_for(f"help {name}")
+    usage = next(line for line in lines if line.startswith("Usage: ")).removeprefix("Usage: ")
+    files = [re.fullmatch(r"\s+<(\w+)>\s\s+(.*)", line).groups() for line in part_of(lines, "Arguments:")]
+    return Command(name, about, usage, files, [option_of(line) for line in part_of(lines, "Options:")])
+
+
+def commands():
+    for line in part_of(printed_for("--help"), "Commands:"):
+        name, about = re.fullmatch(r"\s+(\w+)\s\s+(.*)", line).groups()
+        yield Command(name, about) if name == "help" else command_of(name, about)
+
+
+def top():
+    lines = printed_for("--help")
+    return lines[0], [option_of(line) for line in part_of(lines, "Options:")]
+
+
+def names_of(options):
+    return " ".join(name for option in options for name in (option.short, option.long) if name)
+
+
+def bash(all_commands, options):
+    names = " ".join(command.name for command in all_commands)
+    cases = "".join(f'    {command.name}) options="{names_of(command.options)}" ;;\n' for command in all_commands if command.usage)
+    values = "".join(
+        f'    {option.long}) COMPREPLY=($(compgen -W "{" ".join(option.values())}" -- "$word")); return ;;\n'
+        for option in {o.long: o for c in all_commands for o in c.options if o.values()}.values()
+    )
+    return f"""# Completions of ddscheck for bash, made by tools/completions.py from the program's help.
+_ddscheck() {{
+    local word=${{COMP_WORDS[COMP_CWORD]}} before=${{COMP_WORDS[COMP_CWORD - 1]}} options=""
+    case $before in
+{values}    esac
+    if [ "$COMP_CWORD" = 1 ]; then
+        COMPREPLY=($(compgen -W "{names} {names_of(options)}" -- "$word"))
+        return
+    fi
+    case ${{COMP_WORDS[1]}} in
+    help) COMPREPLY=($(compgen -W "{names}" -- "$word")); return ;;
+{cases}    esac
+    case $word in
+    -*) COMPREPLY=($(compgen -W "$options" -- "$word")) ;;
+    *) COMPREPLY=($(compgen -f -X '!*.toml' -- "$word") $(compgen -d -- "$word")) ;;
+    esac
+}}
+complete -o filenames -F _ddscheck ddscheck
+"""
+
+
+def quoted(text):
+    return text.replace("'", "'\\''")
+
+
+def zsh_option(option):
+    about = quoted(option.about).replace("[", "\\[").replace("]", "\\]")
+    value = f":{option.value}:({' '.join(option.values())})" if option.value else ""
+    return [f"'{name}[{about}]{value}'" for name in (option.short, option.long) if name]
+
+
+def zsh(all_commands, options):
+    named = "".join(f"            '{command.name}:{quoted(command.about)}'\n" for command in all_commands)
+    cases = ""
+    for command in all_commands:
+        if command.usage:
+            words = [word for option in command.options for word in zsh_option(option)]
+            words += [f"'{at}:{name}:_files -g \"*.toml\"'" for at, (name, _) in enumerate(command.files, 1)]
+            cases += f"            {command.name}) _arguments \\\n" + " \\\n".join(" " * 16 + word for word in words) + " ;;\n"
+    tops = " ".join(word for option in options for word in zsh_option(option))
+    return f"""#compdef ddscheck
+# Completions of ddscheck for zsh, made by tools/completions.py from the program's help.
+_ddscheck() {{
+    local line state
+    _arguments -C {tops} '1:command:->command' '*::word:->words'
+    case $state in
+    command)
+        local -a commands=(
+{named}        )
+        _describe command commands ;;
+    words)
+        case $line[1] in
+{cases}        esac ;;
+    esac
+}}
+_ddscheck "$@"
+"""
+
+
+def fish_option(option, condition):
+    parts = ["complete -c ddscheck", condition]
+    if option.short:
+        parts.append(f"-s {option.short[1:]}")
+    parts.append(f"-l {option.long[2:]}")
+    if option.value:
+        parts.append(f"-x -a '{' '.join(option.values())}'" if option.values() else "-x")
+    parts.append(f"-d '{fish_quoted(option.about)}'")
+    return " ".join(parts) + "\n"
+
+
+def fish_quoted(text):
+    return text.replace("\\", "\\\\").replace("'", "\\'")
+
+
+def fish(all_commands, options):
+    text = "# Completions of ddscheck for fish, made by tools/completions.py from the program's help.\n"
+    text += "complete -c ddscheck -n __fish_use_subcommand -f\n"
+    for command in all_commands:
+        text += f"complete -c ddscheck -n __fish_use_subcommand -a {command.name} -d '{fish_quoted(command.about)}'\n"
+    for option in options:
+        text += fish_option(option, "-n __fish_use_subcommand")
+    for command in all_commands:
+        for option in command.options:
+            text += fish_option(option, f"-n '__fish_seen_subcommand_from {command.name}'")
+    return text
+
+
+def roff(text):
+    return text.replace("\\", "\\e").replace("-", "\\-")
+
+
+def man_options(options):
+    text = ""
+    for option in options:
+        names = ", ".join(f"\\fB{roff(name)}\\fR" for name in (option.short, option.long) if name)
+        value = f" \\fI{option.value}\\fR" if option.value else ""
+        text += f".TP\n{names}{value}\n{roff(option.about)}\n"
+    return text
+
+
+def man(all_commands, options, about):
+    text = f""".\\" The man page of ddscheck, made by tools/completions.py from the program's help.
+.TH DDSCHECK 1
+.SH NAME
+ddscheck \\- {roff(about)}
+.SH SYNOPSIS
+"""
+    text += "".join(f".B {roff(command.usage)}\n.br\n" for command in all_commands if command.usage)
+    text += ".SH OPTIONS\n" + man_options(options) + ".SH COMMANDS\n"
+    for command in all_commands:
+        text += f".SS {command.name}\n{roff(command.about)}.\n"
+        for name, meaning in command.files:
+            text += f".TP\n\\fI{name}\\fR\n{roff(meaning)}\n"
+        text += man_options(command.options)
+    return text + """.SH EXIT STATUS
+.TP
+0
+yes
+.TP
+1
+no
+.TP
+2
+a fault of a file
+.TP
+3
+memory, a file, an output or a run failed
+.TP
+4
+a fault of usage
+"""
+
+
+def pages():
+    about, options = top()
+    all_commands = list(commands())
+    return {
+        "docs/completions/ddscheck.bash": bash(all_commands, options),
+        "docs/completions/ddscheck.zsh": zsh(all_commands, options),
+        "docs/completions/ddscheck.fish": fish(all_commands, options),
+        "docs/man/ddscheck.1": man(all_commands, options, about),
+    }
+
+
+def main(words):
+    failed = 0
+    made = pages()
+    for name, text in made.items():
+        path = ROOT / name
+        if words == ["--check"]:
+            if not path.exists() or path.read_text() != text:
+                failed += 1
+                print(f"failed: {name} falls behind the program's help: run tools/completions.py")
+        else:
+            path.parent.mkdir(parents=True, exist_ok=True)
+            path.write_text(text)
+    if words == ["--check"]:
+        print(f"{len(made) - failed} passed, {failed} failed")
+    return 1 if failed else 0
+
+
+sys.exit(main(sys.argv[1:]))

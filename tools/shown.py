@@ -1,0 +1,145 @@
+#!/usr/bin/env python3
+"""Says what `ddscheck show` owes, by a reading of its own, and holds the built program against it.
+
+  tools/shown.py              # every deployment of crates/test_commands, of the examples and of tools/search-cases
+  tools/shown.py DEPLOYMENT   # prints what is owed for a deployment without a fault
+
+A deployment is read by Python's TOML parser, with the defaults of docs/FORMAT.md, and its rules with `each` are expanded as that page says; the text is put together here
+a second time, and Python's JSON parser has to read the lists out of it. Of a deployment with a fault `show` owes what `match` answers: nothing, the same line
+and the status 2. The last line is 'N passed, M failed'; the status is 1 if one failed.
+"""
+import json
+import subprocess
+import sys
+import tomllib
+from pathlib import Path
+
+ROOT = Path(__file__).resolve().parent.parent
+PROGRAM = ROOT / "crates/ddscheck/out/ddscheck"
+POLICIES = [
+    ("durability", "VOLATILE"),
+    ("access_scope", "INSTANCE"),
+    ("coherent", False),
+    ("ordered", False),
+    ("deadline", "infinite"),
+    ("latency_budget", 0),
+    ("ownership", "SHARED"),
+    ("liveliness", "AUTOMATIC"),
+    ("lease", "infinite"),
+    ("reliability", None),
+    ("destination_order", "BY_RECEPTION_TIMESTAMP"),
+    ("history", "KEEP_LAST"),
+    ("depth", 1),
+    ("max_samples", "unlimited"),
+    ("max_instances", "unlimited"),
+    ("max_samples_per_instance", "unlimited"),
+    ("partitions", []),
+]
+
+
+# What the file says
+
+
+def endpoint(entry, reliability, **more):
+    """All fields of a writer or a reader, with the defaults."""
+    fields = {field: entry[field] for field in ("name", "participant", "topic")} | more
+    for field, default in POLICIES:
+        fields[field] = entry.get(field, reliability if field == "reliability" else default)
+    return fields
+
+
+def rules_of(entry, topics, writers, readers):
+    """The rules that an entry stands for."""
+    takes, writes = entry.get("takes", []), entry.get("writes", [])
+
+    def rule(key, more):
+        start = entry.get("start", 0)
+        lists = {
+            "takes": [{"reader": t["reader"], "key": more.get("key") or t["key"], "count": t["count"]} for t in takes],
+            "writes": [{"writer": w["writer"], "key": more.get("key") or w["key"], "count": w["count"]} for w in writes],
+        }
+        return {"name": entry["name"]} | key | {"application": entry["application"]} | lists | {"start": start}
+
+    if not entry.get("each", False):
+        return [rule({}, {})]
+    sets = [readers[t["reader"]]["filter"] for t in takes] + [topics[writers[w["writer"]]["topic"]] for w in writes]
+    first = readers[takes[0]["reader"]] if takes else writers[writes[0]["writer"]]
+    keys = [key for key in topics[first["topic"]] if all(key in known for known in sets)]
+    return [rule({"key": key}, {"key": key}) for key in keys]
+
+
+def lists_of(path):
+    """Every section, with every field, in the order of the format."""
+    found = tomllib.loads(path.read_bytes().decode("utf-8-sig"))
+    topics = [{"name": t["name"], "type": t["type"], "keys": t["keys"]} for t in found.get("topics", [])]
+    keys = {t["name"]: t["keys"] for t in topics}
+    writers = [endpoint(w, "RELIABLE") for w in found.get("writers", [])]
+    readers = [endpoint(r, "BEST_EFFORT", filter=r.get("filter", keys[r["topic"]])) for r in found.get("readers", [])]
+    by_writer, by_reader = {w["name"]: w for w in writers}, {r["name"]: r for r in readers}
+    connected = {(c["writer"], c["reader"]) for c in found.get("connections", [])}
+    applications = [
+        {"name": a["name"], "participant": a["participant"], "writers": a.get("writers", []), "readers": a.get("readers", [])}
+        for a in found.get("applications", [])
+    ]
+    return {
+        "participants": [{"name": p["name"], "domain": p["domain"]} for p in found.get("participants", [])],
+        "topics": topics,
+        "writers": writers,
+        "readers": readers,
+        "applications": applications,
+        "rules": [rule for entry in found.get("rules", []) for rule in rules_of(entry, keys, by_writer, by_reader)],
+        "connections": [{"writer": w, "reader": r} for w in by_writer for r in by_reader if (w, r) in connected],
+    }
+
+
+# JSON: an entry is a line
+
+
+def json_text(lists):
+    sections = []
+    for name, entries in lists.items():
+        lines = ",".join("\n    " + json.dumps(entry) for entry in entries)
+        sections.append(f'  "{name}": [{lines}\n  ]')
+    return "{\n" + ",\n".join(sections) + "\n}\n"
+
+
+# The built program
+
+
+def answer_of(words):
+    done = subprocess.run([PROGRAM, *words], capture_output=True, check=False)
+    return done.stdout.decode(), done.stderr.decode(), done.returncode
+
+
+def deployments():
+    for folder in ("crates/test_commands/data", "examples", "tools/search-cases"):
+        for path in sorted((ROOT / folder).rglob("*.toml")):
+            if not path.name.endswith(".cert.toml") and "certificates" not in path.parts:
+                yield path
+
+
+def is_as_owed(path):
+    given = answer_of(["show", path])
+    out, err, status = answer_of(["match", path])
+    if status == 2:
+        return given == ("", err, 2)
+    lists = lists_of(path)
+    return given == (json_text(lists), "", 0) and json.loads(given[0]) == lists
+
+
+def main(words):
+    if words:
+        sys.stdout.write(json_text(lists_of(Path(words[0]))))
+        return 0
+    passed = failed = 0
+    for path in deployments():
+        if is_as_owed(path):
+            passed += 1
+        else:
+            failed += 1
+            print(f"failed: show {path.relative_to(ROOT)}")
+    print(f"{passed} passed, {failed} failed")
+    return 1 if failed else 0
+
+
+sys.exit(main(sys.argv[1:]))
