@@ -1,0 +1,27 @@
+// What an application's thread waits for: a change at one of its readers.
+#ifndef CHANGE_H
+#define CHANGE_H
+
+#include <pthread.h>
+#include <stdbool.h>
+#include <stdint.h>
+
+struct change {
+    pthread_mutex_t lock;
+    pthread_cond_t told;
+    uint64_t count;
+};
+
+void open_change(struct change *change);
+void tell_change(struct change *change);
+uint64_t seen_changes(struct change *change);
+
+// Waits at most 10 ms. True where there are more changes than were seen.
+bool wait_change(struct change *change, uint64_t seen);
+
+// Nanoseconds of a clock that only goes forward.
+int64_t now(void);
+
+void sleep_for(int64_t nanoseconds);
+
+#endif

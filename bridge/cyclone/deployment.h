@@ -1,0 +1,81 @@
+// A deployment as `ddscheck show DEPLOYMENT` prints it.
+#ifndef DEPLOYMENT_H
+#define DEPLOYMENT_H
+
+#include <stdbool.h>
+#include <stdint.h>
+
+enum { MOST_KEYS = 64, MOST_PORTIONS = 16, MOST_PARTITIONS = 16 };
+// What stands for "unlimited" and for "infinite".
+#define UNLIMITED (-1)
+#define FOREVER INT64_MAX
+
+struct policies {
+    int durability, access_scope, ownership, liveliness, reliability, destination_order, history;
+    bool coherent, ordered;
+    int64_t deadline, latency_budget, lease;
+    int depth, max_samples, max_instances, max_samples_per_instance;
+    int partitions;
+    const char *partition[MOST_PARTITIONS];
+};
+
+struct participant {
+    const char *name;
+    uint32_t domain;
+};
+
+struct topic {
+    const char *name, *type;
+    int keys;
+    const char *key[MOST_KEYS];
+};
+
+// A writer or a reader. Of a reader `hears` says which keys of the topic its filter lets pass.
+struct endpoint {
+    const char *name;
+    int participant, topic, application;
+    bool hears[MOST_KEYS], has_filter;
+    struct policies policies;
+};
+
+struct application {
+    const char *name;
+    int participant;
+};
+
+struct portion {
+    int endpoint, key;
+    uint64_t count;
+};
+
+struct rule {
+    const char *name;
+    int application, takes, writes;
+    uint64_t start;
+    struct portion take[MOST_PORTIONS], write[MOST_PORTIONS];
+};
+
+struct connection {
+    int writer, reader;
+};
+
+struct deployment {
+    int participants, topics, writers, readers, applications, rules, connections;
+    struct participant *participant;
+    struct topic *topic;
+    struct endpoint *writer, *reader;
+    struct application *application;
+    struct rule *rule;
+    struct connection *connection;
+};
+
+// Reads a file, or ends the program with the status of a bad file.
+struct deployment *read_deployment(const char *path);
+
+// The place of a key's name in a topic, -1 where it has none.
+int key_named(const struct topic *topic, const char *name);
+
+// The limit for one instance of a reader, `UNLIMITED` where it has none.
+int instance_limit(const struct policies *policies);
+
+#endif

@@ -1,0 +1,132 @@
+// Runs a deployment over Eclipse Cyclone DDS: its participants, writers and readers with their policies and limits, and its applications by their rules.
+#include "change.h"
+#include "fault.h"
+#include "meeting.h"
+#include "options.h"
+#include "qos.h"
+#include "report.h"
+#include "worker.h"
+
+#include <stdio.h>
+#include <string.h>
+#include <unistd.h>
+
+// How long the other processes are waited for before the first write, and after they should have ended.
+#define MEETING INT64_C(60000000000)
+#define PARTING INT64_C(30000000000)
+
+// Which participants run in this process.
+static void choose(const struct deployment *lists, const struct options *options, bool *is_here)
+{
+    for (int at = 0; at < lists->participants; at++) {
+        is_here[at] = options->named == 0;
+    }
+    for (int word = 0; word < options->named; word++) {
+        int at = 0;
+        while (at < lists->participants && strcmp(lists->participant[at].name, options->participant[word]) != 0) {
+            at++;
+        }
+        if (at == lists->participants) {
+            fail(STATUS_USAGE, "the deployment has no participant %s", options->participant[word]);
+        }
+        is_here[at] = true;
+    }
+}
+
+static void hold(const struct deployment *lists, const struct options *options, struct worker *workers, int64_t begun)
+{
+    for (int word = 0; word < options->holds; word++) {
+        int at = 0;
+        const struct hold *held = &options->hold[word];
+        while (at < lists->applications && strcmp(lists->application[at].name, held->application) != 0) {
+            at++;
+        }
+        if (at == lists->applications) {
+            fail(STATUS_USAGE, "the deployment has no application %s", held->application);
+        }
+        if (held->after_each) {
+            workers[at].slow = held->milliseconds * 1000000;
+        } else {
+            workers[at].held_until = begun + held->milliseconds * 1000000;
+        }
+    }
+}
+
+// Runs the applications that are here to their ends, each in a thread of its own. Gives when they began.
+static int64_t run(struct cyclone *system, struct worker *workers, const struct options *options)
+{
+    const struct deployment *lists = system->lists;
+    pthread_t threads[MOST_APPLICATIONS];
+    int64_t begun = now();
+    hold(lists, options, workers, begun);
+    for (int at = 0; at < lists->applications; at++) {
+        struct worker *worker = &workers[at];
+        worker->cut_at = begun + (int64_t)options->seconds * 1000000000;
+        worker->idle_waits = options->idle;
+        worker->last_success = begun;
+        if (options->times) {
+            worker->write_times = room(worker->writes, sizeof *worker->write_times);
+            worker->take_times = room(worker->takes, sizeof *worker->take_times);
+        }
+        if (system->is_here[lists->application[at].participant] && pthread_create(&threads[at], NULL, work, worker) != 0) {
+            fail(STATUS_DDS, "no thread can be made");
+        }
+    }
+    for (int at = 0; at < lists->applications; at++) {
+        if (system->is_here[lists->application[at].participant]) {
+            pthread_join(threads[at], NULL);
+        }
+    }
+    return begun;
+}
+
+// Ends the process where Cyclone doesn't come back from taking down its entities.
+static void *end_late(void *status)
+{
+    sleep(3);
+    _exit(*(int *)status);
+}
+
+static _Noreturn void leave(int status)
+{
+    static int kept;
+    pthread_t thread;
+    kept = status;
+    fflush(stdout);
+    if (pthread_create(&thread, NULL, end_late, &kept) == 0) {
+        dds_delete(DDS_CYCLONEDDS_HANDLE);
+    }
+    _exit(status);
+}
+
+int main(int count, char **words)
+{
+    struct options options = read_options(count, words);
+    struct deployment *lists = read_deployment(options.path);
+    if (lists->applications > MOST_APPLICATIONS || lists->participants > MOST_PARTICIPANTS) {
+        fail(STATUS_FILE, "more applications or participants than a deployment may have");
+    }
+    bool is_here[MOST_PARTICIPANTS];
+    choose(lists, &options, is_here);
+    configure(options.tag, options.loss);
+    struct cyclone *system = open_system(lists, is_here);
+    if (options.match) {
+        if (options.named > 0) {
+            fail(STATUS_USAGE, "--match needs all participants in one process");
+        }
+        leave(report_matches(system) ? STATUS_YES : STATUS_NO);
+    }
+    struct meeting meeting = open_meeting(system);
+    struct ledger ledger = open_ledger(lists);
+    struct worker *workers = room((unsigned long)lists->applications, sizeof *workers);
+    for (int at = 0; at < lists->applications; at++) {
+        ready_worker(&workers[at], system, &ledger, at, options.writes, options.takes);
+    }
+    if (!meet(&meeting, now() + MEETING)) {
+        leave(STATUS_NO);
+    }
+    int64_t begun = run(system, workers, &options);
+    // the others began at nearly the same time, and are cut after as many seconds if they were told as many
+    part(&meeting, begun + (int64_t)options.seconds * 1000000000 + PARTING);
+    leave(report_run(system, workers, &options, begun) ? STATUS_YES : STATUS_NO);
+}

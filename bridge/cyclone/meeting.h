@@ -1,0 +1,25 @@
+// Where the processes of a deployment meet: before the first write, and before the first of them leaves.
+#ifndef MEETING_H
+#define MEETING_H
+
+#include "system.h"
+
+enum stage { STAGE_AWAY, STAGE_MATCHED, STAGE_ENDED };
+
+struct meeting {
+    struct cyclone *system;
+    dds_entity_t participant, reader, writer;
+    bool is_alone;
+    enum stage *stage;
+};
+
+// Opens the meeting. Where all participants are in this process there is nobody to meet.
+struct meeting open_meeting(struct cyclone *system);
+
+// Waits until all intended pairs with an endpoint here have matched, and all other processes say the same. What is missing is told where time runs out: false.
+bool meet(struct meeting *meeting, int64_t until);
+
+// Says that all applications here have ended, and waits until those of the others have, or time runs out.
+void part(struct meeting *meeting, int64_t until);
+
+#endif

@@ -1,0 +1,29 @@
+// The words of the command line.
+#ifndef OPTIONS_H
+#define OPTIONS_H
+
+#include "deployment.h"
+
+#include <stdint.h>
+
+enum { MOST_APPLICATIONS = 64, MOST_PARTICIPANTS = 64 };
+
+struct options {
+    const char *path, *tag;
+    int named;
+    const char *participant[MOST_PARTICIPANTS];
+    uint64_t writes, takes;
+    int loss, idle, seconds, holds;
+    // applications that are held back: they begin to take only after so many milliseconds, or wait so long after each circle in which they took
+    struct hold {
+        const char *application;
+        int64_t milliseconds;
+        bool after_each;
+    } hold[2 * MOST_APPLICATIONS];
+    bool match, keys, times;
+};
+
+// Reads the words, or ends the program with the status of a fault of usage.
+struct options read_options(int count, char **words);
+
+#endif

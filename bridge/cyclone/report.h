@@ -1,0 +1,14 @@
+// The lines at the end.
+#ifndef REPORT_H
+#define REPORT_H
+
+#include "options.h"
+#include "worker.h"
+
+// Prints which pairs match, in the words of `ddscheck match`, but without reasons. True where they are the connections.
+bool report_matches(const struct cyclone *system);
+
+// Prints a line for each application and each reader that is here. True where all stopped and no reader that is reliable rejected, lost or took out of order.
+bool report_run(const struct cyclone *system, const struct worker *workers, const struct options *options, int64_t begun);
+
+#endif
