@@ -66,7 +66,7 @@ def option_of(line):
 def command_of(name, about):
     lines = printed_for(f"help {name}")
     usage = next(line for line in lines if line.startswith("Usage: ")).removeprefix("Usage: ")
-    files = [re.fullmatch(r"\s+<(\w+)>\s\s+(.*)", line).groups() for line in part_of(lines, "Arguments:")]
+    files = [re.fullmatch(r"\s+[<\[](\w+)[>\]]\s\s+(.*)", line).groups() for line in part_of(lines, "Arguments:")]
     return Command(name, about, usage, files, [option_of(line) for line in part_of(lines, "Options:")])
 
 

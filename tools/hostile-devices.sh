@@ -56,6 +56,24 @@ pipes() {
     wait
 }
 
+# A file named `-` is standard input, which can be read once: a file, a pipe, closed, and asked for twice.
+standard_input() {
+    "$program" check - "$cert" >"$room/out" 2>"$room/err" <"$ping"
+    expect 'a deployment on standard input' $? 0 "$yes" ''
+    "$program" check "$ping" - >"$room/out" 2>"$room/err" <"$cert"
+    expect 'a certificate on standard input' $? 0 "$yes" ''
+    cat "$ping" | "$program" check - "$cert" >"$room/out" 2>"$room/err"
+    expect 'a pipe on standard input' $? 0 "$yes" ''
+    "$program" check - "$cert" >"$room/out" 2>"$room/err" <"$room"
+    expect 'a folder on standard input' $? 3 '' 'ddscheck: 5 Read'
+    "$program" check - "$cert" >"$room/out" 2>"$room/err" <&-
+    expect 'a deployment on a closed standard input' $? 3 '' 'ddscheck: 5 Read'
+    for command in check run draw; do
+        "$program" $command - - >"$room/out" 2>"$room/err" <"$ping"
+        expect "both files of $command on standard input" $? 4 '' 'error: standard input can be read only once'
+    done
+}
+
 outputs() {
     "$program" check "$ping" "$cert" >/dev/full 2>"$room/err" </dev/null
     status=$?
@@ -122,6 +140,7 @@ signals() {
 [ -x "$program" ] || { echo "failed: there is no program at $program" && echo '0 passed, 1 failed' && exit 1; }
 inputs
 pipes
+standard_input
 outputs
 memory
 signals

@@ -89,11 +89,14 @@ ping=$here/examples/ping
 loop=$here/examples/loop
 frames=$here/examples/frames
 : >"$room/empty.toml"
+sed 's/^start = .*/start = 2000000/' "$loop/loop.toml" >"$room/loop_of_many.toml"
 sweep check "$ping/ping.toml" "$ping/ping.cert.toml"
 if cmp -s "$room/want.out" "$here/crates/ddscheck/stdout"; then pass; else fail 'the output for examples/ping is not the one in crates/ddscheck/stdout'; fi
 sweep check "$loop/loop.toml" "$loop/loop.cert.toml"
 sweep check "$loop/loop.toml" "$ping/ping.cert.toml"
 sweep check "$frames/frames.toml" "$frames/frames.cert.toml"
+sweep check "$ping/ping.toml" "$ping/ping.cert.toml" --explain
+sweep check "$room/loop_of_many.toml" "$loop/loop.cert.toml" --explain
 sweep check "$room/empty.toml" "$ping/ping.cert.toml"
 sweep check "$room/missing.toml" "$ping/ping.cert.toml"
 sweep match "$ping/ping.toml"
@@ -111,6 +114,9 @@ sweep migrate "$room/empty.toml"
 sweep show "$ping/ping.toml"
 sweep show "$loop/loop.toml"
 sweep show "$room/empty.toml"
+sweep show "$ping/ping.toml" --format dds-xml
+sweep draw "$ping/ping.toml"
+sweep draw "$loop/loop.toml" "$loop/loop.cert.toml"
 sweep check "$ping/ping.toml"
 sweep match
 sweep propose

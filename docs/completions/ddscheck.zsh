@@ -11,7 +11,8 @@ _ddscheck() {
             'propose:Looks for a certificate of a deployment'
             'run:Runs a deployment that a certificate shows to be safe'
             'migrate:Prints a deployment file of version 1 as one of version 2'
-            'show:Prints a deployment as it was read, with every field, in JSON'
+            'show:Prints a deployment as it was read, with every field'
+            'draw:Prints a picture of a deployment, for Graphviz'
             'help:Print this message or the help of the given subcommand(s)'
         )
         _describe command commands ;;
@@ -22,6 +23,7 @@ _ddscheck() {
                 '--help[Print help]' \
                 '1:deployment:_files -g "*.toml"' ;;
             check) _arguments \
+                '--explain[Tells the reason too: the numbers behind a refusal, or how near each bound is to its limit]' \
                 '-h[Print help]' \
                 '--help[Print help]' \
                 '1:deployment:_files -g "*.toml"' \
@@ -44,9 +46,15 @@ _ddscheck() {
                 '--help[Print help]' \
                 '1:deployment:_files -g "*.toml"' ;;
             show) _arguments \
+                '--format[json or dds-xml \[default: json\]]:FORMAT:(json dds-xml)' \
                 '-h[Print help]' \
                 '--help[Print help]' \
                 '1:deployment:_files -g "*.toml"' ;;
+            draw) _arguments \
+                '-h[Print help]' \
+                '--help[Print help]' \
+                '1:deployment:_files -g "*.toml"' \
+                '2:certificate:_files -g "*.toml"' ;;
         esac ;;
     esac
 }

@@ -2,5 +2,4 @@ mod Telling
 mod Proposals
 pub mod Searches
 mod Migrations
-pub mod Names
 pub mod Opened

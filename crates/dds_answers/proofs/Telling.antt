@@ -1,17 +1,20 @@
 -- How a check ends, and what is told of it.
-use Rattle.std.proofs.Common.{◌≤◌, Err, refl, arith}
-use Rattle.dds_fields.specs.Reading.{Read}
+use Rattle.std.proofs.Common.{ℕ, ◌≡◌, List, Option, Err, refl, string_bytes}
+use Rattle.dds_fields.specs.Reading.{Flaw, Read}
 use Rattle.dds_fields.specs.Gives.{Fails, FailsAs}
 use Rattle.dds_fields.specs.declared.fault.ReadFault.{ReadFault}
 use Rattle.dds_fields.specs.declared.fault.ReadFault.TheVariants as unread
 use Rattle.dds_deploy.specs.Lists.{Lists}
 use Rattle.dds_cert.specs.Lists.{Certificate}
-use Rattle.dds_cert.specs.Faults.{cert_flaw}
+use Rattle.dds_cert.specs.Faults.{cert_flaw, kind_of}
 use Rattle.dds_cert.specs.declared.fault.CertFault.{CertFault}
 use Rattle.dds_cert.specs.declared.fault.CertFault.TheVariants.{At, NoMemory}
 use Rattle.dds_answers.specs.declared.fault.ToolFault.{ToolFault}
 use Rattle.dds_answers.specs.declared.fault.ToolFault.TheVariants as fault
-use Rattle.dds_answers.specs.Outcome.{Outcome, comparison, judged, showing}
+use Rattle.dds_answers.specs.declared.format.Format.{Format}
+use Rattle.dds_answers.specs.declared.report.Detail.{Detail}
+use Rattle.dds_answers.specs.declared.report.Detail.TheVariants.{Plain, Explained}
+use Rattle.dds_answers.specs.Outcome.{Outcome, bad_certificate, bad_deployment, comparison, drawing, drawing_with, judged, showing, told}
 use Rattle.dds_answers.specs.Report.{Ends, IsCertificateFault, IsDeploymentFault, Tells}
 
 -- the fault of a certificate that could not be read is that of the check
@@ -26,17 +29,37 @@ uncompared_ends read (unread.At flaw) t fails is = rw (is, fails) refl
 uncompared_ends read unread.NoMemory t fails is = rw is tt
 
 -- the fault of a deployment that could not be read is one that its showing can end with
-pub unshown_ends : (read : Read Lists) (f : ReadFault) (t : ToolFault) → Fails f read → IsDeploymentFault f t → Ends t (showing read)
-unshown_ends read (unread.At flaw) t fails is = rw (is, fails) refl
-unshown_ends read unread.NoMemory t fails is = rw is tt
+pub unshown_ends : (format : Format) (read : Read Lists) (f : ReadFault) (t : ToolFault) → Fails f read → IsDeploymentFault f t → Ends t (showing format read)
+unshown_ends format read (unread.At flaw) t fails is = rw (is, fails) refl
+unshown_ends format read unread.NoMemory t fails is = rw is tt
 
--- what a report tells of the end of a check is given
-pub reported_ends : (e : ToolFault) (end : Outcome) → Tells (Err e) end → Ends e end
-reported_ends (fault.Deployment flaw) end tells = tells
-reported_ends (fault.Certificate flaw) end tells = tells
-reported_ends fault.NoMemory end tells = tt
-reported_ends (fault.Usage text) end tells = absurd tells
-reported_ends fault.TooLarge end tells = absurd tells
-reported_ends fault.Read end tells = absurd tells
-reported_ends fault.Write end tells = absurd tells
-reported_ends fault.Run end tells = absurd tells
+-- the fault of a deployment that could not be read is one that its drawing can end with
+pub undrawn_ends : (c : Option (List ℕ)) (read : Read Lists) (f : ReadFault) (t : ToolFault) → Fails f read → IsDeploymentFault f t → Ends t (drawing read c)
+undrawn_ends c read (unread.At flaw) t fails is = rw (is, fails) refl
+undrawn_ends c read unread.NoMemory t fails is = rw is tt
+
+-- the fault of a certificate that could not be read is one that the drawing of its deployment can end with
+pub undrawn_with_ends : (lists : Lists) (read : Read Certificate) (f : CertFault) (t : ToolFault) → FailsAs (cert_flaw f) read → IsCertificateFault f t
+    → Ends t (drawing_with lists read)
+undrawn_with_ends lists read (At flaw) t fails is = rw (is, fails) refl
+undrawn_with_ends lists read NoMemory t fails is = rw is tt
+
+-- a bad file has no reason
+bad_deployment_told : (detail : Detail) (flaw : Flaw) → told detail (bad_deployment flaw) ≡ bad_deployment flaw
+bad_deployment_told Plain flaw = refl
+bad_deployment_told Explained flaw = refl
+
+bad_certificate_told : (detail : Detail) (flaw : Flaw) → told detail (bad_certificate flaw) ≡ bad_certificate flaw
+bad_certificate_told Plain flaw = refl
+bad_certificate_told Explained flaw = refl
+
+-- what a report tells of the end of a check is given, with its reason or without
+pub reported_ends : (detail : Detail) (e : ToolFault) (end : Outcome) → Tells (Err e) end → Ends e (told detail end)
+reported_ends detail (fault.Deployment flaw) end tells = rw tells (bad_deployment_told detail (flaw.kind, string_bytes flaw.path))
+reported_ends detail (fault.Certificate flaw) end tells = rw tells (bad_certificate_told detail (kind_of flaw.kind, string_bytes flaw.path))
+reported_ends detail fault.NoMemory end tells = tt
+reported_ends detail (fault.Usage text) end tells = absurd tells
+reported_ends detail fault.TooLarge end tells = absurd tells
+reported_ends detail fault.Read end tells = absurd tells
+reported_ends detail fault.Write end tells = absurd tells
+reported_ends detail fault.Run end tells = absurd tells

@@ -1,22 +1,13 @@
 -- The lines that tell which endpoints match, and whether these are the connections.
-use Rattle.std.specs.Prelude.{ℕ, Bool, not, if◌then◌else◌, List, ◌++◌, codes, filter, Option, Some, None}
-use Rattle.std.specs.List.{join_by}
-use Rattle.dds_qos.specs.Compatibility.{contains, name_of, policies}
+use Rattle.std.specs.Prelude.{ℕ, Bool, not, if◌then◌else◌, List, ◌++◌, codes, Option, Some, None}
 use Rattle.dds_deploy.specs.Lists.{Lists}
 use Rattle.dds_match.specs.Matching.{why_not}
 use Rattle.dds_match.specs.Network.{Network}
 use Rattle.dds_match.specs.declared.matching.WhyNot.{WhyNot}
-use Rattle.dds_match.specs.declared.matching.WhyNot.TheVariants.{OtherDomain, OtherTopic, Partitions, Policies}
 use Rattle.dds_check.specs.First.{all_below}
 use Rattle.dds_cert.specs.Naming.{name_at}
 use Rattle.dds_cert.specs.Text.{each_below}
-
--- a reason in words; of incompatible policies their names, with commas between them
-abbrev pub reason_words : WhyNot → List ℕ
-reason_words OtherDomain = codes "domain"
-reason_words OtherTopic = codes "topic"
-reason_words Partitions = codes "partition"
-reason_words (Policies set) = codes "policies " ++ join_by name_of (codes ",") (filter (contains set) policies)
+use Rattle.dds_show.specs.Reasons.{reason_words}
 
 -- the line of a pair with these names that matches, or doesn't for this reason
 abbrev pub line_of : List ℕ → List ℕ → Option WhyNot → List ℕ

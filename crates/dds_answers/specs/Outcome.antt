@@ -1,5 +1,8 @@
 -- How a command on files ends.
 use Rattle.std.specs.Prelude.{ℕ, Bool, List, length, nat_le, ◌&&◌, Option, Some, None, Ok, Err, if◌then◌else◌}
+use Rattle.dds_answers.specs.declared.format.Format.{Format}
+use Rattle.dds_answers.specs.declared.report.Detail.{Detail}
+use Rattle.dds_answers.specs.declared.report.Detail.TheVariants.{Plain, Explained}
 use Rattle.dds_fields.specs.Reading.{Read, Flaw}
 use Rattle.dds_deploy.specs.Lists.{Lists}
 use Rattle.dds_deploy.specs.Sections as deployment
@@ -8,17 +11,20 @@ use Rattle.dds_cert.specs.Sections as certificate
 use Rattle.dds_check.specs.Accepts.{first_no}
 use Rattle.dds_check.specs.declared.verdict.No.{No}
 
--- the certificate is accepted, or a condition fails, or the endpoints are compared, or a certificate is proposed or none is found, or a deployment is
--- migrated to this text, or it is shown, or it ran, with these lines, and whether each of its applications stopped, or a file has a flaw, or a
--- file has too many bytes
+-- the certificate is accepted, or a condition fails, and either may be told with its reason, or the endpoints are compared, or a certificate is proposed or
+-- none is found, or a deployment is migrated to this text, or it is shown in a format, or it is drawn, with its certificate if there is one, or it ran,
+-- with these lines, and whether each of its applications stopped, or a file has a flaw, or a file has too many bytes
 pub data Outcome : Type 0 where
   accepted : Lists → Certificate → Outcome
   refused : No → Lists → Certificate → Outcome
+  accepted_because : Lists → Certificate → Outcome
+  refused_because : No → Lists → Certificate → Outcome
   compared : Lists → Outcome
   proposed : Lists → Certificate → Outcome
   unproposed : Outcome
   migrated : List ℕ → Outcome
-  shown : Lists → Outcome
+  shown : Format → Lists → Outcome
+  drawn : Lists → Option Certificate → Outcome
   ran : List ℕ → Bool → Outcome
   bad_deployment : Flaw → Outcome
   bad_certificate : Flaw → Outcome
@@ -44,9 +50,32 @@ planned (Err flaw) bytes = bad_deployment flaw
 unfoldable pub outcome : List ℕ → List ℕ → Outcome
 outcome d c = planned (deployment.read d) c
 
--- how a check of two files with these bytes ends: both are read whole before either is parsed
+-- the end of a check with its reason, which a bad file has none of
+abbrev pub because : Outcome → Outcome
+because (accepted lists cert) = accepted_because lists cert
+because (refused first lists cert) = refused_because first lists cert
+because end = end
+
+-- the end of a check, plainly or with its reason
+abbrev pub told : Detail → Outcome → Outcome
+told Plain end = end
+told Explained end = because end
+
+-- this end of a command on a file with these bytes, if it isn't too large: it is read whole before it is parsed
+abbrev pub of_file : List ℕ → Outcome → Outcome
+of_file d end = if nat_le (length d) 1048576 then end else too_large
+
+-- this end of a command on two files with these bytes, if neither is too large: both are read whole before either is parsed
+abbrev pub of_files : List ℕ → List ℕ → Outcome → Outcome
+of_files d c end = if nat_le (length d) 1048576 && nat_le (length c) 1048576 then end else too_large
+
+-- how a check of two files with these bytes ends
 unfoldable pub file_outcome : List ℕ → List ℕ → Outcome
-file_outcome d c = if nat_le (length d) 1048576 && nat_le (length c) 1048576 then outcome d c else too_large
+file_outcome d c = of_files d c (outcome d c)
+
+-- how it is told
+unfoldable pub check_file_outcome : Detail → List ℕ → List ℕ → Outcome
+check_file_outcome detail d c = of_files d c (told detail (outcome d c))
 
 -- the endpoints are compared, if the deployment has some
 abbrev pub comparison : Read Lists → Outcome
@@ -57,19 +86,39 @@ comparison (Err flaw) = bad_deployment flaw
 unfoldable pub match_outcome : List ℕ → Outcome
 match_outcome d = comparison (deployment.read d)
 
--- how a comparison of the endpoints of a file with these bytes ends: it is read whole before it is parsed
+-- how a comparison of the endpoints of a file with these bytes ends
 unfoldable pub match_file_outcome : List ℕ → Outcome
-match_file_outcome d = if nat_le (length d) 1048576 then match_outcome d else too_large
+match_file_outcome d = of_file d (match_outcome d)
 
 -- a deployment is shown, if the bytes are one
-abbrev pub showing : Read Lists → Outcome
-showing (Ok lists) = shown lists
-showing (Err flaw) = bad_deployment flaw
+abbrev pub showing : Format → Read Lists → Outcome
+showing format (Ok lists) = shown format lists
+showing format (Err flaw) = bad_deployment flaw
 
 -- how a showing of a deployment with these bytes ends
-unfoldable pub show_outcome : List ℕ → Outcome
-show_outcome d = showing (deployment.read d)
+unfoldable pub show_outcome : Format → List ℕ → Outcome
+show_outcome format d = showing format (deployment.read d)
 
--- how a showing of a file with these bytes ends: it is read whole before it is parsed
-unfoldable pub show_file_outcome : List ℕ → Outcome
-show_file_outcome d = if nat_le (length d) 1048576 then show_outcome d else too_large
+-- how a showing of a file with these bytes ends
+unfoldable pub show_file_outcome : Format → List ℕ → Outcome
+show_file_outcome format d = of_file d (show_outcome format d)
+
+-- a deployment is drawn with its certificate, if it is one for these lists
+abbrev pub drawing_with : Lists → Read Certificate → Outcome
+drawing_with lists (Ok cert) = drawn lists (Some cert)
+drawing_with lists (Err flaw) = bad_certificate flaw
+
+-- a deployment is drawn, if the bytes are one, with the certificate of these bytes, if there are some
+abbrev pub drawing : Read Lists → Option (List ℕ) → Outcome
+drawing (Ok lists) None = drawn lists None
+drawing (Ok lists) (Some bytes) = drawing_with lists (certificate.read lists bytes)
+drawing (Err flaw) c = bad_deployment flaw
+
+-- how a drawing of a deployment with these bytes ends
+unfoldable pub draw_outcome : List ℕ → Option (List ℕ) → Outcome
+draw_outcome d c = drawing (deployment.read d) c
+
+-- how a drawing of a file with these bytes, and of a second one if there is one, ends
+unfoldable pub draw_file_outcome : List ℕ → Option (List ℕ) → Outcome
+draw_file_outcome d None = of_file d (draw_outcome d None)
+draw_file_outcome d (Some c) = of_files d c (draw_outcome d (Some c))

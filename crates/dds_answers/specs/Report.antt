@@ -23,7 +23,12 @@ use Rattle.dds_answers.specs.Matches.{is_as_intended, lines_of}
 use Rattle.dds_cert.specs.Naming.{name_at, reader_key, writer_key, row_name}
 use Rattle.dds_cert.specs.Text.{certificate_text}
 use Rattle.dds_show.specs.Json.{deployment_json}
-use Rattle.dds_answers.specs.Outcome.{Outcome, accepted, refused, bad_deployment, bad_certificate, too_large, compared, proposed, unproposed, migrated, shown, ran}
+use Rattle.dds_xml.specs.Document.{deployment_xml}
+use Rattle.dds_draw.specs.Picture.{drawing}
+use Rattle.dds_explain.specs.Explanation.{margins, reason}
+use Rattle.dds_answers.specs.declared.format.Format.{Format}
+use Rattle.dds_answers.specs.declared.format.Format.TheVariants.{Json, DdsXml}
+use Rattle.dds_answers.specs.Outcome.{Outcome, accepted, refused, accepted_because, refused_because, bad_deployment, bad_certificate, too_large, compared, proposed, unproposed, migrated, shown, drawn, ran}
 use Rattle.dds_answers.specs.declared.fault.ToolFault.{ToolFault}
 use Rattle.dds_answers.specs.declared.fault.ToolFault.TheVariants as fault
 use Rattle.dds_answers.specs.declared.report.Report.{Report}
@@ -89,19 +94,32 @@ total_line d t = codes "total " ++ (name_at d.readers.names t.reader ++ (codes "
 abbrev pub acceptance_lines : Lists → Certificate → List ℕ
 acceptance_lines d c = (codes "yes\n" ++ flat_map (bound_line d) c.bounds) ++ flat_map (total_line d) c.totals
 
+-- a deployment in a format
+abbrev pub shown_text : Format → Lists → List ℕ
+shown_text Json d = deployment_json d
+shown_text DdsXml d = deployment_xml d
+
 -- what a command writes to its output; of a bad file nothing
 unfoldable pub output_of : Outcome → List ℕ
 output_of (accepted d c) = acceptance_lines d c
 output_of (refused first d c) = refusal_line d c first
+output_of (accepted_because d c) = acceptance_lines d c ++ margins d c
+output_of (refused_because first d c) = refusal_line d c first ++ reason d c first
 output_of (compared d) = lines_of d (length d.writers.entries) (length d.readers.entries)
 output_of (proposed d c) = certificate_text d c
 output_of unproposed = codes "none\n"
 output_of (migrated text) = text
-output_of (shown d) = deployment_json d
+output_of (shown format d) = shown_text format d
+output_of (drawn d c) = drawing d c
 output_of (ran lines stopped) = lines
 output_of (bad_deployment flaw) = []
 output_of (bad_certificate flaw) = []
 output_of too_large = []
+
+-- the lines of the reason of a report
+abbrev pub because_lines : Report → List ℕ
+because_lines (answer.Yes checked) = margins checked.plan checked.certificate
+because_lines (answer.Refused first lists cert) = reason lists (certificate_view cert) first
 
 -- the lines of a report
 abbrev pub report_text_of : Report → List ℕ
@@ -111,11 +129,14 @@ report_text_of report = output_of (outcome_of report)
 unfoldable pub status_of : Outcome → ℕ
 status_of (accepted d c) = 0
 status_of (refused first d c) = 1
+status_of (accepted_because d c) = 0
+status_of (refused_because first d c) = 1
 status_of (compared d) = if is_as_intended (network_of d) then 0 else 1
 status_of (proposed d c) = 0
 status_of unproposed = 1
 status_of (migrated text) = 0
-status_of (shown d) = 0
+status_of (shown format d) = 0
+status_of (drawn d c) = 0
 status_of (ran lines stopped) = if stopped then 0 else 1
 status_of (bad_deployment flaw) = 2
 status_of (bad_certificate flaw) = 2

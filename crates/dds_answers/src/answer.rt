@@ -1,24 +1,26 @@
 //! What each command answers to the bytes of its files.
-ghost use Rattle.std.specs.Prelude.{◌≡◌, ◌≤◌, IfErr, IfOk, IsOk, Ok, OnOk};
+ghost use Rattle.std.specs.Prelude.{◌≡◌, ◌≤◌, IfErr, IfOk, IsOk, Ok, OnOk, string_bytes};
 ghost use Rattle.dds_cert.specs.Views.{certificate_view};
 ghost use Rattle.dds_answers.specs.Answers.{Gives, GivesOneOf, answer_exit};
 ghost use Rattle.dds_answers.specs.Fault.{IsAnswerFault};
-ghost use Rattle.dds_answers.specs.Outcome.{Outcome, compared, match_outcome, outcome, proposed, show_outcome, shown, unproposed};
+ghost use Rattle.dds_answers.specs.Outcome.{Outcome, compared, match_outcome, outcome, proposed, show_outcome, shown, told, unproposed};
 ghost use Rattle.dds_answers.specs.Migrations.{MayMigrate};
 ghost use Rattle.dds_answers.specs.Proposals.{MayPropose};
-ghost use Rattle.dds_answers.specs.Report.{outcome_of};
+ghost use Rattle.dds_answers.specs.Report.{outcome_of, shown_text};
 ghost use Rattle.dds_deploy.specs.Sections.{read as deployment_read, read_up_to};
 
 use crate::exit::Exit;
 use crate::fault::ToolFault;
+use crate::format::Format;
 use crate::matches::{is_as_intended, match_text};
-use crate::report::{Report, answer_check, deployment_fault, report_text};
+use crate::report::{Detail, Report, answer_check, deployment_fault, detailed_text};
 use dds_cert::{Certificate, certificate_text};
 use dds_deploy::{Deployment, migrate, read_deployment};
 use dds_match::Plan;
 use dds_match::planning::plan;
 use dds_propose::propose;
 use dds_show::deployment_json;
+use dds_xml::deployment_xml;
 use std::alloc::{AllocError, Global};
 
 /// A text for the output, and whether the answer is yes.
@@ -40,7 +42,7 @@ impl Answer {
 }
 
 /// The answer with a text, if there was memory for it.
-fn answered(text: Result<String, AllocError>, is_yes: bool) -> Result<Answer, ToolFault>
+pub(crate) fn answered(text: Result<String, AllocError>, is_yes: bool) -> Result<Answer, ToolFault>
     ensures answer { IfOk result (λ a. (a.is_yes ≡ is_yes) × IfOk text (λ t. a.text ≡ t)) }
     ensures text { OnOk result (IsOk text) }
     ensures memory { IfErr result (λ e. e ≡ ToolFault.NoMemory) }
@@ -55,29 +57,31 @@ fn answered(text: Result<String, AllocError>, is_yes: bool) -> Result<Answer, To
     }
 }
 
-/// The answer that tells a report, which is needed no longer: yes where the certificate is accepted.
-#[tactic(auto, unfolding(crate::specs::Report::output_of, crate::specs::Report::status_of))]
-pub fn reported(alloc: Global, report: Report) -> Result<Answer, ToolFault>
-    ensures gives { Gives result (outcome_of report) }
+/// The answer that tells a report, which is needed no longer: yes where the certificate is accepted. Its reason comes after it where it is asked for.
+#[tactic(auto, unfolding(crate::specs::Report::status_of))]
+pub fn reported(alloc: Global, report: Report, detail: Detail) -> Result<Answer, ToolFault>
+    ensures gives { Gives result (told detail (outcome_of report)) }
     ensures fault { IfErr result IsAnswerFault }
 {
     let is_yes = matches!(&report, Report::Yes(_));
-    let answer = answered(report_text(alloc, &report), is_yes);
+    let answer = answered(detailed_text(alloc, &report, detail), is_yes);
     drop(report);
     answer
 }
 
-/// The answer of `check` to the bytes of a deployment and of a certificate: yes where the certificate is accepted. It is that of the report on them.
+/// The answer of `check` to the bytes of a deployment and of a certificate: yes where the certificate is accepted. It is that of the report on them, with
+/// its reason where it is asked for.
 pub fn check_answer(
     alloc: Global,
     deployment: &[u8],
     certificate: &[u8],
+    detail: Detail,
 ) -> Result<Answer, ToolFault>
-    ensures gives { Gives result (outcome deployment.now certificate.now) }
+    ensures gives { Gives result (told detail (outcome deployment.now certificate.now)) }
     ensures fault { IfErr result IsAnswerFault }
 {
     match answer_check(alloc, deployment, certificate) {
-        Ok(report) => reported(alloc, report),
+        Ok(report) => reported(alloc, report, detail),
         Err(fault) => Err(fault),
     }
 }
@@ -118,24 +122,34 @@ pub fn match_answer(alloc: Global, deployment: &[u8]) -> Result<Answer, ToolFaul
     }
 }
 
+/// A deployment in a format.
+fn shown_text(alloc: Global, lists: &Deployment, format: Format) -> Result<String, AllocError>
+    ensures { IfOk result (λ text. string_bytes text ≡ shown_text format lists.now) }
+{
+    match format {
+        Format::Json => deployment_json(alloc, lists),
+        Format::DdsXml => deployment_xml(alloc, lists),
+    }
+}
+
 /// The answer that shows a deployment, which is needed no longer.
 #[tactic(auto, unfolding(crate::specs::Report::output_of, crate::specs::Report::status_of))]
-fn shown(alloc: Global, lists: Deployment) -> Result<Answer, ToolFault>
-    ensures gives { Gives result (shown lists) }
+fn shown(alloc: Global, lists: Deployment, format: Format) -> Result<Answer, ToolFault>
+    ensures gives { Gives result (shown format lists) }
     ensures fault { IfErr result IsAnswerFault }
 {
-    let answer = answered(deployment_json(alloc, &lists), true);
+    let answer = answered(shown_text(alloc, &lists, format), true);
     drop(lists);
     answer
 }
 
-/// The answer of `show` to the bytes of a deployment: yes with the deployment as it was read, in JSON.
-pub fn show_answer(alloc: Global, deployment: &[u8]) -> Result<Answer, ToolFault>
-    ensures gives { Gives result (show_outcome deployment.now) }
+/// The answer of `show` to the bytes of a deployment: yes with the deployment as it was read, in this format.
+pub fn show_answer(alloc: Global, deployment: &[u8], format: Format) -> Result<Answer, ToolFault>
+    ensures gives { Gives result (show_outcome format deployment.now) }
     ensures fault { IfErr result IsAnswerFault }
 {
     match read_deployment(alloc, deployment) {
-        Ok(lists) => shown(alloc, lists),
+        Ok(lists) => shown(alloc, lists, format),
         Err(fault) => Err(deployment_fault(fault)),
     }
 }

@@ -1,13 +1,14 @@
-//! The files of the system.
+//! The files of the system, and its standard input.
 ghost use Rattle.std.specs.Prelude.{◌≡◌, ◌||◌};
 ghost use Rattle.dds_answers.specs.Reading.{is_worn};
 
 use crate::counted::Counted;
 use crate::sources::Sources;
+use either::{Either, Left, Right};
 use std::fs;
 use std::rt::Files;
 
-/// The files of the system, by their paths. What they hold isn't known.
+/// The files of the system, by their paths; `-` is standard input. What they hold isn't known.
 #[derive(Drop)]
 pub struct Disk<'a, F> {
     /// The part of the system that gives them.
@@ -16,14 +17,17 @@ pub struct Disk<'a, F> {
     pub has_failed: bool,
 }
 
-impl<'a, F: Files> Sources for Disk<'a, F> {
-    type R = F::File;
+impl<'a, F: Files + Input> Sources for Disk<'a, F> {
+    type R = Either<F::File, F::Reader>;
 
     ghost has_failed = { λ d. d.has_failed };
 
-    fn open(&mut self, path: &str) -> Option<F::File> {
+    fn open(&mut self, path: &str) -> Option<Either<F::File, F::Reader>> {
+        if path == "-" {
+            return Some(Right(self.rt.reader()));
+        }
         match fs::open(self.rt, path) {
-            Ok(file) => Some(file),
+            Ok(file) => Some(Left(file)),
             Err(_) => {
                 self.has_failed = true;
                 None
@@ -31,7 +35,7 @@ impl<'a, F: Files> Sources for Disk<'a, F> {
         }
     }
 
-    fn close(&mut self, reader: Counted<F::File>)
+    fn close(&mut self, reader: Counted<Either<F::File, F::Reader>>)
         ensures { self.new.has_failed ≡ (is_worn reader.failed reader.interrupted || self.old.has_failed) }
     {
         if reader.is_worn() {

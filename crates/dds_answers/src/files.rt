@@ -1,9 +1,9 @@
 //! What each command answers to its files, which are read whole before any is parsed.
-ghost use Rattle.std.specs.Prelude.{◌≡◌, ℕ, List, [], ◌∷◌, ◌≤◌, ◌<◌, Some, IfOk, IfErr, IfSome, IsErrOf, OnOk, length};
+ghost use Rattle.std.specs.Prelude.{◌≡◌, ℕ, List, [], ◌∷◌, ◌≤◌, ◌<◌, Some, None, IfOk, IfErr, IfSome, IsErrOf, OnOk, length};
 ghost use Rattle.dds_answers.specs.Answers.{Gives, GivesOneOf};
 ghost use Rattle.dds_answers.specs.Causes.{IsFileFault};
 ghost use Rattle.dds_answers.specs.Opened.{Opens, OpensAll};
-ghost use Rattle.dds_answers.specs.Outcome.{Outcome, file_outcome, match_file_outcome, show_file_outcome};
+ghost use Rattle.dds_answers.specs.Outcome.{Outcome, check_file_outcome, draw_file_outcome, match_file_outcome, show_file_outcome};
 ghost use Rattle.dds_answers.specs.Migrations.{MayMigrateFor};
 ghost use Rattle.dds_answers.specs.Proposals.{MayProposeFor};
 ghost use Rattle.dds_answers.specs.Searches.{MayFindFor};
@@ -13,8 +13,11 @@ use crate::answer::{
     Answer, check_answer, match_answer, migrate_answer, propose_answer, show_answer,
 };
 use crate::counted::Counted;
+use crate::drawing::draw_answer;
 use crate::fault::ToolFault;
+use crate::format::Format;
 use crate::reading::read_all;
+use crate::report::Detail;
 use crate::sources::Sources;
 use crate::thorough::thorough_answer;
 use std::alloc::Global;
@@ -37,23 +40,24 @@ pub fn read_file<S: Sources>(alloc: Global, files: &mut S, path: &str) -> Result
     bytes
 }
 
-/// The answer of `check` to two files. Both are read whole, the deployment first, before either is parsed.
-#[tactic(auto, unfolding(crate::specs::Outcome::file_outcome))]
+/// The answer of `check` to two files, with its reason where it is asked for. Both are read whole, the deployment first, before either is parsed.
+#[tactic(auto, unfolding(crate::specs::Outcome::check_file_outcome))]
 pub fn check_files<S: Sources>(
     alloc: Global,
     deployment: &str,
     certificate: &str,
+    detail: Detail,
     files: &mut S,
 ) -> Result<Answer, ToolFault>
     ensures gives { (d c : List ℕ) → S.holds files.old deployment.now ≡ Some d → S.holds files.old certificate.now ≡ Some c
-        → Gives result (file_outcome d c) }
+        → Gives result (check_file_outcome detail d c) }
     ensures causes { IfErr result (IsFileFault (S.has_failed files.new)) }
     ensures opened { Opens (S.opened files.old) (S.opened files.new) (deployment.now ∷ certificate.now ∷ []) }
     ensures all_opened { OnOk result (OpensAll (S.opened files.old) (S.opened files.new) (deployment.now ∷ certificate.now ∷ [])) }
 {
     let deployment = read_file(alloc, files, deployment)?;
     let certificate = read_file(alloc, files, certificate)?;
-    check_answer(alloc, deployment.as_slice(), certificate.as_slice())
+    check_answer(alloc, deployment.as_slice(), certificate.as_slice(), detail)
 }
 
 /// The answer of `match` to a file, which is read whole before it is parsed.
@@ -119,17 +123,52 @@ pub fn migrate_file<S: Sources>(
     }
 }
 
-/// The answer of `show` to a file, which is read whole before it is parsed.
+/// The answer of `show` to a file in this format. It is read whole before it is parsed.
 #[tactic(auto, unfolding(crate::specs::Outcome::show_file_outcome))]
 pub fn show_file<S: Sources>(
     alloc: Global,
     deployment: &str,
+    format: Format,
     files: &mut S,
 ) -> Result<Answer, ToolFault>
-    ensures gives { (d : List ℕ) → S.holds files.old deployment.now ≡ Some d → Gives result (show_file_outcome d) }
+    ensures gives { (d : List ℕ) → S.holds files.old deployment.now ≡ Some d → Gives result (show_file_outcome format d) }
     ensures causes { IfErr result (IsFileFault (S.has_failed files.new)) }
     ensures opened { OpensAll (S.opened files.old) (S.opened files.new) (deployment.now ∷ []) }
 {
     let deployment = read_file(alloc, files, deployment)?;
-    show_answer(alloc, deployment.as_slice())
+    show_answer(alloc, deployment.as_slice(), format)
+}
+
+/// The answer of `draw` to a file, which is read whole before it is parsed.
+#[tactic(auto, unfolding(crate::specs::Outcome::draw_file_outcome))]
+pub fn draw_file<S: Sources>(
+    alloc: Global,
+    deployment: &str,
+    files: &mut S,
+) -> Result<Answer, ToolFault>
+    ensures gives { (d : List ℕ) → S.holds files.old deployment.now ≡ Some d → Gives result (draw_file_outcome d None) }
+    ensures causes { IfErr result (IsFileFault (S.has_failed files.new)) }
+    ensures opened { OpensAll (S.opened files.old) (S.opened files.new) (deployment.now ∷ []) }
+{
+    let deployment = read_file(alloc, files, deployment)?;
+    draw_answer(alloc, deployment.as_slice(), None)
+}
+
+/// The answer of `draw` to two files. Both are read whole, the deployment first, before either is parsed.
+#[tactic(auto, unfolding(crate::specs::Outcome::draw_file_outcome))]
+pub fn draw_files<S: Sources>(
+    alloc: Global,
+    deployment: &str,
+    certificate: &str,
+    files: &mut S,
+) -> Result<Answer, ToolFault>
+    ensures gives { (d c : List ℕ) → S.holds files.old deployment.now ≡ Some d → S.holds files.old certificate.now ≡ Some c
+        → Gives result (draw_file_outcome d (Some c)) }
+    ensures causes { IfErr result (IsFileFault (S.has_failed files.new)) }
+    ensures opened { Opens (S.opened files.old) (S.opened files.new) (deployment.now ∷ certificate.now ∷ []) }
+    ensures all_opened { OnOk result (OpensAll (S.opened files.old) (S.opened files.new) (deployment.now ∷ certificate.now ∷ [])) }
+{
+    let deployment = read_file(alloc, files, deployment)?;
+    let certificate = read_file(alloc, files, certificate)?;
+    draw_answer(alloc, deployment.as_slice(), Some(certificate.as_slice()))
 }

@@ -6,9 +6,11 @@
 mod answer;
 mod counted;
 mod disk;
+mod drawing;
 mod exit;
 mod fault;
 mod files;
+mod format;
 mod giving;
 mod matches;
 mod output;
@@ -22,15 +24,18 @@ pub use answer::{
 };
 pub use counted::Counted;
 pub use disk::Disk;
+pub use drawing::draw_answer;
 pub use exit::Exit;
 pub use fault::{ToolFault, exit_of, fault_text};
 pub use files::{
-    check_files, match_file, migrate_file, propose_file, read_file, show_file, thorough_file,
+    check_files, draw_file, draw_files, match_file, migrate_file, propose_file, read_file,
+    show_file, thorough_file,
 };
+pub use format::Format;
 pub use giving::{give, print, tell_fault};
 pub use matches::{is_as_intended, match_text};
 pub use output::{Output, Stream};
 pub use reading::{MAX_FILE, read_all};
-pub use report::{Report, answer_check, report_text};
+pub use report::{Detail, Report, answer_check, detailed_text, report_text};
 pub use sources::Sources;
 pub use thorough::thorough_answer;

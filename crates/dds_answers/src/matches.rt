@@ -1,55 +1,13 @@
 //! Which endpoints of a deployment match, line by line, and whether these are the connections.
-ghost use Rattle.std.specs.Prelude.{◌≡◌, ◌++◌, ◌∷◌, [], IfOk, codes, filter, length, map, string_bytes};
-ghost use Rattle.std.specs.List.{join_by};
-ghost use Rattle.dds_qos.specs.Compatibility.{contains, name_of, policies};
+ghost use Rattle.std.specs.Prelude.{◌≡◌, ◌++◌, IfOk, length, string_bytes};
 ghost use Rattle.dds_match.specs.Plan.{network_of};
-ghost use Rattle.dds_answers.specs.Matches.{is_as_intended, is_same, is_writer_as_intended, lines_of, pair_line, reason_words, writer_lines};
+ghost use Rattle.dds_answers.specs.Matches.{is_as_intended, is_same, is_writer_as_intended, lines_of, pair_line, writer_lines};
 
 use dds_base::{ReaderNo, WriterNo};
 use dds_cert::naming::name_at;
-use dds_match::{Plan, WhyNot};
-use dds_qos::{Policy, PolicySet};
+use dds_match::Plan;
+use dds_show::reasons::reason_text;
 use std::alloc::{AllocError, Global};
-
-/// Adds the name of a policy, if it is in the set.
-fn push_name(
-    names: &mut Vec<&'static str>,
-    set: PolicySet,
-    policy: &Policy,
-) -> Result<(), AllocError>
-    ensures { IfOk result (λ _. map (λ s. s.now) names.new.items ≡ map (λ s. s.now) names.old.items ++ map name_of (filter (contains set) (policy.now ∷ []))) }
-{
-    if set.contains(*policy) {
-        names.push(policy.name())?;
-    }
-    Ok(())
-}
-
-/// The names of the policies of a set, with commas between them.
-fn policies_text(alloc: Global, set: PolicySet) -> Result<String, AllocError>
-    ensures { IfOk result (λ text. string_bytes text ≡ join_by name_of (codes ",") (filter (contains set) policies)) }
-{
-    let mut names = Vec::new(alloc);
-    for policy in &Policy::ALL {
-        push_name(&mut names, set, policy)?;
-    }
-    names.join(alloc, ",")
-}
-
-/// A reason in words.
-fn reason_text(alloc: Global, reason: WhyNot) -> Result<String, AllocError>
-    ensures { IfOk result (λ text. string_bytes text ≡ reason_words reason) }
-{
-    match reason {
-        WhyNot::OtherDomain => String::from_str(alloc, "domain"),
-        WhyNot::OtherTopic => String::from_str(alloc, "topic"),
-        WhyNot::Partitions => String::from_str(alloc, "partition"),
-        WhyNot::Policies(set) => {
-            let names = policies_text(alloc, set)?;
-            format!(in alloc; "policies {names}")
-        }
-    }
-}
 
 /// The line of a writer and a reader.
 fn pair_text(

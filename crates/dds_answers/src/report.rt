@@ -4,9 +4,9 @@ ghost use Rattle.dds_match.specs.Plan.{network_of};
 ghost use Rattle.dds_cert.specs.Fits.{fits};
 ghost use Rattle.dds_cert.specs.Views.{certificate_view};
 ghost use Rattle.dds_check.specs.Accepts.{first_no};
-ghost use Rattle.dds_answers.specs.Outcome.{judged, outcome, verdict};
+ghost use Rattle.dds_answers.specs.Outcome.{judged, outcome, told, verdict};
 ghost use Rattle.dds_cert.specs.Sections.{read as certificate_read};
-ghost use Rattle.dds_answers.specs.Report.{IsCertificateFault, IsDeploymentFault, Tells, acceptance_lines, bound_line, refusal_line, outcome_of, report_text_of, rule_text, subject_text, total_line};
+ghost use Rattle.dds_answers.specs.Report.{IsCertificateFault, IsDeploymentFault, Tells, acceptance_lines, because_lines, bound_line, refusal_line, outcome_of, output_of, report_text_of, rule_text, subject_text, total_line};
 
 use crate::fault::ToolFault;
 use dds_base::RuleNo;
@@ -14,9 +14,19 @@ use dds_cert::naming::{name_at, reader_key, row_name, writer_key};
 use dds_cert::{Bound, CertFault, Certificate, Total, read_certificate};
 use dds_check::{Checked, No, Subject, check};
 use dds_deploy::{DeployFault, Deployment, read_deployment};
+use dds_explain::{margins, reason};
 use dds_match::Plan;
 use dds_match::planning::plan;
 use std::alloc::{AllocError, Global};
+
+/// How much is told of a report.
+#[derive(Clone, Copy, Debug, PartialEq, Eq)]
+pub enum Detail {
+    /// The answer.
+    Plain,
+    /// The answer, and after it its reason: the numbers behind a refusal, or how near each bound is to its limit.
+    Explained,
+}
 
 /// What a check of two files that could be read answers.
 #[derive(Drop)]
@@ -36,7 +46,7 @@ pub(crate) fn deployment_fault(fault: DeployFault) -> ToolFault
     }
 }
 
-fn certificate_fault(fault: CertFault) -> ToolFault
+pub(crate) fn certificate_fault(fault: CertFault) -> ToolFault
     ensures { IsCertificateFault fault result }
 {
     match fault {
@@ -237,6 +247,31 @@ fn acceptance_text(
     push_bounds(alloc, &mut text, lists, certificate.bounds.as_slice())?;
     push_totals(alloc, &mut text, lists, certificate.totals.as_slice())?;
     Ok(text)
+}
+
+/// The lines of the reason of a report.
+fn because_text(alloc: Global, report: &Report) -> Result<String, AllocError>
+    ensures { IfOk result (λ text. string_bytes text ≡ because_lines report.now) }
+{
+    match report {
+        Report::Yes(checked) => margins(alloc, checked.plan(), checked.certificate()),
+        Report::Refused(no, plan, certificate) => reason(alloc, plan, certificate, *no),
+    }
+}
+
+/// The lines of a report, with those of its reason after them where they are asked for. Only want of memory is an error.
+#[tactic(auto, unfolding(crate::specs::Report::output_of))]
+pub fn detailed_text(alloc: Global, report: &Report, detail: Detail) -> Result<String, AllocError>
+    ensures { IfOk result (λ text. string_bytes text ≡ output_of (told detail (outcome_of report.now))) }
+{
+    let text = report_text(alloc, report)?;
+    match detail {
+        Detail::Plain => Ok(text),
+        Detail::Explained => {
+            let because = because_text(alloc, report)?;
+            format!(in alloc; "{text}{because}")
+        }
+    }
 }
 
 /// The lines of a report. Only want of memory is an error.

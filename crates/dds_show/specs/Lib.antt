@@ -3,3 +3,4 @@ pub mod Pieces
 pub mod Policies
 pub mod Entries
 pub mod Json
+pub mod Reasons

@@ -1,10 +1,11 @@
-//! A deployment as it was read, for other programs.
+//! A deployment as it was read, for other programs, and the words for its policies and for why endpoints don't match.
 #![tactic(auto)]
 
 mod entries;
 mod json;
 mod pieces;
 mod policies;
-mod words;
+pub mod reasons;
+pub mod words;
 
 pub use json::deployment_json;

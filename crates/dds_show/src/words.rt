@@ -6,7 +6,8 @@ use dds_qos::{
     AccessScope, DestinationOrder, Durability, HistoryKind, LivelinessKind, Ownership, Reliability,
 };
 
-pub(crate) fn durability_word(x: Durability) -> &'static str
+/// The word of a kind of durability (OMG DDS 1.4, clause 2.2.3.4).
+pub fn durability_word(x: Durability) -> &'static str
     ensures { result.now ≡ durability_word x }
 {
     match x {
@@ -17,7 +18,8 @@ pub(crate) fn durability_word(x: Durability) -> &'static str
     }
 }
 
-pub(crate) fn access_scope_word(x: AccessScope) -> &'static str
+/// The word of a scope of presentation (OMG DDS 1.4, clause 2.2.3.6).
+pub fn access_scope_word(x: AccessScope) -> &'static str
     ensures { result.now ≡ access_scope_word x }
 {
     match x {
@@ -27,7 +29,8 @@ pub(crate) fn access_scope_word(x: AccessScope) -> &'static str
     }
 }
 
-pub(crate) fn ownership_word(x: Ownership) -> &'static str
+/// The word of a kind of ownership (OMG DDS 1.4, clause 2.2.3.9).
+pub fn ownership_word(x: Ownership) -> &'static str
     ensures { result.now ≡ ownership_word x }
 {
     match x {
@@ -36,7 +39,8 @@ pub(crate) fn ownership_word(x: Ownership) -> &'static str
     }
 }
 
-pub(crate) fn liveliness_word(x: LivelinessKind) -> &'static str
+/// The word of a kind of liveliness (OMG DDS 1.4, clause 2.2.3.11).
+pub fn liveliness_word(x: LivelinessKind) -> &'static str
     ensures { result.now ≡ liveliness_word x }
 {
     match x {
@@ -46,7 +50,8 @@ pub(crate) fn liveliness_word(x: LivelinessKind) -> &'static str
     }
 }
 
-pub(crate) fn reliability_word(x: Reliability) -> &'static str
+/// The word of a kind of reliability (OMG DDS 1.4, clause 2.2.3.14).
+pub fn reliability_word(x: Reliability) -> &'static str
     ensures { result.now ≡ reliability_word x }
 {
     match x {
@@ -55,7 +60,8 @@ pub(crate) fn reliability_word(x: Reliability) -> &'static str
     }
 }
 
-pub(crate) fn destination_order_word(x: DestinationOrder) -> &'static str
+/// The word of an order of samples (OMG DDS 1.4, clause 2.2.3.17).
+pub fn destination_order_word(x: DestinationOrder) -> &'static str
     ensures { result.now ≡ destination_order_word x }
 {
     match x {
@@ -64,7 +70,8 @@ pub(crate) fn destination_order_word(x: DestinationOrder) -> &'static str
     }
 }
 
-pub(crate) fn history_word(x: HistoryKind) -> &'static str
+/// The word of a kind of history (OMG DDS 1.4, clause 2.2.3.18).
+pub fn history_word(x: HistoryKind) -> &'static str
     ensures { result.now ≡ history_word x }
 {
     match x {

@@ -3,3 +3,4 @@ mod FateLists
 mod Numbers
 mod Tallies
 mod RunGives
+mod Requested

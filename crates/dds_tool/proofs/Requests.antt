@@ -12,7 +12,7 @@ use Rattle.dds_answers.specs.Exit.{exit_status}
 use Rattle.dds_answers.specs.Fault.{fault_status}
 use Rattle.dds_answers.specs.declared.exit.Exit.{Exit}
 use Rattle.dds_answers.specs.Migrations.{MayMigrateFor}
-use Rattle.dds_answers.specs.Outcome.{Outcome, file_outcome, match_file_outcome, show_file_outcome, too_large, unproposed}
+use Rattle.dds_answers.specs.Outcome.{Outcome, check_file_outcome, draw_file_outcome, file_outcome, match_file_outcome, show_file_outcome, too_large, unproposed}
 use Rattle.dds_answers.specs.Report.{Ends, output_of, status_of}
 use Rattle.dds_tool.specs.RunEnds.{GivesRun, MayRun}
 
@@ -124,20 +124,25 @@ pub answered : (holds : List ℕ → Option (List ℕ)) (request : Request) (giv
     → ((end : Outcome) → Gives given end → IfOk r (λ exit. (exit_status exit ≡ status_of end) × Appends old new (output_of end)))
     → Passes given r
     → IfOk r (λ exit. Answers holds request (exit_status exit) old new)
-answered holds (asked.Check d b) given (Ok exit) old new gives written passed = λ x y hx hy. inl (written (file_outcome x y) (gives x y hx hy))
+answered holds (asked.Check d b detail) given (Ok exit) old new gives written passed =
+    λ x y hx hy. inl (written (check_file_outcome detail x y) (gives x y hx hy))
 answered holds (asked.Match d) given (Ok exit) old new gives written passed = λ x hx. inl (written (match_file_outcome x) (gives x hx))
 answered holds (asked.Propose d) given (Ok exit) old new gives written passed = λ x hx. let g = gives x hx in (g.0, g.1, inl (written g.0 g.2))
 answered holds (asked.ProposeThoroughly d) given (Ok exit) old new gives written passed = λ x hx. let g = gives x hx in (g.0, g.1, inl (written g.0 g.2))
 answered holds (asked.Migrate d) given (Ok exit) old new gives written passed = λ x hx. one_said (MayMigrateFor x) given (exit_status exit) old new (gives x hx) written
-answered holds (asked.Show d) given (Ok exit) old new gives written passed = λ x hx. inl (written (show_file_outcome x) (gives x hx))
+answered holds (asked.Show d format) given (Ok exit) old new gives written passed = λ x hx. inl (written (show_file_outcome format x) (gives x hx))
+answered holds (asked.Draw d None) given (Ok exit) old new gives written passed = λ x hx. inl (written (draw_file_outcome x None) (gives x hx))
+answered holds (asked.Draw d (Some c)) given (Ok exit) old new gives written passed =
+    λ x y hx hy. inl (written (draw_file_outcome x (Some y)) (gives x y hx hy))
 answered holds (asked.Run d b wishes) given (Ok exit) old new gives written passed =
     λ x y hx hy. run_said (file_outcome x y) given exit old new (gives x y hx hy) written passed
-answered holds (asked.Check d b) given (Err f) old new gives written passed = tt
+answered holds (asked.Check d b detail) given (Err f) old new gives written passed = tt
 answered holds (asked.Match d) given (Err f) old new gives written passed = tt
 answered holds (asked.Propose d) given (Err f) old new gives written passed = tt
 answered holds (asked.ProposeThoroughly d) given (Err f) old new gives written passed = tt
 answered holds (asked.Migrate d) given (Err f) old new gives written passed = tt
-answered holds (asked.Show d) given (Err f) old new gives written passed = tt
+answered holds (asked.Show d format) given (Err f) old new gives written passed = tt
+answered holds (asked.Draw d c) given (Err f) old new gives written passed = tt
 answered holds (asked.Run d b wishes) given (Err f) old new gives written passed = tt
 
 -- a fault is said of the request by its status, or by 3
@@ -147,8 +152,8 @@ pub faulted : (holds : List ℕ → Option (List ℕ)) (request : Request) (give
     → IfErr r (λ f. (f ≡ fault.Write) ⊎ Keeps old new)
     → Passes given r
     → IfErr r (λ f. (status : ℕ) → (status ≡ fault_status f) ⊎ (status ≡ 3) → Answers holds request status old new)
-faulted holds (asked.Check d b) given (Err f) old new gives ends nothing passed =
-    λ status told x y hx hy. fault_said (file_outcome x y) f status old new (ends (file_outcome x y) (gives x y hx hy)) nothing told
+faulted holds (asked.Check d b detail) given (Err f) old new gives ends nothing passed =
+    λ status told x y hx hy. fault_said (check_file_outcome detail x y) f status old new (ends (check_file_outcome detail x y) (gives x y hx hy)) nothing told
 faulted holds (asked.Match d) given (Err f) old new gives ends nothing passed =
     λ status told x hx. fault_said (match_file_outcome x) f status old new (ends (match_file_outcome x) (gives x hx)) nothing told
 faulted holds (asked.Propose d) given (Err f) old new gives ends nothing passed =
@@ -157,14 +162,19 @@ faulted holds (asked.ProposeThoroughly d) given (Err f) old new gives ends nothi
     λ status told x hx. let g = gives x hx in (g.0, g.1, fault_said g.0 f status old new (ends g.0 g.2) nothing told)
 faulted holds (asked.Migrate d) given (Err f) old new gives ends nothing passed =
     λ status told x hx. one_faulted (MayMigrateFor x) given f status old new (gives x hx) ends nothing told
-faulted holds (asked.Show d) given (Err f) old new gives ends nothing passed =
-    λ status told x hx. fault_said (show_file_outcome x) f status old new (ends (show_file_outcome x) (gives x hx)) nothing told
+faulted holds (asked.Show d format) given (Err f) old new gives ends nothing passed =
+    λ status told x hx. fault_said (show_file_outcome format x) f status old new (ends (show_file_outcome format x) (gives x hx)) nothing told
+faulted holds (asked.Draw d None) given (Err f) old new gives ends nothing passed =
+    λ status told x hx. fault_said (draw_file_outcome x None) f status old new (ends (draw_file_outcome x None) (gives x hx)) nothing told
+faulted holds (asked.Draw d (Some c)) given (Err f) old new gives ends nothing passed =
+    λ status told x y hx hy. fault_said (draw_file_outcome x (Some y)) f status old new (ends (draw_file_outcome x (Some y)) (gives x y hx hy)) nothing told
 faulted holds (asked.Run d b wishes) given (Err f) old new gives ends nothing passed =
     λ status told x y hx hy. run_faulted (file_outcome x y) given f status old new (gives x y hx hy) ends nothing (same_fault given f passed) told
-faulted holds (asked.Check d b) given (Ok exit) old new gives ends nothing passed = tt
+faulted holds (asked.Check d b detail) given (Ok exit) old new gives ends nothing passed = tt
 faulted holds (asked.Match d) given (Ok exit) old new gives ends nothing passed = tt
 faulted holds (asked.Propose d) given (Ok exit) old new gives ends nothing passed = tt
 faulted holds (asked.ProposeThoroughly d) given (Ok exit) old new gives ends nothing passed = tt
 faulted holds (asked.Migrate d) given (Ok exit) old new gives ends nothing passed = tt
-faulted holds (asked.Show d) given (Ok exit) old new gives ends nothing passed = tt
+faulted holds (asked.Show d format) given (Ok exit) old new gives ends nothing passed = tt
+faulted holds (asked.Draw d c) given (Ok exit) old new gives ends nothing passed = tt
 faulted holds (asked.Run d b wishes) given (Ok exit) old new gives ends nothing passed = tt

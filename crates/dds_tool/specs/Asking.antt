@@ -1,5 +1,5 @@
 -- What the words of a command line ask for, by clap's own account of a command and its words.
-use Rattle.std.specs.Prelude.{ℕ, ◌≡◌, ◌⊎◌, ◌<◌, ◌^◌, Bool, List, [], ◌∷◌, Option, Some, Result, true, false, codes, pos}
+use Rattle.std.specs.Prelude.{ℕ, ◌≡◌, ◌⊎◌, ◌&&◌, ◌<◌, ◌^◌, Bool, List, [], ◌∷◌, Option, Some, None, Result, option_map, true, false, codes, pos, if◌then◌else◌}
 use Rattle.std.specs.Option.{option_map_or}
 use Rattle.std.specs.Str.{bytes_eq}
 use Rattle.std.specs.Io.KnownBytes.{Appends}
@@ -9,7 +9,7 @@ use Rattle.clap.specs.declared.builder.ArgAction.TheVariants.{Set, SetTrue}
 use Rattle.clap.specs.declared.builder.value_parser.ValueParser.TheVariants.{Signed}
 use Rattle.clap.specs.Simple.{on_top}
 use Rattle.dds_peers.specs.Fates.{AreFates}
-use Rattle.dds_tool.specs.Wishes.{fates_text}
+use Rattle.dds_tool.specs.Wishes.{fates_text, format_word}
 use Rattle.dds_tool.specs.declared.wishes.Wishes.{Wishes}
 use Rattle.dds_tool.specs.declared.request.Request.{Request}
 use Rattle.dds_tool.specs.declared.request.Request.TheVariants as asked
@@ -18,7 +18,10 @@ use Rattle.dds_tool.specs.declared.request.NoRequest.TheVariants as none
 use Rattle.dds_answers.specs.declared.answer.Answer.{Answer}
 use Rattle.dds_answers.specs.declared.fault.ToolFault.{ToolFault}
 use Rattle.dds_answers.specs.Answers.{Gives, GivesOneOf}
-use Rattle.dds_answers.specs.Outcome.{Outcome, file_outcome, match_file_outcome, show_file_outcome}
+use Rattle.dds_answers.specs.Outcome.{Outcome, check_file_outcome, draw_file_outcome, file_outcome, match_file_outcome, show_file_outcome}
+use Rattle.dds_answers.specs.declared.format.Format.{Format}
+use Rattle.dds_answers.specs.declared.report.Detail.{Detail}
+use Rattle.dds_answers.specs.declared.report.Detail.TheVariants.{Plain, Explained}
 use Rattle.dds_answers.specs.Migrations.{MayMigrateFor}
 use Rattle.dds_answers.specs.Proposals.{MayProposeFor}
 use Rattle.dds_tool.specs.RunEnds.{GivesRun, MayRun}
@@ -33,17 +36,25 @@ file_rule id = record (new_rule id) { required = true; action = Some Set }
 abbrev pub one_file : Text → App
 one_file name = with_rule (new_app name) (file_rule (codes "deployment"))
 
--- the flag of a thorough search
-abbrev pub thorough_rule : Rule
-thorough_rule = record (new_rule (codes "thorough")) { long = Some (codes "thorough"); action = Some SetTrue }
+-- a file that may be named
+abbrev pub optional_file_rule : Text → Rule
+optional_file_rule id = record (new_rule id) { action = Some Set }
 
--- the command that looks for a certificate
+-- a flag
+abbrev pub flag_rule : Text → Rule
+flag_rule id = record (new_rule id) { long = Some id; action = Some SetTrue }
+
+-- the command that looks for a certificate, thoroughly where its flag is given
 abbrev pub searching : App
-searching = with_rule (one_file (codes "propose")) thorough_rule
+searching = with_rule (one_file (codes "propose")) (flag_rule (codes "thorough"))
 
 -- a command with a deployment and a certificate
 abbrev pub two_files : Text → App
 two_files name = with_rule (one_file name) (file_rule (codes "certificate"))
+
+-- the command that checks a certificate, with its reason where its flag is given
+abbrev pub checking : App
+checking = with_rule (two_files (codes "check")) (flag_rule (codes "explain"))
 
 -- a wish with a text that holds where it isn't given
 abbrev pub wish_rule : Text → Text → Rule
@@ -57,6 +68,14 @@ count_rule id = record (wish_rule id (codes "10")) { parser = Some (Signed (pos 
 abbrev pub running : App
 running = with_rule (with_rule (with_rule (two_files (codes "run")) (wish_rule (codes "fates") (codes "pass"))) (count_rule (codes "writes"))) (count_rule (codes "takes"))
 
+-- the command that shows a deployment in a format
+abbrev pub showing : App
+showing = with_rule (one_file (codes "show")) (wish_rule (codes "format") (codes "json"))
+
+-- the command that draws a deployment, with a certificate where one is named
+abbrev pub drawing : App
+drawing = with_rule (one_file (codes "draw")) (optional_file_rule (codes "certificate"))
+
 -- the command by itself: it has a version, and wants a subcommand
 abbrev pub top_app : App
 top_app = on_top (λ s. record s { subcommand_required = true; has_version = true }) (new_app (codes "ddscheck"))
@@ -66,22 +85,54 @@ abbrev pub whole : App
 whole =
     with_subcommand
     (with_subcommand
-    (with_subcommand (with_subcommand (with_subcommand (with_subcommand top_app (one_file (codes "match")).top) (two_files (codes "check")).top) searching.top) running.top)
+    (with_subcommand
+    (with_subcommand (with_subcommand (with_subcommand (with_subcommand top_app (one_file (codes "match")).top) checking.top) searching.top) running.top)
     (one_file (codes "migrate")).top)
-    (one_file (codes "show")).top
+    showing.top)
+    drawing.top
 
 -- the words name the subcommand, and the argument has this text
 abbrev pub Names : List Text → Text → Text → Text → Type 0
 Names words name id text = (rows : List Row) × (subcommand_of whole words ≡ Some (name, rows)) × (first_of id rows ≡ Some text)
 
--- the flag of a thorough search is given
-abbrev pub is_thorough : List Row → Bool
-is_thorough rows = option_map_or (λ text. bytes_eq text (codes "true")) (first_of (codes "thorough") rows) false
+-- the flag is given
+abbrev pub is_set : List Row → Text → Bool
+is_set rows id = option_map_or (λ text. bytes_eq text (codes "true")) (first_of id rows) false
 
 -- the words look for a certificate of the deployment with this name, thoroughly or not
 abbrev pub Looks : List Text → Text → Bool → Type 0
 Looks words name thorough =
-    (rows : List Row) × (subcommand_of whole words ≡ Some (codes "propose", rows)) × (first_of (codes "deployment") rows ≡ Some name) × (is_thorough rows ≡ thorough)
+    (rows : List Row) × (subcommand_of whole words ≡ Some (codes "propose", rows)) × (first_of (codes "deployment") rows ≡ Some name) × (is_set rows (codes "thorough") ≡ thorough)
+
+-- both names are `-`, which stands for standard input: it can be read only once
+abbrev pub is_input_twice : Text → Text → Bool
+is_input_twice d c = bytes_eq d (codes "-") && bytes_eq c (codes "-")
+
+-- the arguments name a deployment and a certificate, not both on standard input
+abbrev pub NamesBoth : List Row → Text → Text → Type 0
+NamesBoth rows deployment certificate =
+    (first_of (codes "deployment") rows ≡ Some deployment) × (first_of (codes "certificate") rows ≡ Some certificate) × (is_input_twice deployment certificate ≡ false)
+
+-- how much a check is asked to tell
+abbrev pub detail_of : List Row → Detail
+detail_of rows = if is_set rows (codes "explain") then Explained else Plain
+
+-- the words check the deployment with this name, by the certificate with that name, and ask for so much to be told
+abbrev pub Checks : List Text → Text → Text → Detail → Type 0
+Checks words deployment certificate detail =
+    (rows : List Row) × (subcommand_of whole words ≡ Some (codes "check", rows)) × NamesBoth rows deployment certificate × (detail_of rows ≡ detail)
+
+-- the words show the deployment with this name in this format
+abbrev pub Shows : List Text → Text → Format → Type 0
+Shows words deployment format =
+    (rows : List Row) × (subcommand_of whole words ≡ Some (codes "show", rows)) × (first_of (codes "deployment") rows ≡ Some deployment)
+    × (first_of (codes "format") rows ≡ Some (format_word format))
+
+-- the words draw the deployment with this name, with the certificate with that name, if there is one; not both on standard input
+abbrev pub Draws : List Text → Text → Option Text → Type 0
+Draws words deployment certificate =
+    (rows : List Row) × (subcommand_of whole words ≡ Some (codes "draw", rows)) × (first_of (codes "deployment") rows ≡ Some deployment)
+    × (first_of (codes "certificate") rows ≡ certificate) × (option_map_or (is_input_twice deployment) certificate false ≡ false)
 
 -- the argument has a text that reads as this number, which is at most 65,535
 abbrev pub Counts : List Row → Text → ℕ → Type 0
@@ -96,8 +147,7 @@ Wants rows wishes =
 -- the words run the deployment with this name, by the certificate with that name, with these wishes
 abbrev pub Runs : List Text → Text → Text → Wishes → Type 0
 Runs words deployment certificate wishes =
-    (rows : List Row) × (subcommand_of whole words ≡ Some (codes "run", rows)) × (first_of (codes "deployment") rows ≡ Some deployment)
-    × (first_of (codes "certificate") rows ≡ Some certificate) × Wants rows wishes
+    (rows : List Row) × (subcommand_of whole words ≡ Some (codes "run", rows)) × NamesBoth rows deployment certificate × Wants rows wishes
 
 -- the words ask for this, by clap's own account of the command
 abbrev pub Asks : List Text → Request → Type 0
@@ -105,8 +155,9 @@ Asks words (asked.Match d) = Names words (codes "match") (codes "deployment") d.
 Asks words (asked.Propose d) = Looks words d.now false
 Asks words (asked.ProposeThoroughly d) = Looks words d.now true
 Asks words (asked.Migrate d) = Names words (codes "migrate") (codes "deployment") d.now
-Asks words (asked.Show d) = Names words (codes "show") (codes "deployment") d.now
-Asks words (asked.Check d c) = Names words (codes "check") (codes "deployment") d.now × Names words (codes "check") (codes "certificate") c.now
+Asks words (asked.Show d format) = Shows words d.now format
+Asks words (asked.Draw d c) = Draws words d.now (option_map (λ path. path.now) c)
+Asks words (asked.Check d c detail) = Checks words d.now c.now detail
 Asks words (asked.Run d c wishes) = Runs words d.now c.now wishes
 
 -- the paths of the files that a request names, in the order of the words
@@ -115,8 +166,9 @@ paths_of (asked.Match d) = d.now ∷ []
 paths_of (asked.Propose d) = d.now ∷ []
 paths_of (asked.ProposeThoroughly d) = d.now ∷ []
 paths_of (asked.Migrate d) = d.now ∷ []
-paths_of (asked.Show d) = d.now ∷ []
-paths_of (asked.Check d c) = d.now ∷ c.now ∷ []
+paths_of (asked.Show d format) = d.now ∷ []
+paths_of (asked.Draw d c) = d.now ∷ option_map_or (λ path. path.now ∷ []) c []
+paths_of (asked.Check d c detail) = d.now ∷ c.now ∷ []
 paths_of (asked.Run d c wishes) = d.now ∷ c.now ∷ []
 
 -- help or the version was asked for
@@ -127,12 +179,14 @@ IsHelp none.NoMemory = ⊥
 
 -- what a request is answered whose files hold bytes that are known
 abbrev pub GivesTo : (List ℕ → Option (List ℕ)) → Request → Result Answer ToolFault → Type 0
-GivesTo holds (asked.Check d c) result = (x y : List ℕ) → holds d.now ≡ Some x → holds c.now ≡ Some y → Gives result (file_outcome x y)
+GivesTo holds (asked.Check d c detail) result = (x y : List ℕ) → holds d.now ≡ Some x → holds c.now ≡ Some y → Gives result (check_file_outcome detail x y)
 GivesTo holds (asked.Match d) result = (x : List ℕ) → holds d.now ≡ Some x → Gives result (match_file_outcome x)
 GivesTo holds (asked.Propose d) result = (x : List ℕ) → holds d.now ≡ Some x → (end : Outcome) × MayProposeFor x end × Gives result end
 GivesTo holds (asked.ProposeThoroughly d) result = (x : List ℕ) → holds d.now ≡ Some x → (end : Outcome) × MayFindFor x end × Gives result end
 GivesTo holds (asked.Migrate d) result = (x : List ℕ) → holds d.now ≡ Some x → GivesOneOf (MayMigrateFor x) result
-GivesTo holds (asked.Show d) result = (x : List ℕ) → holds d.now ≡ Some x → Gives result (show_file_outcome x)
+GivesTo holds (asked.Show d format) result = (x : List ℕ) → holds d.now ≡ Some x → Gives result (show_file_outcome format x)
+GivesTo holds (asked.Draw d None) result = (x : List ℕ) → holds d.now ≡ Some x → Gives result (draw_file_outcome x None)
+GivesTo holds (asked.Draw d (Some c)) result = (x y : List ℕ) → holds d.now ≡ Some x → holds c.now ≡ Some y → Gives result (draw_file_outcome x (Some y))
 GivesTo holds (asked.Run d c wishes) result = (x y : List ℕ) → holds d.now ≡ Some x → holds c.now ≡ Some y → GivesRun (file_outcome x y) result
 
 -- the status and what is added to the output are those of this end, or memory or a device failed, and the status is 3
@@ -141,11 +195,15 @@ Said end status old new = ((status ≡ status_of end) × Appends old new (output
 
 -- where a command on files is asked for whose bytes are known, what is said is how that command ends, or may end
 abbrev pub Answers : (List ℕ → Option (List ℕ)) → Request → ℕ → Option (List ℕ) → Option (List ℕ) → Type 0
-Answers holds (asked.Check d c) status old new = (x y : List ℕ) → holds d.now ≡ Some x → holds c.now ≡ Some y → Said (file_outcome x y) status old new
+Answers holds (asked.Check d c detail) status old new =
+    (x y : List ℕ) → holds d.now ≡ Some x → holds c.now ≡ Some y → Said (check_file_outcome detail x y) status old new
 Answers holds (asked.Match d) status old new = (x : List ℕ) → holds d.now ≡ Some x → Said (match_file_outcome x) status old new
 Answers holds (asked.Propose d) status old new = (x : List ℕ) → holds d.now ≡ Some x → (end : Outcome) × MayProposeFor x end × Said end status old new
 Answers holds (asked.ProposeThoroughly d) status old new = (x : List ℕ) → holds d.now ≡ Some x → (end : Outcome) × MayFindFor x end × Said end status old new
 Answers holds (asked.Migrate d) status old new = (x : List ℕ) → holds d.now ≡ Some x → (status ≡ 3) ⊎ ((end : Outcome) × MayMigrateFor x end × Said end status old new)
-Answers holds (asked.Show d) status old new = (x : List ℕ) → holds d.now ≡ Some x → Said (show_file_outcome x) status old new
+Answers holds (asked.Show d format) status old new = (x : List ℕ) → holds d.now ≡ Some x → Said (show_file_outcome format x) status old new
+Answers holds (asked.Draw d None) status old new = (x : List ℕ) → holds d.now ≡ Some x → Said (draw_file_outcome x None) status old new
+Answers holds (asked.Draw d (Some c)) status old new =
+    (x y : List ℕ) → holds d.now ≡ Some x → holds c.now ≡ Some y → Said (draw_file_outcome x (Some y)) status old new
 Answers holds (asked.Run d c wishes) status old new =
     (x y : List ℕ) → holds d.now ≡ Some x → holds c.now ≡ Some y → (status ≡ 3) ⊎ ((end : Outcome) × MayRun (file_outcome x y) end × Said end status old new)

@@ -13,8 +13,9 @@ IsRun (asked.Match d) = ⊥
 IsRun (asked.Propose d) = ⊥
 IsRun (asked.ProposeThoroughly d) = ⊥
 IsRun (asked.Migrate d) = ⊥
-IsRun (asked.Show d) = ⊥
-IsRun (asked.Check d c) = ⊥
+IsRun (asked.Show d format) = ⊥
+IsRun (asked.Draw d c) = ⊥
+IsRun (asked.Check d c detail) = ⊥
 
 -- the faults with which a request can end before anything is written: those of commands on files, and of a run that it came to no end of its own
 abbrev pub IsRequestFault : (file_failed : Bool) → Request → ToolFault → Type 0

@@ -7,7 +7,7 @@ use Rattle.dds_answers.specs.declared.answer.Answer.{Answer}
 use Rattle.dds_answers.specs.declared.fault.ToolFault.{ToolFault}
 use Rattle.dds_answers.specs.declared.fault.ToolFault.TheVariants as fault
 use Rattle.dds_answers.specs.Answers.{IsAnswer, SaysNothing}
-use Rattle.dds_answers.specs.Outcome.{Outcome, accepted, refused, compared, proposed, unproposed, migrated, shown, ran, bad_deployment, bad_certificate, too_large}
+use Rattle.dds_answers.specs.Outcome.{Outcome, accepted, refused, accepted_because, refused_because, compared, proposed, unproposed, migrated, shown, drawn, ran, bad_deployment, bad_certificate, too_large}
 use Rattle.dds_answers.specs.Report.{Ends}
 use Rattle.dds_tool.specs.Running.{all_stopped, app_names, run_lines}
 
@@ -17,11 +17,14 @@ abbrev pub MayRun : Outcome → Outcome → Type 0
 MayRun (accepted d c) end =
     (journal : List Entry) × (ends : List AppEnd) × IsJournal d journal × (length ends ≡ length d.applications.entries) × (end ≡ ran (run_lines (app_names d) journal ends) (all_stopped ends))
 MayRun (refused first d c) end = end ≡ refused first d c
+MayRun (accepted_because d c) end = end ≡ accepted_because d c
+MayRun (refused_because first d c) end = end ≡ refused_because first d c
 MayRun (compared d) end = end ≡ compared d
 MayRun (proposed d c) end = end ≡ proposed d c
 MayRun unproposed end = end ≡ unproposed
 MayRun (migrated text) end = end ≡ migrated text
-MayRun (shown d) end = end ≡ shown d
+MayRun (shown format d) end = end ≡ shown format d
+MayRun (drawn d c) end = end ≡ drawn d c
 MayRun (ran lines stopped) end = end ≡ ran lines stopped
 MayRun (bad_deployment flaw) end = end ≡ bad_deployment flaw
 MayRun (bad_certificate flaw) end = end ≡ bad_certificate flaw

@@ -1,6 +1,8 @@
--- The words for what befalls packets.
+-- The words for formats, and for what befalls packets.
 use Rattle.std.specs.Prelude.{ℕ, List, codes}
 use Rattle.std.specs.List.{join_by}
+use Rattle.dds_answers.specs.declared.format.Format.{Format}
+use Rattle.dds_answers.specs.declared.format.Format.TheVariants.{Json, DdsXml}
 use Rattle.dds_base.specs.declared.events.Fate.{Fate}
 use Rattle.dds_base.specs.declared.events.Fate.TheVariants.{Pass, Keep, Last, Lose}
 
@@ -10,6 +12,11 @@ fate_word Pass = codes "pass"
 fate_word Keep = codes "keep"
 fate_word Last = codes "last"
 fate_word Lose = codes "lose"
+
+-- the word for a format
+abbrev pub format_word : Format → List ℕ
+format_word Json = codes "json"
+format_word DdsXml = codes "dds-xml"
 
 -- a list of fates: their words, with commas between them
 abbrev pub fates_text : List Fate → List ℕ

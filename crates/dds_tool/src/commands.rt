@@ -16,8 +16,8 @@ use crate::request::{NoRequest, Request, read_request};
 use crate::running::run_answer;
 use crate::wishes::Wishes;
 use dds_answers::{
-    Answer, Exit, Output, Sources, ToolFault, check_files, give, match_file, migrate_file, print,
-    propose_file, read_file, show_file, tell_fault, thorough_file,
+    Answer, Exit, Output, Sources, ToolFault, check_files, draw_file, draw_files, give, match_file,
+    migrate_file, print, propose_file, read_file, show_file, tell_fault, thorough_file,
 };
 use std::alloc::Global;
 use std::convert::AsStr;
@@ -86,12 +86,21 @@ fn answer_of<R: Threads + Wait + Clock + Sync, S: Sources>(
         Request::Check {
             deployment,
             certificate,
-        } => check_files(alloc, deployment, certificate, files),
+            detail,
+        } => check_files(alloc, deployment, certificate, detail, files),
         Request::Match { deployment } => match_file(alloc, deployment, files),
         Request::Propose { deployment } => propose_file(alloc, deployment, files),
         Request::ProposeThoroughly { deployment } => thorough_file(alloc, deployment, files),
         Request::Migrate { deployment } => migrate_file(alloc, deployment, files),
-        Request::Show { deployment } => show_file(alloc, deployment, files),
+        Request::Show { deployment, format } => show_file(alloc, deployment, format, files),
+        Request::Draw {
+            deployment,
+            certificate: None,
+        } => draw_file(alloc, deployment, files),
+        Request::Draw {
+            deployment,
+            certificate: Some(certificate),
+        } => draw_files(alloc, deployment, certificate, files),
         Request::Run {
             deployment,
             certificate,

@@ -2,11 +2,14 @@
 ghost use Rattle.std.specs.Prelude.{◌≡◌, ℕ, List, IfNone, IfOk, IfErr, IfSome, Some, true, false, codes, map, option_map};
 ghost use Rattle.clap.specs.Words.{Text, app_of, first_of, found_of, kind_of, rows_of, rule_of, subcommand_of, subcommand_rows_of, takes, with_subcommand};
 ghost use Rattle.clap.specs.declared.builder.command.Command.TheViews.{out-Command as fields_of};
-ghost use Rattle.dds_tool.specs.Asking.{Asks, Counts, IsHelp, Wants, count_rule, file_rule, is_thorough, one_file, running, searching, thorough_rule, top_app, two_files, whole, wish_rule};
+ghost use Rattle.dds_answers.specs.declared.format.Format.{Format};
+ghost use Rattle.dds_tool.specs.Asking.{Asks, Counts, IsHelp, NamesBoth, Wants, checking, count_rule, detail_of, drawing, file_rule, flag_rule, is_input_twice, is_set, one_file, optional_file_rule, running, searching, showing, top_app, two_files, whole, wish_rule};
+ghost use Rattle.dds_tool.specs.Wishes.{format_word};
 
-use crate::wishes::{Wishes, read_fates};
+use crate::wishes::{Wishes, read_fates, read_format};
 use clap::error::ErrorKind;
 use clap::{Arg, ArgAction, ArgMatches, Command, value_parser};
+use dds_answers::{Detail, Format};
 use std::alloc::{AllocError, Global};
 use std::convert::AsStr;
 
@@ -29,6 +32,22 @@ const WRITES: &str = "How many samples each application writes";
 
 /// What help says of the number of takes.
 const TAKES: &str = "How many samples each application takes";
+
+/// What help says of the format.
+const FORMAT: &str = "json or dds-xml";
+
+/// What help says of the flag of an explained answer.
+const EXPLAIN: &str =
+    "Tells the reason too: the numbers behind a refusal, or how near each bound is to its limit";
+
+/// What help says of the certificate of a picture.
+const DRAWN_CERTIFICATE: &str = "A certificate whose bounds are drawn";
+
+/// What is told of words that name standard input twice.
+const INPUT_TWICE: &str = "error: standard input can be read only once\n";
+
+/// What is told of a word that is no format.
+const WRONG_FORMAT: &str = "error: the format is json or dds-xml\n";
 
 /// What is told of fates that are no list.
 const WRONG_FATES: &str =
@@ -53,14 +72,21 @@ pub enum Request<'a> {
     Migrate {
         deployment: &'a str,
     },
-    /// A deployment as it was read, in JSON.
+    /// A deployment as it was read, in a format.
     Show {
         deployment: &'a str,
+        format: Format,
+    },
+    /// A picture of a deployment, with the bounds of a certificate where one is named.
+    Draw {
+        deployment: &'a str,
+        certificate: Option<&'a str>,
     },
     /// Whether a certificate shows that a deployment is safe.
     Check {
         deployment: &'a str,
         certificate: &'a str,
+        detail: Detail,
     },
     /// What a deployment does that a certificate shows to be safe.
     Run {
@@ -91,13 +117,20 @@ fn file<'a>(alloc: Global, id: &'a str, help: &'a str) -> Arg<'a>
         .action(ArgAction::Set)
 }
 
-fn thorough_flag<'a>(alloc: Global) -> Arg<'a>
-    ensures rule { rule_of result ≡ thorough_rule }
+fn optional_file<'a>(alloc: Global, id: &'a str, help: &'a str) -> Arg<'a>
+    ensures rule { rule_of result ≡ optional_file_rule id.entry.now }
     ensures local { result.global ≡ false }
 {
-    Arg::new(alloc, "thorough")
-        .long("thorough")
-        .help(THOROUGH)
+    Arg::new(alloc, id).help(help).action(ArgAction::Set)
+}
+
+fn flag<'a>(alloc: Global, id: &'a str, help: &'a str) -> Arg<'a>
+    ensures rule { rule_of result ≡ flag_rule id.entry.now }
+    ensures local { result.global ≡ false }
+{
+    Arg::new(alloc, id)
+        .long(id)
+        .help(help)
         .action(ArgAction::SetTrue)
 }
 
@@ -108,7 +141,7 @@ fn propose_command<'a>(alloc: Global) -> Result<Command<'a>, AllocError>
     Command::new(alloc, "propose")
         .about("Looks for a certificate of a deployment")
         .arg(file(alloc, "deployment", DEPLOYMENT))?
-        .arg(thorough_flag(alloc))
+        .arg(flag(alloc, "thorough", THOROUGH))
 }
 
 fn one_file_command<'a>(
@@ -136,6 +169,15 @@ fn two_files_command<'a>(
         .about(about)
         .arg(file(alloc, "deployment", DEPLOYMENT))?
         .arg(file(alloc, "certificate", CERTIFICATE))
+}
+
+fn check_command<'a>(alloc: Global) -> Result<Command<'a>, AllocError>
+    ensures app { IfOk result (λ c. app_of c ≡ checking) }
+    ensures local { IfOk result (λ c. (fields_of c).has_globals ≡ false) }
+{
+    two_files_command(alloc, "check", "Checks a certificate of a deployment")?.arg(flag(
+        alloc, "explain", EXPLAIN,
+    ))
 }
 
 fn wish<'a>(alloc: Global, id: &'a str, value: &'a str, default: &'a str, help: &'a str) -> Arg<'a>
@@ -171,6 +213,30 @@ fn run_command<'a>(alloc: Global) -> Result<Command<'a>, AllocError>
     .arg(count(alloc, "takes", TAKES))
 }
 
+fn show_command<'a>(alloc: Global) -> Result<Command<'a>, AllocError>
+    ensures app { IfOk result (λ c. app_of c ≡ showing) }
+    ensures local { IfOk result (λ c. (fields_of c).has_globals ≡ false) }
+{
+    one_file_command(
+        alloc,
+        "show",
+        "Prints a deployment as it was read, with every field",
+    )?
+    .arg(wish(alloc, "format", "FORMAT", "json", FORMAT))
+}
+
+fn draw_command<'a>(alloc: Global) -> Result<Command<'a>, AllocError>
+    ensures app { IfOk result (λ c. app_of c ≡ drawing) }
+    ensures local { IfOk result (λ c. (fields_of c).has_globals ≡ false) }
+{
+    one_file_command(
+        alloc,
+        "draw",
+        "Prints a picture of a deployment, for Graphviz",
+    )?
+    .arg(optional_file(alloc, "certificate", DRAWN_CERTIFICATE))
+}
+
 /// The command, and a subcommand more that has no global argument.
 fn with_command<'a>(command: Command<'a>, below: Command<'a>) -> Result<Command<'a>, AllocError>
     requires below { (fields_of below).has_globals ≡ false }
@@ -197,7 +263,7 @@ fn whole_command<'a>(alloc: Global) -> Result<Command<'a>, AllocError>
         "Tells which writers and readers match, and why others don't",
     )?;
     let command = with_command(top_command(alloc), matching)?;
-    let checking = two_files_command(alloc, "check", "Checks a certificate of a deployment")?;
+    let checking = check_command(alloc)?;
     let command = with_command(command, checking)?;
     let proposing = propose_command(alloc)?;
     let command = with_command(command, proposing)?;
@@ -209,12 +275,10 @@ fn whole_command<'a>(alloc: Global) -> Result<Command<'a>, AllocError>
         "Prints a deployment file of version 1 as one of version 2",
     )?;
     let command = with_command(command, migrating)?;
-    let showing = one_file_command(
-        alloc,
-        "show",
-        "Prints a deployment as it was read, with every field, in JSON",
-    )?;
-    with_command(command, showing)
+    let showing = show_command(alloc)?;
+    let command = with_command(command, showing)?;
+    let drawing = draw_command(alloc)?;
+    with_command(command, drawing)
 }
 
 /// The words are no request, for this reason.
@@ -270,21 +334,63 @@ fn matches_of<'a, S: AsStr>(alloc: Global, words: &'a [S]) -> Result<ArgMatches<
     }
 }
 
+/// Whether a flag is given.
+fn is_set(matches: &ArgMatches, id: &str) -> bool
+    ensures { result ≡ is_set (rows_of (found_of matches.now)) id.now }
+{
+    match argument(matches, id) {
+        Some(text) => text == "true",
+        None => false,
+    }
+}
+
+/// Whether both names are `-`, which stands for standard input: it can be read only once.
+fn is_input_twice(deployment: &str, certificate: &str) -> bool
+    ensures { result ≡ is_input_twice deployment.now certificate.now }
+{
+    deployment == "-" && certificate == "-"
+}
+
+/// The names of a deployment and of a certificate, if both are given, not both on standard input.
+fn both_files<'a>(alloc: Global, matches: &ArgMatches<'a>) -> Result<(&'a str, &'a str), NoRequest>
+    ensures both { IfOk result (λ files. NamesBoth (rows_of (found_of matches.now)) files.0.now files.1.now) }
+    ensures fault { IfErr result (λ e. ¬ IsHelp e) }
+    ensures none { IfErr result (λ _. (d c : Text) → NamesBoth (rows_of (found_of matches.now)) d c → ⊥) }
+{
+    let (Some(deployment), Some(certificate)) = (
+        argument(matches, "deployment"),
+        argument(matches, "certificate"),
+    ) else {
+        return Err(usage(alloc, "error: a file is missing\n"));
+    };
+    if is_input_twice(deployment, certificate) {
+        return Err(usage(alloc, INPUT_TWICE));
+    }
+    Ok((deployment, certificate))
+}
+
+/// How much a check is asked to tell.
+fn detail(matches: &ArgMatches) -> Detail
+    ensures { result ≡ detail_of (rows_of (found_of matches.now)) }
+{
+    if is_set(matches, "explain") {
+        Detail::Explained
+    } else {
+        Detail::Plain
+    }
+}
+
 fn check_request<'a>(alloc: Global, matches: &ArgMatches<'a>) -> Result<Request<'a>, NoRequest>
     ensures asked { (words : List Text) → subcommand_of whole words ≡ Some (codes "check", rows_of (found_of matches.now)) → IfOk result (Asks words) }
     ensures fault { IfErr result (λ e. ¬ IsHelp e) }
     ensures unasked { (words : List Text) → subcommand_of whole words ≡ Some (codes "check", rows_of (found_of matches.now)) → (r : _) → Asks words r → IfErr result (λ _. ⊥) }
 {
-    match (
-        argument(matches, "deployment"),
-        argument(matches, "certificate"),
-    ) {
-        (Some(deployment), Some(certificate)) => Ok(Request::Check {
-            deployment,
-            certificate,
-        }),
-        _ => Err(usage(alloc, "error: a file is missing\n")),
-    }
+    let (deployment, certificate) = both_files(alloc, matches)?;
+    Ok(Request::Check {
+        deployment,
+        certificate,
+        detail: detail(matches),
+    })
 }
 
 fn match_request<'a>(alloc: Global, matches: &ArgMatches<'a>) -> Result<Request<'a>, NoRequest>
@@ -298,23 +404,15 @@ fn match_request<'a>(alloc: Global, matches: &ArgMatches<'a>) -> Result<Request<
     }
 }
 
-/// Whether a thorough search is asked for.
-fn is_thorough(matches: &ArgMatches) -> bool
-    ensures { result ≡ is_thorough (rows_of (found_of matches.now)) }
-{
-    match argument(matches, "thorough") {
-        Some(text) => text == "true",
-        None => false,
-    }
-}
-
 fn propose_request<'a>(alloc: Global, matches: &ArgMatches<'a>) -> Result<Request<'a>, NoRequest>
     ensures asked { (words : List Text) → subcommand_of whole words ≡ Some (codes "propose", rows_of (found_of matches.now)) → IfOk result (Asks words) }
     ensures fault { IfErr result (λ e. ¬ IsHelp e) }
     ensures unasked { (words : List Text) → subcommand_of whole words ≡ Some (codes "propose", rows_of (found_of matches.now)) → (r : _) → Asks words r → IfErr result (λ _. ⊥) }
 {
     match argument(matches, "deployment") {
-        Some(deployment) if is_thorough(matches) => Ok(Request::ProposeThoroughly { deployment }),
+        Some(deployment) if is_set(matches, "thorough") => Ok(Request::ProposeThoroughly {
+            deployment,
+        }),
         Some(deployment) => Ok(Request::Propose { deployment }),
         None => Err(usage(alloc, "error: a file is missing\n")),
     }
@@ -348,17 +446,12 @@ fn run_request<'a>(alloc: Global, matches: &ArgMatches<'a>) -> Result<Request<'a
     let Some(wishes) = wishes(matches) else {
         return Err(usage(alloc, WRONG_FATES));
     };
-    match (
-        argument(matches, "deployment"),
-        argument(matches, "certificate"),
-    ) {
-        (Some(deployment), Some(certificate)) => Ok(Request::Run {
-            deployment,
-            certificate,
-            wishes,
-        }),
-        _ => Err(usage(alloc, "error: a file is missing\n")),
-    }
+    let (deployment, certificate) = both_files(alloc, matches)?;
+    Ok(Request::Run {
+        deployment,
+        certificate,
+        wishes,
+    })
 }
 
 fn migrate_request<'a>(alloc: Global, matches: &ArgMatches<'a>) -> Result<Request<'a>, NoRequest>
@@ -372,14 +465,44 @@ fn migrate_request<'a>(alloc: Global, matches: &ArgMatches<'a>) -> Result<Reques
     }
 }
 
+/// The format in which a deployment is to be shown, or `None` where the word stands for none.
+fn format(matches: &ArgMatches) -> Option<Format>
+    ensures some { IfSome result (λ format. first_of (codes "format") (rows_of (found_of matches.now)) ≡ Some (format_word format)) }
+    ensures none { IfNone result ((format : Format) → first_of (codes "format") (rows_of (found_of matches.now)) ≡ Some (format_word format) → ⊥) }
+{
+    read_format(argument(matches, "format")?)
+}
+
 fn show_request<'a>(alloc: Global, matches: &ArgMatches<'a>) -> Result<Request<'a>, NoRequest>
     ensures asked { (words : List Text) → subcommand_of whole words ≡ Some (codes "show", rows_of (found_of matches.now)) → IfOk result (Asks words) }
     ensures fault { IfErr result (λ e. ¬ IsHelp e) }
     ensures unasked { (words : List Text) → subcommand_of whole words ≡ Some (codes "show", rows_of (found_of matches.now)) → (r : _) → Asks words r → IfErr result (λ _. ⊥) }
 {
+    let Some(format) = format(matches) else {
+        return Err(usage(alloc, WRONG_FORMAT));
+    };
     match argument(matches, "deployment") {
-        Some(deployment) => Ok(Request::Show { deployment }),
+        Some(deployment) => Ok(Request::Show { deployment, format }),
         None => Err(usage(alloc, "error: a file is missing\n")),
+    }
+}
+
+fn draw_request<'a>(alloc: Global, matches: &ArgMatches<'a>) -> Result<Request<'a>, NoRequest>
+    ensures asked { (words : List Text) → subcommand_of whole words ≡ Some (codes "draw", rows_of (found_of matches.now)) → IfOk result (Asks words) }
+    ensures fault { IfErr result (λ e. ¬ IsHelp e) }
+    ensures unasked { (words : List Text) → subcommand_of whole words ≡ Some (codes "draw", rows_of (found_of matches.now)) → (r : _) → Asks words r → IfErr result (λ _. ⊥) }
+{
+    let Some(deployment) = argument(matches, "deployment") else {
+        return Err(usage(alloc, "error: a file is missing\n"));
+    };
+    match argument(matches, "certificate") {
+        Some(certificate) if is_input_twice(deployment, certificate) => {
+            Err(usage(alloc, INPUT_TWICE))
+        }
+        certificate => Ok(Request::Draw {
+            deployment,
+            certificate,
+        }),
     }
 }
 
@@ -398,6 +521,7 @@ pub fn read_request<'a, S: AsStr>(alloc: Global, words: &'a [S]) -> Result<Reque
         Some(("run", inner)) => run_request(alloc, inner),
         Some(("migrate", inner)) => migrate_request(alloc, inner),
         Some(("show", inner)) => show_request(alloc, inner),
+        Some(("draw", inner)) => draw_request(alloc, inner),
         _ => Err(usage(alloc, "error: no such command\n")),
     }
 }

@@ -9,7 +9,7 @@ ghost use Rattle.dds_tool.specs.RunEnds.{GivesRun};
 ghost use Rattle.dds_tool.specs.Running.{all_stopped, app_line, app_names, end_word, is_taken, is_written, run_lines};
 
 use crate::wishes::Wishes;
-use dds_answers::{Answer, Report, ToolFault, answer_check, reported};
+use dds_answers::{Answer, Detail, Report, ToolFault, answer_check, reported};
 use dds_base::{AppNo, Reply};
 use dds_book::{Entry, Gauge, GaugeSeat, Journal};
 use dds_cert::naming::name_at;
@@ -258,7 +258,7 @@ pub fn run_answer<R: Threads + Wait + Clock + Sync>(
 {
     match answer_check(alloc, deployment, certificate) {
         Ok(Report::Yes(checked)) => played(rt, alloc, checked, wishes),
-        Ok(refused) => reported(alloc, refused),
+        Ok(refused) => reported(alloc, refused, Detail::Plain),
         Err(fault) => Err(fault),
     }
 }

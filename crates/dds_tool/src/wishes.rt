@@ -1,9 +1,11 @@
-//! How a deployment is to run.
+//! How a deployment is to be shown, and how it is to run.
 ghost use Rattle.std.specs.Prelude.{◌≡◌, ◌≢◌, List, IfNone, IfSome};
 ghost use Rattle.dds_base.specs.declared.events.Fate.{Fate};
 ghost use Rattle.dds_peers.specs.Fates.{AreFates};
-ghost use Rattle.dds_tool.specs.Wishes.{fate_word, fates_text};
+ghost use Rattle.dds_answers.specs.declared.format.Format.{Format};
+ghost use Rattle.dds_tool.specs.Wishes.{fate_word, fates_text, format_word};
 
+use dds_answers::Format;
 use dds_base::Fate;
 use dds_peers::Fates;
 
@@ -16,6 +18,18 @@ pub struct Wishes {
     pub fates: Fates,
     pub writes: u16,
     pub takes: u16,
+}
+
+/// The format for which a word stands, or `None` where it stands for none.
+pub(crate) fn read_format(word: &str) -> Option<Format>
+    ensures some { IfSome result (λ format. word.now ≡ format_word format) }
+    ensures none { IfNone result ((format : Format) → word.now ≢ format_word format) }
+{
+    match word {
+        "json" => Some(Format::Json),
+        "dds-xml" => Some(Format::DdsXml),
+        _ => None,
+    }
 }
 
 /// The fate for which a word stands.

@@ -3,8 +3,8 @@
 #![tactic(auto)]
 
 use dds_answers::{
-    Answer, Disk, Sources, Stream, ToolFault, check_files, give, match_file, migrate_file,
-    propose_file, show_file, tell_fault,
+    Answer, Detail, Disk, Format, Sources, Stream, ToolFault, check_files, draw_file, draw_files,
+    give, match_file, migrate_file, propose_file, show_file, tell_fault,
 };
 use std::alloc::Global;
 use std::env::{self, Env};
@@ -35,7 +35,23 @@ fn answer_to_one<S: Sources>(
         "match" => match_file(alloc, deployment, files),
         "propose" => propose_file(alloc, deployment, files),
         "migrate" => migrate_file(alloc, deployment, files),
-        "show" => show_file(alloc, deployment, files),
+        "show" => show_file(alloc, deployment, Format::Json, files),
+        "draw" => draw_file(alloc, deployment, files),
+        _ => Err(other_words(alloc)),
+    }
+}
+
+/// The answer to a command on two files.
+fn answer_to_two<S: Sources>(
+    alloc: Global,
+    command: &str,
+    deployment: &str,
+    certificate: &str,
+    files: &mut S,
+) -> Result<Answer, ToolFault> {
+    match command {
+        "check" => check_files(alloc, deployment, certificate, Detail::Plain, files),
+        "draw" => draw_files(alloc, deployment, certificate, files),
         _ => Err(other_words(alloc)),
     }
 }
@@ -50,9 +66,13 @@ fn answer_to<S: Sources>(
         [_, command, deployment] => {
             answer_to_one(alloc, command.as_str(), deployment.as_str(), files)
         }
-        [_, command, deployment, certificate] if command.as_str() == "check" => {
-            check_files(alloc, deployment.as_str(), certificate.as_str(), files)
-        }
+        [_, command, deployment, certificate] => answer_to_two(
+            alloc,
+            command.as_str(),
+            deployment.as_str(),
+            certificate.as_str(),
+            files,
+        ),
         _ => Err(other_words(alloc)),
     }
 }

@@ -25,7 +25,7 @@ fn text_of(bytes: &[u8]) -> &str {
 }
 
 /// What comes of the words: what is written to the output; after a line `errors:`, what is written to the error output; and the status.
-fn outcome<R: Files + Threads + Wait + Clock + Sync>(
+fn outcome<R: Files + Input + Threads + Wait + Clock + Sync>(
     rt: &R,
     alloc: Global,
     words: &[&str],

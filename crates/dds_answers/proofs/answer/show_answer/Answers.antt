@@ -7,8 +7,8 @@ use Rattle.dds_answers.proofs.answer.show_answer.Goals as goal
 
 pub returns-in-Ok-clause-gives : goal.returns-in-Ok-clause-gives
 unfolding show_outcome
-returns-in-Ok-clause-gives c = subst (Gives c.shown.result) (sym (ap showing c.in-Ok.ensures)) c.shown.ensures.gives
+returns-in-Ok-clause-gives c = subst (Gives c.shown.result) (sym (ap (showing c.args.format) c.in-Ok.ensures)) c.shown.ensures.gives
 
 pub returns-in-Err-clause-gives : goal.returns-in-Err-clause-gives
 unfolding show_outcome
-returns-in-Err-clause-gives c = unshown_ends (read c.args.deployment.now) c.in-Err.fault c.deployment_fault.result c.in-Err.ensures c.deployment_fault.ensures
+returns-in-Err-clause-gives c = unshown_ends c.args.format (read c.args.deployment.now) c.in-Err.fault c.deployment_fault.result c.in-Err.ensures c.deployment_fault.ensures

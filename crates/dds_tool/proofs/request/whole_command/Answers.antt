@@ -13,4 +13,5 @@ returns c =
     let third = c.in_ok-command-3.ensures ∙ ap₂ joined second c.in_ok-proposing.ensures.app in
     let fourth = c.in_ok-command-4.ensures ∙ ap₂ joined third c.in_ok-running.ensures.app in
     let fifth = c.in_ok-command-5.ensures ∙ ap₂ joined fourth c.in_ok-migrating.ensures.app in
-    IfOk-weaker c.with_command-6.result _ _ (λ r h. h ∙ ap₂ joined fifth c.in_ok-showing.ensures.app) c.with_command-6.ensures
+    let sixth = c.in_ok-command-6.ensures ∙ ap₂ joined fifth c.in_ok-showing.ensures.app in
+    IfOk-weaker c.with_command-7.result _ _ (λ r h. h ∙ ap₂ joined sixth c.in_ok-drawing.ensures.app) c.with_command-7.ensures

@@ -1,0 +1,80 @@
+//! What `draw` answers to the bytes of its files.
+ghost use Rattle.std.specs.Prelude.{◌≡◌, IfErr, Ok, option_map};
+ghost use Rattle.dds_cert.specs.Sections.{read as certificate_read};
+ghost use Rattle.dds_cert.specs.Views.{certificate_view};
+ghost use Rattle.dds_answers.specs.Answers.{Gives};
+ghost use Rattle.dds_answers.specs.Fault.{IsAnswerFault};
+ghost use Rattle.dds_answers.specs.Outcome.{draw_outcome, drawing, drawing_with, drawn};
+
+use crate::answer::{Answer, answered};
+use crate::fault::ToolFault;
+use crate::report::{certificate_fault, deployment_fault};
+use dds_cert::{Certificate, read_certificate};
+use dds_deploy::{Deployment, read_deployment};
+use dds_draw::drawing;
+use dds_match::Plan;
+use dds_match::planning::plan;
+use std::alloc::Global;
+
+/// The answer with the picture of a plan, which is needed no longer.
+#[tactic(auto, unfolding(crate::specs::Report::output_of, crate::specs::Report::status_of))]
+fn drawn(alloc: Global, plan: Plan, certificate: Option<&Certificate>) -> Result<Answer, ToolFault>
+    ensures gives { Gives result (drawn plan (option_map (λ c. certificate_view c.now) certificate.entry)) }
+    ensures fault { IfErr result IsAnswerFault }
+{
+    let answer = answered(drawing(alloc, &plan, certificate), true);
+    drop(plan);
+    answer
+}
+
+/// The answer with the picture of a plan and of the bytes of its certificate.
+fn drawn_with(alloc: Global, plan: Plan, certificate: &[u8]) -> Result<Answer, ToolFault>
+    ensures gives { Gives result (drawing_with plan (certificate_read plan certificate.now)) }
+    ensures fault { IfErr result IsAnswerFault }
+{
+    match read_certificate(alloc, &plan, certificate) {
+        Ok(certificate) => drawn(alloc, plan, Some(&certificate)),
+        Err(fault) => {
+            drop(plan);
+            Err(certificate_fault(fault))
+        }
+    }
+}
+
+/// The answer with the picture of the lists of a deployment.
+fn lists_drawn(
+    alloc: Global,
+    lists: Deployment,
+    certificate: Option<&[u8]>,
+) -> Result<Answer, ToolFault>
+    ensures gives { Gives result (drawing (Ok lists) (option_map (λ c. c.now) certificate.entry)) }
+    ensures fault { IfErr result IsAnswerFault }
+{
+    let plan = match plan(alloc, lists) {
+        Ok(plan) => plan,
+        Err((_, lists)) => {
+            drop(lists);
+            return Err(ToolFault::NoMemory);
+        }
+    };
+    match certificate {
+        Some(bytes) => drawn_with(alloc, plan, bytes),
+        None => drawn(alloc, plan, None),
+    }
+}
+
+/// The answer of `draw` to the bytes of a deployment, and of a certificate if one is given: yes with a picture for Graphviz. The certificate's bounds and totals
+/// stand in it, whether they hold or not.
+pub fn draw_answer(
+    alloc: Global,
+    deployment: &[u8],
+    certificate: Option<&[u8]>,
+) -> Result<Answer, ToolFault>
+    ensures gives { Gives result (draw_outcome deployment.now (option_map (λ c. c.now) certificate.entry)) }
+    ensures fault { IfErr result IsAnswerFault }
+{
+    match read_deployment(alloc, deployment) {
+        Ok(lists) => lists_drawn(alloc, lists, certificate),
+        Err(fault) => Err(deployment_fault(fault)),
+    }
+}

@@ -1,0 +1,4 @@
+pub mod Nodes
+pub mod Clusters
+pub mod Edges
+pub mod Picture

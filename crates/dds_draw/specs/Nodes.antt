@@ -1,0 +1,87 @@
+-- Endpoints and rules as nodes of a picture, in DOT, with their labels. Names have no byte that DOT escapes; a label has `\n`, two bytes, where a new line begins.
+use Rattle.std.specs.Prelude.{codes, ℕ, List, [], ◌++◌, ◌==◌, flat_map, slice_get, Option, Some, None, if◌then◌else◌}
+use Rattle.std.specs.Fmt.{decimal}
+use Rattle.std.specs.Option.{option_map_or}
+use Rattle.dds_qos.specs.declared.policies.HistoryKind.{HistoryKind}
+use Rattle.dds_qos.specs.declared.policies.HistoryKind.TheVariants.{KeepLast, KeepAll}
+use Rattle.dds_qos.specs.declared.policies.Policies.{Policies}
+use Rattle.dds_qos.specs.declared.policies.Reliability.{Reliability}
+use Rattle.dds_qos.specs.declared.policies.Reliability.TheVariants.{BestEffort, Reliable}
+use Rattle.dds_deploy.specs.Lists.{Lists, Reader, Rule, Writer}
+use Rattle.dds_deploy.specs.Sections.{key_name}
+use Rattle.dds_deploy.specs.declared.sections.Origin.{Origin}
+use Rattle.dds_cert.specs.Lists.{Certificate}
+use Rattle.dds_cert.specs.Naming.{name_at, reader_key}
+use Rattle.dds_cert.specs.declared.certificate.Bound.{Bound}
+use Rattle.dds_cert.specs.declared.certificate.Total.{Total}
+
+-- how many samples of an instance stay by KEEP_LAST; nothing of KEEP_ALL (OMG DDS 1.4, clause 2.2.3.18)
+abbrev pub history_line : HistoryKind → ℕ → List ℕ
+history_line KeepLast depth = codes "\\nKEEP_LAST " ++ decimal depth
+history_line KeepAll depth = []
+
+-- a limit with its name, nothing where it is unlimited (OMG DDS 1.4, clause 2.2.3.19)
+abbrev pub limit_line : List ℕ → Option ℕ → List ℕ
+limit_line name (Some limit) = codes "\\n" ++ (name ++ (codes " " ++ decimal limit))
+limit_line name None = []
+
+-- a word for BEST_EFFORT; nothing for RELIABLE (OMG DDS 1.4, clause 2.2.3.14)
+abbrev pub reliability_line : Reliability → List ℕ
+reliability_line BestEffort = codes "\\nBEST_EFFORT"
+reliability_line Reliable = []
+
+-- what an endpoint keeps, each limit in a line of its own, and whether it is best-effort
+unfoldable pub policies_lines : Policies → List ℕ
+policies_lines p =
+    history_line p.history.kind p.history.depth
+    ++ (limit_line (codes "max_samples") p.resource_limits.max_samples
+    ++ (limit_line (codes "max_instances") p.resource_limits.max_instances
+    ++ (limit_line (codes "max_samples_per_instance") p.resource_limits.max_samples_per_instance ++ reliability_line p.reliability)))
+
+-- a bound, if it is one of the reader
+abbrev pub bound_line : Lists → ℕ → Bound → List ℕ
+bound_line d r b = if b.reader == r then codes "\\nbound " ++ (reader_key d r b.key ++ (codes " " ++ decimal b.bound)) else []
+
+-- a total, if it is one of the reader
+abbrev pub total_line : ℕ → Total → List ℕ
+total_line r t = if t.reader == r then codes "\\ntotal " ++ decimal t.bound else []
+
+-- what a certificate shows of a reader: its bounds, then its totals, each in the order of the certificate
+abbrev pub certificate_lines : Lists → ℕ → Option Certificate → List ℕ
+certificate_lines d r None = []
+certificate_lines d r (Some c) = flat_map (bound_line d r) c.bounds ++ flat_map (total_line r) c.totals
+
+-- the name of an endpoint, its topic and its limits
+abbrev pub endpoint_label : List ℕ → List ℕ → Policies → List ℕ
+endpoint_label name topic p = name ++ (codes "\\n" ++ (topic ++ policies_lines p))
+
+-- the node of a writer with this number
+unfoldable pub writer_node : Lists → ℕ → Writer → List ℕ
+writer_node d w x =
+    codes "    \"writer "
+    ++ (name_at d.writers.names w
+    ++ (codes "\" [label=\"" ++ (endpoint_label (name_at d.writers.names w) (name_at d.topics.names x.topic) x.qos.offered ++ codes "\"];\n")))
+
+-- the node of a reader with this number, with what a certificate shows of it
+unfoldable pub reader_node : Lists → Option Certificate → ℕ → Reader → List ℕ
+reader_node d c r x =
+    codes "    \"reader "
+    ++ (name_at d.readers.names r
+    ++ (codes "\" [style=filled, fillcolor=white, label=\""
+    ++ (endpoint_label (name_at d.readers.names r) (name_at d.topics.names x.topic) x.qos.requested ++ (certificate_lines d r c ++ codes "\"];\n"))))
+
+-- the name of a rule's entry, and the key where the rule stands for one
+abbrev pub origin_text : Lists → Origin → List ℕ
+origin_text d o = option_map_or (λ k. name_at d.rules.names o.name ++ (codes " " ++ key_name d.topics k.0 k.1)) o.key (name_at d.rules.names o.name)
+
+-- the same of the rule with this number
+abbrev pub rule_text : Lists → ℕ → List ℕ
+rule_text d u = option_map_or (origin_text d) (slice_get d.rules.origins u) []
+
+-- how often a rule may write at the opening, nothing where it may not
+abbrev pub start_line : ℕ → List ℕ
+start_line n = if n == 0 then [] else codes "\\nstart " ++ decimal n
+
+-- the node of a rule with this number
+unfoldable pub rule_node : Lists → ℕ → Rule → List ℕ
+rule_node d u x = codes "      \"rule " ++ (decimal u ++ (codes "\" [shape=ellipse, label=\"" ++ (rule_text d u ++ (start_line x.start ++ codes "\"];\n"))))

@@ -1,0 +1,209 @@
+//! What rules take and write, and which endpoints match, as edges.
+ghost use Rattle.std.specs.Prelude.{◌≡◌, ◌++◌, ◌<◌, IfOk, flat_map, length, string_bytes};
+ghost use Rattle.dds_deploy.specs.Views.{rule_view};
+ghost use Rattle.dds_draw.specs.Edges.{all_pair_edges, all_rule_edges, connection_edge, edge_of, pair_edge, pair_edges, rule_at, rule_edges, take_edge, write_edge};
+
+use dds_base::{Portion, ReaderNo, RuleNo, WriterNo};
+use dds_cert::naming::{name_at, reader_key, writer_key};
+use dds_deploy::{Deployment, Rule};
+use dds_match::{Plan, WhyNot};
+use dds_show::reasons::reason_text;
+use std::alloc::{AllocError, Global};
+
+/// What a rule takes of a key at a reader.
+fn take_edge(
+    alloc: Global,
+    lists: &Deployment,
+    rule: RuleNo,
+    x: &Portion<ReaderNo>,
+) -> Result<String, AllocError>
+    ensures { IfOk result (λ text. string_bytes text ≡ take_edge lists.now rule x.now) }
+{
+    let reader = name_at(lists.reader_names(), x.endpoint.number());
+    let key = reader_key(lists, x.endpoint, x.key);
+    let number = rule.number();
+    let count = x.count;
+    format!(in alloc; "  \"reader {reader}\" -> \"rule {number}\" [label=\"{count} {key}\"];\n")
+}
+
+/// What a rule writes of a key at a writer.
+fn write_edge(
+    alloc: Global,
+    lists: &Deployment,
+    rule: RuleNo,
+    x: &Portion<WriterNo>,
+) -> Result<String, AllocError>
+    ensures { IfOk result (λ text. string_bytes text ≡ write_edge lists.now rule x.now) }
+{
+    let writer = name_at(lists.writer_names(), x.endpoint.number());
+    let key = writer_key(lists, x.endpoint, x.key);
+    let number = rule.number();
+    let count = x.count;
+    format!(in alloc; "  \"rule {number}\" -> \"writer {writer}\" [label=\"{count} {key}\"];\n")
+}
+
+/// Adds what a rule takes.
+fn push_takes(
+    alloc: Global,
+    text: &mut String,
+    lists: &Deployment,
+    rule: RuleNo,
+    takes: &[Portion<ReaderNo>],
+) -> Result<(), AllocError>
+    ensures { IfOk result (λ _. string_bytes text.new ≡ string_bytes text.old ++ flat_map (take_edge lists.now rule) takes.now) }
+{
+    for take in takes {
+        let edge = take_edge(alloc, lists, rule, take)?;
+        text.push_str(edge.as_str())?;
+    }
+    Ok(())
+}
+
+/// Adds what a rule writes.
+fn push_writes(
+    alloc: Global,
+    text: &mut String,
+    lists: &Deployment,
+    rule: RuleNo,
+    writes: &[Portion<WriterNo>],
+) -> Result<(), AllocError>
+    ensures { IfOk result (λ _. string_bytes text.new ≡ string_bytes text.old ++ flat_map (write_edge lists.now rule) writes.now) }
+{
+    for write in writes {
+        let edge = write_edge(alloc, lists, rule, write)?;
+        text.push_str(edge.as_str())?;
+    }
+    Ok(())
+}
+
+/// What a rule takes, then what it writes.
+fn rule_edges(
+    alloc: Global,
+    lists: &Deployment,
+    number: RuleNo,
+    x: &Rule,
+) -> Result<String, AllocError>
+    ensures { IfOk result (λ text. string_bytes text ≡ rule_edges lists.now number (rule_view x.now)) }
+{
+    let mut text = String::new(alloc);
+    push_takes(alloc, &mut text, lists, number, x.takes.as_slice())?;
+    push_writes(alloc, &mut text, lists, number, x.writes.as_slice())?;
+    Ok(text)
+}
+
+/// Adds the edges of a rule.
+fn push_rule(
+    alloc: Global,
+    text: &mut String,
+    lists: &Deployment,
+    u: usize,
+) -> Result<(), AllocError>
+    requires { u < length lists.now.rules.entries }
+    ensures { IfOk result (λ _. string_bytes text.new ≡ string_bytes text.old ++ rule_at lists.now u) }
+{
+    let number = RuleNo::new(u);
+    let edges = rule_edges(alloc, lists, number, lists.rule(number))?;
+    text.push_str(edges.as_str())
+}
+
+/// The edges of all rules, in their order.
+#[tactic(auto, unfolding(crate::specs::Edges::all_rule_edges))]
+pub(crate) fn all_rule_edges(alloc: Global, lists: &Deployment) -> Result<String, AllocError>
+    ensures { IfOk result (λ text. string_bytes text ≡ all_rule_edges lists.now) }
+{
+    let mut text = String::new(alloc);
+    for u in 0..lists.rules() {
+        push_rule(alloc, &mut text, lists, u)?;
+    }
+    Ok(text)
+}
+
+/// The edge from a writer to a reader, with these attributes.
+fn connection_edge(
+    alloc: Global,
+    writer: &str,
+    reader: &str,
+    attributes: &str,
+) -> Result<String, AllocError>
+    ensures { IfOk result (λ text. string_bytes text ≡ connection_edge writer.now reader.now attributes.now) }
+{
+    format!(in alloc; "  \"writer {writer}\" -> \"reader {reader}\"{attributes};\n")
+}
+
+/// The edge of a writer and a reader with these names, which match or don't for this reason; `named` says whether a connection names them. It is red where only
+/// one of the two holds, and there is none where neither does.
+fn edge_of(
+    alloc: Global,
+    writer: &str,
+    reader: &str,
+    named: bool,
+    reason: Option<WhyNot>,
+) -> Result<String, AllocError>
+    ensures { IfOk result (λ text. string_bytes text ≡ edge_of writer.now reader.now named reason) }
+{
+    match reason {
+        None if named => connection_edge(alloc, writer, reader, ""),
+        None => connection_edge(
+            alloc,
+            writer,
+            reader,
+            " [style=dotted, color=red, label=\"no connection\"]",
+        ),
+        Some(reason) if named => {
+            let reason = reason_text(alloc, reason)?;
+            let attributes = format!(in alloc; " [style=dashed, color=red, label=\"{reason}\"]")?;
+            connection_edge(alloc, writer, reader, attributes.as_str())
+        }
+        Some(_) => Ok(String::new(alloc)),
+    }
+}
+
+/// The edge of the writer and the reader with these numbers.
+fn pair_edge(
+    alloc: Global,
+    plan: &Plan,
+    writer: WriterNo,
+    reader: ReaderNo,
+) -> Result<String, AllocError>
+    ensures { IfOk result (λ text. string_bytes text ≡ pair_edge plan.now writer reader) }
+{
+    let lists = plan.lists();
+    let writer_name = name_at(lists.writer_names(), writer.number());
+    let reader_name = name_at(lists.reader_names(), reader.number());
+    let named = plan.intended(writer, reader);
+    edge_of(
+        alloc,
+        writer_name,
+        reader_name,
+        named,
+        plan.why_not(writer, reader),
+    )
+}
+
+/// Adds the edges of a writer, by readers in file order.
+fn push_pairs(
+    alloc: Global,
+    text: &mut String,
+    plan: &Plan,
+    writer: WriterNo,
+) -> Result<(), AllocError>
+    ensures { IfOk result (λ _. string_bytes text.new ≡ string_bytes text.old ++ pair_edges plan.now writer) }
+{
+    for r in 0..plan.lists().readers() {
+        let edge = pair_edge(alloc, plan, writer, ReaderNo::new(r))?;
+        text.push_str(edge.as_str())?;
+    }
+    Ok(())
+}
+
+/// The edges from all writers to readers, by writers in file order.
+#[tactic(auto, unfolding(crate::specs::Edges::all_pair_edges))]
+pub(crate) fn all_pair_edges(alloc: Global, plan: &Plan) -> Result<String, AllocError>
+    ensures { IfOk result (λ text. string_bytes text ≡ all_pair_edges plan.now) }
+{
+    let mut text = String::new(alloc);
+    for w in 0..plan.lists().writers() {
+        push_pairs(alloc, &mut text, plan, WriterNo::new(w))?;
+    }
+    Ok(text)
+}

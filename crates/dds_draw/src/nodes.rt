@@ -1,0 +1,243 @@
+//! Endpoints and rules as nodes, with their labels. Names have no byte that DOT escapes; a label has `\n`, two bytes, where a new line begins.
+ghost use Rattle.std.specs.Prelude.{◌≡◌, ◌++◌, IfOk, flat_map, option_map, string_bytes};
+ghost use Rattle.dds_deploy.specs.Views.{reader_view, rule_view, writer_view};
+ghost use Rattle.dds_cert.specs.Views.{certificate_view};
+ghost use Rattle.dds_draw.specs.Nodes.{bound_line, certificate_lines, endpoint_label, history_line, limit_line, policies_lines, reader_node, reliability_line, rule_node, rule_text, start_line, total_line, writer_node};
+
+use dds_base::{ReaderNo, RuleNo, WriterNo};
+use dds_cert::naming::{name_at, reader_key};
+use dds_cert::{Bound, Certificate, Total};
+use dds_deploy::{Deployment, Reader, Rule, Writer};
+use dds_qos::{History, HistoryKind, Policies, Reliability};
+use std::alloc::{AllocError, Global};
+
+/// How many samples of an instance stay by KEEP_LAST; nothing of KEEP_ALL.
+fn history_line(alloc: Global, history: History) -> Result<String, AllocError>
+    ensures { IfOk result (λ text. string_bytes text ≡ history_line history.kind history.depth) }
+{
+    match history.kind {
+        HistoryKind::KeepLast => {
+            let depth = history.depth;
+            format!(in alloc; "\\nKEEP_LAST {depth}")
+        }
+        HistoryKind::KeepAll => Ok(String::new(alloc)),
+    }
+}
+
+/// A limit with its name, nothing where it is unlimited.
+fn limit_line(alloc: Global, name: &str, limit: Option<u32>) -> Result<String, AllocError>
+    ensures { IfOk result (λ text. string_bytes text ≡ limit_line name.now limit) }
+{
+    match limit {
+        Some(limit) => format!(in alloc; "\\n{name} {limit}"),
+        None => Ok(String::new(alloc)),
+    }
+}
+
+/// A word for BEST_EFFORT; nothing for RELIABLE.
+fn reliability_line(reliability: Reliability) -> &'static str
+    ensures { result.now ≡ reliability_line reliability }
+{
+    match reliability {
+        Reliability::BestEffort => "\\nBEST_EFFORT",
+        Reliability::Reliable => "",
+    }
+}
+
+/// What an endpoint keeps, each limit in a line of its own, and whether it is best-effort.
+fn policies_lines(alloc: Global, p: &Policies) -> Result<String, AllocError>
+    ensures { IfOk result (λ text. string_bytes text ≡ policies_lines p.now) }
+{
+    let limits = p.resource_limits;
+    let history = history_line(alloc, p.history)?;
+    let samples = limit_line(alloc, "max_samples", limits.max_samples)?;
+    let instances = limit_line(alloc, "max_instances", limits.max_instances)?;
+    let of_one = limit_line(
+        alloc,
+        "max_samples_per_instance",
+        limits.max_samples_per_instance,
+    )?;
+    let reliability = reliability_line(p.reliability);
+    format!(in alloc; "{history}{samples}{instances}{of_one}{reliability}")
+}
+
+/// Adds a bound, if it is one of the reader.
+fn push_bound(
+    alloc: Global,
+    text: &mut String,
+    lists: &Deployment,
+    reader: ReaderNo,
+    bound: &Bound,
+) -> Result<(), AllocError>
+    ensures { IfOk result (λ _. string_bytes text.new ≡ string_bytes text.old ++ bound_line lists.now reader bound.now) }
+{
+    if bound.reader != reader {
+        return Ok(());
+    }
+    let key = reader_key(lists, reader, bound.key);
+    let number = bound.bound;
+    let line = format!(in alloc; "\\nbound {key} {number}")?;
+    text.push_str(line.as_str())
+}
+
+/// Adds the reader's bounds.
+fn push_bounds(
+    alloc: Global,
+    text: &mut String,
+    lists: &Deployment,
+    reader: ReaderNo,
+    bounds: &[Bound],
+) -> Result<(), AllocError>
+    ensures { IfOk result (λ _. string_bytes text.new ≡ string_bytes text.old ++ flat_map (bound_line lists.now reader) bounds.now) }
+{
+    for bound in bounds {
+        push_bound(alloc, text, lists, reader, bound)?;
+    }
+    Ok(())
+}
+
+/// Adds a total, if it is one of the reader.
+fn push_total(
+    alloc: Global,
+    text: &mut String,
+    reader: ReaderNo,
+    total: &Total,
+) -> Result<(), AllocError>
+    ensures { IfOk result (λ _. string_bytes text.new ≡ string_bytes text.old ++ total_line reader total.now) }
+{
+    if total.reader != reader {
+        return Ok(());
+    }
+    let number = total.bound;
+    let line = format!(in alloc; "\\ntotal {number}")?;
+    text.push_str(line.as_str())
+}
+
+/// Adds the reader's totals.
+fn push_totals(
+    alloc: Global,
+    text: &mut String,
+    reader: ReaderNo,
+    totals: &[Total],
+) -> Result<(), AllocError>
+    ensures { IfOk result (λ _. string_bytes text.new ≡ string_bytes text.old ++ flat_map (total_line reader) totals.now) }
+{
+    for total in totals {
+        push_total(alloc, text, reader, total)?;
+    }
+    Ok(())
+}
+
+/// What a certificate shows of a reader: its bounds, then its totals.
+fn certificate_lines(
+    alloc: Global,
+    lists: &Deployment,
+    certificate: Option<&Certificate>,
+    reader: ReaderNo,
+) -> Result<String, AllocError>
+    ensures { IfOk result (λ text. string_bytes text ≡ certificate_lines lists.now reader (option_map (λ c. certificate_view c.now) certificate.entry)) }
+{
+    let mut text = String::new(alloc);
+    if let Some(certificate) = certificate {
+        push_bounds(
+            alloc,
+            &mut text,
+            lists,
+            reader,
+            certificate.bounds.as_slice(),
+        )?;
+        push_totals(alloc, &mut text, reader, certificate.totals.as_slice())?;
+    }
+    Ok(text)
+}
+
+/// The name of an endpoint, its topic and its limits.
+fn endpoint_label(
+    alloc: Global,
+    name: &str,
+    topic: &str,
+    p: &Policies,
+) -> Result<String, AllocError>
+    ensures { IfOk result (λ text. string_bytes text ≡ endpoint_label name.now topic.now p.now) }
+{
+    let policies = policies_lines(alloc, p)?;
+    format!(in alloc; "{name}\\n{topic}{policies}")
+}
+
+/// The node of a writer.
+pub(crate) fn writer_node(
+    alloc: Global,
+    lists: &Deployment,
+    writer: WriterNo,
+    x: &Writer,
+) -> Result<String, AllocError>
+    ensures { IfOk result (λ text. string_bytes text ≡ writer_node lists.now writer (writer_view x.now)) }
+{
+    let name = name_at(lists.writer_names(), writer.number());
+    let topic = name_at(lists.topic_names(), x.topic.number());
+    let label = endpoint_label(alloc, name, topic, &x.qos.offered)?;
+    format!(in alloc; "    \"writer {name}\" [label=\"{label}\"];\n")
+}
+
+/// The node of a reader, with what a certificate shows of it.
+pub(crate) fn reader_node(
+    alloc: Global,
+    lists: &Deployment,
+    certificate: Option<&Certificate>,
+    reader: ReaderNo,
+    x: &Reader,
+) -> Result<String, AllocError>
+    ensures { IfOk result (λ text. string_bytes text ≡ reader_node lists.now (option_map (λ c. certificate_view c.now) certificate.entry) reader (reader_view x.now)) }
+{
+    let name = name_at(lists.reader_names(), reader.number());
+    let topic = name_at(lists.topic_names(), x.topic.number());
+    let label = endpoint_label(alloc, name, topic, &x.qos.requested)?;
+    let shown = certificate_lines(alloc, lists, certificate, reader)?;
+    format!(in alloc;
+        "    \"reader {name}\" [style=filled, fillcolor=white, label=\"{label}{shown}\"];\n"
+    )
+}
+
+/// The name of a rule's entry, and the key where the rule stands for one.
+fn rule_text(alloc: Global, lists: &Deployment, rule: RuleNo) -> Result<String, AllocError>
+    ensures { IfOk result (λ text. string_bytes text ≡ rule_text lists.now rule) }
+{
+    match lists.rule_origin(rule) {
+        Some(origin) => {
+            let name = name_at(lists.rule_names(), origin.name);
+            match origin.key {
+                Some((topic, key)) => {
+                    let key = lists.key_name(topic, key);
+                    format!(in alloc; "{name} {key}")
+                }
+                None => String::from_str(alloc, name),
+            }
+        }
+        None => Ok(String::new(alloc)),
+    }
+}
+
+/// How often a rule may write at the opening, nothing where it may not.
+fn start_line(alloc: Global, start: u16) -> Result<String, AllocError>
+    ensures { IfOk result (λ text. string_bytes text ≡ start_line start) }
+{
+    if start == 0 {
+        return Ok(String::new(alloc));
+    }
+    format!(in alloc; "\\nstart {start}")
+}
+
+/// The node of a rule.
+pub(crate) fn rule_node(
+    alloc: Global,
+    lists: &Deployment,
+    rule: RuleNo,
+    x: &Rule,
+) -> Result<String, AllocError>
+    ensures { IfOk result (λ text. string_bytes text ≡ rule_node lists.now rule (rule_view x.now)) }
+{
+    let number = rule.number();
+    let name = rule_text(alloc, lists, rule)?;
+    let start = start_line(alloc, x.start)?;
+    format!(in alloc; "      \"rule {number}\" [shape=ellipse, label=\"{name}{start}\"];\n")
+}

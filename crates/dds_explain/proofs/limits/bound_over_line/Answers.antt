@@ -1,0 +1,25 @@
+use Rattle.std.proofs.Common.{◌≡◌, ◌++◌, ◌∙◌, IfOk, codes, string_bytes, ap, List}
+use Rattle.dds_qos.specs.declared.limits.ReaderLimits.{ReaderLimits}
+use Rattle.dds_deploy.specs.Lists.{Lists}
+use Rattle.dds_match.specs.Plan.{network_of}
+use Rattle.dds_cert.specs.Naming.{reader_key}
+use Rattle.dds_cert.specs.declared.certificate.Bound.{Bound}
+use Rattle.dds_check.specs.Accepted.{instance_limit}
+use Rattle.dds_check.specs.Tables.{bound_of}
+use Rattle.dds_explain.specs.Limits.{bound_text}
+use Rattle.dds_explain.specs.Pieces.{instance_limit_name, limit_text}
+use Rattle.dds_explain.proofs.limits.bound_over_line.Goals as goal
+
+pub returns : goal.returns
+returns c =
+    let key : c.reader_key-key.result.now ≡ reader_key c.args.plan.now c.args.reader c.args.key =
+    c.reader_key-key.ensures ∙ ap (λ (d : Lists). reader_key d c.args.reader c.args.key) c.lists.ensures.value in
+    let bound : string_bytes c.in_ok-bound.bound ≡ bound_text (bound_of c.args.certificate.now.bounds.items c.args.reader c.args.key) =
+    c.in_ok-bound.ensures ∙ (ap bound_text c.bound_of.ensures ∙ ap (λ (bs : List Bound). bound_text (bound_of bs c.args.reader c.args.key)) c.as_slice.ensures.value) in
+    let policy : c.instance_limit_name-policy.result.now ≡ instance_limit_name ((network_of c.args.plan.now).reader_limits c.args.reader) =
+    c.instance_limit_name-policy.ensures ∙ ap instance_limit_name c.reader_limits-limits.ensures in
+    let limit : string_bytes c.in_ok-limit.limit ≡ limit_text (instance_limit ((network_of c.args.plan.now).reader_limits c.args.reader)) =
+    c.in_ok-limit.ensures ∙ (ap limit_text c.instance_limit.ensures ∙ ap (λ (x : ReaderLimits). limit_text (instance_limit x)) c.reader_limits-limits.ensures) in
+    let h : IfOk c.format.result (λ text. string_bytes text ≡ codes "because the bound of " ++ (c.reader_key-key.result.now ++ (codes " at " ++ (c.reader_name-name.result.now ++ (codes " is " ++ (string_bytes c.in_ok-bound.bound ++ (codes ", and its " ++ (c.instance_limit_name-policy.result.now ++ (codes " is " ++ (string_bytes c.in_ok-limit.limit ++ (codes "\n")))))))))))
+    = c.format.ensures.ok in
+    rw (key, c.reader_name-name.ensures, bound, policy, limit) at h

@@ -1,0 +1,18 @@
+use Rattle.std.proofs.Common.{◌≡◌, ◌++◌, ◌∙◌, IfOk, codes, string_bytes, ap, List}
+use Rattle.dds_qos.specs.declared.limits.ReaderLimits.{ReaderLimits}
+use Rattle.dds_match.specs.Plan.{network_of}
+use Rattle.dds_cert.specs.Text.{each_below}
+use Rattle.dds_cert.specs.declared.certificate.Bound.{Bound}
+use Rattle.dds_explain.specs.Limits.{unbounded_key}
+use Rattle.dds_explain.specs.Pieces.{limit_text}
+use Rattle.dds_explain.proofs.limits.no_total_lines.Goals as goal
+
+pub returns : goal.returns
+returns c =
+    let limit : string_bytes c.in_ok-limit.limit ≡ limit_text ((network_of c.args.plan.now).reader_limits c.args.reader).max_samples =
+    c.in_ok-limit.ensures ∙ ap (λ (x : ReaderLimits). limit_text x.max_samples) c.reader_limits.ensures in
+    let keys : string_bytes c.in_ok-keys.keys ≡ each_below 64 (unbounded_key c.args.plan.now c.args.certificate.now.bounds.items c.args.reader) =
+    c.in_ok-keys.ensures ∙ ap (λ (bs : List Bound). each_below 64 (unbounded_key c.args.plan.now bs c.args.reader)) c.as_slice.ensures.value in
+    let h : IfOk c.format.result (λ text. string_bytes text ≡ codes "because " ++ (c.reader_name-name.result.now ++ (codes " has max_samples " ++ (string_bytes c.in_ok-limit.limit ++ (codes ", no total, and no bound for each key\n" ++ (string_bytes c.in_ok-keys.keys))))))
+    = c.format.ensures.ok in
+    rw (c.reader_name-name.ensures, limit, keys) at h

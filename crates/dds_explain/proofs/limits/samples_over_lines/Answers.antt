@@ -1,0 +1,27 @@
+use Rattle.std.proofs.Common.{◌≡◌, ◌++◌, ◌∙◌, IfOk, codes, string_bytes, ap, List}
+use Rattle.std.specs.Fmt.{decimal}
+use Rattle.dds_base.specs.Sums as sums
+use Rattle.dds_qos.specs.declared.limits.ReaderLimits.{ReaderLimits}
+use Rattle.dds_match.specs.Plan.{network_of}
+use Rattle.dds_cert.specs.Text.{each_below}
+use Rattle.dds_cert.specs.declared.certificate.Bound.{Bound}
+use Rattle.dds_cert.specs.declared.certificate.Total.{Total}
+use Rattle.dds_check.specs.Limits.{reached_bound}
+use Rattle.dds_check.specs.Tables.{total_of}
+use Rattle.dds_explain.specs.Limits.{reached_bound_line, total_line}
+use Rattle.dds_explain.specs.Pieces.{limit_text}
+use Rattle.dds_explain.proofs.limits.samples_over_lines.Goals as goal
+
+pub returns : goal.returns
+returns c =
+    let limit : string_bytes c.in_ok-limit.limit ≡ limit_text ((network_of c.args.plan.now).reader_limits c.args.reader).max_samples =
+    c.in_ok-limit.ensures ∙ ap (λ (x : ReaderLimits). limit_text x.max_samples) c.reader_limits.ensures in
+    let total : string_bytes c.in_ok-total.total ≡ total_line (total_of c.args.certificate.now.totals.items c.args.reader) =
+    c.in_ok-total.ensures ∙ (ap total_line c.total_of.ensures ∙ ap (λ (ts : List Total). total_line (total_of ts c.args.reader)) c.as_slice.ensures.value) in
+    let bounds : string_bytes c.in_ok-bounds.bounds ≡ each_below 64 (reached_bound_line c.args.plan.now c.args.certificate.now.bounds.items c.args.reader) =
+    c.in_ok-bounds.ensures ∙ ap (λ (bs : List Bound). each_below 64 (reached_bound_line c.args.plan.now bs c.args.reader)) c.as_slice-2.ensures.value in
+    let sum : c.sum_of_bounds-sum.result ≡ sums.total 64 (reached_bound (network_of c.args.plan.now) c.args.certificate.now.bounds.items c.args.reader) =
+    c.sum_of_bounds-sum.ensures ∙ ap (λ (bs : List Bound). sums.total 64 (reached_bound (network_of c.args.plan.now) bs c.args.reader)) c.as_slice-3.ensures.value in
+    let h : IfOk c.format.result (λ text. string_bytes text ≡ codes "because " ++ (c.reader_name-name.result.now ++ (codes " has max_samples " ++ (string_bytes c.in_ok-limit.limit ++ (codes "\n" ++ (string_bytes c.in_ok-total.total ++ (string_bytes c.in_ok-bounds.bounds ++ (codes "  sum " ++ (decimal c.sum_of_bounds-sum.result ++ (codes "\n"))))))))))
+    = c.format.ensures.ok in
+    rw (c.reader_name-name.ensures, limit, total, bounds, sum) at h

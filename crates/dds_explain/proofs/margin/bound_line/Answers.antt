@@ -1,0 +1,22 @@
+use Rattle.std.proofs.Common.{◌≡◌, ◌++◌, ◌∙◌, IfOk, codes, string_bytes}
+use Rattle.std.specs.Fmt.{decimal}
+use Rattle.dds_match.specs.Plan.{network_of}
+use Rattle.dds_cert.specs.Views.{row_view}
+use Rattle.dds_check.specs.Accepted.{budget, row_of}
+use Rattle.dds_explain.specs.Margin.{bound_words, margin_text, named_instance_limit}
+use Rattle.dds_explain.specs.Shown.{shown_text}
+use Rattle.dds_explain.proofs.margin.bound_line.Goals as goal
+
+pub returns : goal.returns
+returns c =
+    let words : c.as_str.result.now ≡ bound_words c.args.plan.now c.args.bound.now =
+    c.as_str.ensures.value ∙ c.in_ok-words.ensures in
+    let limit : c.as_str-2.result.now ≡ named_instance_limit c.args.plan.now c.args.bound.now.reader =
+    c.as_str-2.ensures.value ∙ c.in_ok-limit.ensures in
+    let margin : string_bytes c.in_ok-margin.margin ≡ margin_text (bound_words c.args.plan.now c.args.bound.now) (named_instance_limit c.args.plan.now c.args.bound.now.reader) (row_view c.args.row.now) (budget (network_of c.args.plan.now) (row_of (row_view c.args.row.now))) =
+    rw (words, limit, c.budget-opening.ensures) at c.in_ok-margin.ensures in
+    let shown : string_bytes c.in_ok-shown.shown ≡ shown_text (budget (network_of c.args.plan.now) (row_of (row_view c.args.row.now))) ((row_of (row_view c.args.row.now)).samples c.args.bound.now.reader c.args.bound.now.key) =
+    rw (c.budget-opening.ensures, c.sample_weight-weight.ensures) at c.in_ok-shown.ensures in
+    let h : IfOk c.format.result (λ text. string_bytes text ≡ string_bytes c.in_ok-margin.margin ++ (codes " and a sample " ++ (decimal c.sample_weight-weight.result ++ (codes ", which shows " ++ (string_bytes c.in_ok-shown.shown ++ (codes "\n"))))))
+    = c.format.ensures.ok in
+    rw (margin, shown, c.sample_weight-weight.ensures) at h

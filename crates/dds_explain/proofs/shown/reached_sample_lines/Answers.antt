@@ -1,0 +1,15 @@
+use Rattle.std.proofs.Common.{◌≡◌, string_bytes, ap, ◌∙◌, arith}
+use Rattle.dds_cert.specs.Text.{each_below}
+use Rattle.dds_cert.specs.Views.{row_view}
+use Rattle.dds_explain.specs.Shown.{reached_sample_line}
+use Rattle.dds_explain.proofs.ExplainLaws.{and_line}
+use Rattle.dds_explain.proofs.shown.reached_sample_lines.Goals as goal
+
+pub loop-k-preserved : goal.loop-k-preserved
+loop-k-preserved c =
+    and_line (reached_sample_line c.args.plan.now (row_view c.args.row.now) c.args.opening c.args.reader) c.loop-k.k _ (string_bytes c.loop-k.text) _ _ _ c.loop-k.invariant c.new.ensures c.in_ok-line.ensures c.as_str.ensures.value c.in_ok-push_str.ensures.bytes
+
+pub returns : goal.returns
+returns c =
+    let all : c.loop-k.k ≡ 64 = omega arith in
+    c.loop-k.invariant ∙ ap (λ n. each_below n (reached_sample_line c.args.plan.now (row_view c.args.row.now) c.args.opening c.args.reader)) all

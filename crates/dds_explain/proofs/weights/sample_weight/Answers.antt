@@ -1,0 +1,6 @@
+use Rattle.std.proofs.Common.{◌∙◌}
+use Rattle.dds_check.proofs.Outside.{weight_as}
+use Rattle.dds_explain.proofs.weights.sample_weight.Goals as goal
+
+pub returns : goal.returns
+returns c = c.weight_of.ensures ∙ weight_as _ _ _ _ c.deref.ensures.value

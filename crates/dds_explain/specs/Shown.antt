@@ -1,0 +1,89 @@
+-- Why number 33 refuses a bound or a total: what the permits at the opening weigh by its row, and what a sample does.
+use Rattle.std.specs.Prelude.{codes, ℕ, List, [], ◌++◌, ◌==◌, ◌&&◌, ◌/◌, flat_map, length, slice_get, if◌then◌else◌}
+use Rattle.std.specs.Fmt.{decimal}
+use Rattle.std.specs.Option.{option_map_or}
+use Rattle.dds_deploy.specs.Lists.{Lists}
+use Rattle.dds_match.specs.Network.{reach}
+use Rattle.dds_match.specs.Plan.{network_of}
+use Rattle.dds_cert.specs.Lists.{Certificate, Row}
+use Rattle.dds_cert.specs.Naming.{reader_key, writer_key}
+use Rattle.dds_cert.specs.Text.{each_below}
+use Rattle.dds_cert.specs.declared.certificate.Bound.{Bound}
+use Rattle.dds_cert.specs.declared.certificate.Total.{Total}
+use Rattle.dds_check.specs.Accepted.{row_of, budget, opening_permits}
+use Rattle.dds_check.specs.Shown.{shows, shows_all}
+use Rattle.dds_explain.specs.Pieces.{writer_name, reader_name, weighed_term}
+
+-- the least bound that a row shows, by what the permits at the opening weigh and what a sample weighs
+abbrev pub shown_text : ℕ → ℕ → List ℕ
+shown_text opening weight = if weight == 0 then codes "no bound" else decimal (opening / weight)
+
+-- what a sample of a key weighs, and what that shows
+abbrev pub sample_line : Lists → Row → ℕ → ℕ → ℕ → List ℕ
+sample_line d row opening r k =
+    codes "  a sample of " ++ (reader_key d r k ++ (codes " weighs " ++ (decimal ((row_of row).samples r k) ++ (codes ", which shows " ++ (shown_text opening ((row_of row).samples r k) ++ codes "\n")))))
+
+-- the permits to write a key at a writer at the opening, if there are any
+abbrev pub permit_line : Lists → Row → ℕ → ℕ → List ℕ
+permit_line d row w k =
+    if opening_permits (network_of d) w k == 0
+    then []
+    else weighed_term (codes "permits") (opening_permits (network_of d) w k) ((row_of row).permits w k) (writer_key d w k) (writer_name d w)
+
+-- the permits at the opening at a writer
+abbrev pub writer_permit_lines : Lists → Row → ℕ → List ℕ
+writer_permit_lines d row w = each_below 64 (permit_line d row w)
+
+-- the permits at the opening at all writers
+abbrev pub permit_lines : Lists → Row → List ℕ
+permit_lines d row = each_below (length d.writers.entries) (writer_permit_lines d row)
+
+-- what a row doesn't show, and what the permits at the opening weigh by it
+abbrev pub unshown_line : Row → List ℕ → ℕ → List ℕ
+unshown_line row claim opening = codes "because " ++ (row.name ++ (codes " doesn't show " ++ (claim ++ (codes ": permits at the opening weigh " ++ (decimal opening ++ codes "\n")))))
+
+-- ── bounds
+-- a bound in words
+abbrev pub bound_claim : Lists → Bound → List ℕ
+bound_claim d b = codes "the bound " ++ (decimal b.bound ++ (codes " of " ++ (reader_key d b.reader b.key ++ (codes " at " ++ reader_name d b.reader))))
+
+-- a bound that its row doesn't show, with a sample of its key and the permits
+abbrev pub bound_lines : Lists → Row → Bound → ℕ → List ℕ
+bound_lines d row b opening = unshown_line row (bound_claim d b) opening ++ (sample_line d row opening b.reader b.key ++ permit_lines d row)
+
+-- the same, if the row doesn't show it
+abbrev pub unshown_bound_by : Lists → Row → Bound → List ℕ
+unshown_bound_by d row b = if shows (network_of d) (row_of row) b.bound b.reader b.key then [] else bound_lines d row b (budget (network_of d) (row_of row))
+
+-- the same, if it is a bound of the key at the reader
+abbrev pub unshown_bound : Lists → Certificate → ℕ → ℕ → Bound → List ℕ
+unshown_bound d c r k b = if (b.reader == r) && (b.key == k) then option_map_or (λ row. unshown_bound_by d row b) (slice_get c.rows b.row) [] else []
+
+-- the bounds of a key at a reader that their rows don't show
+abbrev pub bound_not_shown_lines : Lists → Certificate → ℕ → ℕ → List ℕ
+bound_not_shown_lines d c r k = flat_map (unshown_bound d c r k) c.bounds
+
+-- ── totals
+-- a total in words
+abbrev pub total_claim : Lists → Total → List ℕ
+total_claim d t = codes "the total " ++ (decimal t.bound ++ (codes " of " ++ reader_name d t.reader))
+
+-- what a sample of a key weighs that can reach the reader
+abbrev pub reached_sample_line : Lists → Row → ℕ → ℕ → ℕ → List ℕ
+reached_sample_line d row opening r k = if reach (network_of d) r k then sample_line d row opening r k else []
+
+-- a total that its row doesn't show, with a sample of each key and the permits
+abbrev pub total_lines : Lists → Row → Total → ℕ → List ℕ
+total_lines d row t opening = unshown_line row (total_claim d t) opening ++ (each_below 64 (reached_sample_line d row opening t.reader) ++ permit_lines d row)
+
+-- the same, if the row doesn't show it
+abbrev pub unshown_total_by : Lists → Row → Total → List ℕ
+unshown_total_by d row t = if shows_all (network_of d) (row_of row) t then [] else total_lines d row t (budget (network_of d) (row_of row))
+
+-- the same, if it is a total of the reader
+abbrev pub unshown_total : Lists → Certificate → ℕ → Total → List ℕ
+unshown_total d c r t = if t.reader == r then option_map_or (λ row. unshown_total_by d row t) (slice_get c.rows t.row) [] else []
+
+-- the totals of a reader that their rows don't show
+abbrev pub total_not_shown_lines : Lists → Certificate → ℕ → List ℕ
+total_not_shown_lines d c r = flat_map (unshown_total d c r) c.totals

@@ -1,0 +1,358 @@
+//! Why numbers 20 to 24 refuse an endpoint: how much can come, and the limit that is too small for it.
+ghost use Rattle.std.specs.Prelude.{◌≡◌, ◌<◌, ◌^◌, IfOk, string_bytes};
+ghost use Rattle.dds_base.specs.Sums.{count_below, total};
+ghost use Rattle.dds_match.specs.Network.{is_written, reach};
+ghost use Rattle.dds_match.specs.Plan.{network_of};
+ghost use Rattle.dds_cert.specs.Text.{each_below};
+ghost use Rattle.dds_cert.specs.Views.{certificate_view};
+ghost use Rattle.dds_check.specs.Limits.{is_bounded, reached_bound};
+ghost use Rattle.dds_check.specs.Tables.{bound_of, total_of};
+ghost use Rattle.dds_explain.specs.Limits.{bound_line, bound_over_line, bound_text, no_bound_line, no_total_lines, reached_bound_line, reached_key, reader_instances_lines, samples_over_lines, total_line, unbounded_key, writer_instances_lines, written_key};
+
+use crate::pieces::{
+    KEYS, instance_limit, instance_limit_name, key_line, limit_text, reader_limits, reader_name,
+    writer_limits, writer_name,
+};
+use dds_base::{KeyNo, ReaderNo, WriterNo};
+use dds_cert::naming::{reader_key, writer_key};
+use dds_cert::{Bound, Certificate, Total};
+use dds_match::Plan;
+use std::alloc::{AllocError, Global};
+
+/// How many keys can reach a reader.
+fn reached(plan: &Plan, reader: ReaderNo) -> u64
+    ensures { result ≡ count_below (network_of plan.now).keys (reach (network_of plan.now) reader) }
+{
+    let mut count: u64 = 0;
+    for k in 0..KEYS {
+        count += u64::from(plan.reaches(reader, KeyNo::new(k)));
+    }
+    count
+}
+
+/// A key in a line of its own, if it can reach the reader.
+fn reached_key(
+    alloc: Global,
+    plan: &Plan,
+    reader: ReaderNo,
+    key: KeyNo,
+) -> Result<String, AllocError>
+    ensures { IfOk result (λ text. string_bytes text ≡ reached_key plan.now reader key) }
+{
+    if plan.reaches(reader, key) {
+        key_line(alloc, reader_key(plan.lists(), reader, key))
+    } else {
+        Ok(String::new(alloc))
+    }
+}
+
+/// The keys that can reach a reader.
+fn reached_keys(alloc: Global, plan: &Plan, reader: ReaderNo) -> Result<String, AllocError>
+    ensures { IfOk result (λ text. string_bytes text ≡ each_below 64 (reached_key plan.now reader)) }
+{
+    let mut text = String::new(alloc);
+    for k in 0..KEYS {
+        let line = reached_key(alloc, plan, reader, KeyNo::new(k))?;
+        text.push_str(line.as_str())?;
+    }
+    Ok(text)
+}
+
+/// How many keys can reach a reader, and which.
+pub(crate) fn reader_instances_lines(
+    alloc: Global,
+    plan: &Plan,
+    reader: ReaderNo,
+) -> Result<String, AllocError>
+    ensures { IfOk result (λ text. string_bytes text ≡ reader_instances_lines plan.now reader) }
+{
+    let count = reached(plan, reader);
+    let name = reader_name(plan, reader);
+    let limit = limit_text(alloc, reader_limits(plan, reader).max_instances)?;
+    let keys = reached_keys(alloc, plan, reader)?;
+    format!(in alloc;
+        "because {count} keys can reach {name}, and its max_instances is {limit}\n{keys}"
+    )
+}
+
+/// How many keys rules write at a writer.
+fn written(plan: &Plan, writer: WriterNo) -> u64
+    ensures { result ≡ count_below (network_of plan.now).keys (is_written (network_of plan.now) writer) }
+{
+    let mut count: u64 = 0;
+    for k in 0..KEYS {
+        count += u64::from(plan.is_written(writer, KeyNo::new(k)));
+    }
+    count
+}
+
+/// A key in a line of its own, if a rule writes it at the writer.
+fn written_key(
+    alloc: Global,
+    plan: &Plan,
+    writer: WriterNo,
+    key: KeyNo,
+) -> Result<String, AllocError>
+    ensures { IfOk result (λ text. string_bytes text ≡ written_key plan.now writer key) }
+{
+    if plan.is_written(writer, key) {
+        key_line(alloc, writer_key(plan.lists(), writer, key))
+    } else {
+        Ok(String::new(alloc))
+    }
+}
+
+/// The keys that rules write at a writer.
+fn written_keys(alloc: Global, plan: &Plan, writer: WriterNo) -> Result<String, AllocError>
+    ensures { IfOk result (λ text. string_bytes text ≡ each_below 64 (written_key plan.now writer)) }
+{
+    let mut text = String::new(alloc);
+    for k in 0..KEYS {
+        let line = written_key(alloc, plan, writer, KeyNo::new(k))?;
+        text.push_str(line.as_str())?;
+    }
+    Ok(text)
+}
+
+/// How many keys rules write at a writer, and which.
+pub(crate) fn writer_instances_lines(
+    alloc: Global,
+    plan: &Plan,
+    writer: WriterNo,
+) -> Result<String, AllocError>
+    ensures { IfOk result (λ text. string_bytes text ≡ writer_instances_lines plan.now writer) }
+{
+    let count = written(plan, writer);
+    let name = writer_name(plan, writer);
+    let limit = limit_text(alloc, writer_limits(plan, writer).max_instances)?;
+    let keys = written_keys(alloc, plan, writer)?;
+    format!(in alloc;
+        "because rules write {count} keys at {name}, and its max_instances is {limit}\n{keys}"
+    )
+}
+
+/// A key without a bound that the limit of an instance asks for.
+pub(crate) fn no_bound_line(
+    alloc: Global,
+    plan: &Plan,
+    reader: ReaderNo,
+    key: KeyNo,
+) -> Result<String, AllocError>
+    ensures { IfOk result (λ text. string_bytes text ≡ no_bound_line plan.now reader key) }
+{
+    let limits = reader_limits(plan, reader);
+    let key = reader_key(plan.lists(), reader, key);
+    let name = reader_name(plan, reader);
+    let policy = instance_limit_name(&limits);
+    let limit = limit_text(alloc, instance_limit(&limits))?;
+    format!(in alloc;
+        "because {key} can reach {name}, whose {policy} is {limit}, and no bound is given\n"
+    )
+}
+
+/// The bound of a key of a reader, if there is one: the first that the list names.
+fn bound_of(bounds: &[Bound], reader: ReaderNo, key: KeyNo) -> Option<u32>
+    ensures { result ≡ bound_of bounds.now reader key }
+{
+    for b in bounds {
+        if b.reader == reader && b.key == key {
+            return Some(b.bound);
+        }
+    }
+    None
+}
+
+/// The total of a reader, if there is one: the first that the list names.
+fn total_of(totals: &[Total], reader: ReaderNo) -> Option<u32>
+    ensures { result ≡ total_of totals.now reader }
+{
+    for t in totals {
+        if t.reader == reader {
+            return Some(t.bound);
+        }
+    }
+    None
+}
+
+/// Whether a key can't reach the reader or has a bound.
+fn is_bounded(plan: &Plan, bounds: &[Bound], reader: ReaderNo, key: KeyNo) -> bool
+    ensures { result ≡ is_bounded (network_of plan.now) bounds.now reader key }
+{
+    !plan.reaches(reader, key) || bound_of(bounds, reader, key).is_some()
+}
+
+/// A key in a line of its own, if it can reach the reader and has no bound.
+fn unbounded_key(
+    alloc: Global,
+    plan: &Plan,
+    bounds: &[Bound],
+    reader: ReaderNo,
+    key: KeyNo,
+) -> Result<String, AllocError>
+    ensures { IfOk result (λ text. string_bytes text ≡ unbounded_key plan.now bounds.now reader key) }
+{
+    if is_bounded(plan, bounds, reader, key) {
+        Ok(String::new(alloc))
+    } else {
+        key_line(alloc, reader_key(plan.lists(), reader, key))
+    }
+}
+
+/// The keys that can reach a reader and have no bound.
+fn unbounded_keys(
+    alloc: Global,
+    plan: &Plan,
+    bounds: &[Bound],
+    reader: ReaderNo,
+) -> Result<String, AllocError>
+    ensures { IfOk result (λ text. string_bytes text ≡ each_below 64 (unbounded_key plan.now bounds.now reader)) }
+{
+    let mut text = String::new(alloc);
+    for k in 0..KEYS {
+        let line = unbounded_key(alloc, plan, bounds, reader, KeyNo::new(k))?;
+        text.push_str(line.as_str())?;
+    }
+    Ok(text)
+}
+
+/// The keys without a bound at a reader whose max_samples asks for a total, or a bound for each key.
+pub(crate) fn no_total_lines(
+    alloc: Global,
+    plan: &Plan,
+    certificate: &Certificate,
+    reader: ReaderNo,
+) -> Result<String, AllocError>
+    ensures { IfOk result (λ text. string_bytes text ≡ no_total_lines plan.now (certificate_view certificate.now) reader) }
+{
+    let name = reader_name(plan, reader);
+    let limit = limit_text(alloc, reader_limits(plan, reader).max_samples)?;
+    let keys = unbounded_keys(alloc, plan, certificate.bounds.as_slice(), reader)?;
+    format!(in alloc;
+        "because {name} has max_samples {limit}, no total, and no bound for each key\n{keys}"
+    )
+}
+
+/// A bound in words.
+fn bound_text(alloc: Global, bound: Option<u32>) -> Result<String, AllocError>
+    ensures { IfOk result (λ text. string_bytes text ≡ bound_text bound) }
+{
+    match bound {
+        Some(n) => format!(in alloc; "{n}"),
+        None => String::from_str(alloc, "none"),
+    }
+}
+
+/// The bound of a key, and the limit of an instance.
+pub(crate) fn bound_over_line(
+    alloc: Global,
+    plan: &Plan,
+    certificate: &Certificate,
+    reader: ReaderNo,
+    key: KeyNo,
+) -> Result<String, AllocError>
+    ensures { IfOk result (λ text. string_bytes text ≡ bound_over_line plan.now (certificate_view certificate.now) reader key) }
+{
+    let limits = reader_limits(plan, reader);
+    let bound = bound_text(alloc, bound_of(certificate.bounds.as_slice(), reader, key))?;
+    let key = reader_key(plan.lists(), reader, key);
+    let name = reader_name(plan, reader);
+    let policy = instance_limit_name(&limits);
+    let limit = limit_text(alloc, instance_limit(&limits))?;
+    format!(in alloc;
+        "because the bound of {key} at {name} is {bound}, and its {policy} is {limit}\n"
+    )
+}
+
+/// A total in a line of its own, if there is one.
+fn total_line(alloc: Global, total: Option<u32>) -> Result<String, AllocError>
+    ensures { IfOk result (λ text. string_bytes text ≡ total_line total) }
+{
+    match total {
+        Some(n) => format!(in alloc; "  total {n}\n"),
+        None => Ok(String::new(alloc)),
+    }
+}
+
+/// The bound of a key in a line of its own, or that it has none.
+fn bound_line(alloc: Global, key: &str, bound: Option<u32>) -> Result<String, AllocError>
+    ensures { IfOk result (λ text. string_bytes text ≡ bound_line key.now bound) }
+{
+    match bound {
+        Some(n) => format!(in alloc; "  bound {key} {n}\n"),
+        None => format!(in alloc; "  no bound {key}\n"),
+    }
+}
+
+/// The bound of a key that can reach the reader.
+fn reached_bound_line(
+    alloc: Global,
+    plan: &Plan,
+    bounds: &[Bound],
+    reader: ReaderNo,
+    key: KeyNo,
+) -> Result<String, AllocError>
+    ensures { IfOk result (λ text. string_bytes text ≡ reached_bound_line plan.now bounds.now reader key) }
+{
+    if plan.reaches(reader, key) {
+        let bound = bound_of(bounds, reader, key);
+        bound_line(alloc, reader_key(plan.lists(), reader, key), bound)
+    } else {
+        Ok(String::new(alloc))
+    }
+}
+
+/// The bounds of the keys that can reach a reader.
+fn reached_bound_lines(
+    alloc: Global,
+    plan: &Plan,
+    bounds: &[Bound],
+    reader: ReaderNo,
+) -> Result<String, AllocError>
+    ensures { IfOk result (λ text. string_bytes text ≡ each_below 64 (reached_bound_line plan.now bounds.now reader)) }
+{
+    let mut text = String::new(alloc);
+    for k in 0..KEYS {
+        let line = reached_bound_line(alloc, plan, bounds, reader, KeyNo::new(k))?;
+        text.push_str(line.as_str())?;
+    }
+    Ok(text)
+}
+
+fn reached_bound(plan: &Plan, bounds: &[Bound], reader: ReaderNo, key: KeyNo) -> u64
+    ensures value { result ≡ reached_bound (network_of plan.now) bounds.now reader key }
+    ensures small { result < 2 ^ 32 }
+{
+    if plan.reaches(reader, key) {
+        u64::from(bound_of(bounds, reader, key).unwrap_or(0))
+    } else {
+        0
+    }
+}
+
+/// The bounds of the keys that can reach a reader, added up.
+fn sum_of_bounds(plan: &Plan, bounds: &[Bound], reader: ReaderNo) -> u64
+    ensures { result ≡ total (network_of plan.now).keys (reached_bound (network_of plan.now) bounds.now reader) }
+{
+    let mut sum: u64 = 0;
+    for k in 0..KEYS {
+        sum += reached_bound(plan, bounds, reader, KeyNo::new(k));
+    }
+    sum
+}
+
+/// The total of a reader, and the bounds of its keys with their sum.
+pub(crate) fn samples_over_lines(
+    alloc: Global,
+    plan: &Plan,
+    certificate: &Certificate,
+    reader: ReaderNo,
+) -> Result<String, AllocError>
+    ensures { IfOk result (λ text. string_bytes text ≡ samples_over_lines plan.now (certificate_view certificate.now) reader) }
+{
+    let name = reader_name(plan, reader);
+    let limit = limit_text(alloc, reader_limits(plan, reader).max_samples)?;
+    let total = total_line(alloc, total_of(certificate.totals.as_slice(), reader))?;
+    let bounds = reached_bound_lines(alloc, plan, certificate.bounds.as_slice(), reader)?;
+    let sum = sum_of_bounds(plan, certificate.bounds.as_slice(), reader);
+    format!(in alloc; "because {name} has max_samples {limit}\n{total}{bounds}  sum {sum}\n")
+}

@@ -1,0 +1,56 @@
+//! Why numbers 10 and 11 refuse a pair.
+ghost use Rattle.std.specs.Prelude.{◌≡◌, [], IfOk, string_bytes};
+ghost use Rattle.std.specs.Option.{option_map_or};
+ghost use Rattle.dds_match.specs.Matching.{why_not};
+ghost use Rattle.dds_show.specs.Reasons.{reason_words};
+ghost use Rattle.dds_explain.specs.Pairs.{not_intended_line, not_matched_line};
+
+use crate::pieces::{reader_name, writer_name};
+use dds_base::{ReaderNo, WriterNo};
+use dds_match::Plan;
+use dds_show::reasons::reason_text;
+use std::alloc::{AllocError, Global};
+
+/// Why a pair doesn't match, in words: none where there is no reason.
+fn why_not_text(
+    alloc: Global,
+    plan: &Plan,
+    writer: WriterNo,
+    reader: ReaderNo,
+) -> Result<String, AllocError>
+    ensures { IfOk result (λ text. string_bytes text ≡ option_map_or reason_words (why_not plan.now writer reader) []) }
+{
+    match plan.why_not(writer, reader) {
+        Some(reason) => reason_text(alloc, reason),
+        None => Ok(String::new(alloc)),
+    }
+}
+
+/// A connection whose endpoints don't match, and why.
+pub(crate) fn not_matched_line(
+    alloc: Global,
+    plan: &Plan,
+    writer: WriterNo,
+    reader: ReaderNo,
+) -> Result<String, AllocError>
+    ensures { IfOk result (λ text. string_bytes text ≡ not_matched_line plan.now writer reader) }
+{
+    let reason = why_not_text(alloc, plan, writer, reader)?;
+    let writer = writer_name(plan, writer);
+    let reader = reader_name(plan, reader);
+    format!(in alloc; "because {writer} and {reader} don't match: {reason}\n")
+}
+
+/// A pair that matches and is no connection.
+pub(crate) fn not_intended_line(
+    alloc: Global,
+    plan: &Plan,
+    writer: WriterNo,
+    reader: ReaderNo,
+) -> Result<String, AllocError>
+    ensures { IfOk result (λ text. string_bytes text ≡ not_intended_line plan.now writer reader) }
+{
+    let writer = writer_name(plan, writer);
+    let reader = reader_name(plan, reader);
+    format!(in alloc; "because {writer} and {reader} match, and no connection names them\n")
+}

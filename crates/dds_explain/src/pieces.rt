@@ -1,0 +1,137 @@
+//! Pieces of a reason: names, limits, rows, and terms of sums.
+ghost use Rattle.std.specs.Prelude.{◌≡◌, IfOk, option_map, slice_get, string_bytes};
+ghost use Rattle.dds_match.specs.Plan.{network_of};
+ghost use Rattle.dds_cert.specs.Views.{certificate_view, row_view};
+ghost use Rattle.dds_check.specs.Accepted.{instance_limit};
+ghost use Rattle.dds_explain.specs.Pieces.{instance_limit_name, key_line, limit_text, reader_name, rule_text, weighed_term, writer_name};
+
+use dds_base::{ReaderNo, RuleNo, WriterNo};
+use dds_cert::naming::name_at;
+use dds_cert::{Certificate, Row};
+use dds_match::Plan;
+use dds_qos::{ReaderLimits, WriterLimits};
+use std::alloc::{AllocError, Global};
+
+/// No topic has more keys.
+pub(crate) const KEYS: usize = 64;
+
+pub(crate) fn writer_name(plan: &Plan, writer: WriterNo) -> &str
+    ensures { result.now ≡ writer_name plan.now writer }
+{
+    name_at(plan.lists().writer_names(), writer.number())
+}
+
+pub(crate) fn reader_name(plan: &Plan, reader: ReaderNo) -> &str
+    ensures { result.now ≡ reader_name plan.now reader }
+{
+    name_at(plan.lists().reader_names(), reader.number())
+}
+
+/// The limits of a writer, none where there is no such writer.
+pub(crate) fn writer_limits(plan: &Plan, writer: WriterNo) -> WriterLimits
+    ensures { result ≡ (network_of plan.now).writer_limits writer }
+{
+    if writer.number() < plan.lists().writers() {
+        plan.writer_limits(writer)
+    } else {
+        WriterLimits {
+            max_samples: None,
+            max_instances: None,
+            max_samples_per_instance: None,
+        }
+    }
+}
+
+/// The limits of a reader, none where there is no such reader.
+pub(crate) fn reader_limits(plan: &Plan, reader: ReaderNo) -> ReaderLimits
+    ensures { result ≡ (network_of plan.now).reader_limits reader }
+{
+    if reader.number() < plan.lists().readers() {
+        plan.reader_limits(reader)
+    } else {
+        ReaderLimits {
+            keep_last: None,
+            max_samples: None,
+            max_instances: None,
+            max_samples_per_instance: None,
+        }
+    }
+}
+
+/// A limit: a number, or "unlimited".
+pub(crate) fn limit_text(alloc: Global, limit: Option<u32>) -> Result<String, AllocError>
+    ensures { IfOk result (λ text. string_bytes text ≡ limit_text limit) }
+{
+    match limit {
+        Some(n) => format!(in alloc; "{n}"),
+        None => String::from_str(alloc, "unlimited"),
+    }
+}
+
+/// The most samples of one instance that a reader may store.
+pub(crate) fn instance_limit(limits: &ReaderLimits) -> Option<u32>
+    ensures { result ≡ instance_limit limits.now }
+{
+    match limits.keep_last {
+        Some(depth) => Some(depth),
+        None => limits.max_samples_per_instance,
+    }
+}
+
+/// The policy that the limit of an instance comes from.
+pub(crate) fn instance_limit_name(limits: &ReaderLimits) -> &'static str
+    ensures { result.now ≡ instance_limit_name limits.now }
+{
+    match limits.keep_last {
+        Some(_) => "depth",
+        None => "max_samples_per_instance",
+    }
+}
+
+/// The row at this place of a certificate, if there is one.
+pub(crate) fn find_row(certificate: &Certificate, n: usize) -> Option<&Row>
+    ensures { option_map (λ row. row_view row.now) result ≡ slice_get (certificate_view certificate.now).rows n }
+{
+    certificate.rows.get(n)
+}
+
+/// The name of a rule's entry, and the key where the rule stands for one.
+pub(crate) fn rule_text(alloc: Global, plan: &Plan, rule: RuleNo) -> Result<String, AllocError>
+    ensures { IfOk result (λ text. string_bytes text ≡ rule_text plan.now rule) }
+{
+    let lists = plan.lists();
+    match lists.rule_origin(rule) {
+        Some(origin) => {
+            let name = name_at(lists.rule_names(), origin.name);
+            match origin.key {
+                Some((topic, key)) => {
+                    let key = lists.key_name(topic, key);
+                    format!(in alloc; "{name} {key}")
+                }
+                None => String::from_str(alloc, name),
+            }
+        }
+        None => Ok(String::new(alloc)),
+    }
+}
+
+/// A key in a line of its own.
+pub(crate) fn key_line(alloc: Global, key: &str) -> Result<String, AllocError>
+    ensures { IfOk result (λ text. string_bytes text ≡ key_line key.now) }
+{
+    format!(in alloc; "  {key}\n")
+}
+
+/// A term of a weighed sum.
+pub(crate) fn weighed_term(
+    alloc: Global,
+    what: &str,
+    count: u128,
+    weight: u32,
+    key: &str,
+    endpoint: &str,
+) -> Result<String, AllocError>
+    ensures { IfOk result (λ text. string_bytes text ≡ weighed_term what.now count weight key.now endpoint.now) }
+{
+    format!(in alloc; "  {what} {count} x {weight} of {key} at {endpoint}\n")
+}

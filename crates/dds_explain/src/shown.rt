@@ -1,0 +1,339 @@
+//! Why number 33 refuses a bound or a total: what the permits at the opening weigh by its row, and what a sample does.
+ghost use Rattle.std.specs.Prelude.{◌≡◌, ◌&&◌, ◌||◌, ◌*◌, suc, not, nat_lt, IfOk, flat_map, string_bytes};
+ghost use Rattle.dds_match.specs.Network.{reach};
+ghost use Rattle.dds_match.specs.Plan.{network_of};
+ghost use Rattle.dds_cert.specs.Text.{each_below};
+ghost use Rattle.dds_cert.specs.Views.{certificate_view, row_view};
+ghost use Rattle.dds_check.specs.Accepted.{budget, row_of};
+ghost use Rattle.dds_check.specs.Shown.{shows, shows_all};
+ghost use Rattle.dds_explain.specs.Shown.{bound_claim, bound_lines, bound_not_shown_lines, permit_line, permit_lines, reached_sample_line, sample_line, shown_text, total_claim, total_lines, total_not_shown_lines, unshown_bound, unshown_bound_by, unshown_line, unshown_total, unshown_total_by, writer_permit_lines};
+
+use crate::pieces::{KEYS, find_row, reader_name, weighed_term, writer_name};
+use crate::weights::{budget, opening_permits, permit_weight, sample_weight};
+use dds_base::{KeyNo, ReaderNo, WriterNo};
+use dds_cert::naming::{reader_key, writer_key};
+use dds_cert::{Bound, Certificate, Row, Total};
+use dds_match::Plan;
+use std::alloc::{AllocError, Global};
+
+/// The least bound that a row shows, by what the permits at the opening weigh and what a sample weighs.
+pub(crate) fn shown_text(alloc: Global, opening: u128, weight: u32) -> Result<String, AllocError>
+    ensures { IfOk result (λ text. string_bytes text ≡ shown_text opening weight) }
+{
+    if weight == 0 {
+        String::from_str(alloc, "no bound")
+    } else {
+        let least = opening / u128::from(weight);
+        format!(in alloc; "{least}")
+    }
+}
+
+/// What a sample of a key weighs, and what that shows.
+fn sample_line(
+    alloc: Global,
+    plan: &Plan,
+    row: &Row,
+    opening: u128,
+    reader: ReaderNo,
+    key: KeyNo,
+) -> Result<String, AllocError>
+    ensures { IfOk result (λ text. string_bytes text ≡ sample_line plan.now (row_view row.now) opening reader key) }
+{
+    let weight = sample_weight(row, reader, key);
+    let shown = shown_text(alloc, opening, weight)?;
+    let key = reader_key(plan.lists(), reader, key);
+    format!(in alloc; "  a sample of {key} weighs {weight}, which shows {shown}\n")
+}
+
+/// The permits to write a key at a writer at the opening, if there are any.
+fn permit_line(
+    alloc: Global,
+    plan: &Plan,
+    row: &Row,
+    writer: WriterNo,
+    key: KeyNo,
+) -> Result<String, AllocError>
+    ensures { IfOk result (λ text. string_bytes text ≡ permit_line plan.now (row_view row.now) writer key) }
+{
+    let count = opening_permits(plan, writer, key);
+    if count == 0 {
+        return Ok(String::new(alloc));
+    }
+    let weight = permit_weight(row, writer, key);
+    let key = writer_key(plan.lists(), writer, key);
+    let name = writer_name(plan, writer);
+    weighed_term(alloc, "permits", count, weight, key, name)
+}
+
+/// The permits at the opening at a writer.
+fn writer_permit_lines(
+    alloc: Global,
+    plan: &Plan,
+    row: &Row,
+    writer: WriterNo,
+) -> Result<String, AllocError>
+    ensures { IfOk result (λ text. string_bytes text ≡ writer_permit_lines plan.now (row_view row.now) writer) }
+{
+    let mut text = String::new(alloc);
+    for k in 0..KEYS {
+        let line = permit_line(alloc, plan, row, writer, KeyNo::new(k))?;
+        text.push_str(line.as_str())?;
+    }
+    Ok(text)
+}
+
+/// The permits at the opening at all writers.
+fn permit_lines(alloc: Global, plan: &Plan, row: &Row) -> Result<String, AllocError>
+    ensures { IfOk result (λ text. string_bytes text ≡ permit_lines plan.now (row_view row.now)) }
+{
+    let mut text = String::new(alloc);
+    for w in 0..plan.lists().writers() {
+        let line = writer_permit_lines(alloc, plan, row, WriterNo::new(w))?;
+        text.push_str(line.as_str())?;
+    }
+    Ok(text)
+}
+
+/// What a row doesn't show, and what the permits at the opening weigh by it.
+fn unshown_line(alloc: Global, row: &Row, claim: &str, opening: u128) -> Result<String, AllocError>
+    ensures { IfOk result (λ text. string_bytes text ≡ unshown_line (row_view row.now) claim.now opening) }
+{
+    let row = row.name.as_str();
+    format!(in alloc;
+        "because {row} doesn't show {claim}: permits at the opening weigh {opening}\n"
+    )
+}
+
+/// Whether a row shows a bound, by what a sample and the permits at the opening weigh.
+fn is_enough(weight: u32, opening: u128, bound: u32) -> bool
+    ensures { result ≡ (nat_lt 0 weight && nat_lt opening (suc bound * weight)) }
+{
+    let weight = u128::from(weight);
+    0 < weight && opening < (u128::from(bound) + 1) * weight
+}
+
+fn shows(plan: &Plan, row: &Row, opening: u128, bound: u32, reader: ReaderNo, key: KeyNo) -> bool
+    requires { opening ≡ budget (network_of plan.now) (row_of (row_view row.now)) }
+    ensures { result ≡ shows (network_of plan.now) (row_of (row_view row.now)) bound reader key }
+{
+    is_enough(sample_weight(row, reader, key), opening, bound)
+}
+
+/// A bound in words.
+fn bound_claim(alloc: Global, plan: &Plan, bound: &Bound) -> Result<String, AllocError>
+    ensures { IfOk result (λ text. string_bytes text ≡ bound_claim plan.now bound.now) }
+{
+    let number = bound.bound;
+    let key = reader_key(plan.lists(), bound.reader, bound.key);
+    let name = reader_name(plan, bound.reader);
+    format!(in alloc; "the bound {number} of {key} at {name}")
+}
+
+/// A bound that its row doesn't show, with a sample of its key and the permits.
+fn bound_lines(
+    alloc: Global,
+    plan: &Plan,
+    row: &Row,
+    bound: &Bound,
+    opening: u128,
+) -> Result<String, AllocError>
+    ensures { IfOk result (λ text. string_bytes text ≡ bound_lines plan.now (row_view row.now) bound.now opening) }
+{
+    let claim = bound_claim(alloc, plan, bound)?;
+    let line = unshown_line(alloc, row, claim.as_str(), opening)?;
+    let sample = sample_line(alloc, plan, row, opening, bound.reader, bound.key)?;
+    let permits = permit_lines(alloc, plan, row)?;
+    format!(in alloc; "{line}{sample}{permits}")
+}
+
+/// A bound with what its row weighs, if the row doesn't show it.
+fn unshown_bound_by(
+    alloc: Global,
+    plan: &Plan,
+    row: &Row,
+    bound: &Bound,
+) -> Result<String, AllocError>
+    ensures { IfOk result (λ text. string_bytes text ≡ unshown_bound_by plan.now (row_view row.now) bound.now) }
+{
+    let opening = budget(plan, row);
+    if shows(plan, row, opening, bound.bound, bound.reader, bound.key) {
+        return Ok(String::new(alloc));
+    }
+    bound_lines(alloc, plan, row, bound, opening)
+}
+
+/// A bound with what its row weighs, if it is one of the key at the reader and the row doesn't show it.
+fn unshown_bound(
+    alloc: Global,
+    plan: &Plan,
+    certificate: &Certificate,
+    reader: ReaderNo,
+    key: KeyNo,
+    bound: &Bound,
+) -> Result<String, AllocError>
+    ensures { IfOk result (λ text. string_bytes text ≡ unshown_bound plan.now (certificate_view certificate.now) reader key bound.now) }
+{
+    if bound.reader == reader && bound.key == key {
+        match find_row(certificate, bound.row) {
+            Some(row) => unshown_bound_by(alloc, plan, row, bound),
+            None => Ok(String::new(alloc)),
+        }
+    } else {
+        Ok(String::new(alloc))
+    }
+}
+
+/// The bounds of a key at a reader that their rows don't show.
+pub(crate) fn bound_not_shown_lines(
+    alloc: Global,
+    plan: &Plan,
+    certificate: &Certificate,
+    reader: ReaderNo,
+    key: KeyNo,
+) -> Result<String, AllocError>
+    ensures { IfOk result (λ text. string_bytes text ≡ bound_not_shown_lines plan.now (certificate_view certificate.now) reader key) }
+{
+    let mut text = String::new(alloc);
+    for bound in &certificate.bounds {
+        let lines = unshown_bound(alloc, plan, certificate, reader, key, bound)?;
+        text.push_str(lines.as_str())?;
+    }
+    Ok(text)
+}
+
+/// Whether a key can't reach the reader of a total, or the row shows the total for it.
+fn shows_reached(plan: &Plan, row: &Row, opening: u128, total: &Total, key: KeyNo) -> bool
+    requires { opening ≡ budget (network_of plan.now) (row_of (row_view row.now)) }
+    ensures { result ≡ (not (reach (network_of plan.now) total.now.reader key) || shows (network_of plan.now) (row_of (row_view row.now)) total.now.bound total.now.reader key) }
+{
+    !plan.reaches(total.reader, key) || shows(plan, row, opening, total.bound, total.reader, key)
+}
+
+/// Whether a row shows a total for each key that can reach its reader.
+#[tactic(auto, using(dds_check::proofs::First::all_below_start, dds_check::proofs::First::all_below_more))]
+fn shows_all(plan: &Plan, row: &Row, opening: u128, total: &Total) -> bool
+    requires { opening ≡ budget (network_of plan.now) (row_of (row_view row.now)) }
+    ensures { result ≡ shows_all (network_of plan.now) (row_of (row_view row.now)) total.now }
+{
+    let mut all = true;
+    for k in 0..KEYS {
+        let shown = shows_reached(plan, row, opening, total, KeyNo::new(k));
+        all = all && shown;
+    }
+    all
+}
+
+/// A total in words.
+fn total_claim(alloc: Global, plan: &Plan, total: &Total) -> Result<String, AllocError>
+    ensures { IfOk result (λ text. string_bytes text ≡ total_claim plan.now total.now) }
+{
+    let number = total.bound;
+    let name = reader_name(plan, total.reader);
+    format!(in alloc; "the total {number} of {name}")
+}
+
+/// What a sample of a key weighs that can reach the reader.
+fn reached_sample_line(
+    alloc: Global,
+    plan: &Plan,
+    row: &Row,
+    opening: u128,
+    reader: ReaderNo,
+    key: KeyNo,
+) -> Result<String, AllocError>
+    ensures { IfOk result (λ text. string_bytes text ≡ reached_sample_line plan.now (row_view row.now) opening reader key) }
+{
+    if plan.reaches(reader, key) {
+        sample_line(alloc, plan, row, opening, reader, key)
+    } else {
+        Ok(String::new(alloc))
+    }
+}
+
+/// What a sample weighs of each key that can reach the reader.
+fn reached_sample_lines(
+    alloc: Global,
+    plan: &Plan,
+    row: &Row,
+    opening: u128,
+    reader: ReaderNo,
+) -> Result<String, AllocError>
+    ensures { IfOk result (λ text. string_bytes text ≡ each_below 64 (reached_sample_line plan.now (row_view row.now) opening reader)) }
+{
+    let mut text = String::new(alloc);
+    for k in 0..KEYS {
+        let line = reached_sample_line(alloc, plan, row, opening, reader, KeyNo::new(k))?;
+        text.push_str(line.as_str())?;
+    }
+    Ok(text)
+}
+
+/// A total that its row doesn't show, with a sample of each key and the permits.
+fn total_lines(
+    alloc: Global,
+    plan: &Plan,
+    row: &Row,
+    total: &Total,
+    opening: u128,
+) -> Result<String, AllocError>
+    ensures { IfOk result (λ text. string_bytes text ≡ total_lines plan.now (row_view row.now) total.now opening) }
+{
+    let claim = total_claim(alloc, plan, total)?;
+    let line = unshown_line(alloc, row, claim.as_str(), opening)?;
+    let samples = reached_sample_lines(alloc, plan, row, opening, total.reader)?;
+    let permits = permit_lines(alloc, plan, row)?;
+    format!(in alloc; "{line}{samples}{permits}")
+}
+
+/// A total with what its row weighs, if the row doesn't show it.
+fn unshown_total_by(
+    alloc: Global,
+    plan: &Plan,
+    row: &Row,
+    total: &Total,
+) -> Result<String, AllocError>
+    ensures { IfOk result (λ text. string_bytes text ≡ unshown_total_by plan.now (row_view row.now) total.now) }
+{
+    let opening = budget(plan, row);
+    if shows_all(plan, row, opening, total) {
+        return Ok(String::new(alloc));
+    }
+    total_lines(alloc, plan, row, total, opening)
+}
+
+/// A total with what its row weighs, if it is one of the reader and the row doesn't show it.
+fn unshown_total(
+    alloc: Global,
+    plan: &Plan,
+    certificate: &Certificate,
+    reader: ReaderNo,
+    total: &Total,
+) -> Result<String, AllocError>
+    ensures { IfOk result (λ text. string_bytes text ≡ unshown_total plan.now (certificate_view certificate.now) reader total.now) }
+{
+    if total.reader == reader {
+        match find_row(certificate, total.row) {
+            Some(row) => unshown_total_by(alloc, plan, row, total),
+            None => Ok(String::new(alloc)),
+        }
+    } else {
+        Ok(String::new(alloc))
+    }
+}
+
+/// The totals of a reader that their rows don't show.
+pub(crate) fn total_not_shown_lines(
+    alloc: Global,
+    plan: &Plan,
+    certificate: &Certificate,
+    reader: ReaderNo,
+) -> Result<String, AllocError>
+    ensures { IfOk result (λ text. string_bytes text ≡ total_not_shown_lines plan.now (certificate_view certificate.now) reader) }
+{
+    let mut text = String::new(alloc);
+    for total in &certificate.totals {
+        let lines = unshown_total(alloc, plan, certificate, reader, total)?;
+        text.push_str(lines.as_str())?;
+    }
+    Ok(text)
+}

@@ -1,0 +1,181 @@
+//! What a row weighs: samples, takes and permits, and the sums of them that a check compares.
+ghost use Rattle.std.specs.Prelude.{◌≡◌, ◌<◌, ◌≤◌, ◌*◌, ◌^◌, length};
+ghost use Rattle.dds_deploy.specs.Views.{rule_view};
+ghost use Rattle.dds_match.specs.Network.{named, weighed};
+ghost use Rattle.dds_match.specs.Plan.{network_of};
+ghost use Rattle.dds_cert.specs.Views.{row_view};
+ghost use Rattle.dds_check.specs.Accepted.{budget, opening_permits, row_of, spread};
+ghost use Rattle.dds_check.specs.Spreads.{heard};
+ghost use Rattle.dds_check.specs.Tables.{weight_by, weighed_by};
+
+use dds_base::{Endpoint, KeyNo, Portion, ReaderNo, RuleNo, WriterNo};
+use dds_cert::{Row, Weight};
+use dds_deploy::Rule;
+use dds_match::Plan;
+
+/// The weight of a key of an endpoint, 0 where none is named. Of entries for one endpoint and key the first counts.
+fn weight_of<E: Endpoint>(weights: &[Weight<E>], endpoint: E, key: KeyNo) -> u32
+    ensures { result ≡ weight_by E.number_of weights.now (E.number_of endpoint) key }
+{
+    for x in weights {
+        if x.endpoint.place() == endpoint.place() && x.key == key {
+            return x.weight;
+        }
+    }
+    0
+}
+
+/// The weight of a sample in flight.
+pub(crate) fn sample_weight(row: &Row, reader: ReaderNo, key: KeyNo) -> u32
+    ensures { result ≡ (row_of (row_view row.now)).samples reader key }
+{
+    weight_of(&row.samples, reader, key)
+}
+
+/// The weight of an unspent take.
+pub(crate) fn take_weight(row: &Row, reader: ReaderNo, key: KeyNo) -> u32
+    ensures { result ≡ (row_of (row_view row.now)).takes reader key }
+{
+    weight_of(&row.takes, reader, key)
+}
+
+/// The weight of a permit.
+pub(crate) fn permit_weight(row: &Row, writer: WriterNo, key: KeyNo) -> u32
+    ensures { result ≡ (row_of (row_view row.now)).permits writer key }
+{
+    weight_of(&row.permits, writer, key)
+}
+
+fn weighed_one<E: Endpoint>(weights: &[Weight<E>], x: &Portion<E>) -> u128
+    ensures value { result ≡ x.now.count * weight_by E.number_of weights.now (E.number_of x.now.endpoint) x.now.key }
+    ensures small { result < 2 ^ 48 }
+{
+    u128::from(x.count) * u128::from(weight_of(weights, x.endpoint, x.key))
+}
+
+fn weighed_by<E: Endpoint>(weights: &[Weight<E>], portions: &[Portion<E>]) -> u128
+    ensures value { result ≡ weighed_by E.number_of portions.now (weight_by E.number_of weights.now) }
+    ensures small { result ≤ length portions.now * 2 ^ 48 }
+{
+    let mut total: u128 = 0;
+    for x in portions {
+        total += weighed_one(weights, x);
+    }
+    total
+}
+
+/// What a rule takes, weighed.
+pub(crate) fn takes_weighed(row: &Row, portions: &[Portion<ReaderNo>]) -> u128
+    ensures { result ≡ weighed portions.now (row_of (row_view row.now)).takes }
+{
+    weighed_by(&row.takes, portions)
+}
+
+/// What a rule writes, weighed.
+pub(crate) fn permits_weighed(row: &Row, portions: &[Portion<WriterNo>]) -> u128
+    ensures value { result ≡ weighed portions.now (row_of (row_view row.now)).permits }
+    ensures small { result ≤ length portions.now * 2 ^ 48 }
+{
+    weighed_by(&row.permits, portions)
+}
+
+/// What a write of the key at the writer puts in flight for one reader, weighed.
+fn heard(plan: &Plan, row: &Row, reader: ReaderNo, writer: WriterNo, key: KeyNo) -> u128
+    ensures value { result ≡ heard (network_of plan.now) (row_of (row_view row.now)) reader writer key }
+    ensures small { result < 2 ^ 32 }
+{
+    if plan.matched(writer, reader) && plan.hears(reader, key) {
+        u128::from(sample_weight(row, reader, key))
+    } else {
+        0
+    }
+}
+
+/// What a write of the key at the writer puts in flight, weighed.
+pub(crate) fn spread(plan: &Plan, row: &Row, writer: WriterNo, key: KeyNo) -> u128
+    ensures { result ≡ spread (network_of plan.now) (row_of (row_view row.now)) writer key }
+{
+    let mut total: u128 = 0;
+    for r in 0..plan.lists().readers() {
+        total += heard(plan, row, ReaderNo::new(r), writer, key);
+    }
+    total
+}
+
+fn rule_at(plan: &Plan, u: RuleNo) -> &Rule
+    requires { u < (network_of plan.now).rules }
+    ensures value { (network_of plan.now).rule u ≡ rule_view result.now }
+    ensures short { length result.now.writes.items ≤ 16 }
+{
+    // What is known of every plan: a rule writes at most 16 keys.
+    let _lists = plan.lists();
+    plan.rule(u)
+}
+
+fn opened_by(row: &Row, rule: &Rule) -> u128
+    requires { length rule.now.writes.items ≤ 16 }
+    ensures value { result ≡ weighed (rule_view rule.now).writes (row_of (row_view row.now)).permits * rule.now.start }
+    ensures small { result < 2 ^ 68 }
+{
+    permits_weighed(row, &rule.writes) * u128::from(rule.start)
+}
+
+fn opened_by_rule(plan: &Plan, row: &Row, u: RuleNo) -> u128
+    requires { u < (network_of plan.now).rules }
+    ensures value { result ≡ weighed ((network_of plan.now).rule u).writes (row_of (row_view row.now)).permits * ((network_of plan.now).rule u).start }
+    ensures small { result < 2 ^ 68 }
+{
+    opened_by(row, rule_at(plan, u))
+}
+
+/// What the permits at the opening weigh together.
+pub(crate) fn budget(plan: &Plan, row: &Row) -> u128
+    ensures { result ≡ budget (network_of plan.now) (row_of (row_view row.now)) }
+{
+    let mut total: u128 = 0;
+    for u in 0..plan.lists().rules() {
+        total += opened_by_rule(plan, row, RuleNo::new(u));
+    }
+    total
+}
+
+/// How many samples of the key at the writer a list names.
+fn named(portions: &[Portion<WriterNo>], writer: WriterNo, key: KeyNo) -> u128
+    ensures value { result ≡ named portions.now writer key }
+    ensures small { result ≤ length portions.now * 2 ^ 16 }
+{
+    let mut total: u128 = 0;
+    for x in portions {
+        if x.endpoint == writer && x.key == key {
+            total += u128::from(x.count);
+        }
+    }
+    total
+}
+
+fn permitted_by(rule: &Rule, writer: WriterNo, key: KeyNo) -> u128
+    requires { length rule.now.writes.items ≤ 16 }
+    ensures value { result ≡ named (rule_view rule.now).writes writer key * rule.now.start }
+    ensures small { result < 2 ^ 36 }
+{
+    named(&rule.writes, writer, key) * u128::from(rule.start)
+}
+
+fn permitted_by_rule(plan: &Plan, u: RuleNo, writer: WriterNo, key: KeyNo) -> u128
+    requires { u < (network_of plan.now).rules }
+    ensures value { result ≡ named ((network_of plan.now).rule u).writes writer key * ((network_of plan.now).rule u).start }
+    ensures small { result < 2 ^ 36 }
+{
+    permitted_by(rule_at(plan, u), writer, key)
+}
+
+/// The permits to write the key at the writer before the first event.
+pub(crate) fn opening_permits(plan: &Plan, writer: WriterNo, key: KeyNo) -> u128
+    ensures { result ≡ opening_permits (network_of plan.now) writer key }
+{
+    let mut total: u128 = 0;
+    for u in 0..plan.lists().rules() {
+        total += permitted_by_rule(plan, RuleNo::new(u), writer, key);
+    }
+    total
+}

@@ -1,0 +1,42 @@
+-- What words ask for that draw a deployment.
+use Rattle.std.proofs.Common.{◌≡◌, ◌∙◌, ◌<◌, ℕ, Bool, true, false, List, [], Option, Some, None, codes, option_map, slice_index, sym, ap, arith, unwrap_or}
+use Rattle.std.specs.Option.{option_map_or}
+use Rattle.clap.specs.Words.{Row, Text, first_of, subcommand_of}
+use Rattle.dds_tool.specs.Asking.{Asks, is_input_twice, whole}
+use Rattle.dds_tool.specs.declared.request.Request.{Request}
+use Rattle.dds_tool.specs.declared.request.Request.TheVariants as asked
+
+abbrev first_byte : Option (Text × List Row) → ℕ
+first_byte None = 0
+first_byte (Some p) = slice_index p.0 0
+
+abbrev rows_at : Option (Text × List Row) → List Row
+rows_at None = []
+rows_at (Some p) = p.1
+
+-- another subcommand begins with another letter
+earlier : (n m : ℕ) → n < m → n ≡ m → ⊥
+earlier n m less same = omega (arith, less, same)
+
+later : (n m : ℕ) → m < n → n ≡ m → ⊥
+later n m more same = omega (arith, more, same)
+
+true_and_false : (b : Bool) → b ≡ true → b ≡ false → ⊥
+true_and_false b is other = cc
+
+-- words that draw a deployment, and ask for something, name standard input once at most
+pub draws_once : (words : List Text) (rows : List Row) → subcommand_of whole words ≡ Some (codes "draw", rows) → (r : Request) → Asks words r → (d c : Text)
+    → Some d ≡ first_of (codes "deployment") rows → Some c ≡ first_of (codes "certificate") rows → is_input_twice d c ≡ true → ⊥
+draws_once words rows is (asked.Match x) asks d c first second twice = later 109 100 (omega arith) (ap first_byte (sym asks.1 ∙ is))
+draws_once words rows is (asked.Propose x) asks d c first second twice = later 112 100 (omega arith) (ap first_byte (sym asks.1 ∙ is))
+draws_once words rows is (asked.ProposeThoroughly x) asks d c first second twice = later 112 100 (omega arith) (ap first_byte (sym asks.1 ∙ is))
+draws_once words rows is (asked.Migrate x) asks d c first second twice = later 109 100 (omega arith) (ap first_byte (sym asks.1 ∙ is))
+draws_once words rows is (asked.Show x format) asks d c first second twice = later 115 100 (omega arith) (ap first_byte (sym asks.1 ∙ is))
+draws_once words rows is (asked.Run x y wishes) asks d c first second twice = later 114 100 (omega arith) (ap first_byte (sym asks.1 ∙ is))
+draws_once words rows is (asked.Check x y detail) asks d c first second twice = earlier 99 100 (omega arith) (ap first_byte (sym asks.1 ∙ is))
+draws_once words rows is (asked.Draw x y) asks d c first second twice =
+    let same : rows ≡ asks.0 = ap rows_at (sym is ∙ asks.1) in
+    let deployment : d ≡ x.now = ap (λ path. unwrap_or path []) (first ∙ ap (first_of (codes "deployment")) same ∙ asks.2) in
+    let certificate : Some c ≡ option_map (λ path. path.now) y = second ∙ ap (first_of (codes "certificate")) same ∙ asks.3 in
+    let once : is_input_twice x.now c ≡ false = ap (λ path. option_map_or (is_input_twice x.now) path false) certificate ∙ asks.4 in
+    true_and_false (is_input_twice x.now c) (ap (λ path. is_input_twice path c) (sym deployment) ∙ twice) once

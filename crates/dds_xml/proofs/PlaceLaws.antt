@@ -1,0 +1,20 @@
+-- The text of what is at a place, under its name, and what is added of it.
+use Rattle.std.proofs.Common.{ℕ, ◌≡◌, ◌∙◌, ◌++◌, ◌==◌, List, [], Some, Result, Ok, Err, IfOk, ap, cond, eq-eqb, if◌then◌else◌, is_ok, refl, sym, slice_get}
+use Rattle.std.specs.Option.{option_map_or}
+use Rattle.dds_cert.specs.Naming.{name_at}
+use Rattle.dds_show.proofs.ShowLaws.{item_here}
+
+-- the text of the entry at a place of its list, which is found by a number and whose name stands at that place of the names
+pub named_here : {X : Type 0} (f : List ℕ → X → List ℕ) (names given : List (List ℕ)) (xs : List X) (i n : ℕ) (x : X) (name text : List ℕ)
+    → given ≡ names → name ≡ name_at given i → n ≡ i → slice_get xs n ≡ Some x → text ≡ f name x → text ≡ option_map_or (f (name_at names i)) (slice_get xs i) []
+named_here f names given xs i n x name text same is at found shown =
+    shown ∙ (ap (λ t. f t x) (is ∙ ap (λ all. name_at all i) same) ∙ item_here (f (name_at names i)) xs i x (ap (λ k. slice_get xs k) (sym at) ∙ found))
+
+-- a text that stands only for one number stands for this one
+pub chosen : (n p : ℕ) (text : List ℕ) → n ≡ p → text ≡ (if n == p then text else [])
+chosen n p text same = rw (eq-eqb n p same) refl
+
+-- a push that has memory adds the text
+pub pushed : {T E : Type 0} (result : Result T E) (old new element text : List ℕ) → new ≡ cond (is_ok result) (old ++ element) old → element ≡ text → IfOk result (λ _. new ≡ old ++ text)
+pushed (Ok x) old new element text after is = after ∙ ap (λ t. old ++ t) is
+pushed (Err e) old new element text after is = tt

@@ -1,0 +1,30 @@
+-- The applications in XML, each with the endpoints that it owns (OMG DDS-XML 1.0, building block Applications).
+use Rattle.std.specs.Prelude.{codes, ℕ, List, [], ◌++◌, flat_map, length, slice_get}
+use Rattle.std.specs.Option.{option_map_or}
+use Rattle.dds_deploy.specs.Lists.{Application, Lists}
+use Rattle.dds_cert.specs.Naming.{name_at}
+use Rattle.dds_cert.specs.Text.{each_below}
+
+-- the publisher or the subscriber of an endpoint
+abbrev pub owned_element : List ℕ → List (List ℕ) → ℕ → List ℕ
+owned_element group names number = codes "        <" ++ (group ++ (codes " name=\"" ++ (name_at names number ++ codes "\"/>\n")))
+
+-- the publishers or the subscribers of these endpoints
+abbrev pub owned_elements : List ℕ → List (List ℕ) → List ℕ → List ℕ
+owned_elements group names numbers = flat_map (owned_element group names) numbers
+
+-- an application at its participant
+abbrev pub application_element : Lists → List ℕ → Application → List ℕ
+application_element d name x =
+    codes "    <application name=\"" ++ (name ++ (codes "\">\n      <domain_participant name=\"" ++ (name_at d.participants.names x.participant ++ (codes "\" base_name=\"participants::"
+    ++ (name_at d.participants.names x.participant ++ (codes "\">\n" ++ (owned_elements (codes "publisher") d.writers.names x.writers
+    ++ (owned_elements (codes "subscriber") d.readers.names x.readers ++ codes "      </domain_participant>\n    </application>\n"))))))))
+
+-- the application with this number
+abbrev pub application_at : Lists → ℕ → List ℕ
+application_at d a = option_map_or (application_element d (name_at d.applications.names a)) (slice_get d.applications.entries a) []
+
+-- all applications
+unfoldable pub application_library : Lists → List ℕ
+application_library d =
+    codes "  <application_library name=\"applications\">\n" ++ (each_below (length d.applications.entries) (application_at d) ++ codes "  </application_library>\n")

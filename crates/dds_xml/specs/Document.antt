@@ -1,0 +1,18 @@
+-- A deployment in DDS-XML (OMG DDS-XML 1.0).
+use Rattle.std.specs.Prelude.{codes, ℕ, List, ◌++◌}
+use Rattle.dds_deploy.specs.Lists.{Lists}
+use Rattle.dds_xml.specs.Applications.{application_library}
+use Rattle.dds_xml.specs.Participants.{participant_library}
+use Rattle.dds_xml.specs.Profiles.{reader_library, writer_library}
+use Rattle.dds_xml.specs.Topics.{domain_library}
+use Rattle.dds_xml.specs.Types.{types_section}
+
+-- what stands before the sections
+abbrev pub heading : List ℕ
+heading =
+    codes "<?xml version=\"1.0\" encoding=\"UTF-8\"?>\n<dds xmlns=\"http://www.omg.org/spec/DDS-XML\">\n  <!-- Rules and connections have no place in DDS-XML and are left out. The enum of a module lists the keys of its topic. -->\n"
+
+-- a deployment: types, a QoS profile for each endpoint, topics, participants with their endpoints, and applications
+unfoldable pub deployment_xml : Lists → List ℕ
+deployment_xml d =
+    heading ++ (types_section d ++ (writer_library d ++ (reader_library d ++ (domain_library d ++ (participant_library d ++ (application_library d ++ codes "</dds>\n"))))))

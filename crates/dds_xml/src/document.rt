@@ -1,0 +1,30 @@
+//! A deployment in DDS-XML (OMG DDS-XML 1.0).
+ghost use Rattle.std.specs.Prelude.{◌≡◌, IfOk, string_bytes};
+ghost use Rattle.dds_xml.specs.Document.{deployment_xml};
+
+use crate::applications::application_library;
+use crate::participants::participant_library;
+use crate::profiles::{reader_library, writer_library};
+use crate::topics::domain_library;
+use crate::types::types_section;
+use dds_deploy::Deployment;
+use std::alloc::{AllocError, Global};
+
+/// A deployment for other DDS tools, in DDS-XML (OMG DDS-XML 1.0): types, a QoS profile for each endpoint, topics, participants with their endpoints, and
+/// applications, each in file order. Rules and connections have no place there and are left out. Lengths of time are in seconds and nanoseconds. The type of a topic
+/// is a struct of a key and 32 bytes, in a module of the topic's name; the enum beside it has the topic's keys. Only want of memory is an error.
+pub fn deployment_xml(alloc: Global, lists: &Deployment) -> Result<String, AllocError>
+    ensures { IfOk result (λ text. string_bytes text ≡ deployment_xml lists.now) }
+{
+    let types = types_section(alloc, lists)?;
+    let writers = writer_library(alloc, lists)?;
+    let readers = reader_library(alloc, lists)?;
+    let domain = domain_library(alloc, lists)?;
+    let participants = participant_library(alloc, lists)?;
+    let applications = application_library(alloc, lists)?;
+    format!(in alloc;
+        "<?xml version=\"1.0\" encoding=\"UTF-8\"?>\n<dds xmlns=\"http://www.omg.org/spec/DDS-XML\">\n  \
+         <!-- Rules and connections have no place in DDS-XML and are left out. The enum of a module lists the keys of its topic. -->\n\
+         {types}{writers}{readers}{domain}{participants}{applications}</dds>\n"
+    )
+}

@@ -1,0 +1,219 @@
+//! The participants in XML, each with its writers and then its readers, in file order (OMG DDS-XML 1.0, building block DomainParticipants).
+ghost use Rattle.std.specs.Prelude.{◌≡◌, ◌++◌, ◌<◌, IfOk, length, string_bytes};
+ghost use Rattle.dds_deploy.specs.Views.{participant_view, reader_view, writer_view};
+ghost use Rattle.dds_xml.specs.Participants.{content_filter, data_reader, disjunction, filter_expression, filter_term, participant_at, participant_element, participant_library, publisher, publisher_at, publishers, subscriber, subscriber_at, subscribers};
+
+use dds_base::{KeyNo, Names, ParticipantNo, ReaderNo, WriterNo};
+use dds_cert::naming::name_at;
+use dds_deploy::{Deployment, Participant, Reader, Writer};
+use std::alloc::{AllocError, Global};
+
+/// A writer, in a publisher of its name.
+fn publisher(
+    alloc: Global,
+    lists: &Deployment,
+    name: &str,
+    x: &Writer,
+) -> Result<String, AllocError>
+    ensures { IfOk result (λ text. string_bytes text ≡ publisher lists.now name.now (writer_view x.now)) }
+{
+    let topic = name_at(lists.topic_names(), x.topic.number());
+    format!(in alloc;
+        "      <publisher name=\"{name}\">\n        <publisher_qos base_name=\"writers::{name}\"/>\n        \
+         <data_writer name=\"{name}\" topic_ref=\"{topic}\">\n          \
+         <datawriter_qos base_name=\"writers::{name}\"/>\n        </data_writer>\n      </publisher>\n"
+    )
+}
+
+/// What stands before the key at this place of a filter.
+fn disjunction(i: usize) -> &'static str
+    ensures { result.now ≡ disjunction i }
+{
+    if i == 0 { "" } else { " OR " }
+}
+
+/// Adds a key of a filter, by its place there.
+fn push_filter_term(alloc: Global, text: &mut String, key: &str, i: usize) -> Result<(), AllocError>
+    ensures { IfOk result (λ _. string_bytes text.new ≡ string_bytes text.old ++ filter_term key.now i) }
+{
+    let disjunction = disjunction(i);
+    let term = format!(in alloc; "{disjunction}key = '{key}'")?;
+    text.push_str(term.as_str())
+}
+
+/// A filter as a condition on the key of a sample.
+fn filter_expression(alloc: Global, keys: &Names, filter: &[KeyNo]) -> Result<String, AllocError>
+    ensures { IfOk result (λ text. string_bytes text ≡ filter_expression keys.now filter.now) }
+{
+    if filter.is_empty() {
+        return String::from_str(alloc, "key = ''");
+    }
+    let mut text = String::new(alloc);
+    for i in 0..filter.len() {
+        let key = name_at(keys, filter[i].number());
+        push_filter_term(alloc, &mut text, key, i)?;
+    }
+    Ok(text)
+}
+
+/// The filter of a reader, nothing where it has all keys.
+fn content_filter(
+    alloc: Global,
+    name: &str,
+    keys: &Names,
+    filter: &[KeyNo],
+) -> Result<String, AllocError>
+    ensures { IfOk result (λ text. string_bytes text ≡ content_filter name.now keys.now filter.now) }
+{
+    if keys.len() <= filter.len() {
+        return Ok(String::new(alloc));
+    }
+    let expression = filter_expression(alloc, keys, filter)?;
+    format!(in alloc;
+        "          <content_filter name=\"{name}\">\n            <expression>{expression}</expression>\n          </content_filter>\n"
+    )
+}
+
+fn data_reader(
+    alloc: Global,
+    lists: &Deployment,
+    name: &str,
+    x: &Reader,
+) -> Result<String, AllocError>
+    requires { x.now.topic < length lists.now.topics.entries }
+    ensures { IfOk result (λ text. string_bytes text ≡ data_reader lists.now name.now (reader_view x.now)) }
+{
+    let topic = name_at(lists.topic_names(), x.topic.number());
+    let filter = content_filter(alloc, name, lists.keys(x.topic), x.filter.as_slice())?;
+    format!(in alloc;
+        "        <data_reader name=\"{name}\" topic_ref=\"{topic}\">\n          \
+         <datareader_qos base_name=\"readers::{name}\"/>\n{filter}        </data_reader>\n"
+    )
+}
+
+/// A reader, in a subscriber of its name.
+fn subscriber(
+    alloc: Global,
+    lists: &Deployment,
+    name: &str,
+    x: &Reader,
+) -> Result<String, AllocError>
+    requires { x.now.topic < length lists.now.topics.entries }
+    ensures { IfOk result (λ text. string_bytes text ≡ subscriber lists.now name.now (reader_view x.now)) }
+{
+    let reader = data_reader(alloc, lists, name, x)?;
+    format!(in alloc;
+        "      <subscriber name=\"{name}\">\n        <subscriber_qos base_name=\"readers::{name}\"/>\n{reader}      </subscriber>\n"
+    )
+}
+
+/// Adds the writer with this number, if it is at this participant.
+fn push_publisher(
+    alloc: Global,
+    text: &mut String,
+    lists: &Deployment,
+    p: ParticipantNo,
+    w: usize,
+) -> Result<(), AllocError>
+    requires { w < length lists.now.writers.entries }
+    ensures { IfOk result (λ _. string_bytes text.new ≡ string_bytes text.old ++ publisher_at lists.now p w) }
+{
+    let x = lists.writer(WriterNo::new(w));
+    if x.participant.number() != p.number() {
+        return Ok(());
+    }
+    let name = name_at(lists.writer_names(), w);
+    let element = publisher(alloc, lists, name, x)?;
+    text.push_str(element.as_str())
+}
+
+/// The writers of a participant.
+fn publishers(alloc: Global, lists: &Deployment, p: ParticipantNo) -> Result<String, AllocError>
+    ensures { IfOk result (λ text. string_bytes text ≡ publishers lists.now p) }
+{
+    let mut text = String::new(alloc);
+    for w in 0..lists.writers() {
+        push_publisher(alloc, &mut text, lists, p, w)?;
+    }
+    Ok(text)
+}
+
+/// Adds the reader with this number, if it is at this participant.
+fn push_subscriber(
+    alloc: Global,
+    text: &mut String,
+    lists: &Deployment,
+    p: ParticipantNo,
+    r: usize,
+) -> Result<(), AllocError>
+    requires { r < length lists.now.readers.entries }
+    ensures { IfOk result (λ _. string_bytes text.new ≡ string_bytes text.old ++ subscriber_at lists.now p r) }
+{
+    // What is known of every deployment: the topic is there.
+    let _readers = lists.readers();
+    let x = lists.reader(ReaderNo::new(r));
+    if x.participant.number() != p.number() {
+        return Ok(());
+    }
+    let name = name_at(lists.reader_names(), r);
+    let element = subscriber(alloc, lists, name, x)?;
+    text.push_str(element.as_str())
+}
+
+/// The readers of a participant.
+fn subscribers(alloc: Global, lists: &Deployment, p: ParticipantNo) -> Result<String, AllocError>
+    ensures { IfOk result (λ text. string_bytes text ≡ subscribers lists.now p) }
+{
+    let mut text = String::new(alloc);
+    for r in 0..lists.readers() {
+        push_subscriber(alloc, &mut text, lists, p, r)?;
+    }
+    Ok(text)
+}
+
+/// A participant with its endpoints.
+fn participant_element(
+    alloc: Global,
+    lists: &Deployment,
+    p: ParticipantNo,
+    x: &Participant,
+) -> Result<String, AllocError>
+    ensures { IfOk result (λ text. string_bytes text ≡ participant_element lists.now p (participant_view x.now)) }
+{
+    let name = name_at(lists.participant_names(), p.number());
+    let domain = x.domain;
+    let publishers = publishers(alloc, lists, p)?;
+    let subscribers = subscribers(alloc, lists, p)?;
+    format!(in alloc;
+        "    <domain_participant name=\"{name}\" domain_ref=\"domains::topics\" domain_id=\"{domain}\">\n{publishers}{subscribers}    </domain_participant>\n"
+    )
+}
+
+/// Adds the participant with this number.
+fn push_participant(
+    alloc: Global,
+    text: &mut String,
+    lists: &Deployment,
+    p: usize,
+) -> Result<(), AllocError>
+    requires { p < length lists.now.participants.entries }
+    ensures { IfOk result (λ _. string_bytes text.new ≡ string_bytes text.old ++ participant_at lists.now p) }
+{
+    let number = ParticipantNo::new(p);
+    let element = participant_element(alloc, lists, number, lists.participant(number))?;
+    text.push_str(element.as_str())
+}
+
+/// All participants.
+#[tactic(auto, unfolding(crate::specs::Participants::participant_library))]
+pub(crate) fn participant_library(alloc: Global, lists: &Deployment) -> Result<String, AllocError>
+    ensures { IfOk result (λ text. string_bytes text ≡ participant_library lists.now) }
+{
+    let mut participants = String::new(alloc);
+    for p in 0..lists.participants() {
+        push_participant(alloc, &mut participants, lists, p)?;
+    }
+    format!(in alloc;
+        "  <domain_participant_library name=\"participants\">\n{participants}  </domain_participant_library>\n"
+    )
+}
