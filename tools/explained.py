@@ -8,24 +8,15 @@ Both files are read by Python's TOML parser (the deployment as tools/shown.py re
 come the answer without reasons, which the reasons are to follow, and by `match` which endpoints match. A file that Python can't read, being TOML 1.1 and not 1.0, is
 left out, and told. The last line is 'N passed, M failed'; the status is 1 if one failed.
 """
-import importlib.util
 import sys
 import tomllib
 from pathlib import Path
 
-ROOT = Path(__file__).resolve().parent.parent
+sys.dont_write_bytecode = True
+import shown  # noqa: E402
+from shown import ROOT  # noqa: E402
+
 DATA = ROOT / "crates/test_commands"
-
-
-def shown_tool():
-    """tools/shown.py, of which the readers are used."""
-    spec = importlib.util.spec_from_file_location("shown", ROOT / "tools/shown.py")
-    module = importlib.util.module_from_spec(spec)
-    spec.loader.exec_module(module)
-    return module
-
-
-shown = shown_tool()
 
 
 class Case:

@@ -63,6 +63,7 @@ static int64_t run(struct cyclone *system, struct worker *workers, const struct 
         struct worker *worker = &workers[at];
         worker->cut_at = begun + (int64_t)options->seconds * 1000000000;
         worker->idle_waits = options->idle;
+        worker->most_calls = (uint64_t)options->calls;
         worker->last_success = begun;
         if (options->times) {
             worker->write_times = room(worker->writes, sizeof *worker->write_times);

@@ -16,6 +16,7 @@ static const char USAGE[] =
     "  --hold APP=MS        this application begins to take only after so many milliseconds\n"
     "  --slow APP=MS        this application waits so many milliseconds after each circle in which it took\n"
     "  --loss N             Cyclone drops N percent of the packets that this process sends (0)\n"
+    "  --calls N            an application ends after so many takes, firings and writes that it called for (200000)\n"
     "  --idle N             an application ends after so many waits of 10 ms in a row without a change (500)\n"
     "  --seconds N          all applications end after so many seconds (120); the other processes are waited for 60 s before the first write\n"
     "  --tag TEXT           Cyclone's domain tag: processes with another one are not seen (ddscheck)\n"
@@ -63,7 +64,7 @@ static void hold(struct options *options, const char *option, char *word)
 
 struct options read_options(int count, char **words)
 {
-    struct options options = {.writes = 10, .takes = 10, .idle = 500, .seconds = 120, .tag = "ddscheck"};
+    struct options options = {.writes = 10, .takes = 10, .idle = 500, .calls = 200000, .seconds = 120, .tag = "ddscheck"};
     for (int at = 1; at < count; at++) {
         const char *word = words[at];
         char *next = at + 1 < count ? words[at + 1] : NULL;
@@ -87,6 +88,8 @@ struct options read_options(int count, char **words)
             hold(&options, word, next);
         } else if (strcmp(word, "--loss") == 0) {
             options.loss = (int)number(word, next, 90);
+        } else if (strcmp(word, "--calls") == 0) {
+            options.calls = (int)number(word, next, 1000000000);
         } else if (strcmp(word, "--idle") == 0) {
             options.idle = (int)number(word, next, 100000);
         } else if (strcmp(word, "--seconds") == 0) {

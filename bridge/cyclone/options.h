@@ -13,7 +13,7 @@ struct options {
     int named;
     const char *participant[MOST_PARTICIPANTS];
     uint64_t writes, takes;
-    int loss, idle, seconds, holds;
+    int loss, calls, idle, seconds, holds;
     // applications that are held back: they begin to take only after so many milliseconds, or wait so long after each circle in which they took
     struct hold {
         const char *application;

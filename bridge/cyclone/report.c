@@ -93,7 +93,7 @@ static void report_times(const char *name, const struct worker *worker, int64_t 
 
 bool report_run(const struct cyclone *system, const struct worker *workers, const struct options *options, int64_t begun)
 {
-    static const char *const ENDS[] = {"stopped", "idle", "cut"};
+    static const char *const ENDS[] = {"stopped", "limit", "idle", "cut"};
     const struct deployment *lists = system->lists;
     bool well = none_unintended(system);
     for (int at = 0; at < lists->applications; at++) {

@@ -61,6 +61,7 @@ static bool do_take(struct worker *worker, const struct step *step)
     if (worker->took == worker->takes || !worker->may_take) {
         return false;
     }
+    worker->calls++;
     ddscheck_Sample sample;
     if (!take(&worker->system->cache[step->endpoint], step->key, &sample)) {
         return false;
@@ -76,7 +77,11 @@ static bool do_take(struct worker *worker, const struct step *step)
 static bool do_write(struct worker *worker, const struct step *step)
 {
     uint64_t *permits = &worker->ledger->permits[step->endpoint][step->key];
-    if (worker->wrote == worker->writes || *permits == 0) {
+    if (worker->wrote == worker->writes) {
+        return false;
+    }
+    worker->calls++;
+    if (*permits == 0) {
         return false;
     }
     struct writer *writer = &worker->system->writer[step->endpoint];
@@ -108,6 +113,7 @@ static bool do_step(struct worker *worker, const struct step *step)
     case STEP_TAKE:
         return do_take(worker, step);
     case STEP_FIRE:
+        worker->calls++;
         return fire(worker->ledger, &worker->system->lists->rule[step->endpoint]);
     default:
         return do_write(worker, step);
@@ -128,8 +134,12 @@ void *work(void *argument)
         bool moved = false;
         uint64_t before = worker->took;
         worker->may_take = now() >= worker->held_until;
-        for (int at = 0; at < worker->steps; at++) {
+        for (int at = 0; at < worker->steps && worker->calls < worker->most_calls; at++) {
             moved = do_step(worker, &worker->circle[at]) || moved;
+        }
+        if (worker->calls >= worker->most_calls && (worker->took < worker->takes || worker->wrote < worker->writes)) {
+            worker->end = END_LIMIT;
+            return NULL;
         }
         if (worker->slow > 0 && worker->took > before) {
             worker->held_until = now() + worker->slow;

@@ -5,7 +5,7 @@
 #include "ledger.h"
 #include "system.h"
 
-enum end { END_STOPPED, END_IDLE, END_CUT };
+enum end { END_STOPPED, END_LIMIT, END_IDLE, END_CUT };
 
 enum kind { STEP_TAKE, STEP_FIRE, STEP_WRITE };
 
@@ -26,6 +26,8 @@ struct worker {
     bool may_take;
     int64_t cut_at;
     int idle_waits;
+    // how many takes, firings and writes it has called for, and how many it may at most
+    uint64_t calls, most_calls;
     // when each write was begun and each take was made, where that is asked for
     int64_t *write_times, *take_times, last_success;
     enum end end;
