@@ -1,11 +1,14 @@
 //! The deployment of `examples/ping`, run by its peers until each application has written and taken so many samples. It prints how many were written and
-//! taken, and to the error output how many entries the journal has and how long it took. The words are the number of samples of each application, and how
+//! taken, and to the error output how many entries the journal has, how long it took, and how long half of the round trips and 99 of 100 took at most. The words are the number of samples of each application, and how
 //! many of each 64 packets are lost.
 #![tactic(auto)]
 
 ghost use Rattle.std.specs.Prelude.{◌≡◌, IfOk};
 ghost use Rattle.dds_peers.specs.Kept.{AreOwners};
 
+mod trips;
+
+use crate::trips::{Timed, Times, Watch};
 use dds_base::{AppNo, Fate, Reply};
 use dds_book::{Gauge, GaugeSeat};
 use dds_cert::read_certificate;
@@ -14,12 +17,12 @@ use dds_deploy::read_deployment;
 use dds_files::texts::{PING, PING_CERT};
 use dds_match::NoMemory;
 use dds_match::planning::plan;
-use dds_peers::{App, AppEnd, Fates, Gate, Limits, Outcome, RunFault, Steady, run_peers};
+use dds_peers::{App, AppEnd, Fates, Limits, Outcome, RunFault, Steady, run_peers};
 use std::alloc::Global;
 use std::env::{self, Env};
 use std::io;
 use std::process::ExitCode;
-use std::sync::Wait;
+use std::sync::{Arc, Wait};
 use std::thread::Threads;
 use std::time::{Clock, Instant};
 
@@ -29,13 +32,6 @@ const LIMITS: Limits = Limits {
     idle_waits: 100_000,
     pumps: u64::MAX,
 };
-
-/// Lets every call through.
-struct Open;
-
-impl Gate for Open {
-    fn pass(&self, _app: AppNo) {}
-}
 
 /// The checked deployment.
 fn checked(alloc: Global) -> Option<Checked> {
@@ -94,6 +90,7 @@ fn ran<R: Threads + Wait + Clock + Sync>(
     alloc: Global,
     samples: u64,
     fates: &Fates,
+    watch: &Watch<R>,
 ) -> Option<Told> {
     let checked = checked(alloc)?;
     let mut apps: Vec<Box<dyn App + Send>> = Vec::new(alloc);
@@ -104,7 +101,11 @@ fn ran<R: Threads + Wait + Clock + Sync>(
             drop(checked);
             return None;
         };
-        let Ok(boxed) = Box::new(alloc, steady) else {
+        let Ok(times) = Arc::try_clone(&watch.times) else {
+            drop(checked);
+            return None;
+        };
+        let Ok(boxed) = Box::new(alloc, Timed::new(alloc, AppNo::new(app), steady, times)) else {
             drop(checked);
             return None;
         };
@@ -118,7 +119,7 @@ fn ran<R: Threads + Wait + Clock + Sync>(
         return None;
     };
     match run_peers(
-        rt, alloc, checked, apps, fates, &Open, &gauge, seats, LIMITS,
+        rt, alloc, checked, apps, fates, watch, &gauge, seats, LIMITS,
     ) {
         Ok(Outcome { ends, journal, .. }) => {
             let entries = journal.entries();
@@ -161,14 +162,27 @@ fn main(rt: HostRuntime) -> ExitCode {
     let (Some(fates), Ok(began)) = (fates(lost), Instant::now(&rt)) else {
         return ExitCode::from(4);
     };
-    let told = ran(&rt, alloc, samples as u64, &fates);
+    let Ok(times) = Arc::new(alloc, Times::new()) else {
+        return ExitCode::from(3);
+    };
+    let watch = Watch {
+        rt: &rt,
+        began,
+        times,
+    };
+    let told = ran(&rt, alloc, samples as u64, &fates, &watch);
     let (Some(told), Ok(took)) = (told, began.elapsed(&rt)) else {
         return ExitCode::from(3);
     };
+    let (half, most) = watch.times.microseconds();
     let _ = println!(rt;
         "{} written, {} taken, all stopped: {}",
         told.written, told.taken, told.stopped
     );
-    let _ = eprintln!(rt; "{} entries, {} ms", told.entries, took.as_millis());
+    let _ = eprintln!(rt;
+        "{} entries, {} ms, half of the round trips within {half} us, 99 of 100 within {most} us",
+        told.entries,
+        took.as_millis()
+    );
     ExitCode::from(0)
 }
