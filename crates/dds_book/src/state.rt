@@ -88,7 +88,7 @@ impl<N: Name> BookState<N> {
         if self.journal.len() >= MOST {
             return Err(BookFault::JournalFull);
         }
-        if !owns(self.domain.checked().plan().lists(), seat.number, &event) {
+        if !owns(self.domain.plan().lists(), seat.number, &event) {
             return Err(BookFault::NotYours);
         }
         if self.journal.reserve(1).is_err() {
@@ -128,7 +128,7 @@ impl<N: Name> BookState<N> {
         if self.closed {
             return Err(BookFault::Closed);
         }
-        let participant = participant_of(self.domain.checked().plan().lists(), seat.number);
+        let participant = participant_of(self.domain.plan().lists(), seat.number);
         let Some(event) = self.domain.due(participant, turn, fate) else {
             return Ok(None);
         };
@@ -148,7 +148,7 @@ impl<N: Name> BookState<N> {
     pub fn is_participant(&self, seat: &Seat<N>) -> bool
         ensures { result ≡ is_participant N.plan seat.now.number }
     {
-        is_participant(self.domain.checked().plan().lists(), seat.number)
+        is_participant(self.domain.plan().lists(), seat.number)
     }
 
     /// How many entries are no refusals. What was entered is always a journal of the plan.

@@ -1,10 +1,10 @@
--- Each move of a wide run keeps what holds of its worlds, and its reply is good.
+-- Each move of a wide run keeps what holds of its worlds, whether a certificate is accepted or not.
 use Rattle.std.proofs.Common.{◌≡◌, ◌≢◌, ◌⊎◌, inl, inr, ℕ, zero, suc, ◌+◌, ◌≤◌, ◌<◌, Bool, true, false, cond, eqb, leb, ltb, not, ◌&&◌, List, [], ◌∷◌, ◌++◌, Option, Some, None, refl, sym, ap, ◌∙◌, subst, arith}
 use Rattle.std.specs.Prelude.{count_by, length}
 use Rattle.std.proofs.lemmas.Bool.{eqb-true, eqb-false, eq-eqb, le-leb, leb-true, leb-false, lt-ltb, ltb-false, cond_both, and_parts, and_from, and_right, true≢false, or_parts, or_from, or_right, not-true, not-false, not_from_false, both_ways}
 use Rattle.std.proofs.lemmas.Bool.Decides.{nat_tests}
 use Rattle.std.proofs.lemmas.Option.{none-some}
-use Rattle.dds_base.specs.Sums.{In}
+use Rattle.dds_base.specs.Sums.{In, put}
 use Rattle.dds_match.specs.Network.{Network, IsNetwork, follows, named}
 use Rattle.dds_base.specs.declared.portion.Portion.{Portion}
 use Rattle.dds_check.specs.World.{World, Sample, Packet, entry_at, holds, has_key, marked, permits, spare, in_flight, stored, known_keys, unread, base, kept, written_keys, is_kept, is_at_hand, is_relevant}
@@ -39,10 +39,9 @@ use Rattle.dds_check.proofs.Arrivals.{store_sound, gap_sound, heartbeat_sound, a
 use Rattle.dds_check.proofs.InFlight.{admitted, stored_in}
 use Rattle.dds_check.proofs.Watching.{Watched, marked_give_up, give_up_grows, give_up_sound, over_sound, take_watched, store_watched, over_watched, give_up_watched, gap_watched, heartbeat_watched}
 
--- what holds of every world of a wide run of an accepted certificate
-pub record Healthy (net : Network) (cert : Certificate) (v : World) : Type 0 where
+-- what holds of every world of a wide run, accepted or not
+pub record Healthy (net : Network) (v : World) : Type 0 where
   pub sound : Sound net v
-  pub light : (row : Row) → In row cert.rows → weight net row v ≤ budget net row
   pub watched : Watched net v
 
 -- the first of two tests failed
@@ -96,12 +95,12 @@ replaced_is limits ss keys s old e = go (is_one_too_many limits.max_instances ke
 pub replaced_in : (limits : ReaderLimits) (ss : List Sample) (keys : Keys) (s old : Sample) → admission limits ss keys s ≡ Replaced old → In old ss ⊎ (s ≡ old)
 replaced_in limits ss keys s old e = subst (λ y. In y ss ⊎ (s ≡ y)) (replaced_is limits ss keys s old e) (got ss (first_of s.key ss) s)
 
-module _ (net : Network) (known : IsNetwork net) (cert : Certificate) (accepted : Accepted net cert) where
+module _ (net : Network) (known : IsNetwork net) where
   -- a reader that follows a writer matches it and is no watcher
-  served : (w r : ℕ) → follows net w r ≡ true → (net.matched w r ≡ true) × (net.watcher r ≡ false)
+  pub served : (w r : ℕ) → follows net w r ≡ true → (net.matched w r ≡ true) × (net.watcher r ≡ false)
   served w r h = let p = and_parts (net.matched w r) (not (net.watcher r)) h in (p.0, not-true (net.watcher r) p.1)
 
-  module _ (v : World) (healthy : Healthy net cert v) where
+  module _ (v : World) (healthy : Healthy net v) where
     -- ── a packet arrives
     -- a written number is 1 or more
     pub from_one : (r : ℕ) (s : Sample) → IsWrittenFor net v r s → 1 ≤ s.sn
@@ -116,16 +115,33 @@ module _ (net : Network) (known : IsNetwork net) (cert : Certificate) (accepted 
     repeat_is d written = repeat_is_marked (net.watcher d.reader) (marked v d.reader d.sample.writer) d.sample.sn (from_one d.reader d.sample written)
         (λ watches m. (healthy.watched d.reader watches).closed d.sample.writer d.sample.sn m)
 
-    -- at a reliable reader a DATA is a repeat or stored
-    arrival_is : (d : DataFor) → net.watcher d.reader ≡ false → IsWrittenFor net v d.reader d.sample → (arrival_of_data net v d ≡ Repeat) ⊎ ((marked v d.reader d.sample.writer d.sample.sn ≡ false) × (arrival_of_data net v d ≡ New))
-    arrival_is d reliable written = go (marked v d.reader d.sample.writer d.sample.sn) refl
+    -- what a stored sample replaces is received then
+    replaced_here : (r : ℕ) (s old : Sample) → In old (stored v r) ⊎ (s ≡ old) → In old (put v.received r (v.received r ++ s ∷ []) r)
+    replaced_here r s old replaced = subst (In old) (sym (put_at v.received r (v.received r ++ s ∷ []))) (elim replaced [
+      | inl i ↦ In_left (v.received r) (s ∷ []) old (stored_in net known v healthy.sound r old i).0
+      | inr e ↦ In_right (v.received r) (s ∷ []) old (inl e)
+    ])
+
+    -- what a DATA does at a reliable reader, by what its cache answers
+    reliable_healthy : (d : DataFor) → net.watcher d.reader ≡ false → IsWrittenFor net v d.reader d.sample → marked v d.reader d.sample.writer d.sample.sn ≡ false → (a : Admit) → ((old : Sample) → a ≡ Replaced old → In old (stored v d.reader) ⊎ (d.sample ≡ old)) → Healthy net (after_data v d.reader d.sample (arrival_of a))
+    reliable_healthy d reliable written apart a replaced = go a replaced
       where
-        go : (t : Bool) → marked v d.reader d.sample.writer d.sample.sn ≡ t → (arrival_of_data net v d ≡ Repeat) ⊎ ((marked v d.reader d.sample.writer d.sample.sn ≡ false) × (arrival_of_data net v d ≡ New))
-        go true e = inl (rw (written.matched, repeat_is d written, e))
-        go false e = inr (e, (let x = admitted net known v healthy.sound cert accepted healthy.light d.reader d.sample reliable written e in rw (written.matched, repeat_is d written, e, written.hears) (ap arrival_of x)))
+        kept : Healthy net (store v d.reader d.sample)
+        kept = record {
+          sound = store_sound net known v healthy.sound d.reader d.sample written apart;
+          watched = store_watched net v healthy.sound healthy.watched d.reader d.sample apart (from_one d.reader d.sample written) (λ t. absurd (both_ways (net.watcher d.reader) reliable t));
+        }
+
+        go : (a : Admit) → ((old : Sample) → a ≡ Replaced old → In old (stored v d.reader) ⊎ (d.sample ≡ old)) → Healthy net (after_data v d.reader d.sample (arrival_of a))
+        go Stored replaced = kept
+        go (Replaced old) replaced = record {
+          sound = over_sound net (store v d.reader d.sample) kept.sound d.reader old (replaced_here d.reader d.sample old (replaced old refl));
+          watched = over_watched net (store v d.reader d.sample) kept.sound kept.watched d.reader old;
+        }
+        go (Admit.Rejected why) replaced = healthy
 
     -- what a DATA does at a watcher, by what its cache answers
-    watched_healthy : (d : DataFor) → net.watcher d.reader ≡ true → IsWrittenFor net v d.reader d.sample → marked v d.reader d.sample.writer d.sample.sn ≡ false → (a : Admit) → ((old : Sample) → a ≡ Replaced old → In old (stored v d.reader) ⊎ (d.sample ≡ old)) → Healthy net cert (after_watched v d.reader d.sample (arrival_of a))
+    watched_healthy : (d : DataFor) → net.watcher d.reader ≡ true → IsWrittenFor net v d.reader d.sample → marked v d.reader d.sample.writer d.sample.sn ≡ false → (a : Admit) → ((old : Sample) → a ≡ Replaced old → In old (stored v d.reader) ⊎ (d.sample ≡ old)) → Healthy net (after_watched v d.reader d.sample (arrival_of a))
     watched_healthy d watches written apart a replaced = go a replaced
       where
         r : ℕ
@@ -151,132 +167,105 @@ module _ (net : Network) (known : IsNetwork net) (cert : Certificate) (accepted 
         below m a b = marked_give_up v d.reader d.sample.writer d.sample.sn m
             ∙ or_right (marked v d.reader d.sample.writer m) (below_first d.sample.sn m) (and_from (leb 1 m) (ltb m d.sample.sn) (le-leb 1 m a) (lt-ltb m d.sample.sn b))
 
-        kept : Healthy net cert (store (give_up v d.reader d.sample.writer d.sample.sn) d.reader d.sample)
+        kept : Healthy net (store (give_up v d.reader d.sample.writer d.sample.sn) d.reader d.sample)
         kept = record {
           sound = store_sound net known less less_sound d.reader d.sample (written_grows net v less (give_up_grows v d.reader d.sample.writer d.sample.sn) d.reader d.sample written) less_apart;
-          light = healthy.light;
           watched = store_watched net less less_sound (give_up_watched net v healthy.sound healthy.watched d.reader d.sample.writer d.sample.sn) d.reader d.sample less_apart (from_one d.reader d.sample written) (λ t. below);
         }
 
-        go : (a : Admit) → ((old : Sample) → a ≡ Replaced old → In old (stored v d.reader) ⊎ (d.sample ≡ old)) → Healthy net cert (after_watched v d.reader d.sample (arrival_of a))
+        go : (a : Admit) → ((old : Sample) → a ≡ Replaced old → In old (stored v d.reader) ⊎ (d.sample ≡ old)) → Healthy net (after_watched v d.reader d.sample (arrival_of a))
         go Stored replaced = kept
         go (Replaced old) replaced = record {
-          sound = over_sound net (store less d.reader d.sample) kept.sound d.reader old watches;
-          light = healthy.light;
-          watched = over_watched net (store less d.reader d.sample) kept.sound kept.watched d.reader old
-              (subst (In old) (sym (put_at v.received d.reader (v.received d.reader ++ d.sample ∷ []))) (elim (replaced old refl) [
-                | inl i ↦ In_left (v.received d.reader) (d.sample ∷ []) old (stored_in net known v healthy.sound d.reader old i).0
-                | inr e ↦ In_right (v.received d.reader) (d.sample ∷ []) old (inl e)
-              ]));
+          sound = over_sound net (store less d.reader d.sample) kept.sound d.reader old (replaced_here r s old (replaced old refl));
+          watched = over_watched net (store less d.reader d.sample) kept.sound kept.watched d.reader old;
         }
         go (Admit.Rejected why) replaced = healthy
 
-    -- at a watcher a DATA is a repeat, or what its cache answers
-    watched_is : (d : DataFor) → IsWrittenFor net v d.reader d.sample
+    -- a DATA is a repeat, or what the reader's cache answers
+    pub answered_is : (d : DataFor) → IsWrittenFor net v d.reader d.sample
         → (arrival_of_data net v d ≡ Repeat) ⊎ ((marked v d.reader d.sample.writer d.sample.sn ≡ false) × (arrival_of_data net v d ≡ arrival_of (admission (net.reader_limits d.reader) (stored v d.reader) (known_keys v d.reader) d.sample)))
-    watched_is d written = go (marked v d.reader d.sample.writer d.sample.sn) refl
+    answered_is d written = go (marked v d.reader d.sample.writer d.sample.sn) refl
       where
         go : (t : Bool) → marked v d.reader d.sample.writer d.sample.sn ≡ t → (arrival_of_data net v d ≡ Repeat) ⊎ ((marked v d.reader d.sample.writer d.sample.sn ≡ false) × (arrival_of_data net v d ≡ arrival_of (admission (net.reader_limits d.reader) (stored v d.reader) (known_keys v d.reader) d.sample)))
         go true e = inl (rw (written.matched, repeat_is d written, e))
         go false e = inr (e, rw (written.matched, repeat_is d written, e, written.hears) refl)
 
-    pub packet_healthy : (p : Packet) → FactOf net v p → Healthy net cert (after_packet net v p)
+    pub packet_healthy : (p : Packet) → FactOf net v p → Healthy net (after_packet net v p)
     packet_healthy (Data d) fact = by_kind (net.watcher d.reader) refl
       where
-        by_kind : (t : Bool) → net.watcher d.reader ≡ t → Healthy net cert (cond t (after_watched v d.reader d.sample (arrival_of_data net v d)) (after_data v d.reader d.sample (arrival_of_data net v d)))
-        by_kind false e = elim (arrival_is d e fact) [
-          | inl x ↦ subst (λ a. Healthy net cert (after_data v d.reader d.sample a)) (sym x) healthy
-          | inr x ↦ subst (λ a. Healthy net cert (after_data v d.reader d.sample a)) (sym x.1) (record {
-            sound = store_sound net known v healthy.sound d.reader d.sample fact x.0;
-            light = healthy.light;
-            watched = store_watched net v healthy.sound healthy.watched d.reader d.sample x.0 (from_one d.reader d.sample fact) (λ t. absurd (both_ways (net.watcher d.reader) e t));
-          })
+        answer : Admit
+        answer = admission (net.reader_limits d.reader) (stored v d.reader) (known_keys v d.reader) d.sample
+
+        replaced : (old : Sample) → answer ≡ Replaced old → In old (stored v d.reader) ⊎ (d.sample ≡ old)
+        replaced = replaced_in (net.reader_limits d.reader) (stored v d.reader) (known_keys v d.reader) d.sample
+
+        by_kind : (t : Bool) → net.watcher d.reader ≡ t → Healthy net (cond t (after_watched v d.reader d.sample (arrival_of_data net v d)) (after_data v d.reader d.sample (arrival_of_data net v d)))
+        by_kind false e = elim (answered_is d fact) [
+          | inl x ↦ subst (λ a. Healthy net (after_data v d.reader d.sample a)) (sym x) healthy
+          | inr x ↦ subst (λ a. Healthy net (after_data v d.reader d.sample a)) (sym x.1) (reliable_healthy d e fact x.0 answer replaced)
         ]
-        by_kind true e = elim (watched_is d fact) [
-          | inl x ↦ subst (λ a. Healthy net cert (after_watched v d.reader d.sample a)) (sym x) healthy
-          | inr x ↦ subst (λ a. Healthy net cert (after_watched v d.reader d.sample a)) (sym x.1) (watched_healthy d e fact x.0 (admission (net.reader_limits d.reader) (stored v d.reader) (known_keys v d.reader) d.sample) (replaced_in (net.reader_limits d.reader) (stored v d.reader) (known_keys v d.reader) d.sample))
+        by_kind true e = elim (answered_is d fact) [
+          | inl x ↦ subst (λ a. Healthy net (after_watched v d.reader d.sample a)) (sym x) healthy
+          | inr x ↦ subst (λ a. Healthy net (after_watched v d.reader d.sample a)) (sym x.1) (watched_healthy d e fact x.0 answer replaced)
         ]
-    packet_healthy (Gap g) fact = rw fact.0 (record { sound = gap_sound net known v healthy.sound g fact; light = healthy.light; watched = gap_watched net v healthy.sound healthy.watched g (served g.writer g.reader fact.0).1 })
-    packet_healthy (Heartbeat h) fact = rw fact.0 (record { sound = heartbeat_sound net known v healthy.sound h fact.1; light = healthy.light; watched = heartbeat_watched net v healthy.sound healthy.watched h (served h.writer h.reader fact.0).1 })
-    packet_healthy (AckNack a) fact = rw fact.0 (record { sound = ack_sound net known v healthy.sound a.writer a.reader (base_after (v.acked a.writer a.reader) a.set.base (length (v.written a.writer))) (served a.writer a.reader fact.0).0 within.0 within.1; light = healthy.light; watched = healthy.watched })
+    packet_healthy (Gap g) fact = rw fact.0 (record { sound = gap_sound net known v healthy.sound g fact; watched = gap_watched net v healthy.sound healthy.watched g (served g.writer g.reader fact.0).1 })
+    packet_healthy (Heartbeat h) fact = rw fact.0 (record { sound = heartbeat_sound net known v healthy.sound h fact.1; watched = heartbeat_watched net v healthy.sound healthy.watched h (served h.writer h.reader fact.0).1 })
+    packet_healthy (AckNack a) fact = rw fact.0 (record { sound = ack_sound net known v healthy.sound a.writer a.reader (base_after (v.acked a.writer a.reader) a.set.base (length (v.written a.writer))) (served a.writer a.reader fact.0).0 within.0 within.1; watched = healthy.watched })
       where
         within : (v.acked a.writer a.reader ≤ base_after (v.acked a.writer a.reader) a.set.base (length (v.written a.writer))) × (base_after (v.acked a.writer a.reader) a.set.base (length (v.written a.writer)) ≤ base v a.reader a.writer)
         within = cond_both (counts_ack (v.acked a.writer a.reader) a.set.base (length (v.written a.writer))) a.set.base (v.acked a.writer a.reader) (λ x. (v.acked a.writer a.reader ≤ x) × (x ≤ base v a.reader a.writer))
             (λ t. (leb-true (v.acked a.writer a.reader) a.set.base (and_parts (leb (v.acked a.writer a.reader) a.set.base) (leb a.set.base (suc (length (v.written a.writer)))) t).0, fact.1))
             (λ f. (omega arith, (healthy.sound.acked a.writer a.reader (served a.writer a.reader fact.0).0).1))
 
-    pub packet_good : (p : Packet) → FactOf net v p → IsGood (net.watcher (reader_of p)) (packet_reply net v p)
-    packet_good (Data d) fact = by_kind (net.watcher d.reader) refl
-      where
-        answered : (t : Bool) → t ≡ true → (a : Admit) → IsGoodArrival t (arrival_of a)
-        answered t e Stored = tt
-        answered t e (Replaced old) = e
-        answered t e (Admit.Rejected why) = e
-
-        by_kind : (t : Bool) → net.watcher d.reader ≡ t → IsGoodArrival t (arrival_of_data net v d)
-        by_kind false e = elim (arrival_is d e fact) [
-          | inl x ↦ subst (IsGoodArrival false) (sym x) tt
-          | inr x ↦ subst (IsGoodArrival false) (sym x.1) tt
-        ]
-        by_kind true e = elim (watched_is d fact) [
-          | inl x ↦ subst (IsGoodArrival true) (sym x) tt
-          | inr x ↦ subst (IsGoodArrival true) (sym x.1) (answered true refl (admission (net.reader_limits d.reader) (stored v d.reader) (known_keys v d.reader) d.sample))
-        ]
-    packet_good (Gap g) fact = rw ((served g.writer g.reader fact.0).0) tt
-    packet_good (Heartbeat h) fact = rw ((served h.writer h.reader fact.0).0, (served h.writer h.reader fact.0).1) (subst (λ n. IsGoodArrival false (lost_or_heard n))
-        (sym (count_none (new_by_heartbeat (marked v h.reader h.writer) h.first) 1 h.first (λ n from below. no_loss net known v healthy.sound h.writer h.reader h.first n fact.1))) tt)
-    packet_good (AckNack a) fact = tt
-
     -- ── events
-    write_step : (w k : ℕ) (d : List ℕ) → refusal net v (Write w k d) ≡ None → Healthy net cert (after_write v w k d)
-    write_step w k d e =
+    -- a write that isn't refused is of a key of the writer's topic, and there is a permit for it
+    pub may_write : (w k : ℕ) (d : List ℕ) → refusal net v (Write w k d) ≡ None → (net.writes_key w k ≡ true) × (permits net v w k ≢ 0)
+    may_write w k d e =
         let rest : Option Refusal = write_refusal (net.writer_limits w) (length (v.written w)) (written_keys v w) (kept net v w) k in
         let a = passed (not (net.writes_key w k)) Foreign (cond (eqb (permits net v w k) 0) (Some NoPermit) rest) e in
         let b = passed (eqb (permits net v w k) 0) NoPermit rest a.1 in
-        let known_key : net.writes_key w k ≡ true = not-false (net.writes_key w k) a.0 in
-        let some : permits net v w k ≢ 0 = eqb-false (permits net v w k) 0 b.0 in
-        record {
-          sound = write_sound net known v healthy.sound w k d known_key some;
-          watched = healthy.watched;
-          light = λ row i. (let x = write_weight net known v healthy.sound.counts row (accepted.rows row i) w k d known_key some in let y = healthy.light row i in omega arith);
-        }
+        (not-false (net.writes_key w k) a.0, eqb-false (permits net v w k) 0 b.0)
 
-    fire_step : (u : ℕ) → refusal net v (Fire u) ≡ None → Healthy net cert (after_fire v u)
-    fire_step u e =
+    write_step : (w k : ℕ) (d : List ℕ) → refusal net v (Write w k d) ≡ None → Healthy net (after_write v w k d)
+    write_step w k d e = let may = may_write w k d e in record { sound = write_sound net known v healthy.sound w k d may.0 may.1; watched = healthy.watched }
+
+    -- a firing that isn't refused is of a rule that needs something, and no needed take is missing
+    pub may_fire : (u : ℕ) → refusal net v (Fire u) ≡ None → (u < net.rules) × (is_empty (net.rule u).takes ≡ false) × ((r k : ℕ) → named (net.rule u).takes r k ≤ spare net v r k)
+    may_fire u e =
         let a = passed (leb net.rules u) Foreign (cond (fire_needs_more net v (net.rule u)) (Some Refusal.NotEnough) (cond (fire_passes_limit net v (net.rule u)) (Some Refusal.CountLimit) None)) e in
         let b = passed (fire_needs_more net v (net.rule u)) Refusal.NotEnough (cond (fire_passes_limit net v (net.rule u)) (Some Refusal.CountLimit) None) a.1 in
-        let below : u < net.rules = leb-false net.rules u a.0 in
-        let parts = or_parts (is_empty (net.rule u).takes) (any_entry (λ x. ltb (spare net v x.endpoint x.key) (named (net.rule u).takes x.endpoint x.key)) (net.rule u).takes) b.0 in
-        let enough : (r k : ℕ) → named (net.rule u).takes r k ≤ spare net v r k = λ r k.
-        elim (enough_takes (spare net v) (net.rule u).takes (net.rule u).takes parts.1 r k) [ inl z ↦ omega arith | inr z ↦ z ] in
-        record {
-          sound = fire_sound net known v healthy.sound u below enough;
-          watched = healthy.watched;
-          light = λ row i. (let x = fire_light row i (net.rule u).takes refl parts.0 below enough in let y = healthy.light row i in omega arith);
-        }
-      where
-        fire_light : (row : Row) → In row cert.rows → (es : List (Portion ℕ)) → (net.rule u).takes ≡ es → is_empty (net.rule u).takes ≡ false → u < net.rules → ((r k : ℕ) → named (net.rule u).takes r k ≤ spare net v r k) → weight net row (after_fire v u) ≤ weight net row v
-        fire_light row i [] e none below enough = absurd (true≢false (subst (λ xs. is_empty xs ≡ false) e none))
-        fire_light row i (x ∷ es) e none below enough = fire_weight net known v healthy.sound.counts row (accepted.rows row i) u x es below e enough
+        let parts = or_parts (is_empty (net.rule u).takes) (any_entry (λ x. ltb (spare net v x.endpoint x.key) (named (net.rule u).takes x.endpoint x.key)) (net.rule u).takes) b.0 in (
+          leb-false net.rules u a.0,
+          parts.0,
+          λ r k. elim (enough_takes (spare net v) (net.rule u).takes (net.rule u).takes parts.1 r k) [ inl z ↦ omega arith | inr z ↦ z ],
+        )
 
-    take_step : (r k : ℕ) (s : Sample) → IsLeastOfWriter s (available v r k) → Healthy net cert (after_take v r s)
-    take_step r k s least =
-        let i : In s (available v r k) = least.among in
-        let a = filter_in (is_available v r k) (stored v r) s i in
+    fire_step : (u : ℕ) → refusal net v (Fire u) ≡ None → Healthy net (after_fire v u)
+    fire_step u e = let may = may_fire u e in record { sound = fire_sound net known v healthy.sound u may.0 may.2; watched = healthy.watched }
+
+    -- a sample that may be taken was received and not yet taken, and it is in flight
+    pub may_take : (r k : ℕ) (s : Sample) → IsLeastOfWriter s (available v r k) → In s (v.received r) × (holds (v.taken r) s ≡ false) × (net.hears r s.key ≡ true) × (in_flight net v r s.key ≢ 0)
+    may_take r k s least =
+        let a = filter_in (is_available v r k) (stored v r) s least.among in
         let b = stored_in net known v healthy.sound r s a.0 in
-        let apart : holds (v.taken r) s ≡ false = not-true (holds (v.taken r) s) (and_parts (not (holds (v.taken r) s)) (not (holds (v.overwritten r) s)) b.1).0 in
-        let written : IsWrittenFor net v r s = healthy.sound.samples r s b.0 in
+        let hears = (healthy.sound.samples r s b.0).hears in
         let one : 1 ≤ unread v r s.key = count_in (has_key s.key) (stored v r) s a.0 (eq-eqb s.key s.key refl) in
-        let within : unread v r s.key ≤ in_flight net v r s.key = unread_in_flight net known v healthy.sound r s.key written.hears in
-        let some : in_flight net v r s.key ≢ 0 = λ z. absurd (omega arith) in
-        record {
-          sound = take_sound net known v healthy.sound r s b.0 apart some;
+        let within : unread v r s.key ≤ in_flight net v r s.key = unread_in_flight net known v healthy.sound r s.key hears in (
+          b.0,
+          not-true (holds (v.taken r) s) (and_parts (not (holds (v.taken r) s)) (not (holds (v.overwritten r) s)) b.1).0,
+          hears,
+          λ z. absurd (omega arith),
+        )
+
+    take_step : (r k : ℕ) (s : Sample) → IsLeastOfWriter s (available v r k) → Healthy net (after_take v r s)
+    take_step r k s least =
+        let may = may_take r k s least in record {
+          sound = take_sound net known v healthy.sound r s may.0 may.1 may.3;
           watched = take_watched net v healthy.sound healthy.watched r k s least;
-          light = λ row i. (let x = take_weight net known v healthy.sound.counts row (accepted.rows row i) r s written.hears some in let y = healthy.light row i in omega arith);
         }
 
-    send_step : (p : Packet) → FactOf net v p → Healthy net cert (send v p)
-    send_step p fact = record { sound = send_sound net known v healthy.sound p fact; light = healthy.light; watched = healthy.watched }
+    send_step : (p : Packet) → FactOf net v p → Healthy net (send v p)
+    send_step p fact = record { sound = send_sound net known v healthy.sound p fact; watched = healthy.watched }
 
     -- the pair matches, and its reader is no watcher
     serves : (w r : ℕ) (rest : Option Refusal) → cond (not (net.matched w r)) (Some Foreign) (cond (net.watcher r) (Some NothingToSend) rest) ≡ None → (follows net w r ≡ true) × (rest ≡ None)
@@ -285,14 +274,14 @@ module _ (net : Network) (known : IsNetwork net) (cert : Certificate) (accepted 
         let b = passed (net.watcher r) NothingToSend rest a.1 in
         (and_from (net.matched w r) (not (net.watcher r)) (not-false (net.matched w r) a.0) (not_from_false (net.watcher r) b.0), b.1)
 
-    data_step : (w r n : ℕ) → refusal net v (SendData w r n) ≡ None → Healthy net cert (send v (data_packet v w r n))
+    data_step : (w r n : ℕ) → refusal net v (SendData w r n) ≡ None → Healthy net (send v (data_packet v w r n))
     data_step w r n e =
         let a = passed (not (net.matched w r)) Foreign (cond (not (is_at_hand net v w r n && is_relevant net v w r n)) (Some NothingToSend) None) e in
         let b = passed (not (is_at_hand net v w r n && is_relevant net v w r n)) NothingToSend None a.1 in
         let both = and_parts (is_at_hand net v w r n) (is_relevant net v w r n) (not-false (is_at_hand net v w r n && is_relevant net v w r n) b.0) in
         send_step (data_packet v w r n) (data_fact net v w r n (not-false (net.matched w r) a.0) both.1)
 
-    gap_step : (w r n : ℕ) → refusal net v (SendGap w r n) ≡ None → Healthy net cert (send v (gap_packet net v w r n))
+    gap_step : (w r n : ℕ) → refusal net v (SendGap w r n) ≡ None → Healthy net (send v (gap_packet net v w r n))
     gap_step w r n e =
         let rest = cond (not (is_kept net v w n && not (is_relevant net v w r n))) (Some NothingToSend) None in
         let s = serves w r rest e in
@@ -300,33 +289,26 @@ module _ (net : Network) (known : IsNetwork net) (cert : Certificate) (accepted 
         let both = and_parts (is_kept net v w n) (not (is_relevant net v w r n)) (not-false (is_kept net v w n && not (is_relevant net v w r n)) b.0) in
         send_step (gap_packet net v w r n) (gap_fact net v w r n s.0 both.0 (not-true (is_relevant net v w r n) both.1))
 
-    heartbeat_step : (w r : ℕ) → refusal net v (SendHeartbeat w r) ≡ None → Healthy net cert (send v (heartbeat_packet net v w r))
+    heartbeat_step : (w r : ℕ) → refusal net v (SendHeartbeat w r) ≡ None → Healthy net (send v (heartbeat_packet net v w r))
     heartbeat_step w r e =
         let s = serves w r None e in
         let held = healthy.sound.acked w r (served w r s.0).0 in
         send_step (heartbeat_packet net v w r) (heartbeat_fact net known v w r s.0 held.0 held.1)
 
-    acknack_step : (r w : ℕ) → refusal net v (SendAckNack r w) ≡ None → Healthy net cert (send v (acknack_packet v r w))
+    acknack_step : (r w : ℕ) → refusal net v (SendAckNack r w) ≡ None → Healthy net (send v (acknack_packet v r w))
     acknack_step r w e =
         let s = serves w r None e in
         send_step (acknack_packet v r w) (acknack_fact net v w r s.0)
 
-    -- the reply and the world after an event that is not refused
-    abbrev pub Goes : Move → World → Reply → Type 0
-    Goes m new reply = Healthy net cert new × IsGood (is_watchers net (brought v m)) reply
-
-    away : (i : ℕ) (new : World) → Healthy net cert new → Healthy net cert (take_away new i)
-    away i new h = record { sound = away_sound net known new h.sound i; light = h.light; watched = h.watched }
+    away : (i : ℕ) (new : World) → Healthy net new → Healthy net (take_away new i)
+    away i new h = record { sound = away_sound net known new h.sound i; watched = h.watched }
 
     deliver_step : (i : ℕ) (keep : Bool) (o : Option Packet) (reply : Reply) → v.bus i ≡ o → AtPlace o (λ p. reply ≡ packet_reply net v p)
-        → Healthy net cert (cond keep (arrived_from net v o) (take_away (arrived_from net v o) i)) × IsGood (is_watchers net o) reply
+        → Healthy net (cond keep (arrived_from net v o) (take_away (arrived_from net v o) i))
     deliver_step i keep None reply e h = absurd h
     deliver_step i keep (Some p) reply e h =
-        let fact : FactOf net v p = healthy.sound.bus i p e in
-        let new = packet_healthy p fact in (
-          cond_both keep (after_packet net v p) (take_away (after_packet net v p) i) (Healthy net cert) (λ t. new) (λ f. away i (after_packet net v p) new),
-          subst (IsGood (net.watcher (reader_of p))) (sym h) (packet_good p fact),
-        )
+        let new = packet_healthy p (healthy.sound.bus i p e) in
+        cond_both keep (after_packet net v p) (take_away (after_packet net v p) i) (Healthy net) (λ t. new) (λ f. away i (after_packet net v p) new)
 
     -- a packet's reply is no refusal
     arrives : (i : ℕ) (keep : Bool) (p : Packet) → after net v (Deliver i keep) (packet_reply net v p) ≡ changed net v (Deliver i keep) (packet_reply net v p)
@@ -335,41 +317,34 @@ module _ (net : Network) (known : IsNetwork net) (cert : Certificate) (accepted 
     arrives i keep (Heartbeat h) = refl
     arrives i keep (AckNack a) = refl
 
-    delivered : (i : ℕ) (keep : Bool) (o : Option Packet) (reply : Reply) → AtPlace o (λ p. reply ≡ packet_reply net v p) → after net v (Deliver i keep) reply ≡ changed net v (Deliver i keep) Acked
+    pub delivered : (i : ℕ) (keep : Bool) (o : Option Packet) (reply : Reply) → AtPlace o (λ p. reply ≡ packet_reply net v p) → after net v (Deliver i keep) reply ≡ changed net v (Deliver i keep) Acked
     delivered i keep None reply h = absurd h
     delivered i keep (Some p) reply h = subst (λ x. after net v (Deliver i keep) x ≡ changed net v (Deliver i keep) Acked) (sym h) (arrives i keep p)
 
-    replied : (e : Event) (reply : Reply) → refusal net v e ≡ None → Replies net v e reply → Goes (Do e) (after net v e reply) reply
-    replied (Write w k d) reply e h = subst (λ x. Goes (Do (Write w k d)) (after net v (Write w k d) x) x) (sym h) (write_step w k d e, tt)
-    replied (Fire u) reply e h = subst (λ x. Goes (Do (Fire u)) (after net v (Fire u) x) x) (sym h) (fire_step u e, tt)
-    replied (Take r k) reply e h = subst (λ x. Goes (Do (Take r k)) (after net v (Take r k) x) x) (sym h.2) (take_step r k h.0 h.1, tt)
-    replied (SendData w r n) reply e h = subst (λ x. Goes (Do (SendData w r n)) (after net v (SendData w r n) x) x) (sym h) (data_step w r n e, tt)
-    replied (SendGap w r n) reply e h = subst (λ x. Goes (Do (SendGap w r n)) (after net v (SendGap w r n) x) x) (sym h) (gap_step w r n e, tt)
-    replied (SendHeartbeat w r) reply e h = subst (λ x. Goes (Do (SendHeartbeat w r)) (after net v (SendHeartbeat w r) x) x) (sym h) (heartbeat_step w r e, tt)
-    replied (SendAckNack r w) reply e h = subst (λ x. Goes (Do (SendAckNack r w)) (after net v (SendAckNack r w) x) x) (sym h) (acknack_step r w e, tt)
-    replied (Deliver i keep) reply e h = subst (λ x. Goes (Do (Deliver i keep)) x reply) (sym (delivered i keep (v.bus i) reply h)) (deliver_step i keep (v.bus i) reply refl h)
-    replied (Lose i) reply e h = subst (λ x. Goes (Do (Lose i)) (after net v (Lose i) x) x) (sym h) (away i v healthy, tt)
+    replied : (e : Event) (reply : Reply) → refusal net v e ≡ None → Replies net v e reply → Healthy net (after net v e reply)
+    replied (Write w k d) reply e h = subst (λ x. Healthy net (after net v (Write w k d) x)) (sym h) (write_step w k d e)
+    replied (Fire u) reply e h = subst (λ x. Healthy net (after net v (Fire u) x)) (sym h) (fire_step u e)
+    replied (Take r k) reply e h = subst (λ x. Healthy net (after net v (Take r k) x)) (sym h.2) (take_step r k h.0 h.1)
+    replied (SendData w r n) reply e h = subst (λ x. Healthy net (after net v (SendData w r n) x)) (sym h) (data_step w r n e)
+    replied (SendGap w r n) reply e h = subst (λ x. Healthy net (after net v (SendGap w r n) x)) (sym h) (gap_step w r n e)
+    replied (SendHeartbeat w r) reply e h = subst (λ x. Healthy net (after net v (SendHeartbeat w r) x)) (sym h) (heartbeat_step w r e)
+    replied (SendAckNack r w) reply e h = subst (λ x. Healthy net (after net v (SendAckNack r w) x)) (sym h) (acknack_step r w e)
+    replied (Deliver i keep) reply e h = subst (Healthy net) (sym (delivered i keep (v.bus i) reply h)) (deliver_step i keep (v.bus i) reply refl h)
+    replied (Lose i) reply e h = subst (λ x. Healthy net (after net v (Lose i) x)) (sym h) (away i v healthy)
 
-    event_step : (e : Event) (reply : Reply) → May net v e reply → Goes (Do e) (after net v e reply) reply
+    event_step : (e : Event) (reply : Reply) → May net v e reply → Healthy net (after net v e reply)
     event_step e reply = go (refusal net v e) refl
       where
-        go : (o : Option Refusal) → refusal net v e ≡ o → RefusedOr o reply (Replies net v e reply) → Goes (Do e) (after net v e reply) reply
+        go : (o : Option Refusal) → refusal net v e ≡ o → RefusedOr o reply (Replies net v e reply) → Healthy net (after net v e reply)
         go None n h = replied e reply n h
-        go (Some x) n h = subst (λ y. Goes (Do e) (after net v e y) y) (sym h) (healthy, tt)
+        go (Some x) n h = subst (λ y. Healthy net (after net v e y)) (sym h) healthy
 
-    pub move_step : (m : Move) (reply : Reply) → MayMove net v m reply → Goes m (after_move net v m reply) reply
+    pub move_step : (m : Move) (reply : Reply) → MayMove net v m reply → Healthy net (after_move net v m reply)
     move_step (Do e) reply h = event_step e reply h
-    move_step (Redeliver p) reply h =
-        let fact : FactOf net v p = healthy.sound.sent p h.0 in
-        (packet_healthy p fact, subst (IsGood (net.watcher (reader_of p))) (sym h.1) (packet_good p fact))
+    move_step (Redeliver p) reply h = packet_healthy p (healthy.sound.sent p h.0)
 
   -- ── whole runs
-  pub run_healthy : (ms : List (Move × Reply)) (v : World) → Healthy net cert v → IsRunFrom net v ms → Healthy net cert (replay net v ms)
+  pub run_healthy : (ms : List (Move × Reply)) (v : World) → Healthy net v → IsRunFrom net v ms → Healthy net (replay net v ms)
   unfolding replay IsRunFrom
   run_healthy [] v h run = h
-  run_healthy (m ∷ ms) v h run = run_healthy ms (after_move net v m.0 m.1) (move_step v h m.0 m.1 run.0).0 run.1
-
-  pub run_good : (before : List (Move × Reply)) (v : World) → Healthy net cert v → (m : Move × Reply) (later : List (Move × Reply)) → IsRunFrom net v (before ++ m ∷ later) → IsGood (is_watchers net (brought (replay net v before) m.0)) m.1
-  unfolding replay IsRunFrom
-  run_good [] v h m later run = (move_step v h m.0 m.1 run.0).1
-  run_good (x ∷ before) v h m later run = run_good before (after_move net v x.0 x.1) (move_step v h x.0 x.1 run.0).0 m later run.1
+  run_healthy (m ∷ ms) v h run = run_healthy ms (after_move net v m.0 m.1) (move_step v h m.0 m.1 run.0) run.1

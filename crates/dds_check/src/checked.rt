@@ -17,7 +17,7 @@ use dds_cert::Certificate;
 use dds_match::Plan;
 use std::marker::Model;
 
-/// A plan, and a certificate that was accepted for it, so that the deployment is safe in every run. Only `check` makes one.
+/// A plan, and a certificate that was accepted for it, so that the deployment is safe in every run. `check` makes one.
 #[derive(Drop)]
 pub struct Checked {
     plan: Plan,
@@ -97,6 +97,15 @@ impl Checked {
     {
         let Checked { plan, certificate } = self;
         (plan, certificate)
+    }
+
+    /// The plan and the certificate of `into_parts`, together again: the certificate is accepted for the plan, which the caller has to show.
+    pub fn from_parts(plan: Plan, certificate: Certificate) -> Checked
+        requires { IsAccepted plan (certificate_view certificate) }
+        ensures plan { result.plan ≡ plan }
+        ensures certificate { result.certificate ≡ certificate_view certificate }
+    {
+        Checked { plan, certificate }
     }
 }
 

@@ -15,7 +15,7 @@ use Rattle.dds_writer.specs.Proxies.{proxy_of}
 use Rattle.dds_writer.specs.Writer.{WriterState}
 use Rattle.dds_reader.specs.Notes.{owes_in}
 use Rattle.dds_reader.specs.Reader.{ReaderState, owes_to}
-use Rattle.dds_domain.specs.Standing.{DomainState, AllAt, StepsNotes}
+use Rattle.dds_domain.specs.Standing.{PartsState, AllAt, StepsNotes}
 use Rattle.dds_domain.proofs.Slots.{set_all}
 
 -- ── one endpoint
@@ -49,36 +49,36 @@ reader_kept net owes xs r x y all b at kind same = set_all (OwesOf net) owes owe
 
 -- ── steps
 -- a step of the notes, where its domains and its reply go by other names
-pub notes_as : (e : Event) (old old' : DomainState) (reply reply' : Reply) (new new' : DomainState) → old ≡ old' → reply' ≡ reply → new' ≡ new → StepsNotes old e reply new → StepsNotes old' e reply' new'
+pub notes_as : (e : Event) (old old' : PartsState) (reply reply' : Reply) (new new' : PartsState) → old ≡ old' → reply' ≡ reply → new' ≡ new → StepsNotes old e reply new → StepsNotes old' e reply' new'
 notes_as e old old' reply reply' new new' olds replies news step =
     subst (λ z. StepsNotes z e reply' new') olds (subst (λ q. StepsNotes old e q new') (sym replies) (subst (StepsNotes old e reply) (sym news) step))
 
 -- a refusal
-pub refused_kept : (d : DomainState) (e : Event) (why : Refusal) → StepsNotes d e (Refused why) d
+pub refused_kept : (d : PartsState) (e : Event) (why : Refusal) → StepsNotes d e (Refused why) d
 unfolding StepsNotes
-refused_kept d e why net cert v noted known accepted reached s h = h
+refused_kept d e why net v noted known reached s h = h
 
 -- a write
-pub write_kept : (d : DomainState) (w k n : ℕ) (payload : List ℕ) (x y : WriterState) (l : LedgerState) → w < length d.writers → x ≡ get_or d.writers w x → y.proxies ≡ x.proxies → StepsNotes d (Write w k payload) (Written n) (record d { writers = set d.writers w y; ledger = l })
+pub write_kept : (d : PartsState) (w k n : ℕ) (payload : List ℕ) (x y : WriterState) (l : LedgerState) → w < length d.writers → x ≡ get_or d.writers w x → y.proxies ≡ x.proxies → StepsNotes d (Write w k payload) (Written n) (record d { writers = set d.writers w y; ledger = l })
 unfolding StepsNotes
-write_kept d w k n payload x y l b at same net cert v noted known accepted reached s h = record { notes = writer_kept net noted.notes d.writers w x y h.notes b at same; owes = h.owes }
+write_kept d w k n payload x y l b at same net v noted known reached s h = record { notes = writer_kept net noted.notes d.writers w x y h.notes b at same; owes = h.owes }
 
 -- a firing
-pub fire_kept : (d : DomainState) (u : ℕ) (l : LedgerState) → StepsNotes d (Fire u) Fired (record d { ledger = l })
+pub fire_kept : (d : PartsState) (u : ℕ) (l : LedgerState) → StepsNotes d (Fire u) Fired (record d { ledger = l })
 unfolding StepsNotes
-fire_kept d u l net cert v noted known accepted reached s h = record { notes = h.notes; owes = h.owes }
+fire_kept d u l net v noted known reached s h = record { notes = h.notes; owes = h.owes }
 
 -- a take
-pub take_kept : (d : DomainState) (r k : ℕ) (t : Sample) (x y : ReaderState) (l : LedgerState) → r < length d.readers → x ≡ get_or d.readers r x → y.watching ≡ x.watching → y.proxies ≡ x.proxies → StepsNotes d (Take r k) (Took t) (record d { readers = set d.readers r y; ledger = l })
+pub take_kept : (d : PartsState) (r k : ℕ) (t : Sample) (x y : ReaderState) (l : LedgerState) → r < length d.readers → x ≡ get_or d.readers r x → y.watching ≡ x.watching → y.proxies ≡ x.proxies → StepsNotes d (Take r k) (Took t) (record d { readers = set d.readers r y; ledger = l })
 unfolding StepsNotes
-take_kept d r k t x y l b at kind same net cert v noted known accepted reached s h = record { notes = h.notes; owes = reader_kept net noted.owes d.readers r x y h.owes b at kind same }
+take_kept d r k t x y l b at kind same net v noted known reached s h = record { notes = h.notes; owes = reader_kept net noted.owes d.readers r x y h.owes b at kind same }
 
 -- a HEARTBEAT that is sent
-pub heartbeat_kept : (d : DomainState) (w r : ℕ) (place : Option ℕ) (bus : List (Option Packet)) → StepsNotes d (SendHeartbeat w r) (Sent place) (record d { bus = bus })
+pub heartbeat_kept : (d : PartsState) (w r : ℕ) (place : Option ℕ) (bus : List (Option Packet)) → StepsNotes d (SendHeartbeat w r) (Sent place) (record d { bus = bus })
 unfolding StepsNotes
-heartbeat_kept d w r place bus net cert v noted known accepted reached s h = record { notes = h.notes; owes = h.owes }
+heartbeat_kept d w r place bus net v noted known reached s h = record { notes = h.notes; owes = h.owes }
 
 -- a packet that is lost
-pub lose_kept : (d : DomainState) (i : ℕ) (bus : List (Option Packet)) → StepsNotes d (Lose i) Dropped (record d { bus = bus })
+pub lose_kept : (d : PartsState) (i : ℕ) (bus : List (Option Packet)) → StepsNotes d (Lose i) Dropped (record d { bus = bus })
 unfolding StepsNotes
-lose_kept d i bus net cert v noted known accepted reached s h = record { notes = h.notes; owes = h.owes }
+lose_kept d i bus net v noted known reached s h = record { notes = h.notes; owes = h.owes }

@@ -25,7 +25,7 @@ use Rattle.dds_reader.specs.Notes.{has_writer, hears, owes_in}
 use Rattle.dds_reader.specs.Reader.{ReaderState, owes_to}
 use Rattle.dds_domain.specs.Bus.{at_place}
 use Rattle.dds_domain.specs.Noted.{Noted, noted_after, noted_changed, noted_packet, put_notes, put_owes}
-use Rattle.dds_domain.specs.Standing.{DomainState, NotesStand, OnRefused, ProxyStands, ReaderStands, ReceivesNotes, Stands, StepsNotes, WriterStands, part_of}
+use Rattle.dds_domain.specs.Standing.{PartsState, NotesStand, OnRefused, ProxyStands, ReaderStands, ReceivesNotes, Stands, StepsNotes, WriterStands, part_of}
 use Rattle.dds_domain.proofs.Slots.{set_all}
 use Rattle.dds_domain.proofs.Worlds.{fact_at, reader_at, writer_at}
 use Rattle.dds_domain.proofs.Writers.{matched_there, watcher_is}
@@ -38,20 +38,20 @@ follows_parts : (net : Network) (w r : ℕ) → follows net w r ≡ true → (ne
 follows_parts net w r e = let p = and_parts (net.matched w r) (not (net.watcher r)) e in (p.0, not-true (net.watcher r) p.1)
 
 -- the reader of a matched pair is there
-reader_there : (net : Network) (v : World) (d : DomainState) (w r : ℕ) → IsNetwork net → Stands net v d → net.matched w r ≡ true → r < length d.readers
+reader_there : (net : Network) (v : World) (d : PartsState) (w r : ℕ) → IsNetwork net → Stands net v d → net.matched w r ≡ true → r < length d.readers
 reader_there net v d w r known s t = let below = known.matched_reader w r t in let count = s.reader_count in omega arith
 
 -- ── a DATA and a GAP
-pub data_kept : (d : DomainState) (m : DataFor) (x y : ReaderState) → x ≡ get_or d.readers m.reader x → y.watching ≡ x.watching → y.proxies ≡ x.proxies → ReceivesNotes d (Data m) (record d { readers = set d.readers m.reader y })
+pub data_kept : (d : PartsState) (m : DataFor) (x y : ReaderState) → x ≡ get_or d.readers m.reader x → y.watching ≡ x.watching → y.proxies ≡ x.proxies → ReceivesNotes d (Data m) (record d { readers = set d.readers m.reader y })
 unfolding ReceivesNotes
-data_kept d m x y at kind same net cert v noted known accepted reached s fact h = record {
+data_kept d m x y at kind same net v noted known reached s fact h = record {
   notes = h.notes;
   owes = reader_kept net noted.owes d.readers m.reader x y h.owes (reader_there net v d m.sample.writer m.reader known s fact.matched) at kind same;
 }
 
-pub gap_kept : (d : DomainState) (m : GapFor) (x y : ReaderState) → x ≡ get_or d.readers m.reader x → y.watching ≡ x.watching → y.proxies ≡ x.proxies → ReceivesNotes d (Gap m) (record d { readers = set d.readers m.reader y })
+pub gap_kept : (d : PartsState) (m : GapFor) (x y : ReaderState) → x ≡ get_or d.readers m.reader x → y.watching ≡ x.watching → y.proxies ≡ x.proxies → ReceivesNotes d (Gap m) (record d { readers = set d.readers m.reader y })
 unfolding ReceivesNotes
-gap_kept d m x y at kind same net cert v noted known accepted reached s fact h = record {
+gap_kept d m x y at kind same net v noted known reached s fact h = record {
   notes = h.notes;
   owes = reader_kept net noted.owes d.readers m.reader x y h.owes (reader_there net v d m.writer m.reader known s (follows_parts net m.writer m.reader fact.0).0) at kind same;
 }
@@ -73,10 +73,10 @@ owed_other u w last (p ∷ ps) ne = elim (cases_Bool (p.writer == w)) [
   | inr f ↦ rw f (ap (λ b. cond (p.writer == u) p.owes b) (owed_other u w last ps ne))
 ]
 
-pub heartbeat_owed : (d : DomainState) (m : HeartbeatFor) (x y : ReaderState) → x ≡ get_or d.readers m.reader x → y.watching ≡ x.watching → y.proxies ≡ cond x.watching x.proxies (hears m.writer m.last x.proxies) →
+pub heartbeat_owed : (d : PartsState) (m : HeartbeatFor) (x y : ReaderState) → x ≡ get_or d.readers m.reader x → y.watching ≡ x.watching → y.proxies ≡ cond x.watching x.proxies (hears m.writer m.last x.proxies) →
     ReceivesNotes d (Heartbeat m) (record d { readers = set d.readers m.reader y })
 unfolding ReceivesNotes
-heartbeat_owed d m x y at kind notes net cert v noted known accepted reached s fact h =
+heartbeat_owed d m x y at kind notes net v noted known reached s fact h =
     subst (λ b. NotesStand net (cond b (put_owes noted m.reader m.writer true) noted) (record d { readers = set d.readers m.reader y })) (sym fact.0) (record {
       notes = h.notes;
       owes = set_all (OwesOf net) noted.owes (put noted.owes m.reader (put (noted.owes m.reader) m.writer true)) d.readers m.reader y h.owes
@@ -137,9 +137,9 @@ base_held net acked r (p ∷ ps) all t = go (eqb p.reader r) refl t (base_held n
     go true e t rest = (All-head (ProxyStands net acked) p ps all).base ∙ ap acked (eqb-true p.reader r e)
     go false e t rest = rest t
 
-pub acknack_told : (d : DomainState) (a : AckNackFor) (x y : WriterState) → a.writer < length d.writers → x ≡ get_or d.writers a.writer x → y ≡ acked_writer x a.reader a.set → ReceivesNotes d (AckNack a) (record d { writers = set d.writers a.writer y })
+pub acknack_told : (d : PartsState) (a : AckNackFor) (x y : WriterState) → a.writer < length d.writers → x ≡ get_or d.writers a.writer x → y ≡ acked_writer x a.reader a.set → ReceivesNotes d (AckNack a) (record d { writers = set d.writers a.writer y })
 unfolding ReceivesNotes
-acknack_told d a x y b at is net cert v noted known accepted reached s fact h =
+acknack_told d a x y b at is net v noted known reached s fact h =
     subst (λ t. NotesStand net (cond t (put_notes noted a.writer a.reader now) noted) (record d { writers = set d.writers a.writer y })) (sym fact.0) (record {
       notes = set_all (NotesOf net) noted.notes (put noted.notes a.writer (put (noted.notes a.writer) a.reader now)) d.writers a.writer y h.notes
           (λ j ne. put_other noted.notes a.writer j (put (noted.notes a.writer) a.reader now) ne)
@@ -183,9 +183,9 @@ not_refused net v noted e Acked h = refl
 not_refused net v noted e Dropped h = refl
 
 -- the packet of a place arrived, whatever becomes of the place
-pub deliver_noted : (d : DomainState) (i : ℕ) (keep : Bool) (p : Packet) (reply : Reply) (new : DomainState) (bus : List (Option Packet)) → at_place d.bus i ≡ Some p → OnRefused reply ⊥ → ReceivesNotes d p new → StepsNotes d (Deliver i keep) reply (record new { bus = bus })
+pub deliver_noted : (d : PartsState) (i : ℕ) (keep : Bool) (p : Packet) (reply : Reply) (new : PartsState) (bus : List (Option Packet)) → at_place d.bus i ≡ Some p → OnRefused reply ⊥ → ReceivesNotes d p new → StepsNotes d (Deliver i keep) reply (record new { bus = bus })
 unfolding StepsNotes ReceivesNotes
-deliver_noted d i keep p reply new bus at arrives received net cert v noted known accepted reached s h =
-    let came = received net cert v noted known accepted reached s (fact_at net cert v d i p known accepted reached s at) h in
+deliver_noted d i keep p reply new bus at arrives received net v noted known reached s h =
+    let came = received net v noted known reached s (fact_at net v d i p known reached s at) h in
     let is : noted_after net v noted (Deliver i keep) reply ≡ noted_packet net v noted (Some p) = not_refused net v noted (Deliver i keep) reply arrives ∙ ap (noted_packet net v noted) (sym (s.bus.same i) ∙ at) in
     subst (λ n. NotesStand net n (record new { bus = bus })) (sym is) (record { notes = came.notes; owes = came.owes })

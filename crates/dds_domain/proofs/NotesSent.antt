@@ -19,7 +19,7 @@ use Rattle.dds_reader.specs.declared.notes.WriterProxy.{WriterProxy}
 use Rattle.dds_reader.specs.Notes.{owes_in, pays}
 use Rattle.dds_reader.specs.Reader.{ReaderState, heeds, is_proxy, owes_to}
 use Rattle.dds_domain.specs.Noted.{is_silent as is_silent_at}
-use Rattle.dds_domain.specs.Standing.{DomainState, StepsNotes, WriterStands}
+use Rattle.dds_domain.specs.Standing.{PartsState, StepsNotes, WriterStands}
 use Rattle.dds_domain.proofs.Slots.{set_all}
 use Rattle.dds_domain.proofs.Worlds.{writer_at}
 use Rattle.dds_domain.proofs.Writers.{gap_is, matched_there, noted as with_note, silent_is}
@@ -72,11 +72,11 @@ message_noted net v notes w r n x known stands t h = put_pair (λ q m. net.match
     there : (q : ℕ) → net.matched w q ≡ true → is_matched q x.proxies ≡ true
     there q u = matched_there net w q (v.written w) (v.acked w) x known stands u
 
-module _ (d : DomainState) (w r n : ℕ) (x : WriterState) (place : Option ℕ) (bus : List (Option Packet)) (pair : (network_of d.checked.plan).matched w r ≡ true) (b : w < length d.writers) (at : x ≡ get_or d.writers w x) where
+module _ (d : PartsState) (w r n : ℕ) (x : WriterState) (place : Option ℕ) (bus : List (Option Packet)) (pair : (network_of d.plan).matched w r ≡ true) (b : w < length d.writers) (at : x ≡ get_or d.writers w x) where
   -- a DATA
   pub data_noted : StepsNotes d (SendData w r n) (Sent place) (record d { writers = set d.writers w (with_note x r n); bus = bus })
   unfolding StepsNotes
-  data_noted net cert v noted known accepted reached s h = record {
+  data_noted net v noted known reached s h = record {
     notes = set_all (NotesOf net) noted.notes (put noted.notes w (put (noted.notes w) r (note_sent (is_silent_at net v w r) n (noted.notes w r)))) d.writers w (with_note x r n) h.notes
         (λ j ne. put_other noted.notes w j (put (noted.notes w) r (note_sent (is_silent_at net v w r) n (noted.notes w r))) ne)
         (message_noted net v noted.notes w r n x known (writer_at net v d w x s b at) (pair_is net v d w r true s pair) (subst (NotesOf net w (noted.notes w)) (sym at) (h.notes w x b)));
@@ -87,7 +87,7 @@ module _ (d : DomainState) (w r n : ℕ) (x : WriterState) (place : Option ℕ) 
   pub gap_noted : (g : GapFor) → (not (proxy_of r x.proxies).watcher && is_silent x (proxy_of r x.proxies) n) ≡ true → g ≡ gap_of x.me r (writer.is_relevant x (proxy_of r x.proxies)) x.written n →
       StepsNotes d (SendGap w r n) (Sent place) (record d { writers = set d.writers w (with_note x r (g.set.base - 1)); bus = bus })
   unfolding StepsNotes
-  gap_noted g passes is net cert v noted known accepted reached s h = record {
+  gap_noted g passes is net v noted known reached s h = record {
     notes = set_all (NotesOf net) noted.notes (put noted.notes w now) d.writers w (with_note x r (g.set.base - 1)) h.notes
         (λ j ne. put_other noted.notes w j now ne)
         (subst (λ m. NotesOf net w (put noted.notes w now w) (with_note x r m)) (sym upto)
@@ -134,10 +134,10 @@ paid_other u w (p ∷ ps) ne = elim (cases_Bool (p.writer == w)) [
 ]
 
 -- an ACKNACK
-pub acknack_paid : (d : DomainState) (r w : ℕ) (x y : ReaderState) (place : Option ℕ) (bus : List (Option Packet)) → r < length d.readers → x ≡ get_or d.readers r x → heeds x w ≡ true → y.watching ≡ x.watching → y.proxies ≡ cond x.watching x.proxies (pays w x.proxies) →
+pub acknack_paid : (d : PartsState) (r w : ℕ) (x y : ReaderState) (place : Option ℕ) (bus : List (Option Packet)) → r < length d.readers → x ≡ get_or d.readers r x → heeds x w ≡ true → y.watching ≡ x.watching → y.proxies ≡ cond x.watching x.proxies (pays w x.proxies) →
     StepsNotes d (SendAckNack r w) (Sent place) (record d { readers = set d.readers r y; bus = bus })
 unfolding StepsNotes
-acknack_paid d r w x y place bus b at knows kind notes net cert v noted known accepted reached s h = record {
+acknack_paid d r w x y place bus b at knows kind notes net v noted known reached s h = record {
   notes = h.notes;
   owes = set_all (OwesOf net) noted.owes (put noted.owes r (put (noted.owes r) w false)) d.readers r y h.owes
       (λ j ne. put_other noted.owes r j (put (noted.owes r) w false) ne)

@@ -26,8 +26,8 @@ use Rattle.dds_check.specs.Steps.{after_data, arrival_of_data, store, give_up, a
 use Rattle.dds_check.proofs.Places.{Distinct, apart_in, eqb_sym, filter_in, place_sym}
 use Rattle.dds_check.proofs.Moves.{replaced_is}
 use Rattle.dds_check.proofs.Sound.{Sound}
-use Rattle.dds_check.proofs.Views.{marked_store, marked_gap, stored_store, stored_more, stored_over, stored_take}
-use Rattle.dds_check.proofs.Watching.{Watched, marked_give_up}
+use Rattle.dds_check.proofs.Views.{marked_store, marked_gap, stored_store, stored_over, stored_take}
+use Rattle.dds_check.proofs.Watching.{marked_give_up}
 use Rattle.dds_check.proofs.Joins.{in_at, remove_is, without_is}
 use Rattle.dds_check.proofs.Weights.{after_take}
 use Rattle.dds_reader.specs.declared.notes.WriterProxy.{WriterProxy}
@@ -193,43 +193,21 @@ module _ (net : Network) (v : World) (r : ℕ) (x y : ReaderState) (h : ReaderSt
   }
 
   -- a DATA was stored
-  pub store_stands : (s : Sample) → Sound net v → net.watcher r ≡ false → marked v r s.writer s.sn ≡ false → MarksMore x y s.writer (λ n. n == s.sn) → Stores x y s New → y.proxies ≡ x.proxies → ReaderStands net r (part_of (store v r s) r) y
-  store_stands s sound reliable fresh marks samples notes =
+  pub store_stands : (s : Sample) → Sound net v → marked v r s.writer s.sn ≡ false → MarksMore x y s.writer (λ n. n == s.sn) → Stores x y s New → y.proxies ≡ x.proxies → ReaderStands net r (part_of (store v r s) r) y
+  store_stands s sound fresh marks samples notes =
       let apart = (or_parts (holds (v.received r) s) (v.irrelevant r s.writer s.sn || v.lost r s.writer s.sn) fresh).0 in
       stands_for (part_of (store v r s) r)
       (λ w. ap (has_writer w) notes)
       (λ w n. marks w n ∙ (ap (λ b. b || ((s.writer == w) && (n == s.sn))) (h.marks w n) ∙ (ap (λ b. marked v r w n || ((s.writer == w) && b)) (eqb_sym n s.sn) ∙ sym (marked_store v r s w n))))
       (λ w. ap (heard_in w) notes ∙ h.heard w)
-      (samples.stored ∙ (ap (λ ss. ss ++ s ∷ []) h.stored ∙ sym (stored_store net v sound r s reliable apart)))
+      (samples.stored ∙ (ap (λ ss. ss ++ s ∷ []) h.stored ∙ sym (stored_store net v sound r s apart)))
       (samples.keys ∙ (ap (λ ks. set.insert ks s.key) h.keys ∙ sym (known_store v r s)))
 
-  -- a DATA was stored at a watcher, which gave up all below it
-  pub watch_stands : (s : Sample) → Sound net v → Watched net v → net.watcher r ≡ true → 1 ≤ s.sn → marked v r s.writer s.sn ≡ false → MarksMore x y s.writer (marked_by true New s.sn) → Stores x y s New → y.proxies ≡ x.proxies →
-      ReaderStands net r (part_of (store (give_up v r s.writer s.sn) r s) r) y
-  watch_stands s sound watched watches low fresh marks samples notes =
-      let less : World = give_up v r s.writer s.sn in
-      let apart = (or_parts (holds (v.received r) s) (v.irrelevant r s.writer s.sn || v.lost r s.writer s.sn) fresh).0 in
-      stands_for (part_of (store less r s) r)
-      (λ w. ap (has_writer w) notes)
-      (λ w n. marks w n ∙ (ap (λ b. b || ((s.writer == w) && below_first (suc s.sn) n)) (h.marks w n) ∙ sym (given_marks v r s low w n)))
-      (λ w. ap (heard_in w) notes ∙ h.heard w)
-      (samples.stored ∙ (ap (λ ss. ss ++ s ∷ []) h.stored ∙ sym (stored_more less r s (sound.taken_in r) (watched r watches).over apart)))
-      (samples.keys ∙ (ap (λ ks. set.insert ks s.key) h.keys ∙ sym (known_store less r s)))
-
-  -- a DATA was stored at a watcher in place of the oldest sample of its key, and the watcher gave up all below it
-  pub watch_over_stands : (s old : Sample) → IsNetwork net → Sound net v → Watched net v → net.watcher r ≡ true → 1 ≤ s.sn → marked v r s.writer s.sn ≡ false → admission (net.reader_limits r) (stored v r) (known_keys v r) s ≡ Overwrote old →
-      MarksMore x y s.writer (marked_by true (Overwrites old) s.sn) → Stores x y s (Overwrites old) → y.proxies ≡ x.proxies → ReaderStands net r (part_of (after_data (give_up v r s.writer s.sn) r s (Overwrites old)) r) y
-  watch_over_stands s old known sound watched watches low fresh from marks samples notes =
-      stands_for (part_of (after_data less r s (Overwrites old)) r)
-      (λ w. ap (has_writer w) notes)
-      (λ w n. marks w n ∙ (ap (λ b. b || ((s.writer == w) && below_first (suc s.sn) n)) (h.marks w n) ∙ sym (given_marks v r s low w n)))
-      (λ w. ap (heard_in w) notes ∙ h.heard w)
-      (samples.stored ∙ (ap (λ ss. remove ss (first_of s.key ss) ++ s ∷ []) h.stored ∙ (ap (λ ss. ss ++ s ∷ []) removed ∙ sym after)))
-      (samples.keys ∙ (ap (λ ks. set.insert ks s.key) h.keys ∙ sym (known_store less r s)))
+  -- what is stored once a sample replaced the oldest one of its key
+  over_stored : (s old : Sample) → IsNetwork net → Sound net v → marked v r s.writer s.sn ≡ false → admission (net.reader_limits r) (stored v r) (known_keys v r) s ≡ Overwrote old →
+      remove (stored v r) (first_of s.key (stored v r)) ++ s ∷ [] ≡ stored (after_data v r s (Overwrites old)) r
+  over_stored s old known sound fresh from = ap (λ ss. ss ++ s ∷ []) removed ∙ sym after
     where
-      less : World
-      less = give_up v r s.writer s.sn
-
       apart : holds (v.received r) s ≡ false
       apart = (or_parts (holds (v.received r) s) (v.irrelevant r s.writer s.sn || v.lost r s.writer s.sn) fresh).0
 
@@ -248,11 +226,47 @@ module _ (net : Network) (v : World) (r : ℕ) (x y : ReaderState) (h : ReaderSt
           ∙ (ap (λ o. filter (λ t. not (is_same o t)) (stored v r)) is ∙ sym (ap (λ (p : Sample → Bool). filter p (stored v r)) (λ i t. not (place_sym old t i))))
 
       -- the world's list: the new sample is another one, so it stays
-      after : stored (after_data less r s (Overwrites old)) r ≡ filter (λ t. not (is_same t old)) (stored v r) ++ s ∷ []
-      after = stored_over (store less r s) r old
-          ∙ (ap (filter (λ t. not (is_same t old))) (stored_more less r s (sound.taken_in r) (watched r watches).over apart)
+      after : stored (after_data v r s (Overwrites old)) r ≡ filter (λ t. not (is_same t old)) (stored v r) ++ s ∷ []
+      after = stored_over (store v r s) r old
+          ∙ (ap (filter (λ t. not (is_same t old))) (stored_store net v sound r s apart)
           ∙ (filter-append (λ t. not (is_same t old)) (stored v r) (s ∷ [])
           ∙ ap (λ b. filter (λ t. not (is_same t old)) (stored v r) ++ cond (not b) (s ∷ []) []) other))
+
+  -- a DATA was stored in place of the oldest sample of its key
+  pub over_stands : (s old : Sample) → IsNetwork net → Sound net v → marked v r s.writer s.sn ≡ false → admission (net.reader_limits r) (stored v r) (known_keys v r) s ≡ Overwrote old →
+      MarksMore x y s.writer (λ n. n == s.sn) → Stores x y s (Overwrites old) → y.proxies ≡ x.proxies → ReaderStands net r (part_of (after_data v r s (Overwrites old)) r) y
+  over_stands s old known sound fresh from marks samples notes =
+      stands_for (part_of (after_data v r s (Overwrites old)) r)
+      (λ w. ap (has_writer w) notes)
+      (λ w n. marks w n ∙ (ap (λ b. b || ((s.writer == w) && (n == s.sn))) (h.marks w n) ∙ (ap (λ b. marked v r w n || ((s.writer == w) && b)) (eqb_sym n s.sn) ∙ sym (marked_store v r s w n))))
+      (λ w. ap (heard_in w) notes ∙ h.heard w)
+      (samples.stored ∙ (ap (λ ss. remove ss (first_of s.key ss) ++ s ∷ []) h.stored ∙ over_stored s old known sound fresh from))
+      (samples.keys ∙ (ap (λ ks. set.insert ks s.key) h.keys ∙ sym (known_store v r s)))
+
+  -- a DATA was stored at a watcher, which gave up all below it
+  pub watch_stands : (s : Sample) → Sound net v → 1 ≤ s.sn → marked v r s.writer s.sn ≡ false → MarksMore x y s.writer (marked_by true New s.sn) → Stores x y s New → y.proxies ≡ x.proxies →
+      ReaderStands net r (part_of (store (give_up v r s.writer s.sn) r s) r) y
+  watch_stands s sound low fresh marks samples notes =
+      let less : World = give_up v r s.writer s.sn in
+      let apart = (or_parts (holds (v.received r) s) (v.irrelevant r s.writer s.sn || v.lost r s.writer s.sn) fresh).0 in
+      stands_for (part_of (store less r s) r)
+      (λ w. ap (has_writer w) notes)
+      (λ w n. marks w n ∙ (ap (λ b. b || ((s.writer == w) && below_first (suc s.sn) n)) (h.marks w n) ∙ sym (given_marks v r s low w n)))
+      (λ w. ap (heard_in w) notes ∙ h.heard w)
+      (samples.stored ∙ (ap (λ ss. ss ++ s ∷ []) h.stored ∙ sym (stored_store net v sound r s apart)))
+      (samples.keys ∙ (ap (λ ks. set.insert ks s.key) h.keys ∙ sym (known_store less r s)))
+
+  -- a DATA was stored at a watcher in place of the oldest sample of its key, and the watcher gave up all below it
+  pub watch_over_stands : (s old : Sample) → IsNetwork net → Sound net v → 1 ≤ s.sn → marked v r s.writer s.sn ≡ false → admission (net.reader_limits r) (stored v r) (known_keys v r) s ≡ Overwrote old →
+      MarksMore x y s.writer (marked_by true (Overwrites old) s.sn) → Stores x y s (Overwrites old) → y.proxies ≡ x.proxies → ReaderStands net r (part_of (after_data (give_up v r s.writer s.sn) r s (Overwrites old)) r) y
+  watch_over_stands s old known sound low fresh from marks samples notes =
+      let less : World = give_up v r s.writer s.sn in
+      stands_for (part_of (after_data less r s (Overwrites old)) r)
+      (λ w. ap (has_writer w) notes)
+      (λ w n. marks w n ∙ (ap (λ b. b || ((s.writer == w) && below_first (suc s.sn) n)) (h.marks w n) ∙ sym (given_marks v r s low w n)))
+      (λ w. ap (heard_in w) notes ∙ h.heard w)
+      (samples.stored ∙ (ap (λ ss. remove ss (first_of s.key ss) ++ s ∷ []) h.stored ∙ over_stored s old known sound fresh from))
+      (samples.keys ∙ (ap (λ ks. set.insert ks s.key) h.keys ∙ sym (known_store less r s)))
 
   -- a sample was taken
   pub take_stands : (s : Sample) → Sound net v → y.stored ≡ without s x.stored → y.keys ≡ x.keys → SameMarks x y → y.proxies ≡ x.proxies → ReaderStands net r (part_of (after_take v r s) r) y

@@ -16,7 +16,7 @@ use Rattle.dds_writer.specs.Writer as writer
 use Rattle.dds_reader.specs.Reader.{ReaderState, owes_to}
 use Rattle.dds_domain.specs.Noted.{Noted}
 use Rattle.dds_domain.specs.Schedule.{acknack_due, heartbeat_due, writer_due}
-use Rattle.dds_domain.specs.Standing.{DomainState, IsAt, IsStanding, WriterStands}
+use Rattle.dds_domain.specs.Standing.{PartsState, PartsAt, IsRunning, WriterStands}
 use Rattle.dds_domain.proofs.Endpoints.{matched_at, matched_within}
 use Rattle.dds_domain.proofs.Standing.{has_world}
 use Rattle.dds_domain.proofs.Worlds.{writer_at}
@@ -55,7 +55,7 @@ module _ (net : Network) (v : World) (noted : Noted) (w r : ℕ) (x : WriterStat
       (due_of_kept (is_kept net v w) (writer.is_relevant x (proxy_of r x.proxies)) (is_relevant net v w r) (v.acked w r) (noted.notes w r) (length (v.written w)) (relevant_is net v w x known h r t))
 
 -- ── of a domain
-module _ (d : DomainState) (w r : ℕ) (stands : IsStanding d) (pair : (network_of d.checked.plan).matched w r ≡ true) where
+module _ (d : PartsState) (w r : ℕ) (stands : IsRunning d) (pair : (network_of d.plan).matched w r ≡ true) where
   -- the writer of a pair is there, and has a proxy of the reader
   pair_writer : w < length d.writers
   pair_writer = matched_within d w r (has_world d stands) pair
@@ -64,19 +64,19 @@ module _ (d : DomainState) (w r : ℕ) (stands : IsStanding d) (pair : (network_
   pair_proxy x here = matched_at d w r x (has_world d stands) pair here
 
   -- what its writer is to send
-  pub due_at : (x : WriterState) (o : Option Due) → x ≡ get_or d.writers w x → o ≡ told_due x (proxy_of r x.proxies) → (v : World) (noted : Noted) → IsAt v noted d → o ≡ writer_due (network_of d.checked.plan) v noted w r
+  pub due_at : (x : WriterState) (o : Option Due) → x ≡ get_or d.writers w x → o ≡ told_due x (proxy_of r x.proxies) → (v : World) (noted : Noted) → PartsAt v noted d → o ≡ writer_due (network_of d.plan) v noted w r
   due_at x o here is v noted at =
-      let net = network_of d.checked.plan in
+      let net = network_of d.plan in
       let from = writer_at net v d w x at.world pair_writer here in
       let notes = subst (λ (y : WriterState). (proxy_of r y.proxies).notes ≡ noted.notes w r) (sym here) (at.notes.notes w x pair_writer r pair) in
-      is ∙ told_due_is net v noted w r x stands.0.known from pair notes
+      is ∙ told_due_is net v noted w r x stands.0 from pair notes
 
   -- the base that it holds for the reader, and how many samples it has written
-  pub base_at : (x : WriterState) → x ≡ get_or d.writers w x → (v : World) (noted : Noted) → IsAt v noted d → ((proxy_of r x.proxies).base ≡ v.acked w r) × (x.written ≡ length (v.written w))
+  pub base_at : (x : WriterState) → x ≡ get_or d.writers w x → (v : World) (noted : Noted) → PartsAt v noted d → ((proxy_of r x.proxies).base ≡ v.acked w r) × (x.written ≡ length (v.written w))
   base_at x here v noted at =
-      let net = network_of d.checked.plan in
+      let net = network_of d.plan in
       let from = writer_at net v d w x at.world pair_writer here in
-      (base_is net w r (v.written w) (v.acked w) x stands.0.known from pair, from.written)
+      (base_is net w r (v.written w) (v.acked w) x stands.0 from pair, from.written)
 
 -- ── a HEARTBEAT
 -- the reader has acknowledged all that is written
@@ -87,20 +87,20 @@ pub heartbeat_is_due : (net : Network) (v : World) (w r : ℕ) → net.watcher r
 heartbeat_is_due net v w r reliable some = sym (ap (λ b. cond b (Some (SendHeartbeat w r)) None) (and_from (not (net.watcher r)) (leb (v.acked w r) (length (v.written w))) (ap not reliable) (le-leb (v.acked w r) (length (v.written w)) some)))
 
 -- ── an ACKNACK
-module _ (d : DomainState) (w r : ℕ) (x : ReaderState) (pair : (network_of d.checked.plan).matched w r ≡ true) (within : r < length d.readers) (here : x ≡ get_or d.readers r x) where
+module _ (d : PartsState) (w r : ℕ) (x : ReaderState) (pair : (network_of d.plan).matched w r ≡ true) (within : r < length d.readers) (here : x ≡ get_or d.readers r x) where
   -- whether the reader owes the writer one
-  owes_at : (v : World) (noted : Noted) → IsAt v noted d → owes_to x w ≡ noted.owes r w
+  owes_at : (v : World) (noted : Noted) → PartsAt v noted d → owes_to x w ≡ noted.owes r w
   owes_at v noted at = subst (λ (y : ReaderState). owes_to y w ≡ noted.owes r w) (sym here) (at.notes.owes r x within w pair)
 
-  pub acknack_is_due : owes_to x w ≡ true → (v : World) (noted : Noted) → IsAt v noted d → Some (SendAckNack r w) ≡ acknack_due noted r w
+  pub acknack_is_due : owes_to x w ≡ true → (v : World) (noted : Noted) → PartsAt v noted d → Some (SendAckNack r w) ≡ acknack_due noted r w
   acknack_is_due owes v noted at = sym (ap (λ b. cond b (Some (SendAckNack r w)) None) (sym (owes_at v noted at) ∙ owes))
 
-  pub no_acknack_due : owes_to x w ≡ false → (v : World) (noted : Noted) → IsAt v noted d → None ≡ acknack_due noted r w
+  pub no_acknack_due : owes_to x w ≡ false → (v : World) (noted : Noted) → PartsAt v noted d → None ≡ acknack_due noted r w
   no_acknack_due none v noted at = sym (ap (λ b. cond b (Some (SendAckNack r w)) None) (sym (owes_at v noted at) ∙ none))
 
 -- ── how many endpoints there are
-pub writer_entries : (d : DomainState) → IsStanding d → length d.writers ≡ length d.checked.plan.writers.entries
-writer_entries d (accepted, v, noted, at) = at.world.writer_count
+pub writer_entries : (d : PartsState) → IsRunning d → length d.writers ≡ length d.plan.writers.entries
+writer_entries d (known, v, noted, at) = at.world.writer_count
 
-pub reader_entries : (d : DomainState) → IsStanding d → length d.readers ≡ length d.checked.plan.readers.entries
-reader_entries d (accepted, v, noted, at) = at.world.reader_count
+pub reader_entries : (d : PartsState) → IsRunning d → length d.readers ≡ length d.plan.readers.entries
+reader_entries d (known, v, noted, at) = at.world.reader_count

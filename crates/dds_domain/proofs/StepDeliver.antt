@@ -10,13 +10,13 @@ use Rattle.dds_match.specs.Network.{Network}
 use Rattle.dds_check.specs.World.{World}
 use Rattle.dds_check.specs.Steps.{May, AtPlace, after, changed, arrived_from, packet_reply, after_packet, take_away}
 use Rattle.dds_domain.specs.Bus.{at_place}
-use Rattle.dds_domain.specs.Standing.{DomainState, Stands, HasWorld, IsSent, StepsWorld, Receives}
+use Rattle.dds_domain.specs.Standing.{PartsState, Stands, HasWorld, IsSent, StepsWorld, Receives}
 use Rattle.dds_domain.proofs.StepLose.{taken_away}
 use Rattle.dds_domain.proofs.Worlds.{refused, may, fact_at}
 
 -- a packet on the bus was sent
-pub sent_at : (d : DomainState) (i : ℕ) (p : Packet) → at_place d.bus i ≡ Some p → HasWorld d → IsSent d p
-sent_at d i p e (net, v, (known, accepted, reached, s)) = (net, v, (known, accepted, reached, s), fact_at net _ v d i p known accepted reached s e)
+pub sent_at : (d : PartsState) (i : ℕ) (p : Packet) → at_place d.bus i ≡ Some p → HasWorld d → IsSent d p
+sent_at d i p e (net, v, (known, reached, s)) = (net, v, (known, reached, s), fact_at net v d i p known reached s e)
 
 -- what a packet is answered is no refusal
 answered : (net : Network) (v : World) (i : ℕ) (keep : Bool) (p : Packet) → after net v (Deliver i keep) (packet_reply net v p) ≡ changed net v (Deliver i keep) (packet_reply net v p)
@@ -31,12 +31,12 @@ after_is : (net : Network) (v : World) (i : ℕ) (keep : Bool) (p : Packet) (rep
 after_is net v i keep p reply at is =
     ap (after net v (Deliver i keep)) is ∙ (answered net v i keep p ∙ ap (λ o. cond keep (arrived_from net v o) (take_away (arrived_from net v o) i)) at)
 
-module _ (d : DomainState) (i : ℕ) where
+module _ (d : PartsState) (i : ℕ) where
   pub deliver_none : (keep : Bool) → at_place d.bus i ≡ None → StepsWorld d (Deliver i keep) (Refused NoPacket) d
   unfolding StepsWorld
-  deliver_none keep e net cert v known accepted reached s = refused net v d (Deliver i keep) NoPacket (rw (sym (s.bus.same i) ∙ e) refl) s
+  deliver_none keep e net v known reached s = refused net v d (Deliver i keep) NoPacket (rw (sym (s.bus.same i) ∙ e) refl) s
 
-  module _ (p : Packet) (e : at_place d.bus i ≡ Some p) (reply : Reply) (new : DomainState) (received : Receives d p reply new) where
+  module _ (p : Packet) (e : at_place d.bus i ≡ Some p) (reply : Reply) (new : PartsState) (received : Receives d p reply new) where
     delivered : (keep : Bool) (net : Network) (v : World) → Stands net v d → reply ≡ packet_reply net v p → May net v (Deliver i keep) reply
     delivered keep net v s is =
         let at : v.bus i ≡ Some p = sym (s.bus.same i) ∙ e in
@@ -45,8 +45,8 @@ module _ (d : DomainState) (i : ℕ) where
     -- it stays
     pub deliver_kept : StepsWorld d (Deliver i true) reply new
     unfolding StepsWorld Receives
-    deliver_kept net cert v known accepted reached s =
-        let came = received net cert v known accepted reached s (fact_at net cert v d i p known accepted reached s e) in (
+    deliver_kept net v known reached s =
+        let came = received net v known reached s (fact_at net v d i p known reached s e) in (
           delivered true net v s came.0,
           subst (λ u. Stands net u new) (sym (after_is net v i true p reply (sym (s.bus.same i) ∙ e) came.0)) came.1,
         )
@@ -54,8 +54,8 @@ module _ (d : DomainState) (i : ℕ) where
     -- it leaves
     pub deliver_gone : StepsWorld d (Deliver i false) reply (record new { bus = set new.bus i None })
     unfolding StepsWorld Receives
-    deliver_gone net cert v known accepted reached s =
-        let came = received net cert v known accepted reached s (fact_at net cert v d i p known accepted reached s e) in (
+    deliver_gone net v known reached s =
+        let came = received net v known reached s (fact_at net v d i p known reached s e) in (
           delivered false net v s came.0,
           subst (λ u. Stands net u (record new { bus = set new.bus i None })) (sym (after_is net v i false p reply (sym (s.bus.same i) ∙ e) came.0)) (taken_away net (after_packet net v p) new i came.1),
         )

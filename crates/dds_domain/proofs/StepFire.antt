@@ -16,7 +16,7 @@ use Rattle.dds_rules.specs.Exchange.{lacks_takes, lacks_room}
 use Rattle.dds_rules.specs.Ledger.{LedgerState, exchange_at, fire_refusal}
 use Rattle.dds_rules.specs.Standing.{StandsFor, Makes}
 use Rattle.dds_rules.proofs.Worlds.{same_lack_of_takes, same_lack_of_room}
-use Rattle.dds_domain.specs.Standing.{DomainState, Stands, StepsWorld}
+use Rattle.dds_domain.specs.Standing.{PartsState, Stands, StepsWorld}
 use Rattle.dds_domain.proofs.Worlds.{healthy, refused, may}
 
 -- the refusal that the ledger's tells
@@ -43,27 +43,27 @@ refusal_is net v l u there stands =
     same false true = refl
     same false false = refl
 
-module _ (d : DomainState) (u : ℕ) where
-  pub fire_foreign : length d.checked.plan.rules.entries ≤ u → StepsWorld d (Fire u) (Refused Foreign) d
+module _ (d : PartsState) (u : ℕ) where
+  pub fire_foreign : length d.plan.rules.entries ≤ u → StepsWorld d (Fire u) (Refused Foreign) d
   unfolding StepsWorld
-  fire_foreign past net cert v known accepted reached s =
-      let count : length d.checked.plan.rules.entries ≡ net.rules = ap (λ (n : Network). n.rules) s.plan in
+  fire_foreign past net v known reached s =
+      let count : length d.plan.rules.entries ≡ net.rules = ap (λ (n : Network). n.rules) s.plan in
       refused net v d (Fire u) Foreign (rw (le-leb net.rules u (omega arith)) refl) s
 
-  module _ (there : u < length d.checked.plan.rules.entries) where
+  module _ (there : u < length d.plan.rules.entries) where
     -- what the world answers, by what the ledger does
     answer : (net : Network) (v : World) → Stands net v d → refusal net v (Fire u) ≡ option_map told (fire_refusal d.ledger u)
     answer net v s =
-        let count : length d.checked.plan.rules.entries ≡ net.rules = ap (λ (n : Network). n.rules) s.plan in
+        let count : length d.plan.rules.entries ≡ net.rules = ap (λ (n : Network). n.rules) s.plan in
         refusal_is net v d.ledger u (omega arith) s.ledger
 
     pub fire_refused : (why : FireRefused) → fire_refusal d.ledger u ≡ Some why → StepsWorld d (Fire u) (Refused (told why)) d
     unfolding StepsWorld
-    fire_refused why e net cert v known accepted reached s = refused net v d (Fire u) (told why) (answer net v s ∙ ap (option_map told) e) s
+    fire_refused why e net v known reached s = refused net v d (Fire u) (told why) (answer net v s ∙ ap (option_map told) e) s
 
     pub fire_done : fire_refusal d.ledger u ≡ None → (l : LedgerState) → Makes (Fires u) d.ledger l → StepsWorld d (Fire u) Fired (record d { ledger = l })
     unfolding StepsWorld
-    fire_done e l makes net cert v known accepted reached s = (
+    fire_done e l makes net v known reached s = (
       may net v (Fire u) Fired (answer net v s ∙ ap (option_map told) e) refl,
       record {
         plan = s.plan;
@@ -71,7 +71,7 @@ module _ (d : DomainState) (u : ℕ) where
         reader_count = s.reader_count;
         writers = s.writers;
         readers = s.readers;
-        ledger = makes net v known (healthy net cert v known accepted reached).sound.counts s.ledger;
+        ledger = makes net v known (healthy net v known reached).sound.counts s.ledger;
         bus = s.bus;
       },
     )

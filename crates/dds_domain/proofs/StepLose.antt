@@ -7,12 +7,12 @@ use Rattle.dds_match.specs.Network.{Network}
 use Rattle.dds_check.specs.World.{World}
 use Rattle.dds_check.specs.Steps.{is_none_of, take_away}
 use Rattle.dds_domain.specs.Bus.{at_place}
-use Rattle.dds_domain.specs.Standing.{DomainState, Stands, StepsWorld}
+use Rattle.dds_domain.specs.Standing.{PartsState, Stands, StepsWorld}
 use Rattle.dds_domain.proofs.Buses.{clear_stands}
 use Rattle.dds_domain.proofs.Worlds.{refused, may}
 
 -- a place that is freed
-pub taken_away : (net : Network) (v : World) (d : DomainState) (i : ℕ) → Stands net v d → Stands net (take_away v i) (record d { bus = set d.bus i None })
+pub taken_away : (net : Network) (v : World) (d : PartsState) (i : ℕ) → Stands net v d → Stands net (take_away v i) (record d { bus = set d.bus i None })
 taken_away net v d i s = record {
   plan = s.plan;
   writer_count = s.writer_count;
@@ -23,11 +23,11 @@ taken_away net v d i s = record {
   bus = clear_stands v.bus d.bus i s.bus;
 }
 
-module _ (d : DomainState) (i : ℕ) where
+module _ (d : PartsState) (i : ℕ) where
   pub lose_none : at_place d.bus i ≡ None → StepsWorld d (Lose i) (Refused NoPacket) d
   unfolding StepsWorld
-  lose_none e net cert v known accepted reached s = refused net v d (Lose i) NoPacket (rw (sym (s.bus.same i) ∙ e) refl) s
+  lose_none e net v known reached s = refused net v d (Lose i) NoPacket (rw (sym (s.bus.same i) ∙ e) refl) s
 
   pub lose_done : is_none_of (at_place d.bus i) ≡ false → StepsWorld d (Lose i) Dropped (record d { bus = set d.bus i None })
   unfolding StepsWorld
-  lose_done e net cert v known accepted reached s = (may net v (Lose i) Dropped (rw (ap is_none_of (sym (s.bus.same i)) ∙ e) refl) refl, taken_away net v d i s)
+  lose_done e net v known reached s = (may net v (Lose i) Dropped (rw (ap is_none_of (sym (s.bus.same i)) ∙ e) refl) refl, taken_away net v d i s)

@@ -1,7 +1,6 @@
 -- A DATA, a GAP or a HEARTBEAT arrives at its reader.
 use Rattle.std.proofs.Common.{◌≡◌, ◌≢◌, ◌⊎◌, inl, inr, ℕ, ◌<◌, Bool, true, false, cond, not, ◌&&◌, List, length, get_or, set, refl, sym, ap, subst, ◌∙◌, length-set, arith}
 use Rattle.std.proofs.lemmas.Bool.{and_parts}
-use Rattle.dds_check.specs.Accepted.{Certificate, Accepted}
 use Rattle.dds_base.specs.Messages.{DataFor, GapFor, HeartbeatFor, covers}
 use Rattle.dds_base.specs.declared.sample.Sample.{Sample}
 use Rattle.dds_base.specs.declared.sample.Arrival.{Arrival}
@@ -12,23 +11,22 @@ use Rattle.dds_base.specs.declared.events.Reply.TheVariants.{Arrived}
 use Rattle.dds_base.proofs.SumLaws.{put_other}
 use Rattle.dds_qos.specs.declared.admission.Admit.{Admit}
 use Rattle.dds_qos.specs.declared.admission.Admit.TheVariants.{Stored, Overwrote, Rejected}
-use Rattle.dds_qos.specs.Reading.{arrival_of, below_first, is_repeat, marked_by}
+use Rattle.dds_qos.specs.Reading.{arrival_of, below_first, marked_by}
 use Rattle.dds_qos.specs.Admission.{admission}
 use Rattle.dds_match.specs.Network.{Network, IsNetwork}
-use Rattle.dds_check.specs.Certified.{IsGoodArrival}
 use Rattle.dds_check.specs.World.{World, marked, stored, known_keys}
 use Rattle.dds_check.specs.Steps.{after_data, after_watched, give_up, after_gap, after_heartbeat, store, arrival_of_data}
 use Rattle.dds_check.specs.Facts.{IsWrittenFor}
-use Rattle.dds_check.proofs.Moves.{Healthy, packet_good, from_one, repeat_is}
+use Rattle.dds_check.proofs.Moves.{Healthy, answered_is, from_one}
 use Rattle.dds_reader.specs.Notes.{hears}
 use Rattle.dds_reader.specs.Reader.{ReaderState, data_arrives, gap_arrives, heartbeat_arrives, heeds, MarksMore, OnIdle, SameReader, SameSamples, Stores}
-use Rattle.dds_domain.specs.Standing.{DomainState, IsReached, ReaderStands, Receives, Stands, part_of}
+use Rattle.dds_domain.specs.Standing.{PartsState, IsReached, ReaderStands, Receives, Stands, part_of}
 use Rattle.dds_domain.proofs.Slots.{set_all, set_back}
 use Rattle.dds_domain.proofs.Worlds.{healthy, reader_at}
-use Rattle.dds_domain.proofs.Readers.{data_is, gap_is, heartbeat_is, store_stands, watch_stands, watch_over_stands, gap_stands, heartbeat_stands}
+use Rattle.dds_domain.proofs.Readers.{data_is, gap_is, heartbeat_is, store_stands, over_stands, watch_stands, watch_over_stands, gap_stands, heartbeat_stands}
 
 -- the reader of a matched pair is there
-at_reader : (net : Network) (v : World) (d : DomainState) (w r : ℕ) → IsNetwork net → Stands net v d → net.matched w r ≡ true → r < length d.readers
+at_reader : (net : Network) (v : World) (d : PartsState) (w r : ℕ) → IsNetwork net → Stands net v d → net.matched w r ≡ true → r < length d.readers
 at_reader net v d w r known s pair = let below = known.matched_reader w r pair in let count = s.reader_count in omega arith
 
 -- ── the world after
@@ -37,7 +35,7 @@ abbrev arrived : World → (ℕ → List Sample) → (ℕ → List Sample) → (
 arrived v received overwritten irrelevant lost heard = record v { received = received; overwritten = overwritten; irrelevant = irrelevant; lost = lost; heard = heard }
 
 -- one reader changed, and what arrived at the others is as it was
-reader_world : (net : Network) (v : World) (d : DomainState) (r : ℕ) (y : ReaderState) (received overwritten : ℕ → List Sample) (irrelevant lost : ℕ → ℕ → ℕ → Bool) (heard : ℕ → ℕ → ℕ) → Stands net v d →
+reader_world : (net : Network) (v : World) (d : PartsState) (r : ℕ) (y : ReaderState) (received overwritten : ℕ → List Sample) (irrelevant lost : ℕ → ℕ → ℕ → Bool) (heard : ℕ → ℕ → ℕ) → Stands net v d →
     ((j : ℕ) → r ≢ j → received j ≡ v.received j) → ((j : ℕ) → r ≢ j → overwritten j ≡ v.overwritten j) → ((j : ℕ) → r ≢ j → irrelevant j ≡ v.irrelevant j) → ((j : ℕ) → r ≢ j → lost j ≡ v.lost j) → ((j : ℕ) → r ≢ j → heard j ≡ v.heard j) →
     ReaderStands net r (part_of (arrived v received overwritten irrelevant lost heard) r) y → Stands net (arrived v received overwritten irrelevant lost heard) (record d { readers = set d.readers r y })
 reader_world net v d r y received overwritten irrelevant lost heard s same over same' same'' same''' h = record {
@@ -52,122 +50,82 @@ reader_world net v d r y received overwritten irrelevant lost heard s same over 
 }
 
 -- ── a DATA
--- in a run of an accepted certificate it is a repeat or new
-data_kept : (net : Network) (v : World) (m : DataFor) → IsWrittenFor net v m.reader m.sample → is_repeat (net.watcher m.reader) (marked v m.reader m.sample.writer) m.sample.sn ≡ marked v m.reader m.sample.writer m.sample.sn → IsGoodArrival false (arrival_of_data net v m) →
-    (arrival_of_data net v m ≡ Repeat) ⊎ ((marked v m.reader m.sample.writer m.sample.sn ≡ false) × (arrival_of_data net v m ≡ New))
-data_kept net v m written repeat = go (marked v m.reader m.sample.writer m.sample.sn) refl
-  where
-    answer : Admit
-    answer = admission (net.reader_limits m.reader) (stored v m.reader) (known_keys v m.reader) m.sample
+-- what a reader's cache stores is what the world stores
+module _ (d : PartsState) (m : DataFor) (x y : ReaderState) (a : Arrival) (net : Network) (v : World) (known : IsNetwork net) (reached : IsReached net v) (s : Stands net v d) (fact : IsWrittenFor net v m.reader m.sample)
+    (at : x ≡ get_or d.readers m.reader x) (answer : a ≡ data_arrives x m) (marks : MarksMore x y m.sample.writer (marked_by x.watching a m.sample.sn)) (samples : Stores x y m.sample a) (notes : y.proxies ≡ x.proxies) (rest : SameReader x y) (idle : OnIdle a (y ≡ x)) where
+  well : Healthy net v
+  well = healthy net v known reached
 
-    stored_if : (a : Admit) → IsGoodArrival false (arrival_of a) → arrival_of a ≡ New
-    stored_if Stored g = refl
-    stored_if (Overwrote old) g = absurd (let x : false ≡ true = g in cc)
-    stored_if (Rejected why) g = absurd (let x : false ≡ true = g in cc)
+  within : m.reader < length d.readers
+  within = at_reader net v d m.sample.writer m.reader known s fact.matched
 
-    go : (t : Bool) → marked v m.reader m.sample.writer m.sample.sn ≡ t → IsGoodArrival false (arrival_of_data net v m) →
-        (arrival_of_data net v m ≡ Repeat) ⊎ ((marked v m.reader m.sample.writer m.sample.sn ≡ false) × (arrival_of_data net v m ≡ New))
-    go true e good = inl (rw (written.matched, repeat, e))
-    go false e good =
-        let is : arrival_of_data net v m ≡ arrival_of answer = rw (written.matched, repeat, e, written.hears) refl in
-        inr (e, is ∙ stored_if answer (subst (IsGoodArrival false) is good))
+  stands : ReaderStands net m.reader (part_of v m.reader) x
+  stands = reader_at net v d m.reader x s within at
 
--- at a watcher: what its cache stores is what the world stores
-watched_stands : (d : DomainState) (m : DataFor) (x y : ReaderState) (a : Arrival) (net : Network) (cert : Certificate) (v : World) → IsNetwork net → Accepted net cert → IsReached net v → Stands net v d → IsWrittenFor net v m.reader m.sample →
-    net.watcher m.reader ≡ true → x ≡ get_or d.readers m.reader x → a ≡ data_arrives x m → MarksMore x y m.sample.writer (marked_by x.watching a m.sample.sn) → Stores x y m.sample a → y.proxies ≡ x.proxies → SameReader x y → OnIdle a (y ≡ x) →
-    Stands net (after_watched v m.reader m.sample (arrival_of_data net v m)) (record d { readers = set d.readers m.reader y })
-watched_stands d m x y a net cert v known accepted reached s fact watches at answer marks samples notes rest idle = go (marked v m.reader m.sample.writer m.sample.sn) refl
-  where
-    well : Healthy net cert v
-    well = healthy net cert v known accepted reached
+  is : a ≡ arrival_of_data net v m
+  is = answer ∙ data_is net v m x stands
 
-    within : m.reader < length d.readers
-    within = at_reader net v d m.sample.writer m.reader known s fact.matched
+  abbrev new : PartsState
+  new = record d { readers = set d.readers m.reader y }
 
-    stands : ReaderStands net m.reader (part_of v m.reader) x
-    stands = reader_at net v d m.reader x s within at
+  abbrev cache : Admit
+  cache = admission (net.reader_limits m.reader) (stored v m.reader) (known_keys v m.reader) m.sample
 
-    is : a ≡ arrival_of_data net v m
-    is = answer ∙ data_is net v m x stands
+  -- nothing changed
+  same : (b : Arrival) → a ≡ b → OnIdle b (y ≡ x) ≡ (y ≡ x) → Stands net v new
+  same b e open' = subst (λ xs. Stands net v (record d { readers = xs })) (sym (ap (set d.readers m.reader) (subst (λ (t : Type 0). t) open' (subst (λ c. OnIdle c (y ≡ x)) e idle)) ∙ set_back d.readers m.reader x within at)) s
 
-    -- nothing changed
-    same : (b : Arrival) → a ≡ b → OnIdle b (y ≡ x) ≡ (y ≡ x) → Stands net v (record d { readers = set d.readers m.reader y })
-    same b e open' = subst (λ xs. Stands net v (record d { readers = xs })) (sym (ap (set d.readers m.reader) (subst (λ (t : Type 0). t) open' (subst (λ c. OnIdle c (y ≡ x)) e idle)) ∙ set_back d.readers m.reader x within at)) s
+  -- the marks, where it is known what the reader is and what it answered
+  marks_of : (t : Bool) → net.watcher m.reader ≡ t → (b : Arrival) → a ≡ b → MarksMore x y m.sample.writer (marked_by t b m.sample.sn)
+  marks_of t kind b e = subst (λ c. MarksMore x y m.sample.writer (marked_by c b m.sample.sn)) (stands.watching ∙ kind) (subst (λ c. MarksMore x y m.sample.writer (marked_by x.watching c m.sample.sn)) e marks)
 
-    fresh_case : marked v m.reader m.sample.writer m.sample.sn ≡ false → (c : Admit) → admission (net.reader_limits m.reader) (stored v m.reader) (known_keys v m.reader) m.sample ≡ c → a ≡ arrival_of c → Stands net (after_watched v m.reader m.sample (arrival_of c)) (record d { readers = set d.readers m.reader y })
-    fresh_case fresh Stored from e =
-        let less : World = give_up v m.reader m.sample.writer m.sample.sn in
-        let reader = watch_stands net v m.reader x y stands rest m.sample well.sound well.watched watches (from_one net known cert accepted v well m.reader m.sample fact) fresh
-        (subst (λ b. MarksMore x y m.sample.writer (marked_by b New m.sample.sn)) (stands.watching ∙ watches) (subst (λ b. MarksMore x y m.sample.writer (marked_by x.watching b m.sample.sn)) e marks))
-        (subst (Stores x y m.sample) e samples) notes in
-        reader_world net v d m.reader y (store less m.reader m.sample).received v.overwritten v.irrelevant less.lost v.heard s (λ j ne. put_other v.received m.reader j _ ne) (λ j ne. refl) (λ j ne. refl) (λ j ne. put_other v.lost m.reader j _ ne) (λ j ne. refl) reader
-    fresh_case fresh (Overwrote old) from e =
-        let less : World = give_up v m.reader m.sample.writer m.sample.sn in
-        let new : World = after_data less m.reader m.sample (Overwrites old) in
-        let reader = watch_over_stands net v m.reader x y stands rest m.sample old known well.sound well.watched watches (from_one net known cert accepted v well m.reader m.sample fact) fresh from
-        (subst (λ b. MarksMore x y m.sample.writer (marked_by b (Overwrites old) m.sample.sn)) (stands.watching ∙ watches) (subst (λ b. MarksMore x y m.sample.writer (marked_by x.watching b m.sample.sn)) e marks))
-        (subst (Stores x y m.sample) e samples) notes in
-        reader_world net v d m.reader y new.received new.overwritten v.irrelevant new.lost v.heard s (λ j ne. put_other v.received m.reader j _ ne) (λ j ne. put_other v.overwritten m.reader j _ ne) (λ j ne. refl) (λ j ne. put_other v.lost m.reader j _ ne) (λ j ne. refl) reader
-    fresh_case fresh (Rejected why) from e = same (arrival_of (Rejected why)) e refl
+  reliable_fresh : net.watcher m.reader ≡ false → marked v m.reader m.sample.writer m.sample.sn ≡ false → (c : Admit) → cache ≡ c → a ≡ arrival_of c → Stands net (after_data v m.reader m.sample (arrival_of c)) new
+  reliable_fresh reliable fresh Stored from e =
+      reader_world net v d m.reader y (store v m.reader m.sample).received v.overwritten v.irrelevant v.lost v.heard s (λ j ne. put_other v.received m.reader j _ ne) (λ j ne. refl) (λ j ne. refl) (λ j ne. refl) (λ j ne. refl)
+      (store_stands net v m.reader x y stands rest m.sample well.sound fresh (marks_of false reliable New e) (subst (Stores x y m.sample) e samples) notes)
+  reliable_fresh reliable fresh (Overwrote old) from e =
+      let after : World = after_data v m.reader m.sample (Overwrites old) in
+      reader_world net v d m.reader y after.received after.overwritten v.irrelevant v.lost v.heard s (λ j ne. put_other v.received m.reader j _ ne) (λ j ne. put_other v.overwritten m.reader j _ ne) (λ j ne. refl) (λ j ne. refl) (λ j ne. refl)
+      (over_stands net v m.reader x y stands rest m.sample old known well.sound fresh from (marks_of false reliable (Overwrites old) e) (subst (Stores x y m.sample) e samples) notes)
+  reliable_fresh reliable fresh (Rejected why) from e = same (arrival_of (Rejected why)) e refl
 
-    go : (t : Bool) → marked v m.reader m.sample.writer m.sample.sn ≡ t → Stands net (after_watched v m.reader m.sample (arrival_of_data net v m)) (record d { readers = set d.readers m.reader y })
-    go true e =
-        let repeat : arrival_of_data net v m ≡ Repeat = rw (fact.matched, repeat_is net known cert accepted v well m fact, e) in
-        subst (λ b. Stands net (after_watched v m.reader m.sample b) (record d { readers = set d.readers m.reader y })) (sym repeat) (same Repeat (is ∙ repeat) refl)
-    go false e =
-        let c = admission (net.reader_limits m.reader) (stored v m.reader) (known_keys v m.reader) m.sample in
-        let answers : arrival_of_data net v m ≡ arrival_of (admission (net.reader_limits m.reader) (stored v m.reader) (known_keys v m.reader) m.sample) = rw (fact.matched, repeat_is net known cert accepted v well m fact, e, fact.hears) refl in
-        subst (λ b. Stands net (after_watched v m.reader m.sample b) (record d { readers = set d.readers m.reader y })) (sym answers) (fresh_case e c refl (is ∙ answers))
+  watched_fresh : net.watcher m.reader ≡ true → marked v m.reader m.sample.writer m.sample.sn ≡ false → (c : Admit) → cache ≡ c → a ≡ arrival_of c → Stands net (after_watched v m.reader m.sample (arrival_of c)) new
+  watched_fresh watches fresh Stored from e =
+      let less : World = give_up v m.reader m.sample.writer m.sample.sn in
+      reader_world net v d m.reader y (store less m.reader m.sample).received v.overwritten v.irrelevant less.lost v.heard s (λ j ne. put_other v.received m.reader j _ ne) (λ j ne. refl) (λ j ne. refl) (λ j ne. put_other v.lost m.reader j _ ne) (λ j ne. refl)
+      (watch_stands net v m.reader x y stands rest m.sample well.sound (from_one net known v well m.reader m.sample fact) fresh (marks_of true watches New e) (subst (Stores x y m.sample) e samples) notes)
+  watched_fresh watches fresh (Overwrote old) from e =
+      let less : World = give_up v m.reader m.sample.writer m.sample.sn in
+      let after : World = after_data less m.reader m.sample (Overwrites old) in
+      reader_world net v d m.reader y after.received after.overwritten v.irrelevant after.lost v.heard s (λ j ne. put_other v.received m.reader j _ ne) (λ j ne. put_other v.overwritten m.reader j _ ne) (λ j ne. refl) (λ j ne. put_other v.lost m.reader j _ ne) (λ j ne. refl)
+      (watch_over_stands net v m.reader x y stands rest m.sample old known well.sound (from_one net known v well m.reader m.sample fact) fresh from (marks_of true watches (Overwrites old) e) (subst (Stores x y m.sample) e samples) notes)
+  watched_fresh watches fresh (Rejected why) from e = same (arrival_of (Rejected why)) e refl
 
-pub receive_data : (d : DomainState) (m : DataFor) (x y : ReaderState) (a : Arrival) → x ≡ get_or d.readers m.reader x → a ≡ data_arrives x m →
+  data_stands : (t : Bool) → net.watcher m.reader ≡ t → Stands net (cond t (after_watched v m.reader m.sample (arrival_of_data net v m)) (after_data v m.reader m.sample (arrival_of_data net v m))) new
+  data_stands false e = elim (answered_is net known v well m fact) [
+    | inl z ↦ subst (λ b. Stands net (after_data v m.reader m.sample b) new) (sym z) (same Repeat (is ∙ z) refl)
+    | inr z ↦ subst (λ b. Stands net (after_data v m.reader m.sample b) new) (sym z.1) (reliable_fresh e z.0 cache refl (is ∙ z.1))
+  ]
+  data_stands true e = elim (answered_is net known v well m fact) [
+    | inl z ↦ subst (λ b. Stands net (after_watched v m.reader m.sample b) new) (sym z) (same Repeat (is ∙ z) refl)
+    | inr z ↦ subst (λ b. Stands net (after_watched v m.reader m.sample b) new) (sym z.1) (watched_fresh e z.0 cache refl (is ∙ z.1))
+  ]
+
+pub receive_data : (d : PartsState) (m : DataFor) (x y : ReaderState) (a : Arrival) → x ≡ get_or d.readers m.reader x → a ≡ data_arrives x m →
     MarksMore x y m.sample.writer (marked_by x.watching a m.sample.sn) → Stores x y m.sample a → y.proxies ≡ x.proxies → SameReader x y → OnIdle a (y ≡ x) →
     Receives d (Data m) (Arrived a) (record d { readers = set d.readers m.reader y })
 unfolding Receives
-receive_data d m x y a at answer marks samples notes rest idle net cert v known accepted reached s fact = (
-  ap Arrived is,
-  by_kind (net.watcher m.reader) refl,
+receive_data d m x y a at answer marks samples notes rest idle net v known reached s fact = (
+  ap Arrived (is d m x y a net v known reached s fact at answer marks samples notes rest idle),
+  data_stands d m x y a net v known reached s fact at answer marks samples notes rest idle (net.watcher m.reader) refl,
 )
-  where
-    well : Healthy net cert v
-    well = healthy net cert v known accepted reached
-
-    within : m.reader < length d.readers
-    within = at_reader net v d m.sample.writer m.reader known s fact.matched
-
-    stands : ReaderStands net m.reader (part_of v m.reader) x
-    stands = reader_at net v d m.reader x s within at
-
-    is : a ≡ arrival_of_data net v m
-    is = answer ∙ data_is net v m x stands
-
-    repeated : arrival_of_data net v m ≡ Repeat → Stands net (after_data v m.reader m.sample (arrival_of_data net v m)) (record d { readers = set d.readers m.reader y })
-    repeated e =
-        let back : set d.readers m.reader y ≡ d.readers = ap (set d.readers m.reader) (subst (λ b. OnIdle b (y ≡ x)) (is ∙ e) idle) ∙ set_back d.readers m.reader x within at in
-        subst (λ b. Stands net (after_data v m.reader m.sample b) (record d { readers = set d.readers m.reader y })) (sym e)
-        (subst (λ xs. Stands net v (record d { readers = xs })) (sym back) s)
-
-    kept : net.watcher m.reader ≡ false → marked v m.reader m.sample.writer m.sample.sn ≡ false → arrival_of_data net v m ≡ New → Stands net (after_data v m.reader m.sample (arrival_of_data net v m)) (record d { readers = set d.readers m.reader y })
-    kept reliable fresh e =
-        let new : a ≡ New = is ∙ e in
-        let reader = store_stands net v m.reader x y stands rest m.sample well.sound reliable fresh
-        (subst (λ b. MarksMore x y m.sample.writer (marked_by b New m.sample.sn)) (stands.watching ∙ reliable) (subst (λ b. MarksMore x y m.sample.writer (marked_by x.watching b m.sample.sn)) new marks))
-        (subst (Stores x y m.sample) new samples) notes in
-        subst (λ b. Stands net (after_data v m.reader m.sample b) (record d { readers = set d.readers m.reader y })) (sym e)
-        (reader_world net v d m.reader y (store v m.reader m.sample).received v.overwritten v.irrelevant v.lost v.heard s (λ j ne. put_other v.received m.reader j _ ne) (λ j ne. refl) (λ j ne. refl) (λ j ne. refl) (λ j ne. refl) reader)
-
-    by_kind : (t : Bool) → net.watcher m.reader ≡ t → Stands net (cond t (after_watched v m.reader m.sample (arrival_of_data net v m)) (after_data v m.reader m.sample (arrival_of_data net v m))) (record d { readers = set d.readers m.reader y })
-    by_kind true e = watched_stands d m x y a net cert v known accepted reached s fact e at answer marks samples notes rest idle
-    by_kind false e = elim (data_kept net v m fact (repeat_is net known cert accepted v well m fact) (subst (λ b. IsGoodArrival b (arrival_of_data net v m)) e (packet_good net known cert accepted v well (Data m) fact))) [
-      | inl z ↦ repeated z
-      | inr z ↦ kept e z.0 z.1
-    ]
 
 -- ── a GAP
-pub receive_gap : (d : DomainState) (m : GapFor) (x y : ReaderState) (a : Arrival) → x ≡ get_or d.readers m.reader x → a ≡ gap_arrives x m →
+pub receive_gap : (d : PartsState) (m : GapFor) (x y : ReaderState) (a : Arrival) → x ≡ get_or d.readers m.reader x → a ≡ gap_arrives x m →
     MarksMore x y m.writer (λ n. heeds x m.writer && covers m n) → y.proxies ≡ x.proxies → SameSamples x y → SameReader x y →
     Receives d (Gap m) (Arrived a) (record d { readers = set d.readers m.reader y })
 unfolding Receives
-receive_gap d m x y a at answer marks notes samples rest net cert v known accepted reached s fact =
+receive_gap d m x y a at answer marks notes samples rest net v known reached s fact =
     let within = at_reader net v d m.writer m.reader known s (and_parts (net.matched m.writer m.reader) (not (net.watcher m.reader)) fact.0).0 in
     let stands = reader_at net v d m.reader x s within at in
     let reader = gap_stands net v m x y stands rest fact.0 marks notes samples in
@@ -178,11 +136,11 @@ receive_gap d m x y a at answer marks notes samples rest net cert v known accept
     )
 
 -- ── a HEARTBEAT
-pub receive_heartbeat : (d : DomainState) (m : HeartbeatFor) (x y : ReaderState) (a : Arrival) → x ≡ get_or d.readers m.reader x → a ≡ heartbeat_arrives x m →
+pub receive_heartbeat : (d : PartsState) (m : HeartbeatFor) (x y : ReaderState) (a : Arrival) → x ≡ get_or d.readers m.reader x → a ≡ heartbeat_arrives x m →
     MarksMore x y m.writer (λ n. heeds x m.writer && below_first m.first n) → y.proxies ≡ cond x.watching x.proxies (hears m.writer m.last x.proxies) → SameSamples x y → SameReader x y →
     Receives d (Heartbeat m) (Arrived a) (record d { readers = set d.readers m.reader y })
 unfolding Receives
-receive_heartbeat d m x y a at answer marks notes samples rest net cert v known accepted reached s fact =
+receive_heartbeat d m x y a at answer marks notes samples rest net v known reached s fact =
     let within = at_reader net v d m.writer m.reader known s (and_parts (net.matched m.writer m.reader) (not (net.watcher m.reader)) fact.0).0 in
     let stands = reader_at net v d m.reader x s within at in
     let reader = heartbeat_stands net v m x y stands rest fact.0 marks notes samples in

@@ -21,40 +21,40 @@ use Rattle.dds_rules.specs.Counts.{count_at}
 use Rattle.dds_rules.specs.Ledger.{LedgerState}
 use Rattle.dds_rules.specs.Standing.{Makes}
 use Rattle.dds_reader.specs.Reader.{ReaderState, available, SameMarks, SameReader}
-use Rattle.dds_domain.specs.Standing.{DomainState, HasWorld, ReaderStands, Stands, StepsWorld, part_of}
+use Rattle.dds_domain.specs.Standing.{PartsState, HasWorld, ReaderStands, Stands, StepsWorld, part_of}
 use Rattle.dds_domain.proofs.Slots.{set_all, set_back}
 use Rattle.dds_domain.proofs.Worlds.{healthy, may, reader_at, refused}
 use Rattle.dds_domain.proofs.Readers.{available_is, take_stands}
 
 -- the plan's filters are the network's
-heard : (net : Network) (v : World) (d : DomainState) (r k : ℕ) (b : Bool) → Stands net v d → (network_of d.checked.plan).hears r k ≡ b → net.hears r k ≡ b
+heard : (net : Network) (v : World) (d : PartsState) (r k : ℕ) (b : Bool) → Stands net v d → (network_of d.plan).hears r k ≡ b → net.hears r k ≡ b
 heard net v d r k b s h = sym (ap (λ (n : Network). n.hears r k) s.plan) ∙ h
 
 -- a reader that hears a key is there
-within : (net : Network) (v : World) (d : DomainState) (r k : ℕ) → IsNetwork net → Stands net v d → (network_of d.checked.plan).hears r k ≡ true → r < length d.readers
+within : (net : Network) (v : World) (d : PartsState) (r k : ℕ) → IsNetwork net → Stands net v d → (network_of d.plan).hears r k ≡ true → r < length d.readers
 within net v d r k known s h = let below = known.heard_reader r k (heard net v d r k true s h) in let count = s.reader_count in omega arith
 
-module _ (d : DomainState) (r k : ℕ) where
+module _ (d : PartsState) (r k : ℕ) where
   -- the key is none of the reader's
-  pub take_foreign : (network_of d.checked.plan).hears r k ≡ false → StepsWorld d (Take r k) (Refused Foreign) d
+  pub take_foreign : (network_of d.plan).hears r k ≡ false → StepsWorld d (Take r k) (Refused Foreign) d
   unfolding StepsWorld
-  take_foreign f net cert v known accepted reached s = refused net v d (Take r k) Foreign (rw (heard net v d r k false s f) refl) s
+  take_foreign f net v known reached s = refused net v d (Take r k) Foreign (rw (heard net v d r k false s f) refl) s
 
-  module _ (hears : (network_of d.checked.plan).hears r k ≡ true) where
+  module _ (hears : (network_of d.plan).hears r k ≡ true) where
     -- the reader and the key are the plan's
     pub take_reader : HasWorld d → r < length d.readers
-    take_reader (net, v, (known, accepted, reached, s)) = within net v d r k known s hears
+    take_reader (net, v, (known, reached, s)) = within net v d r k known s hears
 
     pub take_row : HasWorld d → r < d.ledger.spare.endpoints
-    take_row (net, v, (known, accepted, reached, s)) = let below = known.heard_reader r k (heard net v d r k true s hears) in let count = s.ledger.of.readers in omega arith
+    take_row (net, v, (known, reached, s)) = let below = known.heard_reader r k (heard net v d r k true s hears) in let count = s.ledger.of.readers in omega arith
 
     pub take_key : HasWorld d → k < 64
-    take_key (net, v, (known, accepted, reached, s)) = subst (λ (n : Network). k < n.keys) (sym s.plan) (known.heard_key r k (heard net v d r k true s hears))
+    take_key (net, v, (known, reached, s)) = subst (λ (n : Network). k < n.keys) (sym s.plan) (known.heard_key r k (heard net v d r k true s hears))
 
     -- 2^64 - 1 takes are unspent
     pub take_limit : 2 ^ 64 - 1 ≤ count_at d.ledger.spare r k → StepsWorld d (Take r k) (Refused CountLimit) d
     unfolding StepsWorld
-    take_limit full net cert v known accepted reached s =
+    take_limit full net v known reached s =
         let same = s.ledger.spare r k in
         refused net v d (Take r k) CountLimit (rw (heard net v d r k true s hears, le-leb (2 ^ 64 - 1) (spare net v r k) (omega arith)) refl) s
 
@@ -72,7 +72,7 @@ module _ (d : DomainState) (r k : ℕ) where
       -- nothing is available
       pub take_empty : available x k ≡ [] → y ≡ x → StepsWorld d (Take r k) (Refused Empty) (record d { readers = set d.readers r y })
       unfolding StepsWorld
-      take_empty none same net cert v known accepted reached s =
+      take_empty none same net v known reached s =
           let empty : is_empty (available_at v r k) ≡ true = ap is_empty (sym (available_is net v r x (stands net v known s) k) ∙ none) in
           let back : set d.readers r y ≡ d.readers = ap (set d.readers r) same ∙ set_back d.readers r x (within net v d r k known s hears) at in
           subst (λ xs. May net v (Take r k) (Refused Empty) × Stands net v (record d { readers = xs })) (sym back)
@@ -82,7 +82,7 @@ module _ (d : DomainState) (r k : ℕ) where
       pub take_done : (t : Sample) (l : LedgerState) → IsLeastOfWriter t (available x k) → y.stored ≡ without t x.stored → y.keys ≡ x.keys → SameMarks x y → y.proxies ≡ x.proxies → SameReader x y →
           ((u : Sample) → u.key ≡ k → Makes (Takes r u) d.ledger l) → StepsWorld d (Take r k) (Took t) (record d { readers = set d.readers r y; ledger = l })
       unfolding StepsWorld
-      take_done t l least fewer keys marks notes rest makes net cert v known accepted reached s = (
+      take_done t l least fewer keys marks notes rest makes net v known reached s = (
         may net v (Take r k) (Took t) (passed net v s false some) (t, least', refl),
         record {
           plan = s.plan;
@@ -97,8 +97,8 @@ module _ (d : DomainState) (r k : ℕ) where
         },
       )
         where
-          well : Healthy net cert v
-          well = healthy net cert v known accepted reached
+          well : Healthy net v
+          well = healthy net v known reached
 
           least' : IsLeastOfWriter t (available_at v r k)
           least' = subst (IsLeastOfWriter t) (available_is net v r x (stands net v known s) k) least

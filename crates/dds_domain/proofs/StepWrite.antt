@@ -17,7 +17,7 @@ use Rattle.dds_rules.specs.Standing.{Makes}
 use Rattle.dds_writer.specs.declared.refused.WriteRefused.{WriteRefused}
 use Rattle.dds_writer.specs.declared.refused.WriteRefused.TheVariants.{SequenceEnd, InstanceLimit, Full, InstanceFull, NoMemory}
 use Rattle.dds_writer.specs.Writer.{WriterState, Tells}
-use Rattle.dds_domain.specs.Standing.{DomainState, Stands, StepsWorld, WriterStands}
+use Rattle.dds_domain.specs.Standing.{PartsState, Stands, StepsWorld, WriterStands}
 use Rattle.dds_domain.proofs.Slots.{set_all, set_back}
 use Rattle.dds_domain.proofs.Worlds.{healthy, refused, may, writer_at}
 use Rattle.dds_domain.proofs.Writers.{wrote, write_stands}
@@ -31,21 +31,21 @@ told_same InstanceFull o y e f = e ∙ sym f
 told_same NoMemory o y e f = absurd (none-some y (sym f))
 
 -- the plan's test is the network's
-own_is : (net : Network) (v : World) (d : DomainState) (w k : ℕ) (b : Bool) → Stands net v d → (network_of d.checked.plan).writes_key w k ≡ b → net.writes_key w k ≡ b
+own_is : (net : Network) (v : World) (d : PartsState) (w k : ℕ) (b : Bool) → Stands net v d → (network_of d.plan).writes_key w k ≡ b → net.writes_key w k ≡ b
 own_is net v d w k b s e = subst (λ (m : Network). m.writes_key w k ≡ b) s.plan e
 
-module _ (d : DomainState) (w k : ℕ) (payload : List ℕ) where
-  pub write_foreign : (network_of d.checked.plan).writes_key w k ≡ false → StepsWorld d (Write w k payload) (Refused Foreign) d
+module _ (d : PartsState) (w k : ℕ) (payload : List ℕ) where
+  pub write_foreign : (network_of d.plan).writes_key w k ≡ false → StepsWorld d (Write w k payload) (Refused Foreign) d
   unfolding StepsWorld
-  write_foreign fails net cert v known accepted reached s = refused net v d (Write w k payload) Foreign (rw (own_is net v d w k false s fails) refl) s
+  write_foreign fails net v known reached s = refused net v d (Write w k payload) Foreign (rw (own_is net v d w k false s fails) refl) s
 
-  pub write_no_permit : (network_of d.checked.plan).writes_key w k ≡ true → count_at d.ledger.permits w k ≡ 0 → StepsWorld d (Write w k payload) (Refused NoPermit) d
+  pub write_no_permit : (network_of d.plan).writes_key w k ≡ true → count_at d.ledger.permits w k ≡ 0 → StepsWorld d (Write w k payload) (Refused NoPermit) d
   unfolding StepsWorld
-  write_no_permit own spent net cert v known accepted reached s =
+  write_no_permit own spent net v known reached s =
       let none : permits net v w k ≡ 0 = sym (s.ledger.permits w k) ∙ spent in
       refused net v d (Write w k payload) NoPermit (rw (own_is net v d w k true s own, eq-eqb (permits net v w k) 0 none) refl) s
 
-  module _ (x : WriterState) (own : (network_of d.checked.plan).writes_key w k ≡ true) (some : count_at d.ledger.permits w k ≢ 0) (b : w < length d.writers) (at : x ≡ get_or d.writers w x) where
+  module _ (x : WriterState) (own : (network_of d.plan).writes_key w k ≡ true) (some : count_at d.ledger.permits w k ≢ 0) (b : w < length d.writers) (at : x ≡ get_or d.writers w x) where
     -- the world refuses what the writer does
     refusal_is : (net : Network) (v : World) → Stands net v d → refusal net v (Write w k payload) ≡ write_refusal x.limits x.written x.keys x.kept k
     refusal_is net v s =
@@ -54,12 +54,12 @@ module _ (d : DomainState) (w k : ℕ) (payload : List ℕ) where
 
     pub write_refused : (why : WriteRefused) (y : Refusal) → Tells why (write_refusal x.limits x.written x.keys x.kept k) → Tells why (Some y) → StepsWorld d (Write w k payload) (Refused y) d
     unfolding StepsWorld
-    write_refused why y told tells net cert v known accepted reached s = refused net v d (Write w k payload) y (refusal_is net v s ∙ told_same why _ y told tells) s
+    write_refused why y told tells net v known reached s = refused net v d (Write w k payload) y (refusal_is net v s ∙ told_same why _ y told tells) s
 
     pub write_done : (n : ℕ) (l : LedgerState) → write_refusal x.limits x.written x.keys x.kept k ≡ None → n ≡ x.written + 1 → Makes (Writes w k payload) d.ledger l →
         StepsWorld d (Write w k payload) (Written n) (record d { writers = set d.writers w (wrote x k payload n); ledger = l })
     unfolding StepsWorld
-    write_done n l free number makes net cert v known accepted reached s =
+    write_done n l free number makes net v known reached s =
         let from = writer_at net v d w x s b at in
         let count = from.written in (
           may net v (Write w k payload) (Written n) (refusal_is net v s ∙ free) (ap Written (omega arith)),
@@ -71,11 +71,11 @@ module _ (d : DomainState) (w k : ℕ) (payload : List ℕ) where
                 (λ j ne. put_other v.written w j (v.written w ++ (k, payload) ∷ []) ne)
                 (subst (λ es. WriterStands net w es (v.acked w) (wrote x k payload n)) (sym (put_at v.written w (v.written w ++ (k, payload) ∷ []))) (write_stands net w k n payload (v.written w) (v.acked w) x number from));
             readers = s.readers;
-            ledger = makes net v known (healthy net cert v known accepted reached).sound.counts s.ledger;
+            ledger = makes net v known (healthy net v known reached).sound.counts s.ledger;
             bus = s.bus;
           },
         )
 
 -- a writer that is as it was leaves the domain as it was
-pub same_writers : (d : DomainState) (w : ℕ) (x y : WriterState) → w < length d.writers → x ≡ get_or d.writers w x → y ≡ x → record d { writers = set d.writers w y } ≡ d
+pub same_writers : (d : PartsState) (w : ℕ) (x y : WriterState) → w < length d.writers → x ≡ get_or d.writers w x → y ≡ x → record d { writers = set d.writers w y } ≡ d
 same_writers d w x y b at same = ap (λ z. record d { writers = set d.writers w z }) same ∙ ap (λ zs. record d { writers = zs }) (set_back d.writers w x b at)

@@ -17,7 +17,7 @@ impl Parts {
         ensures notes { IfOk result (λ reply. ReceivesNotes self.old (Data message.now) self.new) }
         ensures arrives { IfOk result (λ reply. OnRefused reply ⊥) }
         ensures bus { self.new.bus ≡ self.old.bus }
-        ensures plan { self.new.checked ≡ self.old.checked }
+        ensures plan { self.new.plan ≡ self.old.plan }
         ensures err { OnErr result (self.new ≡ self.old) }
     {
         match self.readers[message.reader.number()].on_data(message) {
@@ -33,7 +33,7 @@ impl Parts {
         ensures notes { IfOk result (λ reply. ReceivesNotes self.old (Gap gap.now) self.new) }
         ensures arrives { IfOk result (λ reply. OnRefused reply ⊥) }
         ensures bus { self.new.bus ≡ self.old.bus }
-        ensures plan { self.new.checked ≡ self.old.checked }
+        ensures plan { self.new.plan ≡ self.old.plan }
         ensures err { OnErr result (self.new ≡ self.old) }
     {
         match self.readers[gap.reader.number()].on_gap(gap) {
@@ -49,7 +49,7 @@ impl Parts {
         ensures notes { IfOk result (λ reply. ReceivesNotes self.old (HeartbeatPacket heartbeat.now) self.new) }
         ensures arrives { IfOk result (λ reply. OnRefused reply ⊥) }
         ensures bus { self.new.bus ≡ self.old.bus }
-        ensures plan { self.new.checked ≡ self.old.checked }
+        ensures plan { self.new.plan ≡ self.old.plan }
         ensures err { OnErr result (self.new ≡ self.old) }
     {
         match self.readers[heartbeat.reader.number()].on_heartbeat(heartbeat) {
@@ -65,7 +65,7 @@ impl Parts {
         ensures notes { ReceivesNotes self.old (AckNackPacket acknack.now) self.new }
         ensures arrives { OnRefused result ⊥ }
         ensures bus { self.new.bus ≡ self.old.bus }
-        ensures plan { self.new.checked ≡ self.old.checked }
+        ensures plan { self.new.plan ≡ self.old.plan }
     {
         self.writers[acknack.writer.number()].on_acknack(acknack);
         Reply::Acked
@@ -77,7 +77,7 @@ impl Parts {
         ensures notes { IfOk result (λ reply. ReceivesNotes self.old packet.now self.new) }
         ensures arrives { IfOk result (λ reply. OnRefused reply ⊥) }
         ensures bus { self.new.bus ≡ self.old.bus }
-        ensures plan { self.new.checked ≡ self.old.checked }
+        ensures plan { self.new.plan ≡ self.old.plan }
         ensures err { OnErr result (self.new ≡ self.old) }
     {
         match packet {
@@ -94,7 +94,7 @@ impl Parts {
         ensures steps { IfOk result (λ reply. StepsWorld self.old (Deliver place keep) reply self.new) }
         ensures notes { IfOk result (λ reply. StepsNotes self.old (Deliver place keep) reply self.new) }
         ensures refused { IfOk result (λ reply. OnRefused reply (self.new ≡ self.old)) }
-        ensures plan { self.new.checked ≡ self.old.checked }
+        ensures plan { self.new.plan ≡ self.old.plan }
         ensures err { OnErr result (self.new ≡ self.old) }
     {
         match self.bus.at(place) {
@@ -115,7 +115,7 @@ impl Parts {
         ensures steps { StepsWorld self.old (Lose place) result self.new }
         ensures notes { StepsNotes self.old (Lose place) result self.new }
         ensures refused { OnRefused result (self.new ≡ self.old) }
-        ensures plan { self.new.checked ≡ self.old.checked }
+        ensures plan { self.new.plan ≡ self.old.plan }
     {
         if self.bus.at(place).is_none() {
             return Reply::Refused(Refusal::NoPacket);

@@ -4,7 +4,7 @@ ghost use Rattle.dds_match.specs.Plan.{matched, network_of};
 ghost use Rattle.dds_check.specs.World.{World};
 ghost use Rattle.dds_domain.specs.Noted.{Noted};
 ghost use Rattle.dds_domain.specs.Schedule.{acknack_due, as_data, as_gap, by_fate, due, due_to, first_by_reader, first_by_writer, first_of_reader, first_of_writer, heartbeat_due, load, send_due, sending_of, writer_due};
-ghost use Rattle.dds_domain.specs.Standing.{IsAt, IsStanding};
+ghost use Rattle.dds_domain.specs.Standing.{PartsAt, IsRunning};
 ghost use Rattle.dds_domain.specs.declared.schedule.Sending.TheVariants.{AckNack};
 
 use crate::parts::Parts;
@@ -40,8 +40,8 @@ impl Sending {
 impl Parts {
     /// What a participant is to do in its turn, if anything.
     pub(crate) fn due(&self, participant: ParticipantNo, turn: u64, fate: Fate) -> Option<Event>
-        requires { IsStanding self.now }
-        ensures { (v : World) (noted : Noted) → IsAt v noted self.now → result ≡ due self.now.checked.plan v noted participant turn fate }
+        requires { IsRunning self.now }
+        ensures { (v : World) (noted : Noted) → PartsAt v noted self.now → result ≡ due self.now.plan v noted participant turn fate }
     {
         let odd = turn % 2 == 1;
         let enough = if odd { 1 } else { CROWDED };
@@ -56,8 +56,8 @@ impl Parts {
 
     // What a fate makes of the bus. `None` where the bus is empty.
     fn by_fate(&self, fate: Fate) -> Option<Event>
-        requires { IsStanding self.now }
-        ensures { (v : World) (noted : Noted) → IsAt v noted self.now → 1 ≤ load v → result ≡ Some (by_fate v fate) }
+        requires { IsRunning self.now }
+        ensures { (v : World) (noted : Noted) → PartsAt v noted self.now → 1 ≤ load v → result ≡ Some (by_fate v fate) }
     {
         let lowest = self.bus.lowest()?;
         match fate {
@@ -79,8 +79,8 @@ impl Parts {
 
     // The first sending of a kind that is due at a participant.
     fn send_due(&self, participant: ParticipantNo, sending: Sending) -> Option<Event>
-        requires { IsStanding self.now }
-        ensures { (v : World) (noted : Noted) → IsAt v noted self.now → result ≡ send_due self.now.checked.plan v noted participant sending }
+        requires { IsRunning self.now }
+        ensures { (v : World) (noted : Noted) → PartsAt v noted self.now → result ≡ send_due self.now.plan v noted participant sending }
     {
         match sending {
             Sending::AckNack => self.acknack_due(participant),
@@ -90,12 +90,12 @@ impl Parts {
 
     // The first DATA, GAP or HEARTBEAT that is due at a participant: by its writer, then by reader.
     fn write_due(&self, participant: ParticipantNo, sending: Sending) -> Option<Event>
-        requires { IsStanding self.now }
-        ensures { (v : World) (noted : Noted) → IsAt v noted self.now → result ≡ first_by_writer self.now.checked.plan participant (due_to (network_of self.now.checked.plan) v noted sending) }
+        requires { IsRunning self.now }
+        ensures { (v : World) (noted : Noted) → PartsAt v noted self.now → result ≡ first_by_writer self.now.plan participant (due_to (network_of self.now.plan) v noted sending) }
     {
         for w in 0..self.writers.len() {
             let writer = WriterNo::new(w);
-            if self.checked.plan().lists().writer(writer).participant == participant {
+            if self.plan.lists().writer(writer).participant == participant {
                 if let Some(event) = self.due_of_writer(writer, sending) {
                     return Some(event);
                 }
@@ -106,12 +106,12 @@ impl Parts {
 
     // The first DATA, GAP or HEARTBEAT that is due of a writer, by reader.
     fn due_of_writer(&self, writer: WriterNo, sending: Sending) -> Option<Event>
-        requires { IsStanding self.now }
-        ensures { (v : World) (noted : Noted) → IsAt v noted self.now → result ≡ first_of_writer self.now.checked.plan writer (due_to (network_of self.now.checked.plan) v noted sending) }
+        requires { IsRunning self.now }
+        ensures { (v : World) (noted : Noted) → PartsAt v noted self.now → result ≡ first_of_writer self.now.plan writer (due_to (network_of self.now.plan) v noted sending) }
     {
         for r in 0..self.readers.len() {
             let reader = ReaderNo::new(r);
-            if self.checked.plan().matched(writer, reader) {
+            if self.plan.matched(writer, reader) {
                 if let Some(event) = self.due_to(writer, reader, sending) {
                     return Some(event);
                 }
@@ -122,9 +122,9 @@ impl Parts {
 
     // The DATA, GAP or HEARTBEAT that is due of a writer to a reader that it matches.
     fn due_to(&self, writer: WriterNo, reader: ReaderNo, sending: Sending) -> Option<Event>
-        requires standing { IsStanding self.now }
-        requires pair { matched self.now.checked.plan writer reader ≡ true }
-        ensures { (v : World) (noted : Noted) → IsAt v noted self.now → result ≡ due_to (network_of self.now.checked.plan) v noted sending writer reader }
+        requires standing { IsRunning self.now }
+        requires pair { matched self.now.plan writer reader ≡ true }
+        ensures { (v : World) (noted : Noted) → PartsAt v noted self.now → result ≡ due_to (network_of self.now.plan) v noted sending writer reader }
     {
         match sending {
             Sending::Data => self.data_due(writer, reader),
@@ -136,9 +136,9 @@ impl Parts {
 
     // The DATA that its writer is to send next, if that is a DATA.
     fn data_due(&self, writer: WriterNo, reader: ReaderNo) -> Option<Event>
-        requires standing { IsStanding self.now }
-        requires pair { matched self.now.checked.plan writer reader ≡ true }
-        ensures { (v : World) (noted : Noted) → IsAt v noted self.now → result ≡ as_data writer reader (writer_due (network_of self.now.checked.plan) v noted writer reader) }
+        requires standing { IsRunning self.now }
+        requires pair { matched self.now.plan writer reader ≡ true }
+        ensures { (v : World) (noted : Noted) → PartsAt v noted self.now → result ≡ as_data writer reader (writer_due (network_of self.now.plan) v noted writer reader) }
     {
         match self.writers[writer.number()].due(reader)? {
             Due::Data(sn) => Some(Event::SendData { writer, reader, sn }),
@@ -148,9 +148,9 @@ impl Parts {
 
     // The GAP that its writer is to send next, if that is a GAP.
     fn gap_due(&self, writer: WriterNo, reader: ReaderNo) -> Option<Event>
-        requires standing { IsStanding self.now }
-        requires pair { matched self.now.checked.plan writer reader ≡ true }
-        ensures { (v : World) (noted : Noted) → IsAt v noted self.now → result ≡ as_gap writer reader (writer_due (network_of self.now.checked.plan) v noted writer reader) }
+        requires standing { IsRunning self.now }
+        requires pair { matched self.now.plan writer reader ≡ true }
+        ensures { (v : World) (noted : Noted) → PartsAt v noted self.now → result ≡ as_gap writer reader (writer_due (network_of self.now.plan) v noted writer reader) }
     {
         match self.writers[writer.number()].due(reader)? {
             Due::Gap(start) => Some(Event::SendGap {
@@ -164,12 +164,12 @@ impl Parts {
 
     // A HEARTBEAT is due to a reliable reader that has not acknowledged all that is written.
     fn heartbeat_due(&self, writer: WriterNo, reader: ReaderNo) -> Option<Event>
-        requires standing { IsStanding self.now }
-        requires pair { matched self.now.checked.plan writer reader ≡ true }
-        ensures { (v : World) (noted : Noted) → IsAt v noted self.now → result ≡ heartbeat_due (network_of self.now.checked.plan) v writer reader }
+        requires standing { IsRunning self.now }
+        requires pair { matched self.now.plan writer reader ≡ true }
+        ensures { (v : World) (noted : Noted) → PartsAt v noted self.now → result ≡ heartbeat_due (network_of self.now.plan) v writer reader }
     {
         let from = &self.writers[writer.number()];
-        if self.checked.plan().watcher(reader) {
+        if self.plan.watcher(reader) {
             return None;
         }
         if from.base(reader) > from.written() {
@@ -180,12 +180,12 @@ impl Parts {
 
     // The first ACKNACK that is due at a participant: by its reader, then by writer.
     fn acknack_due(&self, participant: ParticipantNo) -> Option<Event>
-        requires { IsStanding self.now }
-        ensures { (v : World) (noted : Noted) → IsAt v noted self.now → result ≡ first_by_reader self.now.checked.plan participant (acknack_due noted) }
+        requires { IsRunning self.now }
+        ensures { (v : World) (noted : Noted) → PartsAt v noted self.now → result ≡ first_by_reader self.now.plan participant (acknack_due noted) }
     {
         for r in 0..self.readers.len() {
             let reader = ReaderNo::new(r);
-            if self.checked.plan().lists().reader(reader).participant == participant {
+            if self.plan.lists().reader(reader).participant == participant {
                 if let Some(event) = self.due_of_reader(reader) {
                     return Some(event);
                 }
@@ -196,14 +196,14 @@ impl Parts {
 
     // The first ACKNACK that is due of a reader, by writer.
     fn due_of_reader(&self, reader: ReaderNo) -> Option<Event>
-        requires standing { IsStanding self.now }
+        requires standing { IsRunning self.now }
         requires reader { reader < length self.now.readers }
-        ensures { (v : World) (noted : Noted) → IsAt v noted self.now → result ≡ first_of_reader self.now.checked.plan reader (acknack_due noted) }
+        ensures { (v : World) (noted : Noted) → PartsAt v noted self.now → result ≡ first_of_reader self.now.plan reader (acknack_due noted) }
     {
         let from = &self.readers[reader.number()];
         for w in 0..self.writers.len() {
             let writer = WriterNo::new(w);
-            if self.checked.plan().matched(writer, reader) {
+            if self.plan.matched(writer, reader) {
                 if from.owes(writer) {
                     return Some(Event::SendAckNack { reader, writer });
                 }

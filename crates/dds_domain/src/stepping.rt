@@ -13,7 +13,7 @@ impl Parts {
         ensures steps { IfOk result (λ reply. StepsWorld self.old event reply self.new) }
         ensures notes { IfOk result (λ reply. StepsNotes self.old event reply self.new) }
         ensures refused { IfOk result (λ reply. OnRefused reply (self.new ≡ self.old)) }
-        ensures plan { self.new.checked ≡ self.old.checked }
+        ensures plan { self.new.plan ≡ self.old.plan }
         ensures err { OnErr result (self.new ≡ self.old) }
     {
         match event {

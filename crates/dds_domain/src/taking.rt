@@ -13,9 +13,9 @@ impl Parts {
         ensures steps { StepsWorld self.old (Take reader key) result self.new }
         ensures notes { StepsNotes self.old (Take reader key) result self.new }
         ensures refused { OnRefused result (self.new ≡ self.old) }
-        ensures plan { self.new.checked ≡ self.old.checked }
+        ensures plan { self.new.plan ≡ self.old.plan }
     {
-        if !self.checked.plan().hears(reader, key) {
+        if !self.plan.hears(reader, key) {
             return Reply::Refused(Refusal::Foreign);
         }
         if self.ledger.spare(reader, key) == u64::MAX {

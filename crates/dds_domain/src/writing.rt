@@ -35,10 +35,10 @@ impl Parts {
         ensures steps { IfOk result (λ reply. StepsWorld self.old (Write writer key payload) reply self.new) }
         ensures notes { IfOk result (λ reply. StepsNotes self.old (Write writer key payload) reply self.new) }
         ensures refused { IfOk result (λ reply. OnRefused reply (self.new ≡ self.old)) }
-        ensures plan { self.new.checked ≡ self.old.checked }
+        ensures plan { self.new.plan ≡ self.old.plan }
         ensures err { OnErr result (self.new ≡ self.old) }
     {
-        if !self.checked.plan().writes_key(writer, key) {
+        if !self.plan.writes_key(writer, key) {
             return Ok(Reply::Refused(Refusal::Foreign));
         }
         if self.ledger.permits(writer, key) == 0 {
@@ -62,9 +62,9 @@ impl Parts {
         ensures steps { StepsWorld self.old (Fire rule) result self.new }
         ensures notes { StepsNotes self.old (Fire rule) result self.new }
         ensures refused { OnRefused result (self.new ≡ self.old) }
-        ensures plan { self.new.checked ≡ self.old.checked }
+        ensures plan { self.new.plan ≡ self.old.plan }
     {
-        if rule.number() >= self.checked.plan().lists().rules() {
+        if rule.number() >= self.plan.lists().rules() {
             return Reply::Refused(Refusal::Foreign);
         }
         match self.ledger.fire(rule) {

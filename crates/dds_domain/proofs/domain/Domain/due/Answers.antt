@@ -4,11 +4,12 @@ use Rattle.dds_check.specs.Steps.{Event, refusal}
 use Rattle.dds_match.specs.Plan.{network_of}
 use Rattle.dds_domain.specs.Schedule.{due}
 use Rattle.dds_domain.specs.Standing.{DomainState, IsAt}
+use Rattle.dds_domain.proofs.Standing.{is_running}
 use Rattle.dds_domain.proofs.Turns.{due_lawful}
 use Rattle.dds_domain.proofs.domain.Domain.due.Goals as goal
 
 pub due-requires : goal.due-requires
-due-requires c = c.self.invariant
+due-requires c = is_running _ c.self.invariant
 
 pub returns-clause-lawful : goal.returns-clause-lawful
 returns-clause-lawful c = λ v noted at.

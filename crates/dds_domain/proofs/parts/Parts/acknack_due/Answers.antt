@@ -2,7 +2,7 @@ use Rattle.std.proofs.Common.{◌≡◌, ◌<◌, ◌≤◌, Some, true, false, 
 use Rattle.dds_deploy.specs.Views.{reader_view}
 use Rattle.dds_check.proofs.First.{first_below_start}
 use Rattle.dds_domain.specs.Schedule.{acknack_due, first_of_reader, is_reader_of}
-use Rattle.dds_domain.specs.Standing.{DomainState}
+use Rattle.dds_domain.specs.Standing.{PartsState}
 use Rattle.dds_domain.proofs.ScheduleDue.{reader_entries}
 use Rattle.dds_domain.proofs.SchedulePairs.{failing_next, passing_found, passing_next, passing_none, reader_belongs}
 use Rattle.dds_domain.proofs.parts.Parts.acknack_due.Goals as goal
@@ -13,8 +13,8 @@ loop-r-init c = λ v noted at. first_below_start _
 
 pub returns-in-Some : goal.returns-in-Some
 returns-in-Some c = λ v noted at.
-    let d : DomainState = c.args.self.now in
-    let plan = d.checked.plan in
+    let d : PartsState = c.args.self.now in
+    let plan = d.plan in
     let count = reader_entries d c.requires in
     let within : c.loop-r.r < length d.readers = search rules in
     let there : slice_get plan.readers.entries c.new-reader.result ≡ Some (reader_view c.reader.result.now) = search rules in
@@ -24,8 +24,8 @@ returns-in-Some c = λ v noted at.
 
 pub loop-r-preserved : goal.loop-r-preserved
 loop-r-preserved c = λ v noted at.
-    let d : DomainState = c.args.self.now in
-    let plan = d.checked.plan in
+    let d : PartsState = c.args.self.now in
+    let plan = d.plan in
     let there : slice_get plan.readers.entries c.new-reader.result ≡ Some (reader_view c.reader.result.now) = search rules in
     elim c.if-eq.branch [
       | then-eq+in_default w ↦
@@ -39,8 +39,8 @@ loop-r-preserved c = λ v noted at.
 
 pub returns : goal.returns
 returns c = λ v noted at.
-    let d : DomainState = c.args.self.now in
-    let plan = d.checked.plan in
+    let d : PartsState = c.args.self.now in
+    let plan = d.plan in
     let count = reader_entries d c.requires in
     let past : length d.readers ≤ c.loop-r.r = search rules in
     let upto : c.loop-r.r ≤ length d.readers = search rules in

@@ -2,13 +2,13 @@ use Rattle.std.proofs.Common.{◌≡◌, None, Some, get_or, rules, sym, ap, ◌
 use Rattle.dds_qos.specs.declared.notes.Due.TheVariants.{Data, Gap}
 use Rattle.dds_writer.specs.Writer.{WriterState}
 use Rattle.dds_domain.specs.Schedule.{as_data}
-use Rattle.dds_domain.specs.Standing.{DomainState}
+use Rattle.dds_domain.specs.Standing.{PartsState}
 use Rattle.dds_domain.proofs.ScheduleDue.{due_at, pair_proxy}
 use Rattle.dds_domain.proofs.parts.Parts.data_due.Goals as goal
 
 pub due-requires : goal.due-requires
 due-requires c =
-    let d : DomainState = c.args.self.now in
+    let d : PartsState = c.args.self.now in
     let x : WriterState = c.index.result.now in
     let here : x ≡ get_or d.writers c.args.writer x = search rules in
     pair_proxy d c.args.writer c.args.reader c.requires.standing c.requires.pair x here
@@ -16,14 +16,14 @@ due-requires c =
 -- nothing is due
 pub returns-in_err-sn : goal.returns-in_err-sn
 returns-in_err-sn c = λ v noted at.
-    let d : DomainState = c.args.self.now in
+    let d : PartsState = c.args.self.now in
     let x : WriterState = c.index.result.now in
     let here : x ≡ get_or d.writers c.args.writer x = search rules in
     c.from_residual.ensures ∙ ap (as_data c.args.writer c.args.reader) (due_at d c.args.writer c.args.reader c.requires.standing c.requires.pair x None here (sym c.in_err-sn.was ∙ c.due.ensures) v noted at)
 
 pub returns-in-Data : goal.returns-in-Data
 returns-in-Data c = λ v noted at.
-    let d : DomainState = c.args.self.now in
+    let d : PartsState = c.args.self.now in
     let x : WriterState = c.index.result.now in
     let here : x ≡ get_or d.writers c.args.writer x = search rules in
     let due : c.due.result ≡ Some (Data c.in-Data.sn) = search rules in
@@ -31,7 +31,7 @@ returns-in-Data c = λ v noted at.
 
 pub returns-in-Gap : goal.returns-in-Gap
 returns-in-Gap c = λ v noted at.
-    let d : DomainState = c.args.self.now in
+    let d : PartsState = c.args.self.now in
     let x : WriterState = c.index.result.now in
     let here : x ≡ get_or d.writers c.args.writer x = search rules in
     let due : c.due.result ≡ Some (Gap c.in-Gap.field-0) = search rules in

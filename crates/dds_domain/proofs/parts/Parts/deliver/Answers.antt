@@ -4,7 +4,7 @@ use Rattle.dds_base.specs.declared.events.Reply.TheVariants.{Refused}
 use Rattle.dds_base.specs.declared.events.Refusal.TheVariants.{NoPacket}
 use Rattle.dds_base.specs.declared.messages.Packet.{Packet}
 use Rattle.dds_domain.specs.Bus.{at_place}
-use Rattle.dds_domain.specs.Standing.{DomainState, StepsWorld, Receives, ReceivesNotes}
+use Rattle.dds_domain.specs.Standing.{PartsState, StepsWorld, Receives, ReceivesNotes}
 use Rattle.dds_domain.specs.View.{view_of}
 use Rattle.dds_domain.proofs.StepDeliver.{sent_at, deliver_none, deliver_kept, deliver_gone}
 use Rattle.dds_domain.proofs.NotesKept.{refused_kept}
@@ -13,8 +13,8 @@ use Rattle.dds_domain.proofs.parts.Parts.deliver.Goals as goal
 use Rattle.dds_domain.proofs.parts.Parts.deliver.Goals.{then-not-keep, else-not-keep}
 
 -- the packet is the one at the place
-there : (d e : DomainState) (i : ℕ) (p : Packet) → e ≡ d → at_place e.bus i ≡ Some p → at_place d.bus i ≡ Some p
-there d e i p same h = subst (λ (z : DomainState). at_place z.bus i ≡ Some p) same h
+there : (d e : PartsState) (i : ℕ) (p : Packet) → e ≡ d → at_place e.bus i ≡ Some p → at_place d.bus i ≡ Some p
+there d e i p same h = subst (λ (z : PartsState). at_place z.bus i ≡ Some p) same h
 
 pub receive-requires : goal.receive-requires
 receive-requires c =
@@ -23,17 +23,17 @@ receive-requires c =
 
 pub returns-in-None-clause-steps : goal.returns-in-None-clause-steps
 returns-in-None-clause-steps c =
-    let d : DomainState = view_of c.self.inside in
+    let d : PartsState = view_of c.self.inside in
     let none : at_place d.bus c.args.place ≡ None = search rules in
-    subst (λ (z : DomainState). StepsWorld z (Deliver c.args.place c.args.keep) (Refused NoPacket) z) c.self.view_is (deliver_none d c.args.place c.args.keep none)
+    subst (λ (z : PartsState). StepsWorld z (Deliver c.args.place c.args.keep) (Refused NoPacket) z) c.self.view_is (deliver_none d c.args.place c.args.keep none)
 
 pub returns-after-not-keep-clause-steps : goal.returns-after-not-keep-clause-steps
 returns-after-not-keep-clause-steps c =
-    let d : DomainState = c.args.self.now in
-    let new : DomainState = view_of c.self-in-Some.inside in
+    let d : PartsState = c.args.self.now in
+    let new : PartsState = view_of c.self-in-Some.inside in
     let reply = c.in_ok-reply-in-Some.reply in
     let at = there c.args.self.now (view_of c.self.inside) c.args.place c.in-Some.packet c.self.view_is (sym c.at.ensures ∙ c.in-Some.is) in
-    let received : Receives d c.in-Some.packet c.in_ok-reply-in-Some.reply new = subst (λ (z : DomainState). Receives c.args.self.now c.in-Some.packet c.in_ok-reply-in-Some.reply z) (sym c.self-in-Some.view_is) c.in_ok-reply-in-Some.ensures.receives in
+    let received : Receives d c.in-Some.packet c.in_ok-reply-in-Some.reply new = subst (λ (z : PartsState). Receives c.args.self.now c.in-Some.packet c.in_ok-reply-in-Some.reply z) (sym c.self-in-Some.view_is) c.in_ok-reply-in-Some.ensures.receives in
     elim c.if-not-keep.branch [
       | then-not-keep w ↦ (
           let gone : c.args.keep ≡ false = search rules in
@@ -51,13 +51,13 @@ returns-in-None-clause-notes c = refused_kept c.args.self.now (Deliver c.args.pl
 
 pub returns-after-not-keep-clause-notes : goal.returns-after-not-keep-clause-notes
 returns-after-not-keep-clause-notes c =
-    let d : DomainState = c.args.self.now in
-    let new : DomainState = view_of c.self-in-Some.inside in
+    let d : PartsState = c.args.self.now in
+    let new : PartsState = view_of c.self-in-Some.inside in
     let p : Packet = c.in-Some.packet in
     let reply = c.in_ok-reply-in-Some.reply in
     let e = c.in_ok-reply-in-Some.ensures in
     let at = there d (view_of c.self.inside) c.args.place p c.self.view_is (sym c.at.ensures ∙ c.in-Some.is) in
-    let received : ReceivesNotes d p new = subst (λ (z : DomainState). ReceivesNotes d p z) (sym c.self-in-Some.view_is) e.notes in
+    let received : ReceivesNotes d p new = subst (λ (z : PartsState). ReceivesNotes d p z) (sym c.self-in-Some.view_is) e.notes in
     elim c.if-not-keep.branch [
       | then-not-keep w ↦ (
           let same : c.if-not-keep.self ≡ record new { bus = set new.bus c.args.place None } = search rules in

@@ -4,10 +4,10 @@ use Rattle.dds_check.specs.First.{first_below}
 use Rattle.dds_check.specs.World.{World}
 use Rattle.dds_domain.specs.Noted.{Noted}
 use Rattle.dds_domain.specs.Schedule.{due_to}
-use Rattle.dds_domain.specs.Standing.{IsAt}
+use Rattle.dds_domain.specs.Standing.{PartsAt}
 use Rattle.dds_domain.proofs.SchedulePairs.{where_passes}
 use Rattle.dds_domain.proofs.parts.Parts.due_of_writer.Given as goal
 
 -- nothing is due to the readers so far
 abbrev pub invariant-loop-r : goal.invariant-loop-r
-invariant-loop-r l = (v : World) (noted : Noted) → IsAt v noted l.self → first_below l.r (where_passes (matched l.self.checked.plan l.writer) (due_to (network_of l.self.checked.plan) v noted l.sending l.writer)) ≡ None
+invariant-loop-r l = (v : World) (noted : Noted) → PartsAt v noted l.self → first_below l.r (where_passes (matched l.self.plan l.writer) (due_to (network_of l.self.plan) v noted l.sending l.writer)) ≡ None

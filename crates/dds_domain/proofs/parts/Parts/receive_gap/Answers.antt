@@ -4,7 +4,7 @@ use Rattle.dds_base.specs.declared.messages.Packet.TheVariants.{Gap}
 use Rattle.dds_base.specs.declared.events.Reply.{Reply}
 use Rattle.dds_base.specs.declared.events.Reply.TheVariants.{Arrived}
 use Rattle.dds_reader.specs.Reader.{ReaderState}
-use Rattle.dds_domain.specs.Standing.{DomainState, Receives, ReceivesNotes}
+use Rattle.dds_domain.specs.Standing.{PartsState, Receives, ReceivesNotes}
 use Rattle.dds_domain.specs.View.{view_of}
 use Rattle.dds_domain.proofs.StepReceive.{receive_gap}
 use Rattle.dds_domain.proofs.NotesReceived.{gap_kept}
@@ -13,7 +13,7 @@ use Rattle.dds_domain.proofs.parts.Parts.receive_gap.Goals.{in-Ok, in-Err}
 
 pub returns-clause-receives : goal.returns-clause-receives
 returns-clause-receives c =
-    let d : DomainState = view_of c.self.inside in
+    let d : PartsState = view_of c.self.inside in
     let m : GapFor = c.args.gap.now in
     let x : ReaderState = c.index_mut.result.now in
     let y : ReaderState = c.on_gap.new.self in
@@ -25,13 +25,13 @@ returns-clause-receives c =
           let reply : Reply = Arrived w.in-Ok.arrival in
           let step = receive_gap d m x y w.in-Ok.arrival at e.answer e.marks e.notes e.samples e.rest in
           let there = subst (λ i. Receives d (Gap m) reply (record d { readers = set d.readers i y })) (sym n) step in
-          rw w.result-is (subst (λ (z : DomainState). Receives z (Gap m) reply (record d { readers = set d.readers c.number.result y })) c.self.view_is there)
+          rw w.result-is (subst (λ (z : PartsState). Receives z (Gap m) reply (record d { readers = set d.readers c.number.result y })) c.self.view_is there)
       | in-Err w ↦ rw w.result-is tt
     ]
 
 pub returns-clause-notes : goal.returns-clause-notes
 returns-clause-notes c =
-    let d : DomainState = view_of c.self.inside in
+    let d : PartsState = view_of c.self.inside in
     let m : GapFor = c.args.gap.now in
     let x : ReaderState = c.index_mut.result.now in
     let y : ReaderState = c.on_gap.new.self in
@@ -41,6 +41,6 @@ returns-clause-notes c =
       | in-Ok w ↦
           let e = w.in-Ok.ensures in
           let there = subst (λ i. ReceivesNotes d (Gap m) (record d { readers = set d.readers i y })) (sym n) (gap_kept d m x y at e.rest.watching e.notes) in
-          rw w.result-is (subst (λ (z : DomainState). ReceivesNotes z (Gap m) (record d { readers = set d.readers c.number.result y })) c.self.view_is there)
+          rw w.result-is (subst (λ (z : PartsState). ReceivesNotes z (Gap m) (record d { readers = set d.readers c.number.result y })) c.self.view_is there)
       | in-Err w ↦ rw w.result-is tt
     ]

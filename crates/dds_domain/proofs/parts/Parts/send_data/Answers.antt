@@ -7,7 +7,7 @@ use Rattle.dds_match.specs.Plan.{network_of}
 use Rattle.dds_check.specs.Steps.{Sent}
 use Rattle.dds_writer.specs.Writer.{WriterState}
 use Rattle.dds_domain.specs.Bus.{with_packet}
-use Rattle.dds_domain.specs.Standing.{DomainState, HasWorld}
+use Rattle.dds_domain.specs.Standing.{PartsState, HasWorld}
 use Rattle.dds_domain.specs.View.{view_of}
 use Rattle.dds_domain.proofs.Endpoints.{matched_at, matched_within}
 use Rattle.dds_domain.proofs.StepSend.{data_foreign, data_nothing, data_done}
@@ -19,22 +19,22 @@ use Rattle.dds_domain.proofs.parts.Parts.send_data.Goals as goal
 
 pub returns-then-not-matched-clause-steps : goal.returns-then-not-matched-clause-steps
 returns-then-not-matched-clause-steps c =
-    let d : DomainState = view_of c.self.inside in
-    let fails : (network_of d.checked.plan).matched c.args.writer c.args.reader ≡ false = search rules in
+    let d : PartsState = view_of c.self.inside in
+    let fails : (network_of d.plan).matched c.args.writer c.args.reader ≡ false = search rules in
     step_as (SendData c.args.writer c.args.reader c.args.sn) d _ _ _ d _ c.self.view_is refl (sym c.self.view_is) (data_foreign d c.args.writer c.args.reader c.args.sn fails)
 
 pub data-requires : goal.data-requires
 data-requires c =
-    let d : DomainState = view_of c.self.inside in
-    let pair : (network_of d.checked.plan).matched c.args.writer c.args.reader ≡ true = search rules in
+    let d : PartsState = view_of c.self.inside in
+    let pair : (network_of d.plan).matched c.args.writer c.args.reader ≡ true = search rules in
     let x : WriterState = c.index_mut-from.result.now in
     let at : x ≡ get_or d.writers c.args.writer x = subst (λ i. x ≡ get_or d.writers i x) c.number.ensures c.index_mut-from.ensures.value in
     matched_at d c.args.writer c.args.reader x (subst HasWorld (sym c.self.view_is) c.requires) pair at
 
 pub returns-in-None-clause-steps : goal.returns-in-None-clause-steps
 returns-in-None-clause-steps c =
-    let d : DomainState = view_of c.self.inside in
-    let pair : (network_of d.checked.plan).matched c.args.writer c.args.reader ≡ true = search rules in
+    let d : PartsState = view_of c.self.inside in
+    let pair : (network_of d.plan).matched c.args.writer c.args.reader ≡ true = search rules in
     let x : WriterState = c.index_mut-from.result.now in
     let at : x ≡ get_or d.writers c.args.writer x = subst (λ i. x ≡ get_or d.writers i x) c.number.ensures c.index_mut-from.ensures.value in
     let within = matched_within d c.args.writer c.args.reader (subst HasWorld (sym c.self.view_is) c.requires) pair in
@@ -44,8 +44,8 @@ returns-in-None-clause-steps c =
 
 pub returns-in-Some-clause-steps : goal.returns-in-Some-clause-steps
 returns-in-Some-clause-steps c =
-    let d : DomainState = view_of c.self.inside in
-    let pair : (network_of d.checked.plan).matched c.args.writer c.args.reader ≡ true = search rules in
+    let d : PartsState = view_of c.self.inside in
+    let pair : (network_of d.plan).matched c.args.writer c.args.reader ≡ true = search rules in
     let x : WriterState = c.index_mut-from.result.now in
     let at : x ≡ get_or d.writers c.args.writer x = subst (λ i. x ≡ get_or d.writers i x) c.number.ensures c.index_mut-from.ensures.value in
     let within = matched_within d c.args.writer c.args.reader (subst HasWorld (sym c.self.view_is) c.requires) pair in
@@ -61,8 +61,8 @@ returns-then-not-matched-clause-notes c = refused_kept c.args.self.now (SendData
 
 pub returns-in-None-clause-notes : goal.returns-in-None-clause-notes
 returns-in-None-clause-notes c =
-    let d : DomainState = view_of c.self.inside in
-    let pair : (network_of d.checked.plan).matched c.args.writer c.args.reader ≡ true = search rules in
+    let d : PartsState = view_of c.self.inside in
+    let pair : (network_of d.plan).matched c.args.writer c.args.reader ≡ true = search rules in
     let x : WriterState = c.index_mut-from.result.now in
     let at : x ≡ get_or d.writers c.args.writer x = subst (λ i. x ≡ get_or d.writers i x) c.number.ensures c.index_mut-from.ensures.value in
     let within = matched_within d c.args.writer c.args.reader (subst HasWorld (sym c.self.view_is) c.requires) pair in
@@ -71,8 +71,8 @@ returns-in-None-clause-notes c =
 
 pub returns-in-Some-clause-notes : goal.returns-in-Some-clause-notes
 returns-in-Some-clause-notes c =
-    let d : DomainState = view_of c.self.inside in
-    let pair : (network_of d.checked.plan).matched c.args.writer c.args.reader ≡ true = search rules in
+    let d : PartsState = view_of c.self.inside in
+    let pair : (network_of d.plan).matched c.args.writer c.args.reader ≡ true = search rules in
     let x : WriterState = c.index_mut-from.result.now in
     let at : x ≡ get_or d.writers c.args.writer x = subst (λ i. x ≡ get_or d.writers i x) c.number.ensures c.index_mut-from.ensures.value in
     let within = matched_within d c.args.writer c.args.reader (subst HasWorld (sym c.self.view_is) c.requires) pair in

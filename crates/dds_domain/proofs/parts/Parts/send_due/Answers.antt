@@ -19,4 +19,4 @@ pub returns-in-AckNack : goal.returns-in-AckNack
 returns-in-AckNack c = λ v noted at. rw c.in-AckNack.is (c.acknack_due.ensures v noted at)
 
 pub returns-in_default : goal.returns-in_default
-returns-in_default c = λ v noted at. c.write_due.ensures v noted at ∙ of_writers c.args.self.now.checked.plan v noted c.args.participant c.args.sending c.in_default.not-AckNack
+returns-in_default c = λ v noted at. c.write_due.ensures v noted at ∙ of_writers c.args.self.now.plan v noted c.args.participant c.args.sending c.in_default.not-AckNack

@@ -9,7 +9,7 @@ use Rattle.dds_check.specs.CountRuns.CountMove.{Writes}
 use Rattle.dds_rules.specs.Counts.{count_at}
 use Rattle.dds_rules.specs.Standing.{Makes}
 use Rattle.dds_writer.specs.Writer.{WriterState}
-use Rattle.dds_domain.specs.Standing.{DomainState, HasWorld}
+use Rattle.dds_domain.specs.Standing.{PartsState, HasWorld}
 use Rattle.dds_domain.specs.View.{view_of}
 use Rattle.dds_domain.proofs.Endpoints.{writes_within}
 use Rattle.dds_domain.proofs.Steps.{step_as}
@@ -21,30 +21,30 @@ use Rattle.dds_domain.proofs.parts.Parts.write.Goals as goal
 
 pub returns-then-not-writes_key-clause-steps : goal.returns-then-not-writes_key-clause-steps
 returns-then-not-writes_key-clause-steps c =
-    let d : DomainState = view_of c.self.inside in
-    let fails : (network_of d.checked.plan).writes_key c.args.writer c.args.key ≡ false = search rules in
+    let d : PartsState = view_of c.self.inside in
+    let fails : (network_of d.plan).writes_key c.args.writer c.args.key ≡ false = search rules in
     step_as (Write c.args.writer c.args.key c.args.payload) d _ _ _ d _ c.self.view_is refl (sym c.self.view_is) (write_foreign d c.args.writer c.args.key c.args.payload fails)
 
 pub returns-then-permits-eq0-clause-steps : goal.returns-then-permits-eq0-clause-steps
 returns-then-permits-eq0-clause-steps c =
-    let d : DomainState = view_of c.self.inside in
-    let own : (network_of d.checked.plan).writes_key c.args.writer c.args.key ≡ true = search rules in
+    let d : PartsState = view_of c.self.inside in
+    let own : (network_of d.plan).writes_key c.args.writer c.args.key ≡ true = search rules in
     let spent : count_at d.ledger.permits c.args.writer c.args.key ≡ 0 = search rules in
     step_as (Write c.args.writer c.args.key c.args.payload) d _ _ _ d _ c.self.view_is refl (sym c.self.view_is) (write_no_permit d c.args.writer c.args.key c.args.payload own spent)
 
 pub index_mut-requires : goal.index_mut-requires
 index_mut-requires c =
-    let d : DomainState = view_of c.self.inside in
-    let own : (network_of d.checked.plan).writes_key c.args.writer c.args.key ≡ true = search rules in
+    let d : PartsState = view_of c.self.inside in
+    let own : (network_of d.plan).writes_key c.args.writer c.args.key ≡ true = search rules in
     let within : c.args.writer < length d.writers = writes_within d c.args.writer c.args.key (subst HasWorld (sym c.self.view_is) c.requires) own in
     search rules
 
 pub returns-in-Ok-clause-steps : goal.returns-in-Ok-clause-steps
 returns-in-Ok-clause-steps c =
-    let d : DomainState = view_of c.self.inside in
+    let d : PartsState = view_of c.self.inside in
     let x : WriterState = c.index_mut.result.now in
     let n : ℕ = c.in-Ok.sn in
-    let own : (network_of d.checked.plan).writes_key c.args.writer c.args.key ≡ true = search rules in
+    let own : (network_of d.plan).writes_key c.args.writer c.args.key ≡ true = search rules in
     let some : count_at d.ledger.permits c.args.writer c.args.key ≢ 0 = search rules in
     let within : c.args.writer < length d.writers = writes_within d c.args.writer c.args.key (subst HasWorld (sym c.self.view_is) c.requires) own in
     let at : x ≡ get_or d.writers c.args.writer x = subst (λ i. x ≡ get_or d.writers i x) c.number.ensures c.index_mut.ensures.value in
@@ -59,9 +59,9 @@ returns-in-Ok-clause-steps c =
 
 pub returns-after-refusal_of-clause-steps : goal.returns-after-refusal_of-clause-steps
 returns-after-refusal_of-clause-steps c =
-    let d : DomainState = view_of c.self.inside in
+    let d : PartsState = view_of c.self.inside in
     let x : WriterState = c.index_mut.result.now in
-    let own : (network_of d.checked.plan).writes_key c.args.writer c.args.key ≡ true = search rules in
+    let own : (network_of d.plan).writes_key c.args.writer c.args.key ≡ true = search rules in
     let some : count_at d.ledger.permits c.args.writer c.args.key ≢ 0 = search rules in
     let within : c.args.writer < length d.writers = writes_within d c.args.writer c.args.key (subst HasWorld (sym c.self.view_is) c.requires) own in
     let at : x ≡ get_or d.writers c.args.writer x = subst (λ i. x ≡ get_or d.writers i x) c.number.ensures c.index_mut.ensures.value in
@@ -83,10 +83,10 @@ returns-then-permits-eq0-clause-notes c = refused_kept c.args.self.now (Write c.
 
 pub returns-in-Ok-clause-notes : goal.returns-in-Ok-clause-notes
 returns-in-Ok-clause-notes c =
-    let d : DomainState = view_of c.self.inside in
+    let d : PartsState = view_of c.self.inside in
     let x : WriterState = c.index_mut.result.now in
     let n : ℕ = c.in-Ok.sn in
-    let own : (network_of d.checked.plan).writes_key c.args.writer c.args.key ≡ true = search rules in
+    let own : (network_of d.plan).writes_key c.args.writer c.args.key ≡ true = search rules in
     let within : c.args.writer < length d.writers = writes_within d c.args.writer c.args.key (subst HasWorld (sym c.self.view_is) c.requires) own in
     let at : x ≡ get_or d.writers c.args.writer x = subst (λ i. x ≡ get_or d.writers i x) c.number.ensures c.index_mut.ensures.value in
     let state : c.write.new.self ≡ wrote x c.args.key c.args.payload n = c.in-Ok.ensures.state in
@@ -96,9 +96,9 @@ returns-in-Ok-clause-notes c =
 
 pub returns-after-refusal_of-clause-notes : goal.returns-after-refusal_of-clause-notes
 returns-after-refusal_of-clause-notes c =
-    let d : DomainState = view_of c.self.inside in
+    let d : PartsState = view_of c.self.inside in
     let x : WriterState = c.index_mut.result.now in
-    let own : (network_of d.checked.plan).writes_key c.args.writer c.args.key ≡ true = search rules in
+    let own : (network_of d.plan).writes_key c.args.writer c.args.key ≡ true = search rules in
     let within : c.args.writer < length d.writers = writes_within d c.args.writer c.args.key (subst HasWorld (sym c.self.view_is) c.requires) own in
     let at : x ≡ get_or d.writers c.args.writer x = subst (λ i. x ≡ get_or d.writers i x) c.number.ensures c.index_mut.ensures.value in
     let back : record d { writers = set d.writers c.number.result c.write.new.self } ≡ d =

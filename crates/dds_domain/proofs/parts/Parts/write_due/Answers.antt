@@ -3,7 +3,7 @@ use Rattle.dds_deploy.specs.Views.{writer_view}
 use Rattle.dds_match.specs.Plan.{network_of}
 use Rattle.dds_check.proofs.First.{first_below_start}
 use Rattle.dds_domain.specs.Schedule.{due_to, first_of_writer, is_writer_of}
-use Rattle.dds_domain.specs.Standing.{DomainState}
+use Rattle.dds_domain.specs.Standing.{PartsState}
 use Rattle.dds_domain.proofs.ScheduleDue.{writer_entries}
 use Rattle.dds_domain.proofs.SchedulePairs.{failing_next, passing_found, passing_next, passing_none, writer_belongs}
 use Rattle.dds_domain.proofs.parts.Parts.write_due.Goals as goal
@@ -14,8 +14,8 @@ loop-w-init c = λ v noted at. first_below_start _
 
 pub returns-in-Some : goal.returns-in-Some
 returns-in-Some c = λ v noted at.
-    let d : DomainState = c.args.self.now in
-    let plan = d.checked.plan in
+    let d : PartsState = c.args.self.now in
+    let plan = d.plan in
     let count = writer_entries d c.requires in
     let within : c.loop-w.w < length d.writers = search rules in
     let there : slice_get plan.writers.entries c.new-writer.result ≡ Some (writer_view c.writer.result.now) = search rules in
@@ -25,8 +25,8 @@ returns-in-Some c = λ v noted at.
 
 pub loop-w-preserved : goal.loop-w-preserved
 loop-w-preserved c = λ v noted at.
-    let d : DomainState = c.args.self.now in
-    let plan = d.checked.plan in
+    let d : PartsState = c.args.self.now in
+    let plan = d.plan in
     let there : slice_get plan.writers.entries c.new-writer.result ≡ Some (writer_view c.writer.result.now) = search rules in
     elim c.if-eq.branch [
       | then-eq+in_default w ↦
@@ -40,8 +40,8 @@ loop-w-preserved c = λ v noted at.
 
 pub returns : goal.returns
 returns c = λ v noted at.
-    let d : DomainState = c.args.self.now in
-    let plan = d.checked.plan in
+    let d : PartsState = c.args.self.now in
+    let plan = d.plan in
     let count = writer_entries d c.requires in
     let past : length d.writers ≤ c.loop-w.w = search rules in
     let upto : c.loop-w.w ≤ length d.writers = search rules in
