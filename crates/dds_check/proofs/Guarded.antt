@@ -1,8 +1,7 @@
 -- What an accepted certificate adds to each world of a wide run: weights stay within their budgets, no reliable reader overwrites, and replies are good.
-use Rattle.std.proofs.Common.{◌≡◌, ◌⊎◌, inl, inr, ℕ, ◌≤◌, ◌<◌, Bool, true, false, cond, eqb, List, [], ◌∷◌, ◌++◌, Option, Some, None, refl, sym, ap, subst, arith}
-use Rattle.std.specs.Prelude.{length}
+use Rattle.std.proofs.Common.{◌≡◌, ◌⊎◌, inl, inr, ℕ, ◌≤◌, ◌<◌, Bool, true, false, cond, List, [], ◌∷◌, ◌++◌, Option, Some, None, refl, sym, ap, subst, arith}
 use Rattle.std.proofs.lemmas.Bool.{cond_both, true≢false, both_ways}
-use Rattle.dds_base.specs.Sums.{In, put}
+use Rattle.dds_base.specs.Sums.{In}
 use Rattle.dds_base.specs.declared.portion.Portion.{Portion}
 use Rattle.dds_base.specs.declared.messages.Packet.TheVariants.{Data, Gap, Heartbeat, AckNack}
 use Rattle.dds_base.specs.declared.events.Event.TheVariants.{Write, Fire, Take, SendData, SendGap, SendHeartbeat, SendAckNack, Deliver, Lose}
@@ -14,8 +13,8 @@ use Rattle.dds_qos.specs.declared.admission.Admit.{Admit}
 use Rattle.dds_qos.specs.declared.admission.Admit.TheVariants.{Stored}
 use Rattle.dds_qos.specs.declared.admission.Admit.TheVariants.{Overwrote as Replaced}
 use Rattle.dds_match.specs.Network.{Network, IsNetwork, named}
-use Rattle.dds_check.specs.World.{World, Sample, Packet, marked, permits, spare, stored, known_keys}
-use Rattle.dds_check.specs.Steps.{Event, Reply, Refusal, DataFor, is_empty, refusal, RefusedOr, Replies, May, after, packet_reply, after_packet, after_data, after_watched, give_up, store, arrival_of_data, admission, available, IsLeastOfWriter, new_by_heartbeat, lost_or_heard, data_packet, gap_packet, heartbeat_packet, acknack_packet, send, take_away, arrived_from, AtPlace}
+use Rattle.dds_check.specs.World.{World, Sample, Packet, marked, spare, stored, known_keys}
+use Rattle.dds_check.specs.Steps.{Event, Reply, Refusal, DataFor, is_empty, refusal, RefusedOr, Replies, May, after, packet_reply, after_packet, after_data, after_watched, arrival_of_data, admission, available, IsLeastOfWriter, new_by_heartbeat, lost_or_heard, data_packet, gap_packet, heartbeat_packet, acknack_packet, send, take_away, arrived_from, AtPlace}
 use Rattle.dds_check.specs.Runs.{Move, MayMove, after_move, replay, IsRunFrom, brought, is_watchers, reader_of}
 use Rattle.dds_check.specs.Runs.Move.{Do, Redeliver}
 use Rattle.dds_check.specs.Accepted.{Row, budget, Certificate, Accepted}

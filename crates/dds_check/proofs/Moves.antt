@@ -1,7 +1,7 @@
 -- Each move of a wide run keeps what holds of its worlds, whether a certificate is accepted or not.
 use Rattle.std.proofs.Common.{◌≡◌, ◌≢◌, ◌⊎◌, inl, inr, ℕ, zero, suc, ◌+◌, ◌≤◌, ◌<◌, Bool, true, false, cond, eqb, leb, ltb, not, ◌&&◌, List, [], ◌∷◌, ◌++◌, Option, Some, None, refl, sym, ap, ◌∙◌, subst, arith}
 use Rattle.std.specs.Prelude.{count_by, length}
-use Rattle.std.proofs.lemmas.Bool.{eqb-true, eqb-false, eq-eqb, le-leb, leb-true, leb-false, lt-ltb, ltb-false, cond_both, and_parts, and_from, and_right, true≢false, or_parts, or_from, or_right, not-true, not-false, not_from_false, both_ways}
+use Rattle.std.proofs.lemmas.Bool.{eqb-true, eqb-false, eq-eqb, le-leb, leb-true, leb-false, lt-ltb, ltb-false, cond_both, and_parts, and_from, and_right, or_parts, or_from, or_right, not-true, not-false, not_from_false, both_ways}
 use Rattle.std.proofs.lemmas.Bool.Decides.{nat_tests}
 use Rattle.std.proofs.lemmas.Option.{none-some}
 use Rattle.dds_base.specs.Sums.{In, put}
@@ -9,22 +9,19 @@ use Rattle.dds_match.specs.Network.{Network, IsNetwork, follows, named}
 use Rattle.dds_base.specs.declared.portion.Portion.{Portion}
 use Rattle.dds_check.specs.World.{World, Sample, Packet, entry_at, holds, has_key, marked, permits, spare, in_flight, stored, known_keys, unread, base, kept, written_keys, is_kept, is_at_hand, is_relevant}
 use Rattle.dds_base.specs.declared.messages.Packet.TheVariants.{Data, Gap, Heartbeat, AckNack}
-use Rattle.dds_base.proofs.CountLaws.{count_none}
 use Rattle.dds_qos.specs.Reading.{arrival_of, below_first, is_repeat}
 use Rattle.dds_qos.proofs.BaseLaws.{repeat_is_marked}
 use Rattle.dds_qos.specs.declared.admission.Admit.{Admit}
 use Rattle.dds_qos.specs.declared.admission.Admit.TheVariants.{Stored}
 use Rattle.dds_qos.specs.declared.admission.Admit.TheVariants.{Overwrote as Replaced}
-use Rattle.dds_check.specs.Steps.{Event, Reply, Refusal, DataFor, any_entry, is_empty, refusal, fire_needs_more, fire_passes_limit, RefusedOr, Replies, May, after, changed, packet_reply, after_packet, after_data, after_watched, give_up, store, arrival_of_data, admission, available, is_available, IsLeastOfWriter, new_by_heartbeat, lost_or_heard, counts_ack, base_after, write_refusal, data_packet, gap_packet, heartbeat_packet, acknack_packet, send, take_away, arrived_from, AtPlace}
+use Rattle.dds_check.specs.Steps.{Event, Reply, Refusal, DataFor, any_entry, is_empty, refusal, fire_needs_more, fire_passes_limit, RefusedOr, Replies, May, after, changed, packet_reply, after_packet, after_data, after_watched, give_up, store, arrival_of_data, admission, available, is_available, IsLeastOfWriter, counts_ack, base_after, write_refusal, data_packet, gap_packet, heartbeat_packet, acknack_packet, send, take_away, arrived_from, AtPlace}
 use Rattle.dds_base.specs.declared.events.Event.TheVariants.{Write, Fire, Take, SendData, SendGap, SendHeartbeat, SendAckNack, Deliver, Lose}
 use Rattle.dds_base.specs.declared.events.Reply.TheVariants.{Acked}
 use Rattle.dds_base.specs.declared.events.Refusal.TheVariants.{Foreign, NoPermit, NothingToSend}
-use Rattle.dds_base.specs.declared.sample.Arrival.TheVariants.{New, Repeat}
-use Rattle.dds_check.specs.Runs.{Move, MayMove, after_move, replay, IsRunFrom, brought, is_watchers, reader_of}
+use Rattle.dds_base.specs.declared.sample.Arrival.TheVariants.{Repeat}
+use Rattle.dds_check.specs.Runs.{Move, MayMove, after_move, replay, IsRunFrom}
 use Rattle.dds_check.specs.Runs.Move.{Do, Redeliver}
-use Rattle.dds_check.specs.Accepted.{Row, budget, Certificate, Accepted}
-use Rattle.dds_check.specs.Certified.{weight, IsGood, IsGoodArrival}
-use Rattle.dds_check.proofs.Weights.{write_weight, fire_weight, take_weight, after_write, after_fire, after_take}
+use Rattle.dds_check.proofs.Weights.{after_write, after_fire, after_take}
 use Rattle.dds_check.proofs.Places.{count_cons, filter_in}
 use Rattle.std.specs.Prelude.{slice_index_or}
 use Rattle.dds_qos.specs.declared.limits.ReaderLimits.{ReaderLimits}
@@ -35,8 +32,8 @@ use Rattle.dds_base.proofs.SumLaws.{put_at}
 use Rattle.dds_check.proofs.Supply.{IsWrittenFor, In_left, In_right}
 use Rattle.dds_check.proofs.Facts.{FactOf, written_grows, data_fact, gap_fact, heartbeat_fact, acknack_fact}
 use Rattle.dds_check.proofs.Sound.{Sound, write_sound, fire_sound, take_sound, send_sound, away_sound, unread_in_flight}
-use Rattle.dds_check.proofs.Arrivals.{store_sound, gap_sound, heartbeat_sound, ack_sound, no_loss}
-use Rattle.dds_check.proofs.InFlight.{admitted, stored_in}
+use Rattle.dds_check.proofs.Arrivals.{store_sound, gap_sound, heartbeat_sound, ack_sound}
+use Rattle.dds_check.proofs.InFlight.{stored_in}
 use Rattle.dds_check.proofs.Watching.{Watched, marked_give_up, give_up_grows, give_up_sound, over_sound, take_watched, store_watched, over_watched, give_up_watched, gap_watched, heartbeat_watched}
 
 -- what holds of every world of a wide run, accepted or not

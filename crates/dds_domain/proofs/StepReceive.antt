@@ -1,5 +1,5 @@
 -- A DATA, a GAP or a HEARTBEAT arrives at its reader.
-use Rattle.std.proofs.Common.{◌≡◌, ◌≢◌, ◌⊎◌, inl, inr, ℕ, ◌<◌, Bool, true, false, cond, not, ◌&&◌, List, length, get_or, set, refl, sym, ap, subst, ◌∙◌, length-set, arith}
+use Rattle.std.proofs.Common.{◌≡◌, ◌≢◌, inl, inr, ℕ, ◌<◌, Bool, true, false, cond, not, ◌&&◌, List, length, get_or, set, refl, sym, ap, subst, ◌∙◌, length-set, arith}
 use Rattle.std.proofs.lemmas.Bool.{and_parts}
 use Rattle.dds_base.specs.Messages.{DataFor, GapFor, HeartbeatFor, covers}
 use Rattle.dds_base.specs.declared.sample.Sample.{Sample}

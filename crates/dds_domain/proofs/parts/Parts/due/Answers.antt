@@ -1,4 +1,4 @@
-use Rattle.std.proofs.Common.{◌≡◌, inl, inr, sym, ap, ◌∙◌, ◌≤◌, ◌<◌, arith}
+use Rattle.std.proofs.Common.{◌≡◌, inl, inr, sym, ap, ◌∙◌, arith}
 use Rattle.dds_domain.specs.Bus.{taken_count}
 use Rattle.dds_domain.specs.Schedule.{load, send_due}
 use Rattle.dds_domain.proofs.BusTurns.{IsEnough, loaded, turns_to_bus, turns_elsewhere, due_on_bus, due_in_odd, due_in_even}

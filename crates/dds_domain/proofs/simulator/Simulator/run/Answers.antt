@@ -1,6 +1,6 @@
 use Rattle.std.proofs.Common.{◌≡◌, ◌<◌, ◌≤◌, ◌+◌, List, [], length, get_or, refl, sym, subst, ◌∙◌, rules}
 use Rattle.std.specs.Vec.{vec_len, vec_capacity}
-use Rattle.dds_check.specs.Steps.{Event, Reply}
+use Rattle.dds_check.specs.Steps.{Reply}
 use Rattle.dds_domain.specs.Standing.{GoesOn, paired}
 use Rattle.dds_domain.proofs.Standing.{goes_start, goes_more}
 use Rattle.dds_domain.proofs.simulator.Simulator.run.Goals as goal
