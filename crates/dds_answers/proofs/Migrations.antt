@@ -41,5 +41,6 @@ unread_file_ends d fault.NoMemory is large = inl tt
 unread_file_ends d (fault.Usage text) is large = absurd is
 unread_file_ends d (fault.Deployment flaw) is large = absurd is
 unread_file_ends d (fault.Certificate flaw) is large = absurd is
+unread_file_ends d (fault.Events kind line) is large = absurd is
 unread_file_ends d fault.Write is large = absurd is
 unread_file_ends d fault.Run is large = absurd is

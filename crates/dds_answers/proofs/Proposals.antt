@@ -47,5 +47,6 @@ unread_file_ends d fault.NoMemory is large = let e = some_end (nat_le (length d)
 unread_file_ends d (fault.Usage text) is large = absurd is
 unread_file_ends d (fault.Deployment flaw) is large = absurd is
 unread_file_ends d (fault.Certificate flaw) is large = absurd is
+unread_file_ends d (fault.Events kind line) is large = absurd is
 unread_file_ends d fault.Write is large = absurd is
 unread_file_ends d fault.Run is large = absurd is

@@ -59,6 +59,7 @@ reported_ends detail (fault.Deployment flaw) end tells = rw tells (bad_deploymen
 reported_ends detail (fault.Certificate flaw) end tells = rw tells (bad_certificate_told detail (kind_of flaw.kind, string_bytes flaw.path))
 reported_ends detail fault.NoMemory end tells = tt
 reported_ends detail (fault.Usage text) end tells = absurd tells
+reported_ends detail (fault.Events kind line) end tells = absurd tells
 reported_ends detail fault.TooLarge end tells = absurd tells
 reported_ends detail fault.Read end tells = absurd tells
 reported_ends detail fault.Write end tells = absurd tells

@@ -33,6 +33,7 @@ SaysNothing fault.NoMemory = Unit {0}
 SaysNothing (fault.Usage text) = ⊥
 SaysNothing (fault.Deployment flaw) = ⊥
 SaysNothing (fault.Certificate flaw) = ⊥
+SaysNothing (fault.Events kind line) = ⊥
 SaysNothing fault.TooLarge = ⊥
 SaysNothing fault.Run = ⊥
 

@@ -8,6 +8,7 @@ use Rattle.dds_answers.specs.declared.fault.ToolFault.TheVariants as fault
 abbrev pub IsFileFault : (file_failed : Bool) → ToolFault → Type 0
 IsFileFault file_failed (fault.Deployment flaw) = Unit {0}
 IsFileFault file_failed (fault.Certificate flaw) = Unit {0}
+IsFileFault file_failed (fault.Events kind line) = Unit {0}
 IsFileFault file_failed fault.TooLarge = Unit {0}
 IsFileFault file_failed fault.Read = file_failed ≡ true
 IsFileFault file_failed fault.NoMemory = Unit {0}

@@ -3,6 +3,7 @@ use Rattle.std.specs.Prelude.{ℕ, List, ◌++◌, length, codes, string_bytes, 
 use Rattle.std.specs.Fmt.{decimal}
 use Rattle.dds_fields.specs.FaultTable as deployment
 use Rattle.dds_cert.specs.Faults.{kind_entry}
+use Rattle.dds_events.specs.Faults as events
 use Rattle.dds_answers.specs.Exit.{exit_status}
 use Rattle.dds_answers.specs.declared.exit.Exit.{Exit}
 use Rattle.dds_answers.specs.declared.exit.Exit.TheVariants as exit
@@ -16,11 +17,19 @@ flaw_line file number name path =
     then codes "ddscheck: " ++ (file ++ (codes " " ++ (decimal number ++ (codes " " ++ (name ++ codes "\n")))))
     else codes "ddscheck: " ++ (file ++ (codes " " ++ (decimal number ++ (codes " " ++ (name ++ (codes " " ++ (path ++ codes "\n")))))))
 
+-- the number and the word of a flaw of a file of events, and its line; where it has none, that is left out with the words before it
+abbrev pub events_line : ℕ → List ℕ → ℕ → List ℕ
+events_line number name line =
+    if line == 0
+    then codes "ddscheck: events " ++ (decimal number ++ (codes " " ++ (name ++ codes "\n")))
+    else codes "ddscheck: events " ++ (decimal number ++ (codes " " ++ (name ++ (codes " line " ++ (decimal line ++ codes "\n")))))
+
 -- the line that is told of a fault
 abbrev pub fault_line : ToolFault → List ℕ
 fault_line (fault.Usage text) = string_bytes text
 fault_line (fault.Deployment flaw) = flaw_line (codes "deployment") (deployment.number_of flaw.kind) (deployment.name_of flaw.kind) (string_bytes flaw.path)
 fault_line (fault.Certificate flaw) = flaw_line (codes "certificate") (kind_entry flaw.kind).0 (kind_entry flaw.kind).1 (string_bytes flaw.path)
+fault_line (fault.Events kind line) = events_line (events.number_of kind) (events.name_of kind) line
 fault_line fault.TooLarge = codes "ddscheck: 4 TooLarge\n"
 fault_line fault.Read = codes "ddscheck: 5 Read\n"
 fault_line fault.Write = codes "ddscheck: 6 Write\n"
@@ -32,6 +41,7 @@ abbrev pub exit_of : ToolFault → Exit
 exit_of (fault.Usage text) = exit.Usage
 exit_of (fault.Deployment flaw) = exit.BadFile
 exit_of (fault.Certificate flaw) = exit.BadFile
+exit_of (fault.Events kind line) = exit.BadFile
 exit_of fault.TooLarge = exit.BadFile
 exit_of fault.Read = exit.Device
 exit_of fault.Write = exit.Device
@@ -46,6 +56,7 @@ fault_status f = exit_status (exit_of f)
 abbrev pub IsAnswerFault : ToolFault → Type 0
 IsAnswerFault (fault.Deployment flaw) = Unit {0}
 IsAnswerFault (fault.Certificate flaw) = Unit {0}
+IsAnswerFault (fault.Events kind line) = Unit {0}
 IsAnswerFault fault.NoMemory = Unit {0}
 IsAnswerFault (fault.Usage text) = ⊥
 IsAnswerFault fault.TooLarge = ⊥

@@ -11,3 +11,4 @@ pub mod Report
 pub mod Answers
 pub mod Opened
 pub mod Telling
+pub mod Structure

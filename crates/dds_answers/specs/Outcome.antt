@@ -10,10 +10,11 @@ use Rattle.dds_cert.specs.Lists.{Certificate}
 use Rattle.dds_cert.specs.Sections as certificate
 use Rattle.dds_check.specs.Accepts.{first_no}
 use Rattle.dds_check.specs.declared.verdict.No.{No}
+use Rattle.dds_events.specs.declared.fault.EventsFaultKind.{EventsFaultKind}
 
 -- the certificate is accepted, or a condition fails, and either may be told with its reason, or the endpoints are compared, or a certificate is proposed or
--- none is found, or a deployment is migrated to this text, or it is shown in a format, or it is drawn, with its certificate if there is one, or it ran,
--- with these lines, and whether each of its applications stopped, or a file has a flaw, or a file has too many bytes
+-- none is found, or a deployment is migrated to this text, or it is shown in a format, or it is drawn, with its certificate if there is one, or these
+-- lines are said, with a yes or a no, or a file has a flaw, or a file has too many bytes
 pub data Outcome : Type 0 where
   accepted : Lists → Certificate → Outcome
   refused : No → Lists → Certificate → Outcome
@@ -25,9 +26,10 @@ pub data Outcome : Type 0 where
   migrated : List ℕ → Outcome
   shown : Format → Lists → Outcome
   drawn : Lists → Option Certificate → Outcome
-  ran : List ℕ → Bool → Outcome
+  said : (lines : List ℕ) → (is_yes : Bool) → Outcome
   bad_deployment : Flaw → Outcome
   bad_certificate : Flaw → Outcome
+  bad_events : EventsFaultKind → (line : ℕ) → Outcome
   too_large : Outcome
 
 -- the first condition that fails refuses the certificate

@@ -29,5 +29,6 @@ IsReadingFault fault.NoMemory = Unit {0}
 IsReadingFault (fault.Usage text) = ⊥
 IsReadingFault (fault.Deployment flaw) = ⊥
 IsReadingFault (fault.Certificate flaw) = ⊥
+IsReadingFault (fault.Events kind line) = ⊥
 IsReadingFault fault.Write = ⊥
 IsReadingFault fault.Run = ⊥

@@ -1,12 +1,9 @@
 -- What a check answers, and the lines that tell it.
-use Rattle.std.specs.Prelude.{ℕ, List, [], ◌++◌, slice_get, ◌≡◌, length, if◌then◌else◌, codes, flat_map, string_bytes, Result, Ok, Err}
+use Rattle.std.specs.Prelude.{ℕ, List, [], ◌++◌, ◌≡◌, length, if◌then◌else◌, codes, flat_map, string_bytes, Result, Ok, Err}
 use Rattle.std.specs.Fmt.{decimal}
-use Rattle.std.specs.Option.{option_map_or}
 use Rattle.dds_fields.specs.declared.fault.ReadFault.{ReadFault}
 use Rattle.dds_fields.specs.declared.fault.ReadFault.TheVariants as unread
 use Rattle.dds_deploy.specs.Lists.{Lists}
-use Rattle.dds_deploy.specs.Sections.{key_name}
-use Rattle.dds_deploy.specs.declared.sections.Origin.{Origin}
 use Rattle.dds_cert.specs.declared.fault.CertFault.{CertFault}
 use Rattle.dds_cert.specs.declared.fault.CertFault.TheVariants as uncertified
 use Rattle.dds_cert.specs.Faults.{kind_of}
@@ -23,12 +20,13 @@ use Rattle.dds_answers.specs.Matches.{is_as_intended, lines_of}
 use Rattle.dds_cert.specs.Naming.{name_at, reader_key, writer_key, row_name}
 use Rattle.dds_cert.specs.Text.{certificate_text}
 use Rattle.dds_show.specs.Json.{deployment_json}
+use Rattle.dds_events.specs.Naming.{rule_text, three_words, two_words}
 use Rattle.dds_xml.specs.Document.{deployment_xml}
 use Rattle.dds_draw.specs.Picture.{drawing}
 use Rattle.dds_explain.specs.Explanation.{margins, reason}
 use Rattle.dds_answers.specs.declared.format.Format.{Format}
 use Rattle.dds_answers.specs.declared.format.Format.TheVariants.{Json, DdsXml}
-use Rattle.dds_answers.specs.Outcome.{Outcome, accepted, refused, accepted_because, refused_because, bad_deployment, bad_certificate, too_large, compared, proposed, unproposed, migrated, shown, drawn, ran}
+use Rattle.dds_answers.specs.Outcome.{Outcome, accepted, refused, accepted_because, refused_because, bad_deployment, bad_certificate, too_large, compared, proposed, unproposed, migrated, shown, drawn, said, bad_events}
 use Rattle.dds_answers.specs.declared.fault.ToolFault.{ToolFault}
 use Rattle.dds_answers.specs.declared.fault.ToolFault.TheVariants as fault
 use Rattle.dds_answers.specs.declared.report.Report.{Report}
@@ -44,27 +42,13 @@ abbrev pub Tells : Result Report ToolFault → Outcome → Type 0
 Tells (Ok report) end = end ≡ outcome_of report
 Tells (Err (fault.Deployment flaw)) end = end ≡ bad_deployment (flaw.kind, string_bytes flaw.path)
 Tells (Err (fault.Certificate flaw)) end = end ≡ bad_certificate (kind_of flaw.kind, string_bytes flaw.path)
+Tells (Err (fault.Events kind line)) end = ⊥
 Tells (Err fault.NoMemory) end = Unit {0}
 Tells (Err (fault.Usage text)) end = ⊥
 Tells (Err fault.TooLarge) end = ⊥
 Tells (Err fault.Read) end = ⊥
 Tells (Err fault.Write) end = ⊥
 Tells (Err fault.Run) end = ⊥
-
--- two words, with a blank between them
-abbrev pub two_words : List ℕ → List ℕ → List ℕ
-two_words x y = x ++ (codes " " ++ y)
-
--- three words, with blanks between them
-abbrev pub three_words : List ℕ → List ℕ → List ℕ → List ℕ
-three_words x y z = x ++ (codes " " ++ (y ++ (codes " " ++ z)))
-
--- the name of a rule's entry, and the key where the rule stands for one
-abbrev pub origin_text : Lists → Origin → List ℕ
-origin_text d o = option_map_or (λ k. two_words (name_at d.rules.names o.name) (key_name d.topics k.0 k.1)) o.key (name_at d.rules.names o.name)
-
-abbrev pub rule_text : Lists → ℕ → List ℕ
-rule_text d u = option_map_or (origin_text d) (slice_get d.rules.origins u) []
 
 -- the names of what a condition speaks of
 abbrev pub subject_text : Lists → Certificate → Subject → List ℕ
@@ -111,9 +95,10 @@ output_of unproposed = codes "none\n"
 output_of (migrated text) = text
 output_of (shown format d) = shown_text format d
 output_of (drawn d c) = drawing d c
-output_of (ran lines stopped) = lines
+output_of (said lines is_yes) = lines
 output_of (bad_deployment flaw) = []
 output_of (bad_certificate flaw) = []
+output_of (bad_events kind line) = []
 output_of too_large = []
 
 -- the lines of the reason of a report
@@ -137,15 +122,17 @@ status_of unproposed = 1
 status_of (migrated text) = 0
 status_of (shown format d) = 0
 status_of (drawn d c) = 0
-status_of (ran lines stopped) = if stopped then 0 else 1
+status_of (said lines is_yes) = if is_yes then 0 else 1
 status_of (bad_deployment flaw) = 2
 status_of (bad_certificate flaw) = 2
+status_of (bad_events kind line) = 2
 status_of too_large = 2
 
 -- the fault with which a command ends that ends so, or a fault of memory or of a device
 abbrev pub Ends : ToolFault → Outcome → Type 0
 Ends (fault.Deployment flaw) end = end ≡ bad_deployment (flaw.kind, string_bytes flaw.path)
 Ends (fault.Certificate flaw) end = end ≡ bad_certificate (kind_of flaw.kind, string_bytes flaw.path)
+Ends (fault.Events kind line) end = end ≡ bad_events kind line
 Ends fault.TooLarge end = end ≡ too_large
 Ends fault.Read end = Unit {0}
 Ends fault.Write end = Unit {0}

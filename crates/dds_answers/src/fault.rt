@@ -1,9 +1,10 @@
 //! Why a command gave no answer, and what users are told of it.
 ghost use Rattle.std.specs.Prelude.{◌≡◌, IfOk, string_bytes};
-ghost use Rattle.dds_answers.specs.Fault.{exit_of, fault_line, flaw_line};
+ghost use Rattle.dds_answers.specs.Fault.{events_line, exit_of, fault_line, flaw_line};
 
 use crate::exit::Exit;
 use dds_cert::CertFlaw;
+use dds_events::EventsFaultKind;
 use dds_fields::fault::Fault;
 use std::alloc::{AllocError, Global};
 
@@ -16,6 +17,8 @@ pub enum ToolFault {
     Deployment(Fault),
     /// 3: the certificate has a fault.
     Certificate(CertFlaw),
+    /// 3: the events have a fault, in the line with this number, from 1; 0 where it has none. No other file is read by a command that reads events.
+    Events { kind: EventsFaultKind, line: usize },
     /// 4: a file has more than 1,048,576 bytes.
     TooLarge,
     /// 5: a file does not open, a read failed, or 1,001 reads were interrupted.
@@ -45,6 +48,17 @@ fn flaw_text(
     }
 }
 
+/// What is told of the flaw of a file of events: the number and the word of its kind, and its line. A line 0 is left out with the words before it.
+fn events_text(alloc: Global, number: u8, name: &str, line: usize) -> Result<String, AllocError>
+    ensures { IfOk result (λ text. string_bytes text ≡ events_line number name.now line) }
+{
+    if line == 0 {
+        format!(in alloc; "ddscheck: events {number} {name}\n")
+    } else {
+        format!(in alloc; "ddscheck: events {number} {name} line {line}\n")
+    }
+}
+
 /// The line that is told to users of a fault. Only want of memory is an error.
 pub fn fault_text(alloc: Global, fault: &ToolFault) -> Result<String, AllocError>
     ensures { IfOk result (λ text. string_bytes text ≡ fault_line fault.now) }
@@ -71,6 +85,7 @@ pub fn fault_text(alloc: Global, fault: &ToolFault) -> Result<String, AllocError
                 flaw.path.as_str(),
             )
         }
+        ToolFault::Events { kind, line } => events_text(alloc, kind.number(), kind.name(), *line),
         ToolFault::TooLarge => String::from_str(alloc, "ddscheck: 4 TooLarge\n"),
         ToolFault::Read => String::from_str(alloc, "ddscheck: 5 Read\n"),
         ToolFault::Write => String::from_str(alloc, "ddscheck: 6 Write\n"),
@@ -88,7 +103,10 @@ pub fn exit_of(fault: &ToolFault) -> Exit
 {
     match fault {
         ToolFault::Usage(_) => Exit::Usage,
-        ToolFault::Deployment(_) | ToolFault::Certificate(_) | ToolFault::TooLarge => Exit::BadFile,
+        ToolFault::Deployment(_)
+        | ToolFault::Certificate(_)
+        | ToolFault::Events { .. }
+        | ToolFault::TooLarge => Exit::BadFile,
         ToolFault::Read | ToolFault::Write => Exit::Device,
         ToolFault::NoMemory => Exit::NoMemory,
         ToolFault::Run => Exit::Run,

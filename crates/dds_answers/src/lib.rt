@@ -17,6 +17,7 @@ mod output;
 mod reading;
 mod report;
 mod sources;
+mod structure;
 mod thorough;
 
 pub use answer::{
@@ -36,6 +37,7 @@ pub use giving::{give, print, tell_fault};
 pub use matches::{is_as_intended, match_text};
 pub use output::{Output, Stream};
 pub use reading::{MAX_FILE, read_all};
-pub use report::{Detail, Report, answer_check, detailed_text, report_text};
+pub use report::{Detail, Report, answer_check, deployment_fault, detailed_text, report_text};
 pub use sources::Sources;
+pub use structure::structure_text;
 pub use thorough::thorough_answer;

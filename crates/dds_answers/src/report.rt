@@ -6,14 +6,14 @@ ghost use Rattle.dds_cert.specs.Views.{certificate_view};
 ghost use Rattle.dds_check.specs.Accepts.{first_no};
 ghost use Rattle.dds_answers.specs.Outcome.{judged, outcome, told, verdict};
 ghost use Rattle.dds_cert.specs.Sections.{read as certificate_read};
-ghost use Rattle.dds_answers.specs.Report.{IsCertificateFault, IsDeploymentFault, Tells, acceptance_lines, because_lines, bound_line, refusal_line, outcome_of, output_of, report_text_of, rule_text, subject_text, total_line};
+ghost use Rattle.dds_answers.specs.Report.{IsCertificateFault, IsDeploymentFault, Tells, acceptance_lines, because_lines, bound_line, refusal_line, outcome_of, output_of, report_text_of, subject_text, total_line};
 
 use crate::fault::ToolFault;
-use dds_base::RuleNo;
 use dds_cert::naming::{name_at, reader_key, row_name, writer_key};
 use dds_cert::{Bound, CertFault, Certificate, Total, read_certificate};
 use dds_check::{Checked, No, Subject, check};
 use dds_deploy::{DeployFault, Deployment, read_deployment};
+use dds_events::rule_text;
 use dds_explain::{margins, reason};
 use dds_match::Plan;
 use dds_match::planning::plan;
@@ -37,7 +37,8 @@ pub enum Report {
     Refused(No, Plan, Certificate),
 }
 
-pub(crate) fn deployment_fault(fault: DeployFault) -> ToolFault
+/// The fault of a deployment that could not be read.
+pub fn deployment_fault(fault: DeployFault) -> ToolFault
     ensures { IsDeploymentFault fault result }
 {
     match fault {
@@ -147,25 +148,6 @@ fn subject_text(
             let writer = name_at(lists.writer_names(), writer.number());
             format!(in alloc; "{row} {writer} {key}")
         }
-    }
-}
-
-// The name of a rule's entry, and the key where the rule stands for one.
-fn rule_text(alloc: Global, lists: &Deployment, rule: RuleNo) -> Result<String, AllocError>
-    ensures { IfOk result (λ text. string_bytes text ≡ rule_text lists.now rule) }
-{
-    match lists.rule_origin(rule) {
-        Some(origin) => {
-            let name = name_at(lists.rule_names(), origin.name);
-            match origin.key {
-                Some((topic, key)) => {
-                    let key = lists.key_name(topic, key);
-                    format!(in alloc; "{name} {key}")
-                }
-                None => String::from_str(alloc, name),
-            }
-        }
-        None => Ok(String::new(alloc)),
     }
 }
 

@@ -8,9 +8,9 @@ ghost use Rattle.dds_deploy.specs.Sections.{read as deployment_read};
 
 use crate::answer::{Answer, certified};
 use crate::fault::ToolFault;
-use crate::report::{deployment_fault, refusal_text};
+use crate::report::deployment_fault;
+use crate::structure::structure_text;
 use dds_base::ReaderNo;
-use dds_cert::Certificate;
 use dds_cert::naming::{name_at, reader_key};
 use dds_check::No;
 use dds_deploy::{Deployment, read_deployment};
@@ -77,21 +77,11 @@ fn least_text(
     }
 }
 
-/// The line of a refusal that names no row.
-fn refusal_line(alloc: Global, lists: &Deployment, no: No) -> Result<String, AllocError> {
-    let nothing = Certificate {
-        rows: Vec::new(alloc),
-        bounds: Vec::new(alloc),
-        totals: Vec::new(alloc),
-    };
-    refusal_text(alloc, no, lists, &nothing)
-}
-
 /// Why no certificate was found.
 fn missing_text(alloc: Global, plan: &Plan, missing: Missing) -> Result<String, AllocError> {
     match missing {
         Missing::Structure(no) => {
-            let line = refusal_line(alloc, plan.lists(), no)?;
+            let line = structure_text(alloc, plan.lists(), no)?;
             format!(in alloc; "ddscheck: whatever the certificate, {line}")
         }
         Missing::Limit { target, least } => {
@@ -103,7 +93,7 @@ fn missing_text(alloc: Global, plan: &Plan, missing: Missing) -> Result<String, 
             "ddscheck: each limit has weights that show it, but more than 64 rows of them are needed\n",
         ),
         Missing::Refused(no) => {
-            let line = refusal_line(alloc, plan.lists(), no)?;
+            let line = structure_text(alloc, plan.lists(), no)?;
             format!(in alloc; "ddscheck: what was found isn't accepted: {line}")
         }
     }

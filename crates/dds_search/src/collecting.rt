@@ -1,10 +1,10 @@
 //! Collects rows and bounds, limit by limit.
 
 use crate::attempt::{Attempt, Climber};
-use crate::limits::Limited;
 use crate::rows::{Entry, merged};
 use crate::weights::WeighedRow;
 use dds_base::{KeyNo, ReaderNo};
+use dds_net::limits::Limited;
 use dds_propose::targets::Target;
 use std::alloc::{AllocError, Global};
 

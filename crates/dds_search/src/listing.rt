@@ -2,13 +2,13 @@
 ghost use Rattle.std.specs.Prelude.{◌≡◌, IfOk};
 ghost use Rattle.dds_propose.specs.Proposal.{bound_entry, total_entry};
 
-use crate::net::Net;
-use crate::outlets::Outlet;
-use crate::places::Place;
 use crate::rows::Entry;
 use crate::weights::{WeighedRow, permit};
 use dds_base::{ReaderNo, WriterNo};
 use dds_cert::{Bound, Certificate, Row, Total, Weight};
+use dds_net::net::Net;
+use dds_net::outlets::Outlet;
+use dds_net::places::Place;
 use dds_propose::targets::Target;
 use std::alloc::{AllocError, Global};
 

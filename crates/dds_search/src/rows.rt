@@ -2,8 +2,8 @@
 ghost use Rattle.std.specs.Prelude.{◌≡◌, Some, IfOk};
 ghost use Rattle.dds_search.specs.Rows.{weights_at};
 
-use crate::limits::Limited;
 use crate::weights::WeighedRow;
+use dds_net::limits::Limited;
 use std::alloc::{AllocError, Global};
 
 /// The most rows that a certificate has.

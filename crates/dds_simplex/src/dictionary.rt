@@ -105,6 +105,38 @@ impl Dictionary {
         }
     }
 
+    /// The line of a variable, `None` where it is free or was dropped.
+    pub fn line(&self, variable: Variable) -> Option<&Line> {
+        match self.find(variable)? {
+            Place::Free(_) => None,
+            Place::Basic(line) => Some(line),
+        }
+    }
+
+    /// Drops a column: its variable is 0 for good.
+    fn drop_column(&mut self, column: usize) {
+        if column < self.free.len() {
+            self.free.swap_remove(column);
+        }
+        for basic in &mut self.basics {
+            basic.line.drop_column(column);
+        }
+    }
+
+    /// From here on a sum that has climbed keeps its greatest value: the variables that would lower it are 0 for good, and their columns are
+    /// dropped here and in the next sum, whose columns have to be the same. The first sum is worth nothing any more.
+    pub fn keep(&mut self, sum: &Line, next: &mut Line) {
+        let columns = sum.columns();
+        for turn in 1..=columns {
+            // The last one first, since a column that is dropped gets the place of one that was looked at.
+            let column = columns.saturating_sub(turn);
+            if sum.number(column) < 0 {
+                self.drop_column(column);
+                next.drop_column(column);
+            }
+        }
+    }
+
     /// The column of the least free variable that would raise the sum.
     fn entering(&self, sum: &Line) -> Option<usize> {
         let mut found: Option<(Variable, usize)> = None;

@@ -150,6 +150,13 @@ impl Line {
         self.mix(own, given, part, den)
     }
 
+    /// Drops a column, as where its variable is 0 for good; the last one takes its place.
+    pub(crate) fn drop_column(&mut self, column: usize) {
+        if column < self.numbers.len() {
+            self.numbers.swap_remove(column);
+        }
+    }
+
     /// Says the column's variable in terms of the one that it gave, which takes the column. The column's number has to be below 0.
     pub(crate) fn turn(&mut self, column: usize) -> Option<()> {
         let own = self.den.checked_neg()?;

@@ -1,6 +1,6 @@
 //! Small programs whose greatest values are known by hand.
 
-use crate::dictionary::{Dictionary, End, Stop};
+use crate::dictionary::{Dictionary, End, Stop, Variable};
 use crate::line::Line;
 use std::alloc::Global;
 use std::test::Fail;
@@ -26,6 +26,32 @@ fn meets_in_a_corner(rt: HostRuntime) -> Result<(), Fail> {
     assert_eq!(rt; sum.alone(), 14);
     assert_eq!(rt; sum.den(), 5);
     assert_eq!(rt; left, 8);
+    Ok(())
+}
+
+/// Under `x + y <= 4` and `x <= 3` the sum is 4 at most; the least `3 x + y` that keeps it so is 4, at x = 0 and y = 4.
+#[test]
+fn keeps_a_sum(rt: HostRuntime) -> Result<(), Fail> {
+    let alloc = rt.alloc();
+    let mut dictionary = Dictionary::new(alloc, 2)?;
+    dictionary.push(line(alloc, 4, -1, -1)?)?;
+    dictionary.push(line(alloc, 3, -1, 0)?)?;
+    let mut sum = line(alloc, 0, 1, 1)?;
+    let mut left = 10;
+    assert_eq!(rt; dictionary.climb(&mut sum, &mut left), Ok(End::Greatest));
+    let mut next = Line::constant(alloc, 0, sum.columns())?;
+    let added = dictionary.add(&mut next, -3, Variable::Column(0));
+    assert_eq!(rt; added, Some(()));
+    let added = dictionary.add(&mut next, -1, Variable::Column(1));
+    assert_eq!(rt; added, Some(()));
+    dictionary.keep(&sum, &mut next);
+    assert_eq!(rt; dictionary.free().len(), 1);
+    assert_eq!(rt; dictionary.climb(&mut next, &mut left), Ok(End::Greatest));
+    assert_eq!(rt; next.alone(), -4);
+    let first = dictionary.line(Variable::Column(0));
+    assert_eq!(rt; first.map(|line| line.alone()).unwrap_or(0), 0);
+    let second = dictionary.line(Variable::Column(1));
+    assert_eq!(rt; second.map(|line| line.alone()), Some(4));
     Ok(())
 }
 

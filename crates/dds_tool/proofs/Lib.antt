@@ -4,3 +4,5 @@ mod Numbers
 mod Tallies
 mod RunGives
 mod Requested
+mod Refutes
+mod Replays

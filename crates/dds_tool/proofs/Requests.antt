@@ -14,6 +14,8 @@ use Rattle.dds_answers.specs.declared.exit.Exit.{Exit}
 use Rattle.dds_answers.specs.Migrations.{MayMigrateFor}
 use Rattle.dds_answers.specs.Outcome.{Outcome, check_file_outcome, draw_file_outcome, file_outcome, match_file_outcome, show_file_outcome, too_large, unproposed}
 use Rattle.dds_answers.specs.Report.{Ends, output_of, status_of}
+use Rattle.dds_tool.specs.Refuting.{MayRefuteFor}
+use Rattle.dds_tool.specs.Replaying.{MayReplayFor}
 use Rattle.dds_tool.specs.RunEnds.{GivesRun, MayRun}
 
 -- known bytes that stay grow by nothing
@@ -39,6 +41,7 @@ fault_said : (end : Outcome) (f : ToolFault) (status : ℕ) (old new : Option (L
 unfolding output_of status_of
 fault_said end (fault.Deployment flaw) status old new is nothing told = rw is (bad (fault.Deployment flaw) status old new (λ e. cc) nothing told)
 fault_said end (fault.Certificate flaw) status old new is nothing told = rw is (bad (fault.Certificate flaw) status old new (λ e. cc) nothing told)
+fault_said end (fault.Events kind line) status old new is nothing told = rw is (bad (fault.Events kind line) status old new (λ e. cc) nothing told)
 fault_said end fault.TooLarge status old new is nothing told = rw is (bad fault.TooLarge status old new (λ e. cc) nothing told)
 fault_said end fault.Read status old new is nothing told = inr (three status told)
 fault_said end fault.Write status old new is nothing told = inr (three status told)
@@ -54,6 +57,7 @@ any_end fault.NoMemory end h = tt
 any_end (fault.Usage text) end h = absurd h
 any_end (fault.Deployment flaw) end h = absurd h
 any_end (fault.Certificate flaw) end h = absurd h
+any_end (fault.Events kind line) end h = absurd h
 any_end fault.TooLarge end h = absurd h
 any_end fault.Run end h = absurd h
 
@@ -65,6 +69,7 @@ every_end fault.NoMemory a b = refl
 every_end (fault.Usage text) a b = absurd a
 every_end (fault.Deployment flaw) a b = absurd (let x : too_large ≡ unproposed = a ∙ sym b in cc)
 every_end (fault.Certificate flaw) a b = absurd (let x : too_large ≡ unproposed = a ∙ sym b in cc)
+every_end (fault.Events kind line) a b = absurd (let x : too_large ≡ unproposed = a ∙ sym b in cc)
 every_end fault.TooLarge a b = absurd (let x : unproposed ≡ too_large = b in cc)
 every_end fault.Run a b = absurd a
 
@@ -130,6 +135,9 @@ answered holds (asked.Match d) given (Ok exit) old new gives written passed = λ
 answered holds (asked.Propose d) given (Ok exit) old new gives written passed = λ x hx. let g = gives x hx in (g.0, g.1, inl (written g.0 g.2))
 answered holds (asked.ProposeThoroughly d) given (Ok exit) old new gives written passed = λ x hx. let g = gives x hx in (g.0, g.1, inl (written g.0 g.2))
 answered holds (asked.Migrate d) given (Ok exit) old new gives written passed = λ x hx. one_said (MayMigrateFor x) given (exit_status exit) old new (gives x hx) written
+answered holds (asked.Refute d) given (Ok exit) old new gives written passed = λ x hx. one_said (MayRefuteFor x) given (exit_status exit) old new (gives x hx) written
+answered holds (asked.Replay d e) given (Ok exit) old new gives written passed =
+    λ x y hx hy. one_said (MayReplayFor x y) given (exit_status exit) old new (gives x y hx hy) written
 answered holds (asked.Show d format) given (Ok exit) old new gives written passed = λ x hx. inl (written (show_file_outcome format x) (gives x hx))
 answered holds (asked.Draw d None) given (Ok exit) old new gives written passed = λ x hx. inl (written (draw_file_outcome x None) (gives x hx))
 answered holds (asked.Draw d (Some c)) given (Ok exit) old new gives written passed =
@@ -141,6 +149,8 @@ answered holds (asked.Match d) given (Err f) old new gives written passed = tt
 answered holds (asked.Propose d) given (Err f) old new gives written passed = tt
 answered holds (asked.ProposeThoroughly d) given (Err f) old new gives written passed = tt
 answered holds (asked.Migrate d) given (Err f) old new gives written passed = tt
+answered holds (asked.Refute d) given (Err f) old new gives written passed = tt
+answered holds (asked.Replay d e) given (Err f) old new gives written passed = tt
 answered holds (asked.Show d format) given (Err f) old new gives written passed = tt
 answered holds (asked.Draw d c) given (Err f) old new gives written passed = tt
 answered holds (asked.Run d b wishes) given (Err f) old new gives written passed = tt
@@ -162,6 +172,10 @@ faulted holds (asked.ProposeThoroughly d) given (Err f) old new gives ends nothi
     λ status told x hx. let g = gives x hx in (g.0, g.1, fault_said g.0 f status old new (ends g.0 g.2) nothing told)
 faulted holds (asked.Migrate d) given (Err f) old new gives ends nothing passed =
     λ status told x hx. one_faulted (MayMigrateFor x) given f status old new (gives x hx) ends nothing told
+faulted holds (asked.Refute d) given (Err f) old new gives ends nothing passed =
+    λ status told x hx. one_faulted (MayRefuteFor x) given f status old new (gives x hx) ends nothing told
+faulted holds (asked.Replay d e) given (Err f) old new gives ends nothing passed =
+    λ status told x y hx hy. one_faulted (MayReplayFor x y) given f status old new (gives x y hx hy) ends nothing told
 faulted holds (asked.Show d format) given (Err f) old new gives ends nothing passed =
     λ status told x hx. fault_said (show_file_outcome format x) f status old new (ends (show_file_outcome format x) (gives x hx)) nothing told
 faulted holds (asked.Draw d None) given (Err f) old new gives ends nothing passed =
@@ -175,6 +189,8 @@ faulted holds (asked.Match d) given (Ok exit) old new gives ends nothing passed 
 faulted holds (asked.Propose d) given (Ok exit) old new gives ends nothing passed = tt
 faulted holds (asked.ProposeThoroughly d) given (Ok exit) old new gives ends nothing passed = tt
 faulted holds (asked.Migrate d) given (Ok exit) old new gives ends nothing passed = tt
+faulted holds (asked.Refute d) given (Ok exit) old new gives ends nothing passed = tt
+faulted holds (asked.Replay d e) given (Ok exit) old new gives ends nothing passed = tt
 faulted holds (asked.Show d format) given (Ok exit) old new gives ends nothing passed = tt
 faulted holds (asked.Draw d c) given (Ok exit) old new gives ends nothing passed = tt
 faulted holds (asked.Run d b wishes) given (Ok exit) old new gives ends nothing passed = tt

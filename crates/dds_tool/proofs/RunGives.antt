@@ -18,7 +18,7 @@ use Rattle.dds_answers.specs.declared.answer.Answer.{Answer}
 use Rattle.dds_answers.specs.declared.fault.ToolFault.{ToolFault}
 use Rattle.dds_answers.specs.declared.fault.ToolFault.TheVariants as fault
 use Rattle.dds_answers.specs.Answers.{answer_status}
-use Rattle.dds_answers.specs.Outcome.{Outcome, accepted, file_outcome, outcome, ran, too_large}
+use Rattle.dds_answers.specs.Outcome.{Outcome, accepted, file_outcome, outcome, said, too_large}
 use Rattle.dds_answers.specs.Reading.{IsReadingFault}
 use Rattle.dds_answers.specs.Report.{Tells, output_of, status_of}
 use Rattle.dds_tool.specs.RunEnds.{GivesRun}
@@ -44,7 +44,7 @@ pub ran_gives : (d : Lists) (c : Certificate) (journal : List Entry) (ends : Lis
     → length ends ≡ length d.applications.entries → string_bytes answer.text ≡ run_lines (app_names d) journal ends → answer.is_yes ≡ all_stopped ends
     → GivesRun (accepted d c) (Ok answer)
 unfolding output_of status_of
-ran_gives d c journal ends answer is count lines stopped = (ran (run_lines (app_names d) journal ends) (all_stopped ends), (journal, ends, is, count, refl), (lines, ap answer_status stopped ∙ told_status (all_stopped ends)))
+ran_gives d c journal ends answer is count lines stopped = (said (run_lines (app_names d) journal ends) (all_stopped ends), (journal, ends, is, count, refl), (lines, ap answer_status stopped ∙ told_status (all_stopped ends)))
 
 -- a fault that a check tells is one that a run gives
 pub told_gives : (checked : Outcome) (e : ToolFault) → Tells (Err e) checked → GivesRun checked (Err e)
@@ -52,6 +52,7 @@ told_gives checked (fault.Deployment flaw) tells = rw tells (inr (inr (checked, 
 told_gives checked (fault.Certificate flaw) tells = rw tells (inr (inr (checked, rw tells refl, tells)))
 told_gives checked fault.NoMemory tells = inr (inl tt)
 told_gives checked (fault.Usage text) tells = absurd tells
+told_gives checked (fault.Events kind line) tells = absurd tells
 told_gives checked fault.TooLarge tells = absurd tells
 told_gives checked fault.Read tells = absurd tells
 told_gives checked fault.Write tells = absurd tells
@@ -83,6 +84,7 @@ unread_gives d c fault.NoMemory is large = inr (inl tt)
 unread_gives d c (fault.Usage text) is large = absurd is
 unread_gives d c (fault.Deployment flaw) is large = absurd is
 unread_gives d c (fault.Certificate flaw) is large = absurd is
+unread_gives d c (fault.Events kind line) is large = absurd is
 unread_gives d c fault.Write is large = absurd is
 unread_gives d c fault.Run is large = absurd is
 

@@ -24,6 +24,8 @@ use Rattle.dds_answers.specs.declared.report.Detail.{Detail}
 use Rattle.dds_answers.specs.declared.report.Detail.TheVariants.{Plain, Explained}
 use Rattle.dds_answers.specs.Migrations.{MayMigrateFor}
 use Rattle.dds_answers.specs.Proposals.{MayProposeFor}
+use Rattle.dds_tool.specs.Refuting.{MayRefuteFor}
+use Rattle.dds_tool.specs.Replaying.{MayReplayFor}
 use Rattle.dds_tool.specs.RunEnds.{GivesRun, MayRun}
 use Rattle.dds_answers.specs.Searches.{MayFindFor}
 use Rattle.dds_answers.specs.Report.{output_of, status_of}
@@ -76,6 +78,10 @@ showing = with_rule (one_file (codes "show")) (wish_rule (codes "format") (codes
 abbrev pub drawing : App
 drawing = with_rule (one_file (codes "draw")) (optional_file_rule (codes "certificate"))
 
+-- the command that makes the events of a file again
+abbrev pub replaying : App
+replaying = with_rule (one_file (codes "replay")) (file_rule (codes "events"))
+
 -- the command by itself: it has a version, and wants a subcommand
 abbrev pub top_app : App
 top_app = on_top (λ s. record s { subcommand_required = true; has_version = true }) (new_app (codes "ddscheck"))
@@ -86,10 +92,14 @@ whole =
     with_subcommand
     (with_subcommand
     (with_subcommand
+    (with_subcommand
+    (with_subcommand
     (with_subcommand (with_subcommand (with_subcommand (with_subcommand top_app (one_file (codes "match")).top) checking.top) searching.top) running.top)
     (one_file (codes "migrate")).top)
     showing.top)
-    drawing.top
+    drawing.top)
+    (one_file (codes "refute")).top)
+    replaying.top
 
 -- the words name the subcommand, and the argument has this text
 abbrev pub Names : List Text → Text → Text → Text → Type 0
@@ -112,6 +122,15 @@ is_input_twice d c = bytes_eq d (codes "-") && bytes_eq c (codes "-")
 abbrev pub NamesBoth : List Row → Text → Text → Type 0
 NamesBoth rows deployment certificate =
     (first_of (codes "deployment") rows ≡ Some deployment) × (first_of (codes "certificate") rows ≡ Some certificate) × (is_input_twice deployment certificate ≡ false)
+
+-- the arguments name a deployment and a file of events, not both on standard input
+abbrev pub NamesEvents : List Row → Text → Text → Type 0
+NamesEvents rows deployment events =
+    (first_of (codes "deployment") rows ≡ Some deployment) × (first_of (codes "events") rows ≡ Some events) × (is_input_twice deployment events ≡ false)
+
+-- the words make the events of the file with that name again, on the deployment with this name
+abbrev pub Replays : List Text → Text → Text → Type 0
+Replays words deployment events = (rows : List Row) × (subcommand_of whole words ≡ Some (codes "replay", rows)) × NamesEvents rows deployment events
 
 -- how much a check is asked to tell
 abbrev pub detail_of : List Row → Detail
@@ -155,6 +174,8 @@ Asks words (asked.Match d) = Names words (codes "match") (codes "deployment") d.
 Asks words (asked.Propose d) = Looks words d.now false
 Asks words (asked.ProposeThoroughly d) = Looks words d.now true
 Asks words (asked.Migrate d) = Names words (codes "migrate") (codes "deployment") d.now
+Asks words (asked.Refute d) = Names words (codes "refute") (codes "deployment") d.now
+Asks words (asked.Replay d e) = Replays words d.now e.now
 Asks words (asked.Show d format) = Shows words d.now format
 Asks words (asked.Draw d c) = Draws words d.now (option_map (λ path. path.now) c)
 Asks words (asked.Check d c detail) = Checks words d.now c.now detail
@@ -166,6 +187,8 @@ paths_of (asked.Match d) = d.now ∷ []
 paths_of (asked.Propose d) = d.now ∷ []
 paths_of (asked.ProposeThoroughly d) = d.now ∷ []
 paths_of (asked.Migrate d) = d.now ∷ []
+paths_of (asked.Refute d) = d.now ∷ []
+paths_of (asked.Replay d e) = d.now ∷ e.now ∷ []
 paths_of (asked.Show d format) = d.now ∷ []
 paths_of (asked.Draw d c) = d.now ∷ option_map_or (λ path. path.now ∷ []) c []
 paths_of (asked.Check d c detail) = d.now ∷ c.now ∷ []
@@ -184,6 +207,8 @@ GivesTo holds (asked.Match d) result = (x : List ℕ) → holds d.now ≡ Some x
 GivesTo holds (asked.Propose d) result = (x : List ℕ) → holds d.now ≡ Some x → (end : Outcome) × MayProposeFor x end × Gives result end
 GivesTo holds (asked.ProposeThoroughly d) result = (x : List ℕ) → holds d.now ≡ Some x → (end : Outcome) × MayFindFor x end × Gives result end
 GivesTo holds (asked.Migrate d) result = (x : List ℕ) → holds d.now ≡ Some x → GivesOneOf (MayMigrateFor x) result
+GivesTo holds (asked.Refute d) result = (x : List ℕ) → holds d.now ≡ Some x → GivesOneOf (MayRefuteFor x) result
+GivesTo holds (asked.Replay d e) result = (x y : List ℕ) → holds d.now ≡ Some x → holds e.now ≡ Some y → GivesOneOf (MayReplayFor x y) result
 GivesTo holds (asked.Show d format) result = (x : List ℕ) → holds d.now ≡ Some x → Gives result (show_file_outcome format x)
 GivesTo holds (asked.Draw d None) result = (x : List ℕ) → holds d.now ≡ Some x → Gives result (draw_file_outcome x None)
 GivesTo holds (asked.Draw d (Some c)) result = (x y : List ℕ) → holds d.now ≡ Some x → holds c.now ≡ Some y → Gives result (draw_file_outcome x (Some y))
@@ -201,6 +226,9 @@ Answers holds (asked.Match d) status old new = (x : List ℕ) → holds d.now �
 Answers holds (asked.Propose d) status old new = (x : List ℕ) → holds d.now ≡ Some x → (end : Outcome) × MayProposeFor x end × Said end status old new
 Answers holds (asked.ProposeThoroughly d) status old new = (x : List ℕ) → holds d.now ≡ Some x → (end : Outcome) × MayFindFor x end × Said end status old new
 Answers holds (asked.Migrate d) status old new = (x : List ℕ) → holds d.now ≡ Some x → (status ≡ 3) ⊎ ((end : Outcome) × MayMigrateFor x end × Said end status old new)
+Answers holds (asked.Refute d) status old new = (x : List ℕ) → holds d.now ≡ Some x → (status ≡ 3) ⊎ ((end : Outcome) × MayRefuteFor x end × Said end status old new)
+Answers holds (asked.Replay d e) status old new =
+    (x y : List ℕ) → holds d.now ≡ Some x → holds e.now ≡ Some y → (status ≡ 3) ⊎ ((end : Outcome) × MayReplayFor x y end × Said end status old new)
 Answers holds (asked.Show d format) status old new = (x : List ℕ) → holds d.now ≡ Some x → Said (show_file_outcome format x) status old new
 Answers holds (asked.Draw d None) status old new = (x : List ℕ) → holds d.now ≡ Some x → Said (draw_file_outcome x None) status old new
 Answers holds (asked.Draw d (Some c)) status old new =

@@ -3,3 +3,5 @@ pub mod RunEnds
 pub mod Wishes
 pub mod Asking
 pub mod Causes
+pub mod Refuting
+pub mod Replaying

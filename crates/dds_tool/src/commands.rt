@@ -3,6 +3,7 @@ ghost use Rattle.std.specs.Prelude.{◌≡◌, ◌≢◌, ℕ, List, [], ◌∷�
 ghost use Rattle.std.specs.Io.KnownBytes.{Keeps};
 ghost use Rattle.clap.specs.Words.{takes};
 ghost use Rattle.dds_tool.specs.Asking.{Answers, Asks, GivesTo, IsHelp, paths_of, whole};
+ghost use Rattle.dds_answers.specs.Answers.{GivesOneOf};
 ghost use Rattle.dds_answers.specs.Causes.{IsFileFault};
 ghost use Rattle.dds_answers.specs.Exit.{exit_status};
 ghost use Rattle.dds_answers.specs.Fault.{fault_status};
@@ -10,8 +11,12 @@ ghost use Rattle.dds_answers.specs.Opened.{Opens, OpensAll};
 ghost use Rattle.dds_answers.specs.Outcome.{file_outcome};
 ghost use Rattle.dds_answers.specs.Telling.{TellsFault};
 ghost use Rattle.dds_tool.specs.Causes.{IsCaused, IsRequestFault, IsRun};
+ghost use Rattle.dds_tool.specs.Refuting.{MayRefuteFor};
+ghost use Rattle.dds_tool.specs.Replaying.{MayReplayFor};
 ghost use Rattle.dds_tool.specs.RunEnds.{GivesRun};
 
+use crate::refuting::refute_answer;
+use crate::replaying::replay_answer;
 use crate::request::{NoRequest, Request, read_request};
 use crate::running::run_answer;
 use crate::wishes::Wishes;
@@ -49,6 +54,39 @@ fn run_files<R: Threads + Wait + Clock + Sync, S: Sources>(
         certificate.as_slice(),
         wishes,
     )
+}
+
+/// The answer of `refute` to a file, which is read whole before it is parsed.
+fn refute_file<S: Sources>(
+    alloc: Global,
+    deployment: &str,
+    files: &mut S,
+) -> Result<Answer, ToolFault>
+    ensures gives { (d : List ℕ) → S.holds files.old deployment.now ≡ Some d → GivesOneOf (MayRefuteFor d) result }
+    ensures causes { IfErr result (IsFileFault (S.has_failed files.new)) }
+    ensures opened { OpensAll (S.opened files.old) (S.opened files.new) (deployment.now ∷ []) }
+{
+    match read_file(alloc, files, deployment) {
+        Ok(bytes) => refute_answer(alloc, bytes.as_slice()),
+        Err(fault) => Err(fault),
+    }
+}
+
+/// The answer of `replay` to two files. Both are read whole, the deployment first, before either is parsed.
+fn replay_files<S: Sources>(
+    alloc: Global,
+    deployment: &str,
+    events: &str,
+    files: &mut S,
+) -> Result<Answer, ToolFault>
+    ensures gives { (d e : List ℕ) → S.holds files.old deployment.now ≡ Some d → S.holds files.old events.now ≡ Some e → GivesOneOf (MayReplayFor d e) result }
+    ensures causes { IfErr result (IsFileFault (S.has_failed files.new)) }
+    ensures opened { Opens (S.opened files.old) (S.opened files.new) (deployment.now ∷ events.now ∷ []) }
+    ensures all_opened { OnOk result (OpensAll (S.opened files.old) (S.opened files.new) (deployment.now ∷ events.now ∷ [])) }
+{
+    let deployment_bytes = read_file(alloc, files, deployment)?;
+    let events_bytes = read_file(alloc, files, events)?;
+    replay_answer(alloc, deployment_bytes.as_slice(), events_bytes.as_slice())
 }
 
 /// What words that are no request come to: yes where help was asked for and written, else the fault of which the user is told.
@@ -95,12 +133,13 @@ fn answer_of<R: Threads + Wait + Clock + Sync, S: Sources>(
         Request::Show { deployment, format } => show_file(alloc, deployment, format, files),
         Request::Draw {
             deployment,
-            certificate: None,
-        } => draw_file(alloc, deployment, files),
-        Request::Draw {
-            deployment,
-            certificate: Some(certificate),
-        } => draw_files(alloc, deployment, certificate, files),
+            certificate,
+        } => match certificate {
+            None => draw_file(alloc, deployment, files),
+            Some(certificate) => draw_files(alloc, deployment, certificate, files),
+        },
+        Request::Refute { deployment } => refute_file(alloc, deployment, files),
+        Request::Replay { deployment, events } => replay_files(alloc, deployment, events, files),
         Request::Run {
             deployment,
             certificate,

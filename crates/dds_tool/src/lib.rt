@@ -4,11 +4,15 @@
 #![tactic(auto)]
 
 mod commands;
+mod refuting;
+mod replaying;
 mod request;
 mod running;
 mod wishes;
 
 pub use commands::tool;
+pub use refuting::refute_answer;
+pub use replaying::replay_answer;
 pub use request::{NoRequest, Request, read_request};
 pub use running::run_answer;
 pub use wishes::Wishes;

@@ -3,7 +3,7 @@ ghost use Rattle.std.specs.Prelude.{◌≡◌, ℕ, List, IfNone, IfOk, IfErr, I
 ghost use Rattle.clap.specs.Words.{Text, app_of, first_of, found_of, kind_of, rows_of, rule_of, subcommand_of, subcommand_rows_of, takes, with_subcommand};
 ghost use Rattle.clap.specs.declared.builder.command.Command.TheViews.{out-Command as fields_of};
 ghost use Rattle.dds_answers.specs.declared.format.Format.{Format};
-ghost use Rattle.dds_tool.specs.Asking.{Asks, Counts, IsHelp, NamesBoth, Wants, checking, count_rule, detail_of, drawing, file_rule, flag_rule, is_input_twice, is_set, one_file, optional_file_rule, running, searching, showing, top_app, two_files, whole, wish_rule};
+ghost use Rattle.dds_tool.specs.Asking.{Asks, Counts, IsHelp, NamesBoth, NamesEvents, Wants, checking, count_rule, detail_of, drawing, file_rule, flag_rule, is_input_twice, is_set, one_file, optional_file_rule, replaying, running, searching, showing, top_app, two_files, whole, wish_rule};
 ghost use Rattle.dds_tool.specs.Wishes.{format_word};
 
 use crate::wishes::{Wishes, read_fates, read_format};
@@ -43,6 +43,9 @@ const EXPLAIN: &str =
 /// What help says of the certificate of a picture.
 const DRAWN_CERTIFICATE: &str = "A certificate whose bounds are drawn";
 
+/// What help says of the argument that names a file of events.
+const EVENTS: &str = "Events, a line each, as refute prints them";
+
 /// What is told of words that name standard input twice.
 const INPUT_TWICE: &str = "error: standard input can be read only once\n";
 
@@ -71,6 +74,15 @@ pub enum Request<'a> {
     /// A deployment of version 1 as one of version 2.
     Migrate {
         deployment: &'a str,
+    },
+    /// A run of a deployment that loses a sample, or why there is none.
+    Refute {
+        deployment: &'a str,
+    },
+    /// What comes of events that are made on a deployment.
+    Replay {
+        deployment: &'a str,
+        events: &'a str,
     },
     /// A deployment as it was read, in a format.
     Show {
@@ -237,6 +249,18 @@ fn draw_command<'a>(alloc: Global) -> Result<Command<'a>, AllocError>
     .arg(optional_file(alloc, "certificate", DRAWN_CERTIFICATE))
 }
 
+fn replay_command<'a>(alloc: Global) -> Result<Command<'a>, AllocError>
+    ensures app { IfOk result (λ c. app_of c ≡ replaying) }
+    ensures local { IfOk result (λ c. (fields_of c).has_globals ≡ false) }
+{
+    one_file_command(
+        alloc,
+        "replay",
+        "Makes the events of a file on a deployment, and prints what comes of each",
+    )?
+    .arg(file(alloc, "events", EVENTS))
+}
+
 /// The command, and a subcommand more that has no global argument.
 fn with_command<'a>(command: Command<'a>, below: Command<'a>) -> Result<Command<'a>, AllocError>
     requires below { (fields_of below).has_globals ≡ false }
@@ -278,7 +302,15 @@ fn whole_command<'a>(alloc: Global) -> Result<Command<'a>, AllocError>
     let showing = show_command(alloc)?;
     let command = with_command(command, showing)?;
     let drawing = draw_command(alloc)?;
-    with_command(command, drawing)
+    let command = with_command(command, drawing)?;
+    let refuting = one_file_command(
+        alloc,
+        "refute",
+        "Looks for a run of a deployment that loses a sample",
+    )?;
+    let command = with_command(command, refuting)?;
+    let replaying = replay_command(alloc)?;
+    with_command(command, replaying)
 }
 
 /// The words are no request, for this reason.
@@ -506,6 +538,44 @@ fn draw_request<'a>(alloc: Global, matches: &ArgMatches<'a>) -> Result<Request<'
     }
 }
 
+fn refute_request<'a>(alloc: Global, matches: &ArgMatches<'a>) -> Result<Request<'a>, NoRequest>
+    ensures asked { (words : List Text) → subcommand_of whole words ≡ Some (codes "refute", rows_of (found_of matches.now)) → IfOk result (Asks words) }
+    ensures fault { IfErr result (λ e. ¬ IsHelp e) }
+    ensures unasked { (words : List Text) → subcommand_of whole words ≡ Some (codes "refute", rows_of (found_of matches.now)) → (r : _) → Asks words r → IfErr result (λ _. ⊥) }
+{
+    match argument(matches, "deployment") {
+        Some(deployment) => Ok(Request::Refute { deployment }),
+        None => Err(usage(alloc, "error: a file is missing\n")),
+    }
+}
+
+/// The names of a deployment and of a file of events, if both are given, not both on standard input.
+fn with_events<'a>(alloc: Global, matches: &ArgMatches<'a>) -> Result<(&'a str, &'a str), NoRequest>
+    ensures both { IfOk result (λ files. NamesEvents (rows_of (found_of matches.now)) files.0.now files.1.now) }
+    ensures fault { IfErr result (λ e. ¬ IsHelp e) }
+    ensures none { IfErr result (λ _. (d e : Text) → NamesEvents (rows_of (found_of matches.now)) d e → ⊥) }
+{
+    let (Some(deployment), Some(events)) = (
+        argument(matches, "deployment"),
+        argument(matches, "events"),
+    ) else {
+        return Err(usage(alloc, "error: a file is missing\n"));
+    };
+    if is_input_twice(deployment, events) {
+        return Err(usage(alloc, INPUT_TWICE));
+    }
+    Ok((deployment, events))
+}
+
+fn replay_request<'a>(alloc: Global, matches: &ArgMatches<'a>) -> Result<Request<'a>, NoRequest>
+    ensures asked { (words : List Text) → subcommand_of whole words ≡ Some (codes "replay", rows_of (found_of matches.now)) → IfOk result (Asks words) }
+    ensures fault { IfErr result (λ e. ¬ IsHelp e) }
+    ensures unasked { (words : List Text) → subcommand_of whole words ≡ Some (codes "replay", rows_of (found_of matches.now)) → (r : _) → Asks words r → IfErr result (λ _. ⊥) }
+{
+    let (deployment, events) = with_events(alloc, matches)?;
+    Ok(Request::Replay { deployment, events })
+}
+
 /// What the words ask for, of which the first is the program's name. Words that the command does not take are `Usage`, unless they ask for help or the
 /// version; words that it takes are never `Help`. No file is opened.
 pub fn read_request<'a, S: AsStr>(alloc: Global, words: &'a [S]) -> Result<Request<'a>, NoRequest>
@@ -522,6 +592,8 @@ pub fn read_request<'a, S: AsStr>(alloc: Global, words: &'a [S]) -> Result<Reque
         Some(("migrate", inner)) => migrate_request(alloc, inner),
         Some(("show", inner)) => show_request(alloc, inner),
         Some(("draw", inner)) => draw_request(alloc, inner),
+        Some(("refute", inner)) => refute_request(alloc, inner),
+        Some(("replay", inner)) => replay_request(alloc, inner),
         _ => Err(usage(alloc, "error: no such command\n")),
     }
 }

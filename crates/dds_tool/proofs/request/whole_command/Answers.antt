@@ -14,4 +14,6 @@ returns c =
     let fourth = c.in_ok-command-4.ensures ∙ ap₂ joined third c.in_ok-running.ensures.app in
     let fifth = c.in_ok-command-5.ensures ∙ ap₂ joined fourth c.in_ok-migrating.ensures.app in
     let sixth = c.in_ok-command-6.ensures ∙ ap₂ joined fifth c.in_ok-showing.ensures.app in
-    IfOk-weaker c.with_command-7.result _ _ (λ r h. h ∙ ap₂ joined sixth c.in_ok-drawing.ensures.app) c.with_command-7.ensures
+    let seventh = c.in_ok-command-7.ensures ∙ ap₂ joined sixth c.in_ok-drawing.ensures.app in
+    let eighth = c.in_ok-command-8.ensures ∙ ap₂ joined seventh c.in_ok-refuting.ensures.app in
+    IfOk-weaker c.with_command-9.result _ _ (λ r h. h ∙ ap₂ joined eighth c.in_ok-replaying.ensures.app) c.with_command-9.ensures

@@ -1,0 +1,22 @@
+//! The line of a condition that fails whatever the certificate.
+ghost use Rattle.std.specs.Prelude.{◌≡◌, IfOk, string_bytes};
+ghost use Rattle.dds_answers.specs.Report.{refusal_line};
+ghost use Rattle.dds_answers.specs.Structure.{nothing};
+
+use crate::report::refusal_text;
+use dds_cert::Certificate;
+use dds_check::No;
+use dds_deploy::Deployment;
+use std::alloc::{AllocError, Global};
+
+/// The line of a refusal, as `check` prints it, where there is no certificate. Only want of memory is an error.
+pub fn structure_text(alloc: Global, lists: &Deployment, no: No) -> Result<String, AllocError>
+    ensures { IfOk result (λ text. string_bytes text ≡ refusal_line lists.now nothing no) }
+{
+    let nothing = Certificate {
+        rows: Vec::new(alloc),
+        bounds: Vec::new(alloc),
+        totals: Vec::new(alloc),
+    };
+    refusal_text(alloc, no, lists, &nothing)
+}

@@ -1,0 +1,2 @@
+mod Arrows
+mod Said

@@ -1,0 +1,54 @@
+-- What is said by one line more.
+use Rattle.std.proofs.Common.{◌≡◌, ◌∙◌, ◌+◌, ◌-◌, ◌<◌, Some, ◌⊎◌, inl, inr, ℕ, zero, suc, true, false, List, [], ◌∷◌, ◌++◌, length, map, option_map, get_or, take, refl, sym, ap, arith, add-one, append-nil, Result, Ok, Err, IfErr, IsErrAnd}
+use Rattle.std.specs.List.{All, filter}
+use Rattle.std.specs.Str.Lines.{lines}
+use Rattle.std.proofs.Math.Seq.{take-suc}
+use Rattle.std.proofs.lemmas.List.{map-append}
+use Rattle.std.proofs.lemmas.List.Elements.{All-append, filter-append}
+use Rattle.std.proofs.lemmas.Option.{slice_get_read}
+use Rattle.dds_base.specs.declared.events.Event.{Event}
+use Rattle.dds_deploy.specs.Lists.{Lists}
+use Rattle.dds_events.specs.Events.{event_text}
+use Rattle.dds_events.specs.Reading.{HasNoData, IsFaultOf, before_arrow, said_by, says_something}
+use Rattle.dds_events.specs.declared.fault.EventsFault.{EventsFault}
+use Rattle.dds_events.specs.declared.fault.EventsFault.TheVariants.{At, NoMemory}
+use Rattle.dds_events.specs.declared.fault.EventsFaultKind.TheVariants.{NotAnEvent}
+
+one_more : (all : List (List ℕ)) (n : ℕ) (line : List ℕ) → n < length all → line ≡ get_or all n line → said_by (take (n + 1) all) ≡ said_by (take n all) ++ said_by (line ∷ [])
+one_more all n line lt at =
+    rw (add-one, take-suc all n line lt, ← at) (ap (map before_arrow) (filter-append says_something (take n all) (line ∷ [])) ∙ map-append before_arrow (filter says_something (take n all)) _)
+
+-- a line that says an event, and the events with it
+pub and_event : (d : Lists) (all : List (List ℕ)) (n : ℕ) (line : List ℕ) (events new : List Event) (event : Event) → n < length all → line ≡ get_or all n line → says_something line ≡ true →
+    event_text d event ≡ before_arrow line → new ≡ events ++ event ∷ [] → map (event_text d) events ≡ said_by (take n all) → map (event_text d) new ≡ said_by (take (n + 1) all)
+and_event d all n line events new event lt at says is after before =
+    let said : said_by (line ∷ []) ≡ before_arrow line ∷ [] = rw says refl in
+    rw after (map-append (event_text d) events (event ∷ []) ∙ (rw (before, is) (sym (one_more all n line lt at ∙ ap (λ xs. said_by (take n all) ++ xs) said))))
+
+-- a line that says nothing
+pub and_nothing : (all : List (List ℕ)) (n : ℕ) (line : List ℕ) (said : List (List ℕ)) → n < length all → line ≡ get_or all n line → says_something line ≡ false →
+    said ≡ said_by (take n all) → said ≡ said_by (take (n + 1) all)
+and_nothing all n line said lt at says before =
+    let none : said_by (line ∷ []) ≡ [] = rw says refl in
+    before ∙ sym (one_more all n line lt at ∙ (ap (λ xs. said_by (take n all) ++ xs) none ∙ append-nil (said_by (take n all))))
+
+only : {X : Type 0} (P : X → Type 0) (x : X) → P x → All P (x ∷ [])
+only P x h zero d lt = h
+only P x h (suc k) d lt = absurd (omega arith)
+
+-- one more event with no data
+pub and_none : (events new : List Event) (event : Event) → All HasNoData events → HasNoData event → new ≡ events ++ event ∷ [] → All HasNoData new
+and_none events new event all one after = rw after (All-append HasNoData events (event ∷ []) all (only HasNoData event one))
+
+-- the fault of a line that says something, after lines that say events
+pub fault_of : (d : Lists) (bytes : List ℕ) (n number : ℕ) (line : List ℕ) (events : List Event) (fault : EventsFault) → n < length (lines bytes) → line ≡ get_or (lines bytes) n line →
+    says_something line ≡ true → map (event_text d) events ≡ said_by (take n (lines bytes)) → number ≡ n → (fault ≡ At NotAnEvent (number + 1)) ⊎ (fault ≡ NoMemory) → IsFaultOf d bytes fault
+fault_of d bytes n number line events fault lt at says before same (inr is) = rw is tt
+fault_of d bytes n number line events fault lt at says before same (inl is) =
+    let here : number + 1 - 1 ≡ n = omega arith in
+    rw is ((omega arith, rw here (ap (option_map says_something) (slice_get_read (lines bytes) (length (lines bytes)) n line refl lt at) ∙ ap Some says)), (events, rw here before))
+
+-- what is known of an error holds of the result
+pub of_error : {X E : Type 0} (r : Result X E) (Q P : E → Type 0) → ((e : E) → Q e → P e) → IsErrAnd r Q → IfErr r P
+of_error (Ok x) Q P gives h = tt
+of_error (Err e) Q P gives h = gives e h

@@ -1,0 +1,6 @@
+pub mod Naming
+pub mod Replies
+pub mod Events
+pub mod Lines
+pub mod Faults
+pub mod Reading

@@ -1,0 +1,59 @@
+-- What lines of text say of events.
+use Rattle.std.specs.Prelude.{◌≡◌, ℕ, ◌-◌, ◌≤◌, ◌==◌, nat_eq, Bool, true, not, ◌&&◌, if◌then◌else◌, List, [], ◌∷◌, codes, length, map, filter, option_map, Some, slice_get, take, replicate, IsUtf8}
+use Rattle.std.specs.List.{starts_with}
+use Rattle.std.specs.Str.Lines.{lines}
+use Rattle.dds_base.specs.declared.events.Event.{Event}
+use Rattle.dds_base.specs.declared.events.Event.TheVariants.{Write, Fire, Take, SendData, SendGap, SendHeartbeat, SendAckNack, Deliver, Lose}
+use Rattle.dds_deploy.specs.Lists.{Lists}
+use Rattle.dds_events.specs.Events.{event_text}
+use Rattle.dds_events.specs.declared.fault.EventsFault.{EventsFault}
+use Rattle.dds_events.specs.declared.fault.EventsFault.TheVariants.{At, NoMemory}
+use Rattle.dds_events.specs.declared.fault.EventsFaultKind.TheVariants.{NotText, NotAnEvent}
+
+-- what the event writes, if anything, is 32 zero bytes
+abbrev pub HasNoData : Event → Type 0
+HasNoData (Write w k payload) = payload ≡ replicate 32 0
+HasNoData (Fire u) = Unit {0}
+HasNoData (Take r k) = Unit {0}
+HasNoData (SendData w r n) = Unit {0}
+HasNoData (SendGap w r n) = Unit {0}
+HasNoData (SendHeartbeat w r) = Unit {0}
+HasNoData (SendAckNack r w) = Unit {0}
+HasNoData (Deliver place keep) = Unit {0}
+HasNoData (Lose place) = Unit {0}
+
+-- the text says the event
+abbrev pub IsSaidBy : Lists → List ℕ → Event → Type 0
+IsSaidBy d text event = (event_text d event ≡ text) × HasNoData event
+
+-- a line says something unless it is empty, a comment, or what tells where a sample is lost
+abbrev pub says_something : List ℕ → Bool
+says_something line =
+    not (length line == 0) && (not (starts_with nat_eq line (codes "#")) && not (starts_with nat_eq line (codes "unsafe ")))
+
+-- what stands before the first arrow with its blanks, or all where none stands
+unfoldable pub before_arrow : List ℕ → List ℕ
+before_arrow [] = []
+before_arrow (b ∷ bs) = if starts_with nat_eq (b ∷ bs) (codes " -> ") then [] else b ∷ before_arrow bs
+
+-- what lines say: of each that says something, what stands before the arrow
+abbrev pub said_by : List (List ℕ) → List (List ℕ)
+said_by lines = map before_arrow (filter says_something lines)
+
+-- what the lines of a text say
+abbrev pub said_of : List ℕ → List (List ℕ)
+said_of bytes = said_by (lines bytes)
+
+-- the line with this number, from 1, says something
+abbrev pub SaysAt : List (List ℕ) → ℕ → Type 0
+SaysAt lines n = (1 ≤ n) × (option_map says_something (slice_get lines (n - 1)) ≡ Some true)
+
+-- the lines before the one with this number say events
+abbrev pub AreSaidBefore : Lists → List (List ℕ) → ℕ → Type 0
+AreSaidBefore d lines n = (events : List Event) × (map (event_text d) events ≡ said_by (take (n - 1) lines))
+
+-- a fault that bytes may have
+abbrev pub IsFaultOf : Lists → List ℕ → EventsFault → Type 0
+IsFaultOf d bytes (At NotText n) = (n ≡ 0) × (¬ IsUtf8 bytes)
+IsFaultOf d bytes (At NotAnEvent n) = SaysAt (lines bytes) n × AreSaidBefore d (lines bytes) n
+IsFaultOf d bytes NoMemory = Unit {0}

@@ -1,0 +1,17 @@
+//! The events of a run and their replies as lines of text, and events read from such lines. Names are those of the deployment file. The text of an event
+//! and of a reply is stated byte for byte; of what is read it is proved that the text says it.
+#![tactic(auto)]
+
+pub mod events;
+pub mod fault;
+pub mod lines;
+pub mod naming;
+pub mod reading;
+pub mod replies;
+
+pub use events::event_text;
+pub use fault::{EventsFault, EventsFaultKind};
+pub use lines::{line_text, lines_text};
+pub use naming::rule_text;
+pub use reading::{read_event, read_events};
+pub use replies::{rejection_name, reply_text};

@@ -1,0 +1,3 @@
+mod Witnessed
+mod Unaccepted
+mod Never

@@ -1,0 +1,123 @@
+//! What `refute` answers.
+ghost use Rattle.std.specs.Prelude.{◌≡◌, Ok, IfErr, IfOk, string_bytes};
+ghost use Rattle.dds_answers.specs.Answers.{GivesOneOf};
+ghost use Rattle.dds_answers.specs.Fault.{IsAnswerFault};
+ghost use Rattle.dds_deploy.specs.Sections.{read as deployment_read};
+ghost use Rattle.dds_tool.specs.Refuting.{MayRefute, is_safe, known_text, loss_name, refuted_text, unknown_line, unsafe_line};
+
+use dds_answers::{Answer, ToolFault, deployment_fault, structure_text};
+use dds_cert::naming::{name_at, reader_key};
+use dds_deploy::{Deployment, read_deployment};
+use dds_events::{lines_text, rejection_name};
+use dds_match::Plan;
+use dds_match::planning::plan;
+use dds_refute::{Counterexample, Loss, Refutation, Unknown, refute};
+use std::alloc::{AllocError, Global};
+
+/// The word for a loss.
+fn loss_name(loss: Loss) -> &'static str
+    ensures { result.now ≡ loss_name loss }
+{
+    match loss {
+        Loss::Rejected(kind) => rejection_name(kind),
+        Loss::Overwrote => "Overwrote",
+    }
+}
+
+/// The line of a counterexample: the reader, the key, the loss, and how many events there are.
+fn unsafe_line(
+    alloc: Global,
+    lists: &Deployment,
+    found: &Counterexample,
+) -> Result<String, AllocError>
+    ensures { IfOk result (λ text. string_bytes text ≡ unsafe_line lists.now found.now) }
+{
+    let key = reader_key(lists, found.reader, found.key);
+    let reader = name_at(lists.reader_names(), found.reader.number());
+    let loss = loss_name(found.loss);
+    let count = found.events.len();
+    format!(in alloc; "unsafe {reader} {key} {loss} {count}\n")
+}
+
+/// The line of a counterexample, and those of its events with their replies.
+fn refuted_text(
+    alloc: Global,
+    lists: &Deployment,
+    found: &Counterexample,
+) -> Result<String, AllocError>
+    ensures { IfOk result (λ text. string_bytes text ≡ refuted_text lists.now found.now) }
+{
+    let line = unsafe_line(alloc, lists, found)?;
+    let lines = lines_text(alloc, lists, &found.events, &found.replies)?;
+    format!(in alloc; "{line}{lines}")
+}
+
+/// The line where neither a certificate nor a run that loses a sample was found.
+fn unknown_line(why: Unknown) -> &'static str
+    ensures { result.now ≡ unknown_line why }
+{
+    match why {
+        Unknown::Exhausted => "unknown exhausted\n",
+        Unknown::Budget => "unknown budget\n",
+    }
+}
+
+/// Whether a certificate shows that the deployment is safe.
+fn is_safe(refutation: &Refutation) -> bool
+    ensures { result ≡ is_safe refutation.now }
+{
+    matches!(refutation, Refutation::Safe(_))
+}
+
+/// The text for what is known of the runs of a plan.
+fn known_text(alloc: Global, plan: &Plan, refutation: &Refutation) -> Result<String, AllocError>
+    ensures { IfOk result (λ text. string_bytes text ≡ known_text plan.now refutation.now) }
+{
+    match refutation {
+        Refutation::Safe(_) => String::from_str(alloc, "safe\n"),
+        Refutation::Structure(no) => structure_text(alloc, plan.lists(), *no),
+        Refutation::Unsafe(found) => refuted_text(alloc, plan.lists(), found),
+        Refutation::Unknown(why) => String::from_str(alloc, unknown_line(*why)),
+    }
+}
+
+/// The answer to the lists of a deployment.
+fn lists_refuted(alloc: Global, lists: Deployment) -> Result<Answer, ToolFault>
+    ensures gives { GivesOneOf (MayRefute (Ok lists)) result }
+    ensures fault { IfErr result IsAnswerFault }
+{
+    let plan = match plan(alloc, lists) {
+        Ok(plan) => plan,
+        Err((_, lists)) => {
+            drop(lists);
+            return Err(ToolFault::NoMemory);
+        }
+    };
+    let Ok((refutation, plan)) = refute(alloc, plan) else {
+        return Err(ToolFault::NoMemory);
+    };
+    let is_yes = is_safe(&refutation);
+    let text = known_text(alloc, &plan, &refutation);
+    drop(plan);
+    drop(refutation);
+    match text {
+        Ok(text) => Ok(Answer {
+            text,
+            is_yes,
+            note: None,
+        }),
+        Err(_) => Err(ToolFault::NoMemory),
+    }
+}
+
+/// The answer of `refute` to the bytes of a deployment: yes with `safe` where a certificate is accepted, or no with a run that loses a sample, with a condition
+/// that fails whatever the certificate, or with `unknown`.
+pub fn refute_answer(alloc: Global, deployment: &[u8]) -> Result<Answer, ToolFault>
+    ensures gives { GivesOneOf (MayRefute (deployment_read deployment.now)) result }
+    ensures fault { IfErr result IsAnswerFault }
+{
+    match read_deployment(alloc, deployment) {
+        Ok(lists) => lists_refuted(alloc, lists),
+        Err(fault) => Err(deployment_fault(fault)),
+    }
+}

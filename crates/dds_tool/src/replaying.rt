@@ -1,0 +1,100 @@
+//! What `replay` answers.
+ghost use Rattle.std.specs.Prelude.{◌≡◌, Ok, IfErr, IfOk, length};
+ghost use Rattle.dds_match.specs.Plan.{network_of};
+ghost use Rattle.dds_check.specs.Runs.{IsRun};
+ghost use Rattle.dds_domain.specs.Standing.{paired};
+ghost use Rattle.dds_answers.specs.Answers.{GivesOneOf};
+ghost use Rattle.dds_answers.specs.Fault.{IsAnswerFault};
+ghost use Rattle.dds_deploy.specs.Sections.{read as deployment_read};
+ghost use Rattle.dds_tool.specs.Replaying.{IsEventsFault, IsReplayed, MayReplay, MayReplayLists};
+
+use dds_answers::{Answer, ToolFault, deployment_fault};
+use dds_base::{Event, Reply};
+use dds_deploy::{Deployment, read_deployment};
+use dds_domain::Simulator;
+use dds_events::{EventsFault, lines_text, read_events};
+use dds_match::planning::plan;
+use dds_match::{NoMemory, Plan};
+use std::alloc::Global;
+
+/// The replies to events that are made on a plan from its opening, and the plan.
+fn replies_of(alloc: Global, plan: Plan, events: &[Event]) -> Result<(Vec<Reply>, Plan), NoMemory>
+    ensures plan { IfOk result (λ x. x.1 ≡ plan) }
+    ensures all { IfOk result (λ x. length x.0.items ≡ length events.now) }
+    ensures run { IfOk result (λ x. IsRun (network_of plan) (paired events.now x.0.items)) }
+{
+    let mut simulator = match Simulator::open(alloc, plan) {
+        Ok(simulator) => simulator,
+        Err((no, plan)) => {
+            drop(plan);
+            return Err(no);
+        }
+    };
+    let Ok(replies) = simulator.run(events) else {
+        drop(simulator);
+        return Err(NoMemory);
+    };
+    Ok((replies, simulator.close()))
+}
+
+/// The answer to events that are made on a plan.
+fn replayed(alloc: Global, plan: Plan, events: Vec<Event>) -> Result<Answer, ToolFault>
+    ensures gives { IfOk result (λ a. IsReplayed plan events.items a) }
+    ensures fault { IfErr result (λ e. e ≡ ToolFault.NoMemory) }
+{
+    let Ok((replies, plan)) = replies_of(alloc, plan, &events) else {
+        return Err(ToolFault::NoMemory);
+    };
+    let text = lines_text(alloc, plan.lists(), &events, &replies);
+    drop(plan);
+    match text {
+        Ok(text) => Ok(Answer {
+            text,
+            is_yes: true,
+            note: None,
+        }),
+        Err(_) => Err(ToolFault::NoMemory),
+    }
+}
+
+/// The fault of events that could not be read.
+fn events_fault(fault: EventsFault) -> ToolFault
+    ensures { IsEventsFault fault result }
+{
+    match fault {
+        EventsFault::At { kind, line } => ToolFault::Events { kind, line },
+        EventsFault::NoMemory => ToolFault::NoMemory,
+    }
+}
+
+/// The answer to the events that bytes say, on the lists of a deployment.
+fn lists_replayed(alloc: Global, lists: Deployment, events: &[u8]) -> Result<Answer, ToolFault>
+    ensures gives { GivesOneOf (MayReplayLists lists events.now) result }
+    ensures fault { IfErr result IsAnswerFault }
+{
+    let events = match read_events(alloc, &lists, events) {
+        Ok(events) => events,
+        Err(fault) => {
+            drop(lists);
+            return Err(events_fault(fault));
+        }
+    };
+    match plan(alloc, lists) {
+        Ok(plan) => replayed(alloc, plan, events),
+        Err((_, lists)) => {
+            drop(lists);
+            Err(ToolFault::NoMemory)
+        }
+    }
+}
+
+/// The answer of `replay` to the bytes of a deployment and of a file of events: yes with the lines of the events, each with its reply.
+pub fn replay_answer(alloc: Global, deployment: &[u8], events: &[u8]) -> Result<Answer, ToolFault>
+    ensures gives { GivesOneOf (MayReplay (deployment_read deployment.now) events.now) result }
+    ensures fault { IfErr result IsAnswerFault }
+{
+    match read_deployment(alloc, deployment) {
+        Ok(lists) => lists_replayed(alloc, lists, events),
+        Err(fault) => Err(deployment_fault(fault)),
+    }
+}
