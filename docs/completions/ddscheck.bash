@@ -5,11 +5,11 @@ _ddscheck() {
     --format) COMPREPLY=($(compgen -W "json dds-xml" -- "$word")); return ;;
     esac
     if [ "$COMP_CWORD" = 1 ]; then
-        COMPREPLY=($(compgen -W "match check propose run migrate show draw help -h --help -V --version" -- "$word"))
+        COMPREPLY=($(compgen -W "match check propose run migrate show draw refute replay help -h --help -V --version" -- "$word"))
         return
     fi
     case ${COMP_WORDS[1]} in
-    help) COMPREPLY=($(compgen -W "match check propose run migrate show draw help" -- "$word")); return ;;
+    help) COMPREPLY=($(compgen -W "match check propose run migrate show draw refute replay help" -- "$word")); return ;;
     match) options="-h --help" ;;
     check) options="--explain -h --help" ;;
     propose) options="--thorough -h --help" ;;
@@ -17,6 +17,8 @@ _ddscheck() {
     migrate) options="-h --help" ;;
     show) options="--format -h --help" ;;
     draw) options="-h --help" ;;
+    refute) options="-h --help" ;;
+    replay) options="-h --help" ;;
     esac
     case $word in
     -*) COMPREPLY=($(compgen -W "$options" -- "$word")) ;;

@@ -13,6 +13,8 @@ _ddscheck() {
             'migrate:Prints a deployment file of version 1 as one of version 2'
             'show:Prints a deployment as it was read, with every field'
             'draw:Prints a picture of a deployment, for Graphviz'
+            'refute:Looks for a run of a deployment that loses a sample'
+            'replay:Makes the events of a file on a deployment, and prints what comes of each'
             'help:Print this message or the help of the given subcommand(s)'
         )
         _describe command commands ;;
@@ -55,6 +57,15 @@ _ddscheck() {
                 '--help[Print help]' \
                 '1:deployment:_files -g "*.toml"' \
                 '2:certificate:_files -g "*.toml"' ;;
+            refute) _arguments \
+                '-h[Print help]' \
+                '--help[Print help]' \
+                '1:deployment:_files -g "*.toml"' ;;
+            replay) _arguments \
+                '-h[Print help]' \
+                '--help[Print help]' \
+                '1:deployment:_files -g "*.toml"' \
+                '2:events:_files -g "*.toml"' ;;
         esac ;;
     esac
 }
