@@ -15,6 +15,8 @@ mod peers;
 #[cfg(test)]
 mod plans;
 #[cfg(test)]
+mod refuted;
+#[cfg(test)]
 mod seen;
 #[cfg(test)]
 mod speakers;

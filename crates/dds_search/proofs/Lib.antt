@@ -1,1 +1,4 @@
 pub mod Claimed
+mod Witnessed
+mod Unaccepted
+mod Never

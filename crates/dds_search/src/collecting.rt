@@ -1,10 +1,11 @@
 //! Collects rows and bounds, limit by limit.
 
 use crate::attempt::{Attempt, Climber};
+use crate::limits::Limited;
+use crate::lists::push;
 use crate::rows::{Entry, merged};
 use crate::weights::WeighedRow;
 use dds_base::{KeyNo, ReaderNo};
-use dds_net::limits::Limited;
 use dds_propose::targets::Target;
 use std::alloc::{AllocError, Global};
 
@@ -49,10 +50,7 @@ impl Collected {
             row,
             bound,
         };
-        match self.entries.push(entry) {
-            Ok(()) => Ok(()),
-            Err(_) => Err(AllocError),
-        }
+        push(&mut self.entries, entry)
     }
 
     /// The bound of a key that has one already. From here on it counts towards a sum, so that it may not rise any more.

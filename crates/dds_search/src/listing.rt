@@ -2,13 +2,14 @@
 ghost use Rattle.std.specs.Prelude.{◌≡◌, IfOk};
 ghost use Rattle.dds_propose.specs.Proposal.{bound_entry, total_entry};
 
+use crate::lists::push;
+use crate::net::Net;
+use crate::outlets::Outlet;
+use crate::places::Place;
 use crate::rows::Entry;
 use crate::weights::{WeighedRow, permit};
 use dds_base::{ReaderNo, WriterNo};
 use dds_cert::{Bound, Certificate, Row, Total, Weight};
-use dds_net::net::Net;
-use dds_net::outlets::Outlet;
-use dds_net::places::Place;
 use dds_propose::targets::Target;
 use std::alloc::{AllocError, Global};
 
@@ -93,14 +94,6 @@ fn listed(alloc: Global, net: &Net, place: usize, row: &WeighedRow) -> Result<Ro
     })
 }
 
-/// Adds a row.
-fn push_row(rows: &mut Vec<Row>, row: Row) -> Result<(), AllocError> {
-    match rows.push(row) {
-        Ok(()) => Ok(()),
-        Err(_) => Err(AllocError),
-    }
-}
-
 /// The rows of a choice, in its order.
 fn rows_of(
     alloc: Global,
@@ -111,7 +104,7 @@ fn rows_of(
     let mut list = Vec::new(alloc);
     for place in 0..chosen.len() {
         if let Some(row) = rows.get(chosen[place]) {
-            push_row(&mut list, listed(alloc, net, place, row)?)?;
+            push(&mut list, listed(alloc, net, place, row)?)?;
         }
     }
     Ok(list)
@@ -177,7 +170,7 @@ pub(crate) fn claim(
     let mut rows = Vec::new(alloc);
     let mut bounds = Vec::new(alloc);
     let mut totals = Vec::new(alloc);
-    push_row(&mut rows, listed(alloc, net, 0, row)?)?;
+    push(&mut rows, listed(alloc, net, 0, row)?)?;
     match target {
         Target::Instance { reader, key } => bounds.push(Bound {
             reader: *reader,

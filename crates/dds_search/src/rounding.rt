@@ -1,9 +1,9 @@
 //! Weights near to values that pass 32 bits: scaled down, and raised until no firing raises the sum.
 
+use crate::firings::{Change, Firing};
+use crate::net::Net;
+use crate::outlets::Outlet;
 use crate::weights::{WeighedRow, weighed};
-use dds_net::firings::{Change, Firing};
-use dds_net::net::Net;
-use dds_net::outlets::Outlet;
 use std::alloc::{AllocError, Global};
 
 /// How often the scale is halved. Each halving leaves more room for the weights to rise.

@@ -2,8 +2,9 @@
 ghost use Rattle.std.specs.Prelude.{◌≡◌, Some, IfOk};
 ghost use Rattle.dds_search.specs.Rows.{weights_at};
 
+use crate::limits::Limited;
+use crate::lists::push;
 use crate::weights::WeighedRow;
-use dds_net::limits::Limited;
 use std::alloc::{AllocError, Global};
 
 /// The most rows that a certificate has.
@@ -61,10 +62,7 @@ fn served(
     let mut table = Vec::new(alloc);
     for row in rows {
         let served = served_by(alloc, row, entries)?;
-        match table.push(served) {
-            Ok(()) => {}
-            Err(_) => return Err(AllocError),
-        }
+        push(&mut table, served)?;
     }
     Ok(table)
 }

@@ -13,15 +13,15 @@ ghost use Rattle.dds_search.specs.Answers.{IsShownFor, IsShownLeast, IfCertifica
 use crate::answer::{Found, Least, Missing};
 use crate::attempt::{Attempt, Climber};
 use crate::collecting::Collected;
+use crate::limits::{Limited, limits_of};
 use crate::listing::{certificate_of, claim};
+use crate::net::Net;
 use crate::rows::cover;
 use crate::weights::WeighedRow;
 use dds_cert::Certificate;
 use dds_check::accepts::accepts;
 use dds_check::claims::{shows, structure_no};
 use dds_match::{NoMemory, Plan};
-use dds_net::limits::{Limited, limits_of};
-use dds_net::net::Net;
 use dds_propose::targets::Target;
 use std::alloc::{AllocError, Global};
 

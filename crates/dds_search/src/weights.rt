@@ -1,10 +1,10 @@
 //! Rows of whole weights: what the tokens of each place weigh.
 ghost use Rattle.std.specs.Prelude.{◌≡◌, true};
 
-use dds_net::firings::Change;
-use dds_net::net::Net;
-use dds_net::outlets::Outlet;
-use dds_net::places::Place;
+use crate::firings::Change;
+use crate::net::Net;
+use crate::outlets::Outlet;
+use crate::places::Place;
 use dds_simplex::common_divisor;
 use std::alloc::{AllocError, Global};
 

@@ -2,6 +2,7 @@ mod Requests
 mod FateLists
 mod Numbers
 mod Tallies
+mod Statuses
 mod RunGives
 mod Requested
 mod Refutes

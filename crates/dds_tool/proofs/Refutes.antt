@@ -1,5 +1,5 @@
 -- What a refutation gives.
-use Rattle.std.proofs.Common.{◌≡◌, ◌≢◌, ◌≤◌, ◌<◌, ℕ, Bool, true, false, List, Some, None, length, nat_le, Ok, Err, Result, refl, ap, ◌∙◌, inl, inr, string_bytes, subst, if◌then◌else◌}
+use Rattle.std.proofs.Common.{◌≡◌, ◌≢◌, ◌≤◌, ◌<◌, ℕ, List, Some, None, length, nat_le, Ok, Err, Result, refl, ap, ◌∙◌, inl, inr, string_bytes, subst}
 use Rattle.std.proofs.lemmas.Bool.{le-leb, lt-leb}
 use Rattle.dds_fields.specs.Reading.{Read}
 use Rattle.dds_fields.specs.Gives.{Fails}
@@ -21,15 +21,11 @@ use Rattle.dds_check.specs.Accepted.{certificate_of}
 use Rattle.dds_check.specs.Accepts.{first_no}
 use Rattle.dds_check.specs.Certified.{Safe}
 use Rattle.dds_check.specs.Claims.{structure_no}
-use Rattle.dds_refute.specs.declared.refuting.Refutation.{Refutation}
-use Rattle.dds_refute.specs.declared.refuting.Refutation.TheVariants as refutation
-use Rattle.dds_refute.specs.Refutations.{IfSafe, IfStructure, IfUnsafe, IsCounterexample}
+use Rattle.dds_search.specs.declared.refuting.Refutation.{Refutation}
+use Rattle.dds_search.specs.declared.refuting.Refutation.TheVariants as refutation
+use Rattle.dds_search.specs.Refutations.{IfSafe, IfStructure, IfUnsafe, IsCounterexample}
 use Rattle.dds_tool.specs.Refuting.{IsKnown, MayRefute, MayRefuteFor, is_safe, known_text}
-
--- the exit status of an answer
-pub told_status : (is_yes : Bool) → answer_status is_yes ≡ (if is_yes then 0 else 1)
-told_status true = refl
-told_status false = refl
+use Rattle.dds_tool.proofs.Statuses.{told_status}
 
 -- an answer with the text for what is known is what the refutation gives
 pub refuted_ends : (lists : Lists) (known : Refutation) (answer : Answer) → IsKnown lists known → string_bytes answer.text ≡ known_text lists known → answer.is_yes ≡ is_safe known → GivesOneOf (MayRefute (Ok lists)) (Ok answer)

@@ -23,6 +23,7 @@ use Rattle.dds_answers.specs.Reading.{IsReadingFault}
 use Rattle.dds_answers.specs.Report.{Tells, output_of, status_of}
 use Rattle.dds_tool.specs.RunEnds.{GivesRun}
 use Rattle.dds_tool.specs.Running.{all_stopped, app_names, run_lines}
+use Rattle.dds_tool.proofs.Statuses.{told_status}
 
 -- the seats of a new gauge of so many applications are its owners'
 pub owners : (gauge : GaugeState) (apps : ℕ) (seats : List GaugeSeatState) → gauge.apps ≡ apps → seats ≡ map (fresh_seat gauge.table apps) (range_with_len 0 (apps + 0))
@@ -33,11 +34,6 @@ owners gauge apps seats is made = rw (made, ← is) (all_are_owners gauge)
 pub names_len : {X : Type 0} (text : X → List ℕ) (names : List X) (d : Lists) → map text names ≡ app_names d → length names ≡ length d.applications.entries
 names_len text names d are =
     sym (length-map names text) ∙ (ap length are ∙ length-map-range_with_len (name_at d.applications.names) 0 (length d.applications.entries))
-
--- the exit status of an answer
-told_status : (is_yes : Bool) → answer_status is_yes ≡ (if is_yes then 0 else 1)
-told_status true = refl
-told_status false = refl
 
 -- an answer with the lines of a run is what the run gives
 pub ran_gives : (d : Lists) (c : Certificate) (journal : List Entry) (ends : List AppEnd) (answer : Answer) → IsJournal d journal

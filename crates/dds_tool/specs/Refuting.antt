@@ -14,14 +14,14 @@ use Rattle.dds_check.specs.Certified.{Safe}
 use Rattle.dds_check.specs.Claims.{structure_no}
 use Rattle.dds_events.specs.Lines.{lines_of}
 use Rattle.dds_events.specs.Replies.{rejection_name}
-use Rattle.dds_refute.specs.declared.loss.Counterexample.{Counterexample}
-use Rattle.dds_refute.specs.declared.loss.Loss.{Loss}
-use Rattle.dds_refute.specs.declared.loss.Loss.TheVariants as lost
-use Rattle.dds_refute.specs.declared.refuting.Refutation.{Refutation}
-use Rattle.dds_refute.specs.declared.refuting.Refutation.TheVariants as refutation
-use Rattle.dds_refute.specs.declared.refuting.Unknown.{Unknown}
-use Rattle.dds_refute.specs.declared.refuting.Unknown.TheVariants as unknown
-use Rattle.dds_refute.specs.Refutations.{IsCounterexample}
+use Rattle.dds_search.specs.declared.loss.Counterexample.{Counterexample}
+use Rattle.dds_search.specs.declared.loss.Loss.{Loss}
+use Rattle.dds_search.specs.declared.loss.Loss.TheVariants as lost
+use Rattle.dds_search.specs.declared.refuting.Refutation.{Refutation}
+use Rattle.dds_search.specs.declared.refuting.Refutation.TheVariants as refutation
+use Rattle.dds_search.specs.declared.refuting.Unknown.{Unknown}
+use Rattle.dds_search.specs.declared.refuting.Unknown.TheVariants as unknown
+use Rattle.dds_search.specs.Refutations.{IsCounterexample}
 use Rattle.dds_answers.specs.Outcome.{Outcome, bad_deployment, said, too_large}
 use Rattle.dds_answers.specs.Structure.{nothing}
 use Rattle.dds_answers.specs.Report.{refusal_line}

@@ -11,7 +11,7 @@ use dds_deploy::{Deployment, read_deployment};
 use dds_events::{lines_text, rejection_name};
 use dds_match::Plan;
 use dds_match::planning::plan;
-use dds_refute::{Counterexample, Loss, Refutation, Unknown, refute};
+use dds_search::{Counterexample, Loss, Refutation, Unknown, refute};
 use std::alloc::{AllocError, Global};
 
 /// The word for a loss.

@@ -31,7 +31,12 @@ impl<W: WriterForm> Subject for Speaker<W> {
                 Ok(Told::Acknowledged)
             }
             4 => {
-                let sent = match self.due(reader) {
+                let due = if dice.below(2) == 0 {
+                    self.due(reader)
+                } else {
+                    None
+                };
+                let sent = match due {
                     Some(Due::Data(sn)) => sn,
                     Some(Due::Gap(start)) => start,
                     None => near,

@@ -1,3 +1,0 @@
-mod Witnessed
-mod Unaccepted
-mod Never

@@ -1,2 +1,0 @@
-pub mod Refuted
-pub mod Refutations
