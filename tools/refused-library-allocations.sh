@@ -69,19 +69,19 @@ build_tests() {
     fi
 }
 
-build_tests dds_runs
-build_tests dds_compared
+build_tests test_endpoints
+build_tests test_domain
 build_tests test_book
 if ! build_library; then
     fail "no compiler built tools/refuse.c"
     finish
 fi
-sweep dds_runs caches::caches_call_by_call
-sweep dds_runs readers::readers_call_by_call
-sweep dds_runs writers::two_readers_call_by_call
-sweep dds_runs writers::a_watcher_call_by_call
-sweep dds_runs writers::a_watcher_beside_a_reader
-sweep dds_compared without_memory::each_event_without_memory
-sweep dds_compared without_memory::a_list_without_memory
+sweep test_endpoints caches::caches_call_by_call
+sweep test_endpoints readers::readers_call_by_call
+sweep test_endpoints writers::two_readers_call_by_call
+sweep test_endpoints writers::a_watcher_call_by_call
+sweep test_endpoints writers::a_watcher_beside_a_reader
+sweep test_domain without_memory::each_event_without_memory
+sweep test_domain without_memory::a_list_without_memory
 sweep test_book without_memory::calls_without_memory
 finish

@@ -8,13 +8,13 @@ use dds_cert::read_certificate;
 use dds_check::{Checked, check};
 use dds_deploy::read_deployment;
 use dds_domain::Domain;
-use dds_files::texts::{PING, PING_CERT};
 use dds_match::planning::plan;
 use std::alloc::Global;
 use std::env::{self, Env};
 use std::io;
 use std::process::ExitCode;
 use std::time::{Clock, Duration, Instant};
+use test_files::texts::{PING, PING_CERT};
 
 /// The checked deployment.
 fn checked(alloc: Global) -> Option<Checked> {

@@ -14,7 +14,6 @@ use dds_book::{Gauge, GaugeSeat};
 use dds_cert::read_certificate;
 use dds_check::{Checked, check};
 use dds_deploy::read_deployment;
-use dds_files::texts::{PING, PING_CERT};
 use dds_match::NoMemory;
 use dds_match::planning::plan;
 use dds_peers::{App, AppEnd, Fates, Limits, Outcome, RunFault, Steady, run_peers};
@@ -25,6 +24,7 @@ use std::process::ExitCode;
 use std::sync::{Arc, Wait};
 use std::thread::Threads;
 use std::time::{Clock, Instant};
+use test_files::texts::{PING, PING_CERT};
 
 /// No limit ends a run before the journal is full.
 const LIMITS: Limits = Limits {

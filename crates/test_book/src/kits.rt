@@ -4,13 +4,13 @@ use dds_base::{Event, Fate, KeyNo, ReaderNo, Refusal};
 use dds_book::{BookFault, Kit};
 use dds_check::{Checked, check};
 use dds_deploy::read_deployment;
-use dds_files::texts::PING;
 use dds_match::Plan;
 use dds_match::planning::plan;
-use dds_oracle::worked::{Move, Told};
 use dds_propose::propose;
 use std::alloc::Global;
 use std::process::Abort;
+use test_files::texts::PING;
+use test_model::worked::{Move, Told};
 
 /// A call: the seat, what it makes, and what is told. The seats are those of the two applications and then those of their participants.
 pub(crate) type Call = (usize, Move, Result<Told, BookFault>);

@@ -5,13 +5,13 @@ ghost use Rattle.dds_book.specs.Kit.{IsKitOf};
 use crate::kits::{CALLS, ENTERED, empty_take, kit};
 use dds_base::Reply;
 use dds_book::{Book, BookFault, Journal, Kit, Name, Seat};
-use dds_oracle::worked::{Move, Told, event_of, told_of};
 use std::alloc::Global;
 use std::marker::Brand;
 use std::process::Abort;
 use std::sync::Wait;
 use std::test::Fail;
 use std::time::Clock;
+use test_model::worked::{Move, Told, event_of, told_of};
 
 fn told(answer: Result<Reply, BookFault>) -> Result<Told, BookFault> {
     match answer {

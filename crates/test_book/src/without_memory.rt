@@ -6,11 +6,11 @@ ghost use Rattle.dds_book.specs.Kit.{IsKitOf};
 use crate::kits::{CALLS, FATE, kit};
 use dds_base::{Event, Reply};
 use dds_book::{BookFault, BookState, Kit, Name, Seat};
-use dds_oracle::worked::{Told, event_of, told_of};
 use std::alloc::Global;
 use std::marker::Brand;
 use std::process::Abort;
 use std::test::Fail;
+use test_model::worked::{Told, event_of, told_of};
 
 /// Enters an event, and once more where memory is refused: then nothing was entered before.
 fn entered<N: Name>(

@@ -3,11 +3,11 @@
 use dds_cert::read_certificate;
 use dds_check::{Checked, check};
 use dds_deploy::read_deployment;
-use dds_files::texts::{PING, PING_CERT, SMALL, SMALL_CERT};
 use dds_match::Plan;
 use dds_match::planning::plan;
 use std::alloc::Global;
 use std::process::Abort;
+use test_files::texts::{PING, PING_CERT, SMALL, SMALL_CERT};
 
 fn planned(alloc: Global, deployment: &str) -> Option<Plan> {
     let deployment = read_deployment(alloc, deployment.as_bytes()).ok()?;

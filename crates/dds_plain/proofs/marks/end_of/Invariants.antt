@@ -1,6 +1,0 @@
-use Rattle.std.proofs.Common.{◌≡◌, false, take}
-use Rattle.dds_reader.specs.Marks.{in_marks}
-use Rattle.dds_plain.proofs.marks.end_of.Given as goal
-
-abbrev pub invariant-loop-m : goal.invariant-loop-m
-invariant-loop-m l = in_marks (take l.m-index l.marks) l.writer l.n ≡ false

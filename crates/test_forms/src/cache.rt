@@ -1,0 +1,214 @@
+//! The plain cache, and what each call does to it.
+
+ghost use Rattle.std.specs.Prelude.{◌≡◌, [], length, IfOk, OnErr, MatchOption, IsTrue};
+ghost use Rattle.std.specs.FinSet as set;
+ghost use Rattle.dds_qos.specs.Samples.{IsFresh, in_instance, without};
+ghost use Rattle.dds_qos.specs.Admission.{is_reached, admission, stored_after, keys_after};
+ghost use Rattle.dds_qos.specs.Taking.{IsLeastOfWriter};
+ghost use Rattle.dds_cache.specs.Released.{is_listed, opened, raised, released_of};
+ghost use Rattle.dds_cache.specs.Cache.{is_available, available};
+ghost use Rattle.test_forms.specs.Least.{IsLeastAt, NoneAvailable};
+
+use crate::contents::{Contents, first_of};
+use crate::limits::is_reached;
+use crate::released::{raise, released_upto};
+use dds_base::{KeyNo, Rejection, Sample, WriterNo};
+use dds_cache::Released;
+use dds_qos::{Admit, ReaderLimits};
+use std::alloc::{AllocError, Global};
+use std::marker::Model;
+
+/// The plain form of `dds_cache::Cache`, over lists, which tests compare with the fast one.
+///
+/// The samples that a reader has stored and not given yet, within its limits (OMG DDS 1.4, clauses 2.2.3.18 and 2.2.3.19).
+///
+/// A sample is stored by `admit`, is available once `release` reaches its number, and leaves by `take` or because a later one of its
+/// key is stored in its place. Whether available or not, it counts against the limits.
+#[derive(Drop)]
+pub struct PlainCache {
+    limits: ReaderLimits,
+    contents: Contents,
+    writers: Vec<Released>,
+}
+
+impl Model for PlainCache {
+    ghost use Rattle.std.specs.Coded.{codes, coded_ℕ};
+    ghost use Rattle.std.specs.Ordering.{nat_cmp};
+    ghost use Rattle.std.specs.FinSet as set;
+    ghost use Rattle.dds_cache.specs.Cache.{CacheState};
+    ghost use Rattle.test_forms.specs.CacheView.{view_of, IsSound};
+
+    ghost Value = { CacheState };
+
+    ghost coded = { Prim.hlevel (codes, set.code {R = nat_cmp} coded_ℕ) };
+
+    ghost view = { view_of };
+
+    ghost invariant = { IsSound };
+}
+
+impl PlainCache {
+    /// An empty cache for the samples of these writers, which knows no key and has each writer's samples available up to 0, so none.
+    /// Later samples take their memory from `alloc` too. `Err` where no memory is left for the list of writers.
+    pub fn new(
+        alloc: Global,
+        limits: ReaderLimits,
+        writers: &[WriterNo],
+    ) -> Result<PlainCache, AllocError>
+        ensures { IfOk result (λ c. c ≡ record {
+          limits = limits;
+          stored = [];
+          keys = set.empty;
+          writers = opened writers.now;
+        }) }
+    {
+        let mut listed = Vec::with_capacity(alloc, writers.len())?;
+        for writer in writers {
+            listed.push_reserved(Released {
+                writer: *writer,
+                upto: 0,
+            });
+        }
+        Ok(PlainCache {
+            limits,
+            contents: Contents::new(alloc),
+            writers: listed,
+        })
+    }
+
+    /// How many samples are stored, available or not.
+    pub fn stored(&self) -> usize
+        ensures { result ≡ length self.now.stored }
+    {
+        self.contents.stored.len()
+    }
+
+    /// How many instances the cache has: the different keys of all samples that it ever stored, also of those that are gone.
+    pub fn instances(&self) -> usize
+        ensures { result ≡ set.len self.now.keys }
+    {
+        self.contents.keys.len()
+    }
+
+    /// How many samples of the key are stored, available or not.
+    pub fn unread(&self, key: KeyNo) -> usize
+        ensures { result ≡ in_instance key self.now.stored }
+    {
+        self.contents.unread(key)
+    }
+
+    /// What `admit` would answer on the sample, want of memory aside. It changes nothing: a caller that needs memory of its own for a
+    /// sample that is stored asks here first, so that a rejection needs none.
+    pub fn admission(&self, sample: &Sample) -> Admit
+        ensures { result ≡ admission self.now.limits self.now.stored self.now.keys sample.now }
+    {
+        let full = is_reached(self.limits.max_instances, self.instances());
+        let known = self.knows(sample.key);
+        if full && !known {
+            return Admit::Rejected(Rejection::InstancesLimit);
+        }
+        let unread = self.unread(sample.key);
+        if is_reached(self.limits.keep_last, unread) {
+            let oldest = match first_of(&self.contents.stored, sample.key) {
+                Some(at) => self.contents.stored[at],
+                None => *sample,
+            };
+            return Admit::Overwrote(oldest);
+        }
+        if is_reached(self.limits.max_samples, self.stored()) {
+            return Admit::Rejected(Rejection::SamplesLimit);
+        }
+        if is_reached(self.limits.max_samples_per_instance, unread) {
+            return Admit::Rejected(Rejection::SamplesPerInstanceLimit);
+        }
+        Admit::Stored
+    }
+
+    /// Stores a sample where the limits allow it. The writer has to be listed, and no stored sample may have its writer and number.
+    ///
+    /// The first of these that holds is answered (OMG DDS 1.4, clauses 2.2.3.18, 2.2.3.19 and 2.2.4.1):
+    ///
+    /// 1. `Rejected(InstancesLimit)`: the key is new, and max_instances keys are known;
+    /// 2. `Overwrote(old)`: by KEEP_LAST, depth samples of the key are stored; `old`, the one of them that was admitted first, leaves,
+    ///    and the sample is stored as the last;
+    /// 3. `Rejected(SamplesLimit)`: max_samples samples are stored;
+    /// 4. `Rejected(SamplesPerInstanceLimit)`: max_samples_per_instance samples of the key are stored;
+    /// 5. `Stored`: it is stored as the last, and its key is known from now on.
+    ///
+    /// A rejection changes nothing. `Err` where the sample would be stored and no memory is left for it; it changes nothing.
+    pub fn admit(&mut self, sample: Sample) -> Result<Admit, AllocError>
+        requires listed { IsTrue (is_listed sample.writer self.old.writers) }
+        requires fresh { IsFresh self.old.stored sample }
+        ensures answer { IfOk result (λ a. a ≡ admission self.old.limits self.old.stored self.old.keys sample) }
+        ensures state { IfOk result (λ a. self.new ≡ record self.old {
+          stored = stored_after a self.old.stored sample;
+          keys = keys_after a self.old.keys sample;
+        }) }
+        ensures err { OnErr result (self.new ≡ self.old) }
+    {
+        let answer = self.admission(&sample);
+        if answer.is_rejected() {
+            return Ok(answer);
+        }
+        self.contents.store(&sample, answer.is_overwrote())?;
+        Ok(answer)
+    }
+
+    /// Makes the samples of a listed writer with numbers up to `upto`, 0 to 2^64 - 1, available, those stored later too. What is
+    /// available already stays so: a number below an earlier one changes nothing.
+    pub fn release(&mut self, writer: WriterNo, upto: u64)
+        requires { IsTrue (is_listed writer self.old.writers) }
+        ensures { self.new ≡ record self.old { writers = raised writer upto self.old.writers } }
+    {
+        raise(&mut self.writers, writer, upto);
+    }
+
+    /// Gives an available sample of the key, which leaves the cache: of some writer, the one with the least number among that writer's
+    /// available samples of the key (OMG DDS 1.4, clause 2.2.2.5.3). `None` exactly where no sample of the key is available, and then
+    /// nothing changes.
+    pub fn take(&mut self, key: KeyNo) -> Option<Sample>
+        ensures answer { MatchOption result (available self.old key ≡ []) (λ x. IsLeastOfWriter x (available self.old key)) }
+        ensures state { MatchOption result (self.new ≡ self.old) (λ x. self.new ≡ record self.old { stored = without x self.old.stored }) }
+    {
+        match self.least(key) {
+            Some(at) => Some(self.contents.stored.remove(at)),
+            None => None,
+        }
+    }
+
+    fn knows(&self, key: KeyNo) -> bool
+        ensures { result ≡ set.contains self.now.keys key }
+    {
+        self.contents.knows(key)
+    }
+
+    // Up to which number the writer's samples are available.
+    fn released(&self, writer: WriterNo) -> u64
+        ensures { result ≡ released_of writer self.now.writers }
+    {
+        released_upto(&self.writers, writer)
+    }
+
+    fn is_available(&self, sample: &Sample) -> bool
+        ensures { result ≡ is_available self.now sample.now }
+    {
+        sample.sn <= self.released(sample.writer)
+    }
+
+    // The place of the available sample of the key with the least number of all.
+    fn least(&self, key: KeyNo) -> Option<usize>
+        ensures { MatchOption result (NoneAvailable self.now key) (IsLeastAt self.now key) }
+    {
+        let mut best = None;
+        for at in 0..self.contents.stored.len() {
+            let sample = &self.contents.stored[at];
+            if sample.key == key && self.is_available(sample) {
+                best = match best {
+                    Some(b) if self.contents.stored[b].sn <= sample.sn => Some(b),
+                    _ => Some(at),
+                };
+            }
+        }
+        best
+    }
+}
