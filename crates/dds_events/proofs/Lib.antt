@@ -1,2 +1,4 @@
 mod Arrows
+mod KindLaws
 mod Said
+mod WordLaws

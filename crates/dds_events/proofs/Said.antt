@@ -1,5 +1,5 @@
 -- What is said by one line more.
-use Rattle.std.proofs.Common.{◌≡◌, ◌∙◌, ◌+◌, ◌-◌, ◌<◌, Some, ◌⊎◌, inl, inr, ℕ, zero, suc, true, false, List, [], ◌∷◌, ◌++◌, length, map, option_map, get_or, take, refl, sym, ap, arith, add-one, append-nil, Result, Ok, Err, IfErr, IsErrAnd}
+use Rattle.std.proofs.Common.{◌≡◌, ◌∙◌, ◌+◌, ◌-◌, ◌<◌, Some, ℕ, slice_get, zero, suc, true, false, List, [], ◌∷◌, ◌++◌, length, map, get_or, take, refl, sym, ap, arith, add-one, append-nil, Result, Ok, Err, IfErr, IsErrAnd}
 use Rattle.std.specs.List.{All, filter}
 use Rattle.std.specs.Str.Lines.{lines}
 use Rattle.std.proofs.Math.Seq.{take-suc}
@@ -9,9 +9,9 @@ use Rattle.std.proofs.lemmas.Option.{slice_get_read}
 use Rattle.dds_base.specs.declared.events.Event.{Event}
 use Rattle.dds_deploy.specs.Lists.{Lists}
 use Rattle.dds_events.specs.Events.{event_text}
-use Rattle.dds_events.specs.Reading.{HasNoData, IsFaultOf, before_arrow, said_by, says_something}
+use Rattle.dds_events.specs.Reading.{HasNoData, IsFaultOf, IsOfDeployment, SaysNoEvent, before_arrow, said_by, says_something}
 use Rattle.dds_events.specs.declared.fault.EventsFault.{EventsFault}
-use Rattle.dds_events.specs.declared.fault.EventsFault.TheVariants.{At, NoMemory}
+use Rattle.dds_events.specs.declared.fault.EventsFault.TheVariants.{At}
 use Rattle.dds_events.specs.declared.fault.EventsFaultKind.TheVariants.{NotAnEvent}
 
 one_more : (all : List (List ℕ)) (n : ℕ) (line : List ℕ) → n < length all → line ≡ get_or all n line → said_by (take (n + 1) all) ≡ said_by (take n all) ++ said_by (line ∷ [])
@@ -40,13 +40,17 @@ only P x h (suc k) d lt = absurd (omega arith)
 pub and_none : (events new : List Event) (event : Event) → All HasNoData events → HasNoData event → new ≡ events ++ event ∷ [] → All HasNoData new
 and_none events new event all one after = rw after (All-append HasNoData events (event ∷ []) all (only HasNoData event one))
 
--- the fault of a line that says something, after lines that say events
+-- one more event of the deployment
+pub and_known : (d : Lists) (events new : List Event) (event : Event) → All (IsOfDeployment d) events → IsOfDeployment d event → new ≡ events ++ event ∷ [] → All (IsOfDeployment d) new
+and_known d events new event all one after = rw after (All-append (IsOfDeployment d) events (event ∷ []) all (only (IsOfDeployment d) event one))
+
+-- the fault of a line that says something but no event, after lines that say events
 pub fault_of : (d : Lists) (bytes : List ℕ) (n number : ℕ) (line : List ℕ) (events : List Event) (fault : EventsFault) → n < length (lines bytes) → line ≡ get_or (lines bytes) n line →
-    says_something line ≡ true → map (event_text d) events ≡ said_by (take n (lines bytes)) → number ≡ n → (fault ≡ At NotAnEvent (number + 1)) ⊎ (fault ≡ NoMemory) → IsFaultOf d bytes fault
-fault_of d bytes n number line events fault lt at says before same (inr is) = rw is tt
-fault_of d bytes n number line events fault lt at says before same (inl is) =
+    says_something line ≡ true → All (IsOfDeployment d) events → map (event_text d) events ≡ said_by (take n (lines bytes)) → SaysNoEvent d (before_arrow line) → number ≡ n → fault ≡ At NotAnEvent (number + 1) → IsFaultOf d bytes fault
+fault_of d bytes n number line events fault lt at says known before none same is =
     let here : number + 1 - 1 ≡ n = omega arith in
-    rw is ((omega arith, rw here (ap (option_map says_something) (slice_get_read (lines bytes) (length (lines bytes)) n line refl lt at) ∙ ap Some says)), (events, rw here before))
+    let there : slice_get (lines bytes) n ≡ Some line = slice_get_read (lines bytes) (length (lines bytes)) n line refl lt at in
+    rw is ((omega arith, rw (here, there) (ap Some says)), (events, known, rw here before), rw (here, there) none)
 
 -- what is known of an error holds of the result
 pub of_error : {X E : Type 0} (r : Result X E) (Q P : E → Type 0) → ((e : E) → Q e → P e) → IsErrAnd r Q → IfErr r P
