@@ -68,7 +68,7 @@ fn runs_of_drawn_deployments_are_runs_of_the_plain_world(rt: HostRuntime) -> Res
     for seed in 0..DRAWN {
         let text = deployment(rt.alloc(), seed)?;
         if expect_refuted(&rt, rt.alloc(), text.as_str())? {
-            count += 1;
+            count = count.saturating_add(1);
         }
     }
     assert!(rt; count >= 10);
