@@ -1,6 +1,6 @@
 #!/bin/sh
 # Tries the wrong bodies that the merge gate leaves out: lays the edits of tools/more-edits over a copy of the tree in place of those of the crates, and sees
-# that the prover refuses each. With names of crates it tries theirs alone. It takes about an hour and a half on four cores, so it is run by hand before a release.
+# that the prover refuses each. With names of crates it tries theirs alone. It takes more than an hour on four cores, so it is run by hand before a release.
 # The last line is 'N passed, M failed'; the status is 1 if one failed.
 here=$(CDPATH='' cd -- "$(dirname -- "$0")/.." && pwd)
 room=$(mktemp -d) || exit 1
