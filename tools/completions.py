@@ -89,13 +89,15 @@ def bash(all_commands, options):
     names = " ".join(command.name for command in all_commands)
     cases = "".join(f'    {command.name}) options="{names_of(command.options)}" ;;\n' for command in all_commands if command.usage)
     values = "".join(
-        f'    {option.long}) COMPREPLY=($(compgen -W "{" ".join(option.values())}" -- "$word")); return ;;\n'
-        for option in {o.long: o for c in all_commands for o in c.options if o.values()}.values()
+        f'    "{command.name} {option.long}") COMPREPLY=($(compgen -W "{" ".join(option.values())}" -- "$word")); return ;;\n'
+        for command in all_commands
+        for option in command.options
+        if option.values()
     )
     return f"""# Completions of ddscheck for bash, made by tools/completions.py from the program's help.
 _ddscheck() {{
     local word=${{COMP_WORDS[COMP_CWORD]}} before=${{COMP_WORDS[COMP_CWORD - 1]}} options=""
-    case $before in
+    case "${{COMP_WORDS[1]}} $before" in
 {values}    esac
     if [ "$COMP_CWORD" = 1 ]; then
         COMPREPLY=($(compgen -W "{names} {names_of(options)}" -- "$word"))

@@ -1,8 +1,14 @@
 # Completions of ddscheck for bash, made by tools/completions.py from the program's help.
 _ddscheck() {
     local word=${COMP_WORDS[COMP_CWORD]} before=${COMP_WORDS[COMP_CWORD - 1]} options=""
-    case $before in
-    --format) COMPREPLY=($(compgen -W "json dds-xml" -- "$word")); return ;;
+    case "${COMP_WORDS[1]} $before" in
+    "match --format") COMPREPLY=($(compgen -W "text json" -- "$word")); return ;;
+    "check --format") COMPREPLY=($(compgen -W "text json" -- "$word")); return ;;
+    "propose --format") COMPREPLY=($(compgen -W "text json" -- "$word")); return ;;
+    "run --format") COMPREPLY=($(compgen -W "text json" -- "$word")); return ;;
+    "show --format") COMPREPLY=($(compgen -W "json dds-xml" -- "$word")); return ;;
+    "refute --format") COMPREPLY=($(compgen -W "text json" -- "$word")); return ;;
+    "replay --format") COMPREPLY=($(compgen -W "text json" -- "$word")); return ;;
     esac
     if [ "$COMP_CWORD" = 1 ]; then
         COMPREPLY=($(compgen -W "match check propose run migrate show draw refute replay help -h --help -V --version" -- "$word"))
@@ -10,15 +16,15 @@ _ddscheck() {
     fi
     case ${COMP_WORDS[1]} in
     help) COMPREPLY=($(compgen -W "match check propose run migrate show draw refute replay help" -- "$word")); return ;;
-    match) options="-h --help" ;;
-    check) options="--explain -h --help" ;;
-    propose) options="--thorough -h --help" ;;
-    run) options="--fates --writes --takes -h --help" ;;
+    match) options="--format -h --help" ;;
+    check) options="--explain --format -h --help" ;;
+    propose) options="--thorough --format -h --help" ;;
+    run) options="--fates --writes --takes --format -h --help" ;;
     migrate) options="-h --help" ;;
     show) options="--format -h --help" ;;
     draw) options="-h --help" ;;
-    refute) options="-h --help" ;;
-    replay) options="-h --help" ;;
+    refute) options="--format -h --help" ;;
+    replay) options="--format -h --help" ;;
     esac
     case $word in
     -*) COMPREPLY=($(compgen -W "$options" -- "$word")) ;;

@@ -21,17 +21,20 @@ _ddscheck() {
     words)
         case $line[1] in
             match) _arguments \
+                '--format[text or json \[default: text\]]:FORMAT:(text json)' \
                 '-h[Print help]' \
                 '--help[Print help]' \
                 '1:deployment:_files -g "*.toml"' ;;
             check) _arguments \
                 '--explain[Tells the reason too: the numbers behind a refusal, or how near each bound is to its limit]' \
+                '--format[text or json \[default: text\]]:FORMAT:(text json)' \
                 '-h[Print help]' \
                 '--help[Print help]' \
                 '1:deployment:_files -g "*.toml"' \
                 '2:certificate:_files -g "*.toml"' ;;
             propose) _arguments \
                 '--thorough[Searches by linear programming, for the least bounds, and tells which limit has no certificate]' \
+                '--format[text or json \[default: text\]]:FORMAT:(text json)' \
                 '-h[Print help]' \
                 '--help[Print help]' \
                 '1:deployment:_files -g "*.toml"' ;;
@@ -39,6 +42,7 @@ _ddscheck() {
                 '--fates[What befalls packets, in a circle: pass, keep, last, lose, with commas \[default: pass\]]:LIST:()' \
                 '--writes[How many samples each application writes \[default: 10\]]:N:()' \
                 '--takes[How many samples each application takes \[default: 10\]]:N:()' \
+                '--format[text or json \[default: text\]]:FORMAT:(text json)' \
                 '-h[Print help]' \
                 '--help[Print help]' \
                 '1:deployment:_files -g "*.toml"' \
@@ -58,10 +62,12 @@ _ddscheck() {
                 '1:deployment:_files -g "*.toml"' \
                 '2:certificate:_files -g "*.toml"' ;;
             refute) _arguments \
+                '--format[text or json \[default: text\]]:FORMAT:(text json)' \
                 '-h[Print help]' \
                 '--help[Print help]' \
                 '1:deployment:_files -g "*.toml"' ;;
             replay) _arguments \
+                '--format[text or json \[default: text\]]:FORMAT:(text json)' \
                 '-h[Print help]' \
                 '--help[Print help]' \
                 '1:deployment:_files -g "*.toml"' \

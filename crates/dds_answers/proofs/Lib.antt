@@ -1,4 +1,4 @@
-mod Telling
+pub mod Telling
 mod Proposals
 pub mod Searches
 mod Migrations

@@ -42,7 +42,7 @@ impl Answer {
 }
 
 /// The answer with a text, if there was memory for it.
-pub(crate) fn answered(text: Result<String, AllocError>, is_yes: bool) -> Result<Answer, ToolFault>
+pub fn answered(text: Result<String, AllocError>, is_yes: bool) -> Result<Answer, ToolFault>
     ensures answer { IfOk result (λ a. (a.is_yes ≡ is_yes) × IfOk text (λ t. a.text ≡ t)) }
     ensures text { OnOk result (IsOk text) }
     ensures memory { IfErr result (λ e. e ≡ ToolFault.NoMemory) }

@@ -21,7 +21,8 @@ mod structure;
 mod thorough;
 
 pub use answer::{
-    Answer, check_answer, match_answer, migrate_answer, propose_answer, reported, show_answer,
+    Answer, answered, check_answer, match_answer, migrate_answer, propose_answer, reported,
+    show_answer,
 };
 pub use counted::Counted;
 pub use disk::Disk;
@@ -37,7 +38,9 @@ pub use giving::{give, print, tell_fault};
 pub use matches::{is_as_intended, match_text};
 pub use output::{Output, Stream};
 pub use reading::{MAX_FILE, read_all};
-pub use report::{Detail, Report, answer_check, deployment_fault, detailed_text, report_text};
+pub use report::{
+    Detail, Report, answer_check, because_text, deployment_fault, detailed_text, report_text,
+};
 pub use sources::Sources;
 pub use structure::structure_text;
 pub use thorough::thorough_answer;

@@ -231,8 +231,8 @@ fn acceptance_text(
     Ok(text)
 }
 
-/// The lines of the reason of a report.
-fn because_text(alloc: Global, report: &Report) -> Result<String, AllocError>
+/// The lines of the reason of a report. Only want of memory is an error.
+pub fn because_text(alloc: Global, report: &Report) -> Result<String, AllocError>
     ensures { IfOk result (λ text. string_bytes text ≡ because_lines report.now) }
 {
     match report {

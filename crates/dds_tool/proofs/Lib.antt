@@ -2,7 +2,8 @@ mod Requests
 mod FateLists
 mod Numbers
 mod Tallies
-mod Statuses
+mod Told
+mod RunDocuments
 mod RunGives
 mod Requested
 mod Refutes

@@ -1,4 +1,4 @@
--- What words ask for that draw a deployment.
+-- What words ask for that draw a deployment, or look for its certificate.
 use Rattle.std.proofs.Common.{◌≡◌, ◌∙◌, ◌<◌, ℕ, Bool, true, false, List, [], Option, Some, None, codes, option_map, slice_index, sym, ap, arith, unwrap_or}
 use Rattle.std.specs.Option.{option_map_or}
 use Rattle.clap.specs.Words.{Row, Text, first_of, subcommand_of}
@@ -27,18 +27,31 @@ true_and_false b is other = cc
 -- words that draw a deployment, and ask for something, name standard input once at most
 pub draws_once : (words : List Text) (rows : List Row) → subcommand_of whole words ≡ Some (codes "draw", rows) → (r : Request) → Asks words r → (d c : Text)
     → Some d ≡ first_of (codes "deployment") rows → Some c ≡ first_of (codes "certificate") rows → is_input_twice d c ≡ true → ⊥
-draws_once words rows is (asked.Match x) asks d c first second twice = later 109 100 (omega arith) (ap first_byte (sym asks.1 ∙ is))
-draws_once words rows is (asked.Propose x) asks d c first second twice = later 112 100 (omega arith) (ap first_byte (sym asks.1 ∙ is))
-draws_once words rows is (asked.ProposeThoroughly x) asks d c first second twice = later 112 100 (omega arith) (ap first_byte (sym asks.1 ∙ is))
+draws_once words rows is (asked.Match x style) asks d c first second twice = later 109 100 (omega arith) (ap first_byte (sym asks.1 ∙ is))
+draws_once words rows is (asked.Propose x style) asks d c first second twice = later 112 100 (omega arith) (ap first_byte (sym asks.1 ∙ is))
+draws_once words rows is (asked.ProposeThoroughly x style) asks d c first second twice = later 112 100 (omega arith) (ap first_byte (sym asks.1 ∙ is))
 draws_once words rows is (asked.Migrate x) asks d c first second twice = later 109 100 (omega arith) (ap first_byte (sym asks.1 ∙ is))
-draws_once words rows is (asked.Refute x) asks d c first second twice = later 114 100 (omega arith) (ap first_byte (sym asks.1 ∙ is))
-draws_once words rows is (asked.Replay x y) asks d c first second twice = later 114 100 (omega arith) (ap first_byte (sym asks.1 ∙ is))
+draws_once words rows is (asked.Refute x style) asks d c first second twice = later 114 100 (omega arith) (ap first_byte (sym asks.1 ∙ is))
+draws_once words rows is (asked.Replay x y style) asks d c first second twice = later 114 100 (omega arith) (ap first_byte (sym asks.1 ∙ is))
 draws_once words rows is (asked.Show x format) asks d c first second twice = later 115 100 (omega arith) (ap first_byte (sym asks.1 ∙ is))
-draws_once words rows is (asked.Run x y wishes) asks d c first second twice = later 114 100 (omega arith) (ap first_byte (sym asks.1 ∙ is))
-draws_once words rows is (asked.Check x y detail) asks d c first second twice = earlier 99 100 (omega arith) (ap first_byte (sym asks.1 ∙ is))
+draws_once words rows is (asked.Run x y wishes style) asks d c first second twice = later 114 100 (omega arith) (ap first_byte (sym asks.1 ∙ is))
+draws_once words rows is (asked.Check x y detail style) asks d c first second twice = earlier 99 100 (omega arith) (ap first_byte (sym asks.1 ∙ is))
 draws_once words rows is (asked.Draw x y) asks d c first second twice =
     let same : rows ≡ asks.0 = ap rows_at (sym is ∙ asks.1) in
     let deployment : d ≡ x.now = ap (λ path. unwrap_or path []) (first ∙ ap (first_of (codes "deployment")) same ∙ asks.2) in
     let certificate : Some c ≡ option_map (λ path. path.now) y = second ∙ ap (first_of (codes "certificate")) same ∙ asks.3 in
     let once : is_input_twice x.now c ≡ false = ap (λ path. option_map_or (is_input_twice x.now) path false) certificate ∙ asks.4 in
     true_and_false (is_input_twice x.now c) (ap (λ path. is_input_twice path c) (sym deployment) ∙ twice) once
+
+-- words that look for a certificate, and ask for something, name a deployment
+pub proposes_one : (words : List Text) (rows : List Row) → subcommand_of whole words ≡ Some (codes "propose", rows) → (r : Request) → Asks words r → None ≡ first_of (codes "deployment") rows → ⊥
+proposes_one words rows is (asked.Match x style) asks none = earlier 109 112 (omega arith) (ap first_byte (sym asks.1 ∙ is))
+proposes_one words rows is (asked.Propose x style) asks none = let found : None ≡ Some x.now = none ∙ ap (λ (p : Option (Text × List Row)). first_of (codes "deployment") (rows_at p)) (sym is ∙ asks.1) ∙ asks.2 in cc
+proposes_one words rows is (asked.ProposeThoroughly x style) asks none = let found : None ≡ Some x.now = none ∙ ap (λ (p : Option (Text × List Row)). first_of (codes "deployment") (rows_at p)) (sym is ∙ asks.1) ∙ asks.2 in cc
+proposes_one words rows is (asked.Migrate x) asks none = earlier 109 112 (omega arith) (ap first_byte (sym asks.1 ∙ is))
+proposes_one words rows is (asked.Refute x style) asks none = later 114 112 (omega arith) (ap first_byte (sym asks.1 ∙ is))
+proposes_one words rows is (asked.Replay x y style) asks none = later 114 112 (omega arith) (ap first_byte (sym asks.1 ∙ is))
+proposes_one words rows is (asked.Show x format) asks none = later 115 112 (omega arith) (ap first_byte (sym asks.1 ∙ is))
+proposes_one words rows is (asked.Run x y wishes style) asks none = later 114 112 (omega arith) (ap first_byte (sym asks.1 ∙ is))
+proposes_one words rows is (asked.Check x y detail style) asks none = earlier 99 112 (omega arith) (ap first_byte (sym asks.1 ∙ is))
+proposes_one words rows is (asked.Draw x y) asks none = earlier 100 112 (omega arith) (ap first_byte (sym asks.1 ∙ is))

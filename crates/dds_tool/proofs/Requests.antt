@@ -1,5 +1,5 @@
 -- What is said of a request whose answer was written, or that met a fault.
-use Rattle.std.proofs.Common.{◌≡◌, ◌⊎◌, ℕ, List, [], Option, Some, None, Result, Ok, Err, IfOk, IfErr, inl, inr, refl, ap, sym, ◌∙◌, append-nil, arith}
+use Rattle.std.proofs.Common.{◌≡◌, ◌⊎◌, Bool, true, OnOk, subst, ℕ, List, [], Option, Some, None, Result, Ok, Err, IfOk, IfErr, inl, inr, refl, ap, sym, ◌∙◌, append-nil, arith}
 use Rattle.std.specs.Io.KnownBytes.{Appends, Keeps}
 use Rattle.dds_answers.specs.declared.fault.ToolFault.{ToolFault}
 use Rattle.dds_answers.specs.declared.fault.ToolFault.TheVariants as fault
@@ -17,6 +17,8 @@ use Rattle.dds_answers.specs.Report.{Ends, output_of, status_of}
 use Rattle.dds_tool.specs.Refuting.{MayRefuteFor}
 use Rattle.dds_tool.specs.Replaying.{MayReplayFor}
 use Rattle.dds_tool.specs.RunEnds.{GivesRun, MayRun}
+use Rattle.dds_json.specs.Ends.{in_style}
+use Rattle.dds_json.specs.declared.style.Style.{Style}
 
 -- known bytes that stay grow by nothing
 appends_nothing : (old new : Option (List ℕ)) → Keeps old new → Appends old new []
@@ -108,20 +110,20 @@ no_fault : (exit : Exit) (e : ToolFault) → Passes (Err e) (Ok exit) → ⊥
 no_fault exit e passed = cc
 
 -- an end that a run may come to was said, where a fault is passed on
-run_said : (checked : Outcome) (given : Result Answer ToolFault) (exit : Exit) (old new : Option (List ℕ)) → GivesRun checked given
+run_said : (style : Style) (checked : Outcome) (given : Result Answer ToolFault) (exit : Exit) (old new : Option (List ℕ)) → GivesRun style checked given
     → ((end : Outcome) → Gives given end → (exit_status exit ≡ status_of end) × Appends old new (output_of end))
     → Passes given (Ok exit)
-    → (exit_status exit ≡ 3) ⊎ ((end : Outcome) × MayRun checked end × Said end (exit_status exit) old new)
-run_said checked (Ok answer) exit old new (end, may, is) written passed = inr (end, may, inl (written end is))
-run_said checked (Err e) exit old new gives written passed = absurd (no_fault exit e passed)
+    → (exit_status exit ≡ 3) ⊎ ((end : Outcome) × MayRun style checked end × Said end (exit_status exit) old new)
+run_said style checked (Ok answer) exit old new (end, may, is) written passed = inr (end, may, inl (written end is))
+run_said style checked (Err e) exit old new gives written passed = absurd (no_fault exit e passed)
 
 -- a fault is said of one of the ends that a run may come to, or of the run, of memory or of a device
-run_faulted : (checked : Outcome) (given : Result Answer ToolFault) (f : ToolFault) (status : ℕ) (old new : Option (List ℕ)) → GivesRun checked given
+run_faulted : (style : Style) (checked : Outcome) (given : Result Answer ToolFault) (f : ToolFault) (status : ℕ) (old new : Option (List ℕ)) → GivesRun style checked given
     → ((end : Outcome) → Gives given end → Ends f end) → (f ≡ fault.Write) ⊎ Keeps old new → IfErr given (λ e. f ≡ e)
-    → (status ≡ fault_status f) ⊎ (status ≡ 3) → (status ≡ 3) ⊎ ((end : Outcome) × MayRun checked end × Said end status old new)
-run_faulted checked (Ok answer) f status old new gives ends nothing passed told = one_faulted (MayRun checked) (Ok answer) f status old new gives ends nothing told
-run_faulted checked (Err e) f status old new (inr gives) ends nothing passed told = one_faulted (MayRun checked) (Err e) f status old new gives ends nothing told
-run_faulted checked (Err e) f status old new (inl run) ends nothing passed told = inl (elim told [ inl h ↦ h ∙ ap fault_status (passed ∙ run) | inr h ↦ h ])
+    → (status ≡ fault_status f) ⊎ (status ≡ 3) → (status ≡ 3) ⊎ ((end : Outcome) × MayRun style checked end × Said end status old new)
+run_faulted style checked (Ok answer) f status old new gives ends nothing passed told = one_faulted (MayRun style checked) (Ok answer) f status old new gives ends nothing told
+run_faulted style checked (Err e) f status old new (inr gives) ends nothing passed told = one_faulted (MayRun style checked) (Err e) f status old new gives ends nothing told
+run_faulted style checked (Err e) f status old new (inl run) ends nothing passed told = inl (elim told [ inl h ↦ h ∙ ap fault_status (passed ∙ run) | inr h ↦ h ])
 
 -- an answer that was written is what is said of the request
 pub answered : (holds : List ℕ → Option (List ℕ)) (request : Request) (given : Result Answer ToolFault) (r : Result Exit ToolFault) (old new : Option (List ℕ))
@@ -129,31 +131,31 @@ pub answered : (holds : List ℕ → Option (List ℕ)) (request : Request) (giv
     → ((end : Outcome) → Gives given end → IfOk r (λ exit. (exit_status exit ≡ status_of end) × Appends old new (output_of end)))
     → Passes given r
     → IfOk r (λ exit. Answers holds request (exit_status exit) old new)
-answered holds (asked.Check d b detail) given (Ok exit) old new gives written passed =
-    λ x y hx hy. inl (written (check_file_outcome detail x y) (gives x y hx hy))
-answered holds (asked.Match d) given (Ok exit) old new gives written passed = λ x hx. inl (written (match_file_outcome x) (gives x hx))
-answered holds (asked.Propose d) given (Ok exit) old new gives written passed = λ x hx. let g = gives x hx in (g.0, g.1, inl (written g.0 g.2))
-answered holds (asked.ProposeThoroughly d) given (Ok exit) old new gives written passed = λ x hx. let g = gives x hx in (g.0, g.1, inl (written g.0 g.2))
+answered holds (asked.Check d b detail style) given (Ok exit) old new gives written passed =
+    λ x y hx hy. inl (written (in_style style (check_file_outcome detail x y)) (gives x y hx hy))
+answered holds (asked.Match d style) given (Ok exit) old new gives written passed = λ x hx. inl (written (in_style style (match_file_outcome x)) (gives x hx))
+answered holds (asked.Propose d style) given (Ok exit) old new gives written passed = λ x hx. let g = gives x hx in (g.0, g.1, inl (written (in_style style g.0) g.2))
+answered holds (asked.ProposeThoroughly d style) given (Ok exit) old new gives written passed = λ x hx. let g = gives x hx in (g.0, g.1, inl (written (in_style style g.0) g.2))
 answered holds (asked.Migrate d) given (Ok exit) old new gives written passed = λ x hx. one_said (MayMigrateFor x) given (exit_status exit) old new (gives x hx) written
-answered holds (asked.Refute d) given (Ok exit) old new gives written passed = λ x hx. one_said (MayRefuteFor x) given (exit_status exit) old new (gives x hx) written
-answered holds (asked.Replay d e) given (Ok exit) old new gives written passed =
-    λ x y hx hy. one_said (MayReplayFor x y) given (exit_status exit) old new (gives x y hx hy) written
+answered holds (asked.Refute d style) given (Ok exit) old new gives written passed = λ x hx. one_said (MayRefuteFor style x) given (exit_status exit) old new (gives x hx) written
+answered holds (asked.Replay d e style) given (Ok exit) old new gives written passed =
+    λ x y hx hy. one_said (MayReplayFor style x y) given (exit_status exit) old new (gives x y hx hy) written
 answered holds (asked.Show d format) given (Ok exit) old new gives written passed = λ x hx. inl (written (show_file_outcome format x) (gives x hx))
 answered holds (asked.Draw d None) given (Ok exit) old new gives written passed = λ x hx. inl (written (draw_file_outcome x None) (gives x hx))
 answered holds (asked.Draw d (Some c)) given (Ok exit) old new gives written passed =
     λ x y hx hy. inl (written (draw_file_outcome x (Some y)) (gives x y hx hy))
-answered holds (asked.Run d b wishes) given (Ok exit) old new gives written passed =
-    λ x y hx hy. run_said (file_outcome x y) given exit old new (gives x y hx hy) written passed
-answered holds (asked.Check d b detail) given (Err f) old new gives written passed = tt
-answered holds (asked.Match d) given (Err f) old new gives written passed = tt
-answered holds (asked.Propose d) given (Err f) old new gives written passed = tt
-answered holds (asked.ProposeThoroughly d) given (Err f) old new gives written passed = tt
+answered holds (asked.Run d b wishes style) given (Ok exit) old new gives written passed =
+    λ x y hx hy. run_said style (file_outcome x y) given exit old new (gives x y hx hy) written passed
+answered holds (asked.Check d b detail style) given (Err f) old new gives written passed = tt
+answered holds (asked.Match d style) given (Err f) old new gives written passed = tt
+answered holds (asked.Propose d style) given (Err f) old new gives written passed = tt
+answered holds (asked.ProposeThoroughly d style) given (Err f) old new gives written passed = tt
 answered holds (asked.Migrate d) given (Err f) old new gives written passed = tt
-answered holds (asked.Refute d) given (Err f) old new gives written passed = tt
-answered holds (asked.Replay d e) given (Err f) old new gives written passed = tt
+answered holds (asked.Refute d style) given (Err f) old new gives written passed = tt
+answered holds (asked.Replay d e style) given (Err f) old new gives written passed = tt
 answered holds (asked.Show d format) given (Err f) old new gives written passed = tt
 answered holds (asked.Draw d c) given (Err f) old new gives written passed = tt
-answered holds (asked.Run d b wishes) given (Err f) old new gives written passed = tt
+answered holds (asked.Run d b wishes style) given (Err f) old new gives written passed = tt
 
 -- a fault is said of the request by its status, or by 3
 pub faulted : (holds : List ℕ → Option (List ℕ)) (request : Request) (given : Result Answer ToolFault) (r : Result Exit ToolFault) (old new : Option (List ℕ))
@@ -162,35 +164,42 @@ pub faulted : (holds : List ℕ → Option (List ℕ)) (request : Request) (give
     → IfErr r (λ f. (f ≡ fault.Write) ⊎ Keeps old new)
     → Passes given r
     → IfErr r (λ f. (status : ℕ) → (status ≡ fault_status f) ⊎ (status ≡ 3) → Answers holds request status old new)
-faulted holds (asked.Check d b detail) given (Err f) old new gives ends nothing passed =
-    λ status told x y hx hy. fault_said (check_file_outcome detail x y) f status old new (ends (check_file_outcome detail x y) (gives x y hx hy)) nothing told
-faulted holds (asked.Match d) given (Err f) old new gives ends nothing passed =
-    λ status told x hx. fault_said (match_file_outcome x) f status old new (ends (match_file_outcome x) (gives x hx)) nothing told
-faulted holds (asked.Propose d) given (Err f) old new gives ends nothing passed =
-    λ status told x hx. let g = gives x hx in (g.0, g.1, fault_said g.0 f status old new (ends g.0 g.2) nothing told)
-faulted holds (asked.ProposeThoroughly d) given (Err f) old new gives ends nothing passed =
-    λ status told x hx. let g = gives x hx in (g.0, g.1, fault_said g.0 f status old new (ends g.0 g.2) nothing told)
+faulted holds (asked.Check d b detail style) given (Err f) old new gives ends nothing passed =
+    λ status told x y hx hy. fault_said (in_style style (check_file_outcome detail x y)) f status old new (ends (in_style style (check_file_outcome detail x y)) (gives x y hx hy)) nothing told
+faulted holds (asked.Match d style) given (Err f) old new gives ends nothing passed =
+    λ status told x hx. fault_said (in_style style (match_file_outcome x)) f status old new (ends (in_style style (match_file_outcome x)) (gives x hx)) nothing told
+faulted holds (asked.Propose d style) given (Err f) old new gives ends nothing passed =
+    λ status told x hx. let g = gives x hx in (g.0, g.1, fault_said (in_style style g.0) f status old new (ends (in_style style g.0) g.2) nothing told)
+faulted holds (asked.ProposeThoroughly d style) given (Err f) old new gives ends nothing passed =
+    λ status told x hx. let g = gives x hx in (g.0, g.1, fault_said (in_style style g.0) f status old new (ends (in_style style g.0) g.2) nothing told)
 faulted holds (asked.Migrate d) given (Err f) old new gives ends nothing passed =
     λ status told x hx. one_faulted (MayMigrateFor x) given f status old new (gives x hx) ends nothing told
-faulted holds (asked.Refute d) given (Err f) old new gives ends nothing passed =
-    λ status told x hx. one_faulted (MayRefuteFor x) given f status old new (gives x hx) ends nothing told
-faulted holds (asked.Replay d e) given (Err f) old new gives ends nothing passed =
-    λ status told x y hx hy. one_faulted (MayReplayFor x y) given f status old new (gives x y hx hy) ends nothing told
+faulted holds (asked.Refute d style) given (Err f) old new gives ends nothing passed =
+    λ status told x hx. one_faulted (MayRefuteFor style x) given f status old new (gives x hx) ends nothing told
+faulted holds (asked.Replay d e style) given (Err f) old new gives ends nothing passed =
+    λ status told x y hx hy. one_faulted (MayReplayFor style x y) given f status old new (gives x y hx hy) ends nothing told
 faulted holds (asked.Show d format) given (Err f) old new gives ends nothing passed =
     λ status told x hx. fault_said (show_file_outcome format x) f status old new (ends (show_file_outcome format x) (gives x hx)) nothing told
 faulted holds (asked.Draw d None) given (Err f) old new gives ends nothing passed =
     λ status told x hx. fault_said (draw_file_outcome x None) f status old new (ends (draw_file_outcome x None) (gives x hx)) nothing told
 faulted holds (asked.Draw d (Some c)) given (Err f) old new gives ends nothing passed =
     λ status told x y hx hy. fault_said (draw_file_outcome x (Some y)) f status old new (ends (draw_file_outcome x (Some y)) (gives x y hx hy)) nothing told
-faulted holds (asked.Run d b wishes) given (Err f) old new gives ends nothing passed =
-    λ status told x y hx hy. run_faulted (file_outcome x y) given f status old new (gives x y hx hy) ends nothing (same_fault given f passed) told
-faulted holds (asked.Check d b detail) given (Ok exit) old new gives ends nothing passed = tt
-faulted holds (asked.Match d) given (Ok exit) old new gives ends nothing passed = tt
-faulted holds (asked.Propose d) given (Ok exit) old new gives ends nothing passed = tt
-faulted holds (asked.ProposeThoroughly d) given (Ok exit) old new gives ends nothing passed = tt
+faulted holds (asked.Run d b wishes style) given (Err f) old new gives ends nothing passed =
+    λ status told x y hx hy. run_faulted style (file_outcome x y) given f status old new (gives x y hx hy) ends nothing (same_fault given f passed) told
+faulted holds (asked.Check d b detail style) given (Ok exit) old new gives ends nothing passed = tt
+faulted holds (asked.Match d style) given (Ok exit) old new gives ends nothing passed = tt
+faulted holds (asked.Propose d style) given (Ok exit) old new gives ends nothing passed = tt
+faulted holds (asked.ProposeThoroughly d style) given (Ok exit) old new gives ends nothing passed = tt
 faulted holds (asked.Migrate d) given (Ok exit) old new gives ends nothing passed = tt
-faulted holds (asked.Refute d) given (Ok exit) old new gives ends nothing passed = tt
-faulted holds (asked.Replay d e) given (Ok exit) old new gives ends nothing passed = tt
+faulted holds (asked.Refute d style) given (Ok exit) old new gives ends nothing passed = tt
+faulted holds (asked.Replay d e style) given (Ok exit) old new gives ends nothing passed = tt
 faulted holds (asked.Show d format) given (Ok exit) old new gives ends nothing passed = tt
 faulted holds (asked.Draw d c) given (Ok exit) old new gives ends nothing passed = tt
-faulted holds (asked.Run d b wishes) given (Ok exit) old new gives ends nothing passed = tt
+faulted holds (asked.Run d b wishes style) given (Ok exit) old new gives ends nothing passed = tt
+
+-- a fault that is passed on is one with which the request may end
+pub ends_given : (holds : List ℕ → Option (List ℕ)) (request : Request) (given : Result Answer ToolFault) (r : Result Exit ToolFault) (failed : Bool) → GivesTo holds request given
+    → OnOk given (IfErr r (λ e. (e ≡ fault.Write) × (failed ≡ true))) → Passes given r → IfErr r (λ e. (e ≡ fault.Write) ⊎ GivesTo holds request (Err e))
+ends_given holds request given (Ok exit) failed gives write passed = tt
+ends_given holds request (Ok answer) (Err e) failed gives write passed = inl write.0
+ends_given holds request (Err f) (Err e) failed gives write passed = inr (subst (λ (x : ToolFault). GivesTo holds request (Err x)) (sym (same_fault (Err f) e passed)) gives)

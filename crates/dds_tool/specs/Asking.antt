@@ -1,5 +1,5 @@
 -- What the words of a command line ask for, by clap's own account of a command and its words.
-use Rattle.std.specs.Prelude.{ℕ, ◌≡◌, ◌⊎◌, ◌&&◌, ◌<◌, ◌^◌, Bool, List, [], ◌∷◌, Option, Some, None, Result, option_map, true, false, codes, pos, if◌then◌else◌}
+use Rattle.std.specs.Prelude.{ℕ, Err, ◌≡◌, ◌≢◌, ◌⊎◌, ◌&&◌, ◌<◌, ◌^◌, Bool, List, [], ◌∷◌, Option, Some, None, Result, option_map, true, false, codes, pos, if◌then◌else◌}
 use Rattle.std.specs.Option.{option_map_or}
 use Rattle.std.specs.Str.{bytes_eq}
 use Rattle.std.specs.Io.KnownBytes.{Appends}
@@ -9,7 +9,7 @@ use Rattle.clap.specs.declared.builder.ArgAction.TheVariants.{Set, SetTrue}
 use Rattle.clap.specs.declared.builder.value_parser.ValueParser.TheVariants.{Signed}
 use Rattle.clap.specs.Simple.{on_top}
 use Rattle.dds_peers.specs.Fates.{AreFates}
-use Rattle.dds_tool.specs.Wishes.{fates_text, format_word}
+use Rattle.dds_tool.specs.Wishes.{fates_text, format_word, style_word}
 use Rattle.dds_tool.specs.declared.wishes.Wishes.{Wishes}
 use Rattle.dds_tool.specs.declared.request.Request.{Request}
 use Rattle.dds_tool.specs.declared.request.Request.TheVariants as asked
@@ -29,6 +29,12 @@ use Rattle.dds_tool.specs.Replaying.{MayReplayFor}
 use Rattle.dds_tool.specs.RunEnds.{GivesRun, MayRun}
 use Rattle.dds_answers.specs.Searches.{MayFindFor}
 use Rattle.dds_answers.specs.Report.{output_of, status_of}
+use Rattle.dds_answers.specs.Fault.{fault_status}
+use Rattle.dds_json.specs.Ends.{in_style}
+use Rattle.dds_json.specs.Fault.{fault_document}
+use Rattle.dds_json.specs.Line.{line_of}
+use Rattle.dds_json.specs.declared.style.Style.{Style}
+use Rattle.dds_json.specs.declared.style.Style.TheVariants as style
 
 -- a file that has to be named
 abbrev pub file_rule : Text → Rule
@@ -46,9 +52,21 @@ optional_file_rule id = record (new_rule id) { action = Some Set }
 abbrev pub flag_rule : Text → Rule
 flag_rule id = record (new_rule id) { long = Some id; action = Some SetTrue }
 
+-- a wish with a text that holds where it isn't given
+abbrev pub wish_rule : Text → Text → Rule
+wish_rule id default = record (new_rule id) { long = Some id; value_names = 1; defaults = default ∷ []; action = Some Set }
+
+-- a command that is told in lines where it isn't asked for a document
+abbrev pub styled : App → App
+styled command = with_rule command (wish_rule (codes "format") (codes "text"))
+
+-- the command that compares the endpoints of a deployment
+abbrev pub matching : App
+matching = styled (one_file (codes "match"))
+
 -- the command that looks for a certificate, thoroughly where its flag is given
 abbrev pub searching : App
-searching = with_rule (one_file (codes "propose")) (flag_rule (codes "thorough"))
+searching = styled (with_rule (one_file (codes "propose")) (flag_rule (codes "thorough")))
 
 -- a command with a deployment and a certificate
 abbrev pub two_files : Text → App
@@ -56,11 +74,7 @@ two_files name = with_rule (one_file name) (file_rule (codes "certificate"))
 
 -- the command that checks a certificate, with its reason where its flag is given
 abbrev pub checking : App
-checking = with_rule (two_files (codes "check")) (flag_rule (codes "explain"))
-
--- a wish with a text that holds where it isn't given
-abbrev pub wish_rule : Text → Text → Rule
-wish_rule id default = record (new_rule id) { long = Some id; value_names = 1; defaults = default ∷ []; action = Some Set }
+checking = styled (with_rule (two_files (codes "check")) (flag_rule (codes "explain")))
 
 -- a wish for a number up to 65,535, which is 10 where it isn't given
 abbrev pub count_rule : Text → Rule
@@ -68,7 +82,7 @@ count_rule id = record (wish_rule id (codes "10")) { parser = Some (Signed (pos 
 
 -- the command that runs a deployment
 abbrev pub running : App
-running = with_rule (with_rule (with_rule (two_files (codes "run")) (wish_rule (codes "fates") (codes "pass"))) (count_rule (codes "writes"))) (count_rule (codes "takes"))
+running = styled (with_rule (with_rule (with_rule (two_files (codes "run")) (wish_rule (codes "fates") (codes "pass"))) (count_rule (codes "writes"))) (count_rule (codes "takes")))
 
 -- the command that shows a deployment in a format
 abbrev pub showing : App
@@ -78,9 +92,13 @@ showing = with_rule (one_file (codes "show")) (wish_rule (codes "format") (codes
 abbrev pub drawing : App
 drawing = with_rule (one_file (codes "draw")) (optional_file_rule (codes "certificate"))
 
+-- the command that looks for a run that loses a sample
+abbrev pub refuting : App
+refuting = styled (one_file (codes "refute"))
+
 -- the command that makes the events of a file again
 abbrev pub replaying : App
-replaying = with_rule (one_file (codes "replay")) (file_rule (codes "events"))
+replaying = styled (with_rule (one_file (codes "replay")) (file_rule (codes "events")))
 
 -- the command by itself: it has a version, and wants a subcommand
 abbrev pub top_app : App
@@ -94,11 +112,11 @@ whole =
     (with_subcommand
     (with_subcommand
     (with_subcommand
-    (with_subcommand (with_subcommand (with_subcommand (with_subcommand top_app (one_file (codes "match")).top) checking.top) searching.top) running.top)
+    (with_subcommand (with_subcommand (with_subcommand (with_subcommand top_app matching.top) checking.top) searching.top) running.top)
     (one_file (codes "migrate")).top)
     showing.top)
     drawing.top)
-    (one_file (codes "refute")).top)
+    refuting.top)
     replaying.top
 
 -- the words name the subcommand, and the argument has this text
@@ -109,10 +127,20 @@ Names words name id text = (rows : List Row) × (subcommand_of whole words ≡ S
 abbrev pub is_set : List Row → Text → Bool
 is_set rows id = option_map_or (λ text. bytes_eq text (codes "true")) (first_of id rows) false
 
--- the words look for a certificate of the deployment with this name, thoroughly or not
-abbrev pub Looks : List Text → Text → Bool → Type 0
-Looks words name thorough =
+-- the arguments ask for an answer in this style
+abbrev pub IsStyled : List Row → Style → Type 0
+IsStyled rows style = first_of (codes "format") rows ≡ Some (style_word style)
+
+-- the words name the subcommand and a deployment, and ask for an answer in this style
+abbrev pub NamesOne : List Text → Text → Text → Style → Type 0
+NamesOne words command name style =
+    (rows : List Row) × (subcommand_of whole words ≡ Some (command, rows)) × (first_of (codes "deployment") rows ≡ Some name) × IsStyled rows style
+
+-- the words look for a certificate of the deployment with this name, thoroughly or not, and ask for an answer in this style
+abbrev pub Looks : List Text → Text → Bool → Style → Type 0
+Looks words name thorough style =
     (rows : List Row) × (subcommand_of whole words ≡ Some (codes "propose", rows)) × (first_of (codes "deployment") rows ≡ Some name) × (is_set rows (codes "thorough") ≡ thorough)
+    × IsStyled rows style
 
 -- both names are `-`, which stands for standard input: it can be read only once
 abbrev pub is_input_twice : Text → Text → Bool
@@ -128,18 +156,18 @@ abbrev pub NamesEvents : List Row → Text → Text → Type 0
 NamesEvents rows deployment events =
     (first_of (codes "deployment") rows ≡ Some deployment) × (first_of (codes "events") rows ≡ Some events) × (is_input_twice deployment events ≡ false)
 
--- the words make the events of the file with that name again, on the deployment with this name
-abbrev pub Replays : List Text → Text → Text → Type 0
-Replays words deployment events = (rows : List Row) × (subcommand_of whole words ≡ Some (codes "replay", rows)) × NamesEvents rows deployment events
+-- the words make the events of the file with that name again, on the deployment with this name, and ask for an answer in this style
+abbrev pub Replays : List Text → Text → Text → Style → Type 0
+Replays words deployment events style = (rows : List Row) × (subcommand_of whole words ≡ Some (codes "replay", rows)) × NamesEvents rows deployment events × IsStyled rows style
 
 -- how much a check is asked to tell
 abbrev pub detail_of : List Row → Detail
 detail_of rows = if is_set rows (codes "explain") then Explained else Plain
 
--- the words check the deployment with this name, by the certificate with that name, and ask for so much to be told
-abbrev pub Checks : List Text → Text → Text → Detail → Type 0
-Checks words deployment certificate detail =
-    (rows : List Row) × (subcommand_of whole words ≡ Some (codes "check", rows)) × NamesBoth rows deployment certificate × (detail_of rows ≡ detail)
+-- the words check the deployment with this name, by the certificate with that name, and ask for so much to be told, in this style
+abbrev pub Checks : List Text → Text → Text → Detail → Style → Type 0
+Checks words deployment certificate detail style =
+    (rows : List Row) × (subcommand_of whole words ≡ Some (codes "check", rows)) × NamesBoth rows deployment certificate × (detail_of rows ≡ detail) × IsStyled rows style
 
 -- the words show the deployment with this name in this format
 abbrev pub Shows : List Text → Text → Format → Type 0
@@ -163,36 +191,49 @@ abbrev pub Wants : List Row → Wishes → Type 0
 Wants rows wishes =
     AreFates wishes.fates × (first_of (codes "fates") rows ≡ Some (fates_text wishes.fates)) × Counts rows (codes "writes") wishes.writes × Counts rows (codes "takes") wishes.takes
 
--- the words run the deployment with this name, by the certificate with that name, with these wishes
-abbrev pub Runs : List Text → Text → Text → Wishes → Type 0
-Runs words deployment certificate wishes =
-    (rows : List Row) × (subcommand_of whole words ≡ Some (codes "run", rows)) × NamesBoth rows deployment certificate × Wants rows wishes
+-- the words run the deployment with this name, by the certificate with that name, with these wishes, and ask for an answer in this style
+abbrev pub Runs : List Text → Text → Text → Wishes → Style → Type 0
+Runs words deployment certificate wishes style =
+    (rows : List Row) × (subcommand_of whole words ≡ Some (codes "run", rows)) × NamesBoth rows deployment certificate × Wants rows wishes × IsStyled rows style
 
 -- the words ask for this, by clap's own account of the command
 abbrev pub Asks : List Text → Request → Type 0
-Asks words (asked.Match d) = Names words (codes "match") (codes "deployment") d.now
-Asks words (asked.Propose d) = Looks words d.now false
-Asks words (asked.ProposeThoroughly d) = Looks words d.now true
+Asks words (asked.Match d style) = NamesOne words (codes "match") d.now style
+Asks words (asked.Propose d style) = Looks words d.now false style
+Asks words (asked.ProposeThoroughly d style) = Looks words d.now true style
 Asks words (asked.Migrate d) = Names words (codes "migrate") (codes "deployment") d.now
-Asks words (asked.Refute d) = Names words (codes "refute") (codes "deployment") d.now
-Asks words (asked.Replay d e) = Replays words d.now e.now
+Asks words (asked.Refute d style) = NamesOne words (codes "refute") d.now style
+Asks words (asked.Replay d e style) = Replays words d.now e.now style
 Asks words (asked.Show d format) = Shows words d.now format
 Asks words (asked.Draw d c) = Draws words d.now (option_map (λ path. path.now) c)
-Asks words (asked.Check d c detail) = Checks words d.now c.now detail
-Asks words (asked.Run d c wishes) = Runs words d.now c.now wishes
+Asks words (asked.Check d c detail style) = Checks words d.now c.now detail style
+Asks words (asked.Run d c wishes style) = Runs words d.now c.now wishes style
 
 -- the paths of the files that a request names, in the order of the words
 abbrev pub paths_of : Request → List Text
-paths_of (asked.Match d) = d.now ∷ []
-paths_of (asked.Propose d) = d.now ∷ []
-paths_of (asked.ProposeThoroughly d) = d.now ∷ []
+paths_of (asked.Match d style) = d.now ∷ []
+paths_of (asked.Propose d style) = d.now ∷ []
+paths_of (asked.ProposeThoroughly d style) = d.now ∷ []
 paths_of (asked.Migrate d) = d.now ∷ []
-paths_of (asked.Refute d) = d.now ∷ []
-paths_of (asked.Replay d e) = d.now ∷ e.now ∷ []
+paths_of (asked.Refute d style) = d.now ∷ []
+paths_of (asked.Replay d e style) = d.now ∷ e.now ∷ []
 paths_of (asked.Show d format) = d.now ∷ []
 paths_of (asked.Draw d c) = d.now ∷ option_map_or (λ path. path.now ∷ []) c []
-paths_of (asked.Check d c detail) = d.now ∷ c.now ∷ []
-paths_of (asked.Run d c wishes) = d.now ∷ c.now ∷ []
+paths_of (asked.Check d c detail style) = d.now ∷ c.now ∷ []
+paths_of (asked.Run d c wishes style) = d.now ∷ c.now ∷ []
+
+-- the style in which the answer to a request is told: in lines where it has no other
+abbrev pub style_of : Request → Style
+style_of (asked.Match d style) = style
+style_of (asked.Propose d style) = style
+style_of (asked.ProposeThoroughly d style) = style
+style_of (asked.Migrate d) = style.Text
+style_of (asked.Refute d style) = style
+style_of (asked.Replay d e style) = style
+style_of (asked.Show d format) = style.Text
+style_of (asked.Draw d c) = style.Text
+style_of (asked.Check d c detail style) = style
+style_of (asked.Run d c wishes style) = style
 
 -- help or the version was asked for
 abbrev pub IsHelp : NoRequest → Type 0
@@ -202,17 +243,18 @@ IsHelp none.NoMemory = ⊥
 
 -- what a request is answered whose files hold bytes that are known
 abbrev pub GivesTo : (List ℕ → Option (List ℕ)) → Request → Result Answer ToolFault → Type 0
-GivesTo holds (asked.Check d c detail) result = (x y : List ℕ) → holds d.now ≡ Some x → holds c.now ≡ Some y → Gives result (check_file_outcome detail x y)
-GivesTo holds (asked.Match d) result = (x : List ℕ) → holds d.now ≡ Some x → Gives result (match_file_outcome x)
-GivesTo holds (asked.Propose d) result = (x : List ℕ) → holds d.now ≡ Some x → (end : Outcome) × MayProposeFor x end × Gives result end
-GivesTo holds (asked.ProposeThoroughly d) result = (x : List ℕ) → holds d.now ≡ Some x → (end : Outcome) × MayFindFor x end × Gives result end
+GivesTo holds (asked.Check d c detail style) result =
+    (x y : List ℕ) → holds d.now ≡ Some x → holds c.now ≡ Some y → Gives result (in_style style (check_file_outcome detail x y))
+GivesTo holds (asked.Match d style) result = (x : List ℕ) → holds d.now ≡ Some x → Gives result (in_style style (match_file_outcome x))
+GivesTo holds (asked.Propose d style) result = (x : List ℕ) → holds d.now ≡ Some x → (end : Outcome) × MayProposeFor x end × Gives result (in_style style end)
+GivesTo holds (asked.ProposeThoroughly d style) result = (x : List ℕ) → holds d.now ≡ Some x → (end : Outcome) × MayFindFor x end × Gives result (in_style style end)
 GivesTo holds (asked.Migrate d) result = (x : List ℕ) → holds d.now ≡ Some x → GivesOneOf (MayMigrateFor x) result
-GivesTo holds (asked.Refute d) result = (x : List ℕ) → holds d.now ≡ Some x → GivesOneOf (MayRefuteFor x) result
-GivesTo holds (asked.Replay d e) result = (x y : List ℕ) → holds d.now ≡ Some x → holds e.now ≡ Some y → GivesOneOf (MayReplayFor x y) result
+GivesTo holds (asked.Refute d style) result = (x : List ℕ) → holds d.now ≡ Some x → GivesOneOf (MayRefuteFor style x) result
+GivesTo holds (asked.Replay d e style) result = (x y : List ℕ) → holds d.now ≡ Some x → holds e.now ≡ Some y → GivesOneOf (MayReplayFor style x y) result
 GivesTo holds (asked.Show d format) result = (x : List ℕ) → holds d.now ≡ Some x → Gives result (show_file_outcome format x)
 GivesTo holds (asked.Draw d None) result = (x : List ℕ) → holds d.now ≡ Some x → Gives result (draw_file_outcome x None)
 GivesTo holds (asked.Draw d (Some c)) result = (x y : List ℕ) → holds d.now ≡ Some x → holds c.now ≡ Some y → Gives result (draw_file_outcome x (Some y))
-GivesTo holds (asked.Run d c wishes) result = (x y : List ℕ) → holds d.now ≡ Some x → holds c.now ≡ Some y → GivesRun (file_outcome x y) result
+GivesTo holds (asked.Run d c wishes style) result = (x y : List ℕ) → holds d.now ≡ Some x → holds c.now ≡ Some y → GivesRun style (file_outcome x y) result
 
 -- the status and what is added to the output are those of this end, or memory or a device failed, and the status is 3
 abbrev pub Said : Outcome → ℕ → Option (List ℕ) → Option (List ℕ) → Type 0
@@ -220,18 +262,29 @@ Said end status old new = ((status ≡ status_of end) × Appends old new (output
 
 -- where a command on files is asked for whose bytes are known, what is said is how that command ends, or may end
 abbrev pub Answers : (List ℕ → Option (List ℕ)) → Request → ℕ → Option (List ℕ) → Option (List ℕ) → Type 0
-Answers holds (asked.Check d c detail) status old new =
-    (x y : List ℕ) → holds d.now ≡ Some x → holds c.now ≡ Some y → Said (check_file_outcome detail x y) status old new
-Answers holds (asked.Match d) status old new = (x : List ℕ) → holds d.now ≡ Some x → Said (match_file_outcome x) status old new
-Answers holds (asked.Propose d) status old new = (x : List ℕ) → holds d.now ≡ Some x → (end : Outcome) × MayProposeFor x end × Said end status old new
-Answers holds (asked.ProposeThoroughly d) status old new = (x : List ℕ) → holds d.now ≡ Some x → (end : Outcome) × MayFindFor x end × Said end status old new
+Answers holds (asked.Check d c detail style) status old new =
+    (x y : List ℕ) → holds d.now ≡ Some x → holds c.now ≡ Some y → Said (in_style style (check_file_outcome detail x y)) status old new
+Answers holds (asked.Match d style) status old new = (x : List ℕ) → holds d.now ≡ Some x → Said (in_style style (match_file_outcome x)) status old new
+Answers holds (asked.Propose d style) status old new = (x : List ℕ) → holds d.now ≡ Some x → (end : Outcome) × MayProposeFor x end × Said (in_style style end) status old new
+Answers holds (asked.ProposeThoroughly d style) status old new =
+    (x : List ℕ) → holds d.now ≡ Some x → (end : Outcome) × MayFindFor x end × Said (in_style style end) status old new
 Answers holds (asked.Migrate d) status old new = (x : List ℕ) → holds d.now ≡ Some x → (status ≡ 3) ⊎ ((end : Outcome) × MayMigrateFor x end × Said end status old new)
-Answers holds (asked.Refute d) status old new = (x : List ℕ) → holds d.now ≡ Some x → (status ≡ 3) ⊎ ((end : Outcome) × MayRefuteFor x end × Said end status old new)
-Answers holds (asked.Replay d e) status old new =
-    (x y : List ℕ) → holds d.now ≡ Some x → holds e.now ≡ Some y → (status ≡ 3) ⊎ ((end : Outcome) × MayReplayFor x y end × Said end status old new)
+Answers holds (asked.Refute d style) status old new =
+    (x : List ℕ) → holds d.now ≡ Some x → (status ≡ 3) ⊎ ((end : Outcome) × MayRefuteFor style x end × Said end status old new)
+Answers holds (asked.Replay d e style) status old new =
+    (x y : List ℕ) → holds d.now ≡ Some x → holds e.now ≡ Some y → (status ≡ 3) ⊎ ((end : Outcome) × MayReplayFor style x y end × Said end status old new)
 Answers holds (asked.Show d format) status old new = (x : List ℕ) → holds d.now ≡ Some x → Said (show_file_outcome format x) status old new
 Answers holds (asked.Draw d None) status old new = (x : List ℕ) → holds d.now ≡ Some x → Said (draw_file_outcome x None) status old new
 Answers holds (asked.Draw d (Some c)) status old new =
     (x y : List ℕ) → holds d.now ≡ Some x → holds c.now ≡ Some y → Said (draw_file_outcome x (Some y)) status old new
-Answers holds (asked.Run d c wishes) status old new =
-    (x y : List ℕ) → holds d.now ≡ Some x → holds c.now ≡ Some y → (status ≡ 3) ⊎ ((end : Outcome) × MayRun (file_outcome x y) end × Said end status old new)
+Answers holds (asked.Run d c wishes style) status old new =
+    (x y : List ℕ) → holds d.now ≡ Some x → holds c.now ≡ Some y → (status ≡ 3) ⊎ ((end : Outcome) × MayRun style (file_outcome x y) end × Said end status old new)
+
+-- where a document is asked for, and the command ends with a fault: the fault is one with which it may end, and its document is added to the output
+abbrev pub TellsInJson : (List ℕ → Option (List ℕ)) → Request → ℕ → Option (List ℕ) → Option (List ℕ) → Type 0
+TellsInJson holds request status old new =
+    (style_of request ≡ style.Json) × ((fault : ToolFault) × GivesTo holds request (Err fault) × (status ≡ fault_status fault) × Appends old new (line_of (fault_document fault)))
+
+-- what a command says that ends with this status: its answer; a bad file has none, and only where a document is asked for one that tells the fault
+abbrev pub Tells : (List ℕ → Option (List ℕ)) → Request → ℕ → Option (List ℕ) → Option (List ℕ) → Type 0
+Tells holds request status old new = ((style_of request ≡ style.Json → status ≢ 2) × Answers holds request status old new) ⊎ TellsInJson holds request status old new

@@ -1,4 +1,5 @@
 pub mod Running
+pub mod RunDocument
 pub mod RunEnds
 pub mod Wishes
 pub mod Asking

@@ -25,6 +25,11 @@ use Rattle.dds_search.specs.Refutations.{IsCounterexample}
 use Rattle.dds_answers.specs.Outcome.{Outcome, bad_deployment, said, too_large}
 use Rattle.dds_answers.specs.Structure.{nothing}
 use Rattle.dds_answers.specs.Report.{refusal_line}
+use Rattle.serde_json.specs.Data.{Data, member, no_members, object, string}
+use Rattle.dds_json.specs.Checking.{refusal_document}
+use Rattle.dds_json.specs.Line.{line_of}
+use Rattle.dds_json.specs.declared.style.Style.{Style}
+use Rattle.dds_json.specs.declared.style.Style.TheVariants.{Text, Json}
 
 -- ── a run that loses a sample
 -- the word for a loss: the limit that rejects, or that a sample is overwritten
@@ -41,10 +46,26 @@ unsafe_line d c =
 abbrev pub refuted_text : Lists → Counterexample → List ℕ
 refuted_text d c = unsafe_line d c ++ lines_of d c.events.items c.replies.items
 
+-- the word for why nothing was found
+abbrev pub unknown_word : Unknown → List ℕ
+unknown_word unknown.Exhausted = codes "exhausted"
+unknown_word unknown.Budget = codes "budget"
+
 -- the line where neither a certificate nor such a run was found
 abbrev pub unknown_line : Unknown → List ℕ
-unknown_line unknown.Exhausted = codes "unknown exhausted\n"
-unknown_line unknown.Budget = codes "unknown budget\n"
+unknown_line why = codes "unknown " ++ (unknown_word why ++ codes "\n")
+
+-- the document of a counterexample: the reader, the key, the loss, and the lines of its events with their replies
+abbrev pub unsafe_document : Lists → Counterexample → Data
+unsafe_document d c =
+    object (member (codes "answer") (string (codes "no")) (member (codes "events") (string (lines_of d c.events.items c.replies.items)) (member (codes "key") (string (reader_key d c.reader c.key)) (member (codes "loss") (string (loss_name c.loss)) (member (codes "reader") (string (name_at d.readers.names c.reader)) no_members)))))
+
+-- the document for what is known
+abbrev pub known_document : Lists → Refutation → Data
+known_document lists (refutation.Safe c) = object (member (codes "answer") (string (codes "yes")) no_members)
+known_document lists (refutation.Structure cause) = refusal_document lists nothing cause None
+known_document lists (refutation.Unsafe c) = unsafe_document lists c
+known_document lists (refutation.Unknown why) = object (member (codes "answer") (string (codes "no")) (member (codes "unknown") (string (unknown_word why)) no_members))
 
 -- the text for what is known
 abbrev pub known_text : Lists → Refutation → List ℕ
@@ -66,20 +87,25 @@ IsKnown lists (refutation.Structure cause) = structure_no lists ≡ Some cause
 IsKnown lists (refutation.Unsafe c) = IsCounterexample (network_of lists) c × ((cert : Certificate) → first_no lists cert ≢ None)
 IsKnown lists (refutation.Unknown why) = Unit {0}
 
--- of a deployment that can be read something is told that is known
-abbrev pub MayRefuteLists : Lists → Outcome → Type 0
-MayRefuteLists lists end = (known : Refutation) × IsKnown lists known × (end ≡ said (known_text lists known) (is_safe known))
+-- what is known, told in this style
+abbrev pub told_known : Style → Lists → Refutation → List ℕ
+told_known Text lists known = known_text lists known
+told_known Json lists known = line_of (known_document lists known)
+
+-- of a deployment that can be read something is told that is known, in this style
+abbrev pub MayRefuteLists : Style → Lists → Outcome → Type 0
+MayRefuteLists style lists end = (known : Refutation) × IsKnown lists known × (end ≡ said (told_known style lists known) (is_safe known))
 
 -- a flaw of the deployment is told
-abbrev pub MayRefute : Read Lists → Outcome → Type 0
-MayRefute (Ok lists) end = MayRefuteLists lists end
-MayRefute (Err flaw) end = end ≡ bad_deployment flaw
+abbrev pub MayRefute : Style → Read Lists → Outcome → Type 0
+MayRefute style (Ok lists) end = MayRefuteLists style lists end
+MayRefute style (Err flaw) end = end ≡ bad_deployment flaw
 
 -- of bytes that are few enough to be a file, and of too many
-abbrev pub MayRefuteIf : Bool → List ℕ → Outcome → Type 0
-MayRefuteIf true d end = MayRefute (deployment.read d) end
-MayRefuteIf false d end = end ≡ too_large
+abbrev pub MayRefuteIf : Style → Bool → List ℕ → Outcome → Type 0
+MayRefuteIf style true d end = MayRefute style (deployment.read d) end
+MayRefuteIf style false d end = end ≡ too_large
 
 -- the same of a file with these bytes, which is read whole before it is parsed
-abbrev pub MayRefuteFor : List ℕ → Outcome → Type 0
-MayRefuteFor d end = MayRefuteIf (nat_le (length d) 1048576) d end
+abbrev pub MayRefuteFor : Style → List ℕ → Outcome → Type 0
+MayRefuteFor style d end = MayRefuteIf style (nat_le (length d) 1048576) d end

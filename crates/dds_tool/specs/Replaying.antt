@@ -1,5 +1,5 @@
 -- What is answered to events that are made again.
-use Rattle.std.specs.Prelude.{ℕ, ◌≡◌, ◌⊎◌, Bool, true, false, List, length, map, nat_le, ◌&&◌, Ok, Err, string_bytes}
+use Rattle.std.specs.Prelude.{codes, ℕ, ◌≡◌, ◌⊎◌, Bool, true, false, List, length, map, nat_le, ◌&&◌, Ok, Err, string_bytes}
 use Rattle.dds_fields.specs.Reading.{Read}
 use Rattle.dds_deploy.specs.Lists.{Lists}
 use Rattle.dds_deploy.specs.Sections as deployment
@@ -13,42 +13,55 @@ use Rattle.dds_events.specs.Reading.{IsFaultOf, said_of}
 use Rattle.dds_events.specs.declared.fault.EventsFault.{EventsFault}
 use Rattle.dds_events.specs.declared.fault.EventsFault.TheVariants.{At, NoMemory}
 use Rattle.dds_events.specs.declared.fault.EventsFaultKind.{EventsFaultKind}
+use Rattle.serde_json.specs.Data.{Data, member, no_members, object, string}
+use Rattle.dds_json.specs.Line.{line_of}
+use Rattle.dds_json.specs.declared.style.Style.{Style}
+use Rattle.dds_json.specs.declared.style.Style.TheVariants.{Text, Json}
 use Rattle.dds_answers.specs.declared.answer.Answer.{Answer}
 use Rattle.dds_answers.specs.declared.fault.ToolFault.{ToolFault}
 use Rattle.dds_answers.specs.declared.fault.ToolFault.TheVariants as fault
 use Rattle.dds_answers.specs.Outcome.{Outcome, bad_deployment, bad_events, said, too_large}
 
--- the events that these bytes say are made, with replies that make them a run of the deployment, and the lines of both are said
-abbrev pub IsReplay : Lists → List ℕ → Outcome → Type 0
-IsReplay lists bytes end =
+-- the document of events with their replies: the lines of both
+abbrev pub replay_document : Lists → List Event → List Reply → Data
+replay_document lists events replies = object (member (codes "answer") (string (codes "yes")) (member (codes "events") (string (lines_of lists events replies)) no_members))
+
+-- events and replies, told in this style
+abbrev pub told_replay : Style → Lists → List Event → List Reply → List ℕ
+told_replay Text lists events replies = lines_of lists events replies
+told_replay Json lists events replies = line_of (replay_document lists events replies)
+
+-- the events that these bytes say are made, with replies that make them a run of the deployment, and both are told in this style
+abbrev pub IsReplay : Style → Lists → List ℕ → Outcome → Type 0
+IsReplay style lists bytes end =
     (events : List Event) × (replies : List Reply) × (map (event_text lists) events ≡ said_of bytes) × (length replies ≡ length events)
-    × IsRun (network_of lists) (paired events replies) × (end ≡ said (lines_of lists events replies) true)
+    × IsRun (network_of lists) (paired events replies) × (end ≡ said (told_replay style lists events replies) true)
 
 -- of a deployment that can be read: its events are made, or a flaw of theirs is told
-abbrev pub MayReplayLists : Lists → List ℕ → Outcome → Type 0
-MayReplayLists lists bytes end =
-    IsReplay lists bytes end ⊎ ((kind : EventsFaultKind) × (line : ℕ) × IsFaultOf lists bytes (At kind line) × (end ≡ bad_events kind line))
+abbrev pub MayReplayLists : Style → Lists → List ℕ → Outcome → Type 0
+MayReplayLists style lists bytes end =
+    IsReplay style lists bytes end ⊎ ((kind : EventsFaultKind) × (line : ℕ) × IsFaultOf lists bytes (At kind line) × (end ≡ bad_events kind line))
 
 -- a flaw of the deployment is told
-abbrev pub MayReplay : Read Lists → List ℕ → Outcome → Type 0
-MayReplay (Ok lists) bytes end = MayReplayLists lists bytes end
-MayReplay (Err flaw) bytes end = end ≡ bad_deployment flaw
+abbrev pub MayReplay : Style → Read Lists → List ℕ → Outcome → Type 0
+MayReplay style (Ok lists) bytes end = MayReplayLists style lists bytes end
+MayReplay style (Err flaw) bytes end = end ≡ bad_deployment flaw
 
 -- of bytes that are few enough to be two files, and of too many
-abbrev pub MayReplayIf : Bool → List ℕ → List ℕ → Outcome → Type 0
-MayReplayIf true d e end = MayReplay (deployment.read d) e end
-MayReplayIf false d e end = end ≡ too_large
+abbrev pub MayReplayIf : Style → Bool → List ℕ → List ℕ → Outcome → Type 0
+MayReplayIf style true d e end = MayReplay style (deployment.read d) e end
+MayReplayIf style false d e end = end ≡ too_large
 
 -- the same of two files with these bytes, which are read whole before either is parsed
-abbrev pub MayReplayFor : List ℕ → List ℕ → Outcome → Type 0
-MayReplayFor d e end = MayReplayIf (nat_le (length d) 1048576 && nat_le (length e) 1048576) d e end
+abbrev pub MayReplayFor : Style → List ℕ → List ℕ → Outcome → Type 0
+MayReplayFor style d e end = MayReplayIf style (nat_le (length d) 1048576 && nat_le (length e) 1048576) d e end
 
 -- ── for the parts of an answer
--- the answer has the lines of the events, with replies that make them a run of the plan
-abbrev pub IsReplayed : Lists → List Event → Answer → Type 0
-IsReplayed lists events answer =
+-- the answer tells the events in this style, with replies that make them a run of the plan
+abbrev pub IsReplayed : Style → Lists → List Event → Answer → Type 0
+IsReplayed style lists events answer =
     (replies : List Reply) × (length replies ≡ length events) × IsRun (network_of lists) (paired events replies)
-    × (string_bytes answer.text ≡ lines_of lists events replies) × (answer.is_yes ≡ true)
+    × (string_bytes answer.text ≡ told_replay style lists events replies) × (answer.is_yes ≡ true)
 
 -- the fault of events that could not be read
 abbrev pub IsEventsFault : EventsFault → ToolFault → Type 0

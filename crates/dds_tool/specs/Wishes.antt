@@ -1,8 +1,10 @@
--- The words for formats, and for what befalls packets.
+-- The words for formats and styles, and for what befalls packets.
 use Rattle.std.specs.Prelude.{ℕ, List, codes}
 use Rattle.std.specs.List.{join_by}
 use Rattle.dds_answers.specs.declared.format.Format.{Format}
 use Rattle.dds_answers.specs.declared.format.Format.TheVariants.{Json, DdsXml}
+use Rattle.dds_json.specs.declared.style.Style.{Style}
+use Rattle.dds_json.specs.declared.style.Style.TheVariants as style
 use Rattle.dds_base.specs.declared.events.Fate.{Fate}
 use Rattle.dds_base.specs.declared.events.Fate.TheVariants.{Pass, Keep, Last, Lose}
 
@@ -17,6 +19,11 @@ fate_word Lose = codes "lose"
 abbrev pub format_word : Format → List ℕ
 format_word Json = codes "json"
 format_word DdsXml = codes "dds-xml"
+
+-- the word for a style
+abbrev pub style_word : Style → List ℕ
+style_word style.Text = codes "text"
+style_word style.Json = codes "json"
 
 -- a list of fates: their words, with commas between them
 abbrev pub fates_text : List Fate → List ℕ

@@ -2,7 +2,8 @@
 ghost use Rattle.std.specs.Prelude.{◌≡◌, ◌≢◌, ℕ, List, [], ◌∷◌, ◌≤◌, ◌⊎◌, Some, true, false, map, IfOk, IfErr, OnOk, OnErr};
 ghost use Rattle.std.specs.Io.KnownBytes.{Keeps};
 ghost use Rattle.clap.specs.Words.{takes};
-ghost use Rattle.dds_tool.specs.Asking.{Answers, Asks, GivesTo, IsHelp, paths_of, whole};
+ghost use Rattle.dds_json.specs.declared.style.Style.TheVariants.{Json};
+ghost use Rattle.dds_tool.specs.Asking.{Answers, Asks, GivesTo, IsHelp, Tells, paths_of, style_of, whole};
 ghost use Rattle.dds_answers.specs.Answers.{GivesOneOf};
 ghost use Rattle.dds_answers.specs.Causes.{IsFileFault};
 ghost use Rattle.dds_answers.specs.Exit.{exit_status};
@@ -19,11 +20,14 @@ use crate::refuting::refute_answer;
 use crate::replaying::replay_answer;
 use crate::request::{NoRequest, Request, read_request};
 use crate::running::run_answer;
+use crate::styled::{check_in_style, match_in_style, propose_in_style, search_in_style};
+use crate::telling::tell_in_style;
 use crate::wishes::Wishes;
 use dds_answers::{
-    Answer, Exit, Output, Sources, ToolFault, check_files, draw_file, draw_files, give, match_file,
-    migrate_file, print, propose_file, read_file, show_file, tell_fault, thorough_file,
+    Answer, Exit, Output, Sources, ToolFault, draw_file, draw_files, give, migrate_file, print,
+    read_file, show_file, tell_fault,
 };
+use dds_json::Style;
 use std::alloc::Global;
 use std::convert::AsStr;
 use std::sync::Wait;
@@ -37,10 +41,11 @@ fn run_files<R: Threads + Wait + Clock + Sync, S: Sources>(
     deployment: &str,
     certificate: &str,
     wishes: &Wishes,
+    style: Style,
     files: &mut S,
 ) -> Result<Answer, ToolFault>
     ensures gives { (d c : List ℕ) → S.holds files.old deployment.now ≡ Some d → S.holds files.old certificate.now ≡ Some c
-        → GivesRun (file_outcome d c) result }
+        → GivesRun style (file_outcome d c) result }
     ensures causes { IfErr result (λ e. (e ≡ ToolFault.Run) ⊎ IsFileFault (S.has_failed files.new) e) }
     ensures opened { Opens (S.opened files.old) (S.opened files.new) (deployment.now ∷ certificate.now ∷ []) }
     ensures all_opened { OnOk result (OpensAll (S.opened files.old) (S.opened files.new) (deployment.now ∷ certificate.now ∷ [])) }
@@ -53,6 +58,7 @@ fn run_files<R: Threads + Wait + Clock + Sync, S: Sources>(
         deployment.as_slice(),
         certificate.as_slice(),
         wishes,
+        style,
     )
 }
 
@@ -60,14 +66,15 @@ fn run_files<R: Threads + Wait + Clock + Sync, S: Sources>(
 fn refute_file<S: Sources>(
     alloc: Global,
     deployment: &str,
+    style: Style,
     files: &mut S,
 ) -> Result<Answer, ToolFault>
-    ensures gives { (d : List ℕ) → S.holds files.old deployment.now ≡ Some d → GivesOneOf (MayRefuteFor d) result }
+    ensures gives { (d : List ℕ) → S.holds files.old deployment.now ≡ Some d → GivesOneOf (MayRefuteFor style d) result }
     ensures causes { IfErr result (IsFileFault (S.has_failed files.new)) }
     ensures opened { OpensAll (S.opened files.old) (S.opened files.new) (deployment.now ∷ []) }
 {
     match read_file(alloc, files, deployment) {
-        Ok(bytes) => refute_answer(alloc, bytes.as_slice()),
+        Ok(bytes) => refute_answer(alloc, bytes.as_slice(), style),
         Err(fault) => Err(fault),
     }
 }
@@ -77,16 +84,22 @@ fn replay_files<S: Sources>(
     alloc: Global,
     deployment: &str,
     events: &str,
+    style: Style,
     files: &mut S,
 ) -> Result<Answer, ToolFault>
-    ensures gives { (d e : List ℕ) → S.holds files.old deployment.now ≡ Some d → S.holds files.old events.now ≡ Some e → GivesOneOf (MayReplayFor d e) result }
+    ensures gives { (d e : List ℕ) → S.holds files.old deployment.now ≡ Some d → S.holds files.old events.now ≡ Some e → GivesOneOf (MayReplayFor style d e) result }
     ensures causes { IfErr result (IsFileFault (S.has_failed files.new)) }
     ensures opened { Opens (S.opened files.old) (S.opened files.new) (deployment.now ∷ events.now ∷ []) }
     ensures all_opened { OnOk result (OpensAll (S.opened files.old) (S.opened files.new) (deployment.now ∷ events.now ∷ [])) }
 {
     let deployment_bytes = read_file(alloc, files, deployment)?;
     let events_bytes = read_file(alloc, files, events)?;
-    replay_answer(alloc, deployment_bytes.as_slice(), events_bytes.as_slice())
+    replay_answer(
+        alloc,
+        deployment_bytes.as_slice(),
+        events_bytes.as_slice(),
+        style,
+    )
 }
 
 /// What words that are no request come to: yes where help was asked for and written, else the fault of which the user is told.
@@ -125,10 +138,13 @@ fn answer_of<R: Threads + Wait + Clock + Sync, S: Sources>(
             deployment,
             certificate,
             detail,
-        } => check_files(alloc, deployment, certificate, detail, files),
-        Request::Match { deployment } => match_file(alloc, deployment, files),
-        Request::Propose { deployment } => propose_file(alloc, deployment, files),
-        Request::ProposeThoroughly { deployment } => thorough_file(alloc, deployment, files),
+            style,
+        } => check_in_style(alloc, deployment, certificate, detail, style, files),
+        Request::Match { deployment, style } => match_in_style(alloc, deployment, style, files),
+        Request::Propose { deployment, style } => propose_in_style(alloc, deployment, style, files),
+        Request::ProposeThoroughly { deployment, style } => {
+            search_in_style(alloc, deployment, style, files)
+        }
         Request::Migrate { deployment } => migrate_file(alloc, deployment, files),
         Request::Show { deployment, format } => show_file(alloc, deployment, format, files),
         Request::Draw {
@@ -138,13 +154,18 @@ fn answer_of<R: Threads + Wait + Clock + Sync, S: Sources>(
             None => draw_file(alloc, deployment, files),
             Some(certificate) => draw_files(alloc, deployment, certificate, files),
         },
-        Request::Refute { deployment } => refute_file(alloc, deployment, files),
-        Request::Replay { deployment, events } => replay_files(alloc, deployment, events, files),
+        Request::Refute { deployment, style } => refute_file(alloc, deployment, style, files),
+        Request::Replay {
+            deployment,
+            events,
+            style,
+        } => replay_files(alloc, deployment, events, style, files),
         Request::Run {
             deployment,
             certificate,
             wishes,
-        } => run_files(rt, alloc, deployment, certificate, &wishes, files),
+            style,
+        } => run_files(rt, alloc, deployment, certificate, &wishes, style, files),
     }
 }
 
@@ -160,6 +181,7 @@ fn run_request<R: Threads + Wait + Clock + Sync, S: Sources, O: Output, E: Outpu
     ensures answer { IfOk result (λ exit. Answers (S.holds files.old) request.entry (exit_status exit) (O.contents out.old) (O.contents out.new)) }
     ensures fault { IfErr result (λ e. (status : ℕ) → (status ≡ fault_status e) ⊎ (status ≡ 3) → Answers (S.holds files.old) request.entry status (O.contents out.old) (O.contents out.new)) }
     ensures exit { IfOk result (λ exit. exit_status exit ≤ 1) }
+    ensures ends { IfErr result (λ e. (e ≡ ToolFault.Write) ⊎ GivesTo (S.holds files.old) request.entry (Err e)) }
     ensures causes { IfErr result (IsCaused (S.has_failed files.new) (O.has_failed out.new) request.entry) }
     ensures nothing { IfErr result (λ e. (e ≡ ToolFault.Write) ⊎ Keeps (O.contents out.old) (O.contents out.new)) }
     ensures untold { OnErr result (err.new ≡ err.old) }
@@ -169,8 +191,33 @@ fn run_request<R: Threads + Wait + Clock + Sync, S: Sources, O: Output, E: Outpu
     give(answer_of(rt, alloc, request, files), out, err)
 }
 
+/// Does what a request asks for, and tells how the command ended and, where it ended with a fault, the fault.
+fn obey<R: Threads + Wait + Clock + Sync, S: Sources, O: Output, E: Output>(
+    rt: &R,
+    alloc: Global,
+    request: Request,
+    files: &mut S,
+    out: &mut O,
+    err: &mut E,
+) -> Exit
+    ensures answer { exit_status result ≤ 2 → Tells (S.holds files.old) request.entry (exit_status result) (O.contents out.old) (O.contents out.new) }
+    ensures nothing { 2 ≤ exit_status result → exit_status result ≢ 3 → Keeps (O.contents out.old) (O.contents out.new) ⊎ (style_of request.entry ≡ Json) }
+    ensures no_usage { result ≢ Exit.Usage }
+    ensures device { result ≡ Exit.Device → (S.has_failed files.new ≡ true) ⊎ (O.has_failed out.new ≡ true) }
+    ensures run { result ≡ Exit.Run → IsRun request.entry }
+    ensures told { E.has_failed err.new ≡ false → 2 ≤ exit_status result → TellsFault result (E.contents err.old) (E.contents err.new) }
+    ensures opened { Opens (S.opened files.old) (S.opened files.new) (paths_of request.entry) }
+    ensures all_opened { exit_status result ≤ 1 → OpensAll (S.opened files.old) (S.opened files.new) (paths_of request.entry) }
+{
+    let style = request.style();
+    match run_request(rt, alloc, request, files, out, err) {
+        Ok(exit) => exit,
+        Err(fault) => tell_in_style(alloc, &fault, style, out, err),
+    }
+}
+
 /// Does what the words ask for, of which the first is the program's name, and tells how the command ended. The answer goes to `out`, and a fault is told to
-/// `err`, as is why no certificate was found; where `err` fails, it is not told. The files are opened in the order of the words, each once; words that ask for
+/// `err`, as is why no certificate was found; where `err` fails, it is not told. Where a JSON document is asked for, that of a fault goes to `out` too. The files are opened in the order of the words, each once; words that ask for
 /// nothing open none. The command ends with `Device` only where a file or the output has failed, and with `Run` only where a run was asked for.
 pub fn tool<R: Threads + Wait + Clock + Sync, W: AsStr, S: Sources, O: Output, E: Output>(
     rt: &R,
@@ -181,8 +228,9 @@ pub fn tool<R: Threads + Wait + Clock + Sync, W: AsStr, S: Sources, O: Output, E
     err: &mut E,
 ) -> Exit
     ensures answer { takes whole (map W.text words.now) ≡ true → exit_status result ≤ 2
-        → (r : _) × Asks (map W.text words.now) r × Answers (S.holds files.old) r (exit_status result) (O.contents out.old) (O.contents out.new) }
-    ensures nothing { 2 ≤ exit_status result → exit_status result ≢ 3 → Keeps (O.contents out.old) (O.contents out.new) }
+        → (r : _) × Asks (map W.text words.now) r × Tells (S.holds files.old) r (exit_status result) (O.contents out.old) (O.contents out.new) }
+    ensures nothing { 2 ≤ exit_status result → exit_status result ≢ 3
+        → Keeps (O.contents out.old) (O.contents out.new) ⊎ ((r : _) × Asks (map W.text words.now) r × (style_of r ≡ Json)) }
     ensures no_usage { takes whole (map W.text words.now) ≡ true → (r : _) → Asks (map W.text words.now) r → result ≢ Exit.Usage }
     ensures device { result ≡ Exit.Device → (S.has_failed files.new ≡ true) ⊎ (O.has_failed out.new ≡ true) }
     ensures run { takes whole (map W.text words.now) ≡ true → result ≡ Exit.Run → (r : _) × Asks (map W.text words.now) r × IsRun r }
@@ -193,12 +241,8 @@ pub fn tool<R: Threads + Wait + Clock + Sync, W: AsStr, S: Sources, O: Output, E
         → (r : _) × Asks (map W.text words.now) r × OpensAll (S.opened files.old) (S.opened files.new) (paths_of r) }
     ensures unopened { result ≡ Exit.Usage → files.new ≡ files.old }
 {
-    let request = match read_request(alloc, words) {
-        Ok(request) => request,
-        Err(reason) => return explain(alloc, reason, out, err),
-    };
-    match run_request(rt, alloc, request, files, out, err) {
-        Ok(exit) => exit,
-        Err(fault) => tell_fault(alloc, err, &fault),
+    match read_request(alloc, words) {
+        Ok(request) => obey(rt, alloc, request, files, out, err),
+        Err(reason) => explain(alloc, reason, out, err),
     }
 }

@@ -4,10 +4,14 @@
 #![tactic(auto)]
 
 mod commands;
+mod refute_document;
 mod refuting;
 mod replaying;
 mod request;
+mod run_document;
 mod running;
+mod styled;
+mod telling;
 mod wishes;
 
 pub use commands::tool;

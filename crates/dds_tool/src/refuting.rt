@@ -3,19 +3,21 @@ ghost use Rattle.std.specs.Prelude.{◌≡◌, Ok, IfErr, IfOk, string_bytes};
 ghost use Rattle.dds_answers.specs.Answers.{GivesOneOf};
 ghost use Rattle.dds_answers.specs.Fault.{IsAnswerFault};
 ghost use Rattle.dds_deploy.specs.Sections.{read as deployment_read};
-ghost use Rattle.dds_tool.specs.Refuting.{MayRefute, is_safe, known_text, loss_name, refuted_text, unknown_line, unsafe_line};
+ghost use Rattle.dds_tool.specs.Refuting.{MayRefute, is_safe, known_text, loss_name, refuted_text, told_known, unknown_word, unsafe_line};
 
+use crate::refute_document::known_line;
 use dds_answers::{Answer, ToolFault, deployment_fault, structure_text};
 use dds_cert::naming::{name_at, reader_key};
 use dds_deploy::{Deployment, read_deployment};
 use dds_events::{lines_text, rejection_name};
+use dds_json::Style;
 use dds_match::Plan;
 use dds_match::planning::plan;
 use dds_search::{Counterexample, Loss, Refutation, Unknown, refute};
 use std::alloc::{AllocError, Global};
 
 /// The word for a loss.
-fn loss_name(loss: Loss) -> &'static str
+pub(crate) fn loss_name(loss: Loss) -> &'static str
     ensures { result.now ≡ loss_name loss }
 {
     match loss {
@@ -52,13 +54,13 @@ fn refuted_text(
     format!(in alloc; "{line}{lines}")
 }
 
-/// The line where neither a certificate nor a run that loses a sample was found.
-fn unknown_line(why: Unknown) -> &'static str
-    ensures { result.now ≡ unknown_line why }
+/// The word for why neither a certificate nor a run that loses a sample was found.
+pub(crate) fn unknown_word(why: Unknown) -> &'static str
+    ensures { result.now ≡ unknown_word why }
 {
     match why {
-        Unknown::Exhausted => "unknown exhausted\n",
-        Unknown::Budget => "unknown budget\n",
+        Unknown::Exhausted => "exhausted",
+        Unknown::Budget => "budget",
     }
 }
 
@@ -77,13 +79,31 @@ fn known_text(alloc: Global, plan: &Plan, refutation: &Refutation) -> Result<Str
         Refutation::Safe(_) => String::from_str(alloc, "safe\n"),
         Refutation::Structure(no) => structure_text(alloc, plan.lists(), *no),
         Refutation::Unsafe(found) => refuted_text(alloc, plan.lists(), found),
-        Refutation::Unknown(why) => String::from_str(alloc, unknown_line(*why)),
+        Refutation::Unknown(why) => {
+            let word = unknown_word(*why);
+            format!(in alloc; "unknown {word}\n")
+        }
+    }
+}
+
+/// What is known of the runs of a plan, told in this style.
+fn told_known(
+    alloc: Global,
+    plan: &Plan,
+    refutation: &Refutation,
+    style: Style,
+) -> Result<String, AllocError>
+    ensures { IfOk result (λ text. string_bytes text ≡ told_known style plan.now refutation.now) }
+{
+    match style {
+        Style::Text => known_text(alloc, plan, refutation),
+        Style::Json => known_line(alloc, plan, refutation),
     }
 }
 
 /// The answer to the lists of a deployment.
-fn lists_refuted(alloc: Global, lists: Deployment) -> Result<Answer, ToolFault>
-    ensures gives { GivesOneOf (MayRefute (Ok lists)) result }
+fn lists_refuted(alloc: Global, lists: Deployment, style: Style) -> Result<Answer, ToolFault>
+    ensures gives { GivesOneOf (MayRefute style (Ok lists)) result }
     ensures fault { IfErr result IsAnswerFault }
 {
     let plan = match plan(alloc, lists) {
@@ -97,7 +117,7 @@ fn lists_refuted(alloc: Global, lists: Deployment) -> Result<Answer, ToolFault>
         return Err(ToolFault::NoMemory);
     };
     let is_yes = is_safe(&refutation);
-    let text = known_text(alloc, &plan, &refutation);
+    let text = told_known(alloc, &plan, &refutation, style);
     drop(plan);
     drop(refutation);
     match text {
@@ -110,14 +130,14 @@ fn lists_refuted(alloc: Global, lists: Deployment) -> Result<Answer, ToolFault>
     }
 }
 
-/// The answer of `refute` to the bytes of a deployment: yes with `safe` where a certificate is accepted, or no with a run that loses a sample, with a condition
+/// The answer of `refute` to the bytes of a deployment, told in this style: yes with `safe` where a certificate is accepted, or no with a run that loses a sample, with a condition
 /// that fails whatever the certificate, or with `unknown`.
-pub fn refute_answer(alloc: Global, deployment: &[u8]) -> Result<Answer, ToolFault>
-    ensures gives { GivesOneOf (MayRefute (deployment_read deployment.now)) result }
+pub fn refute_answer(alloc: Global, deployment: &[u8], style: Style) -> Result<Answer, ToolFault>
+    ensures gives { GivesOneOf (MayRefute style (deployment_read deployment.now)) result }
     ensures fault { IfErr result IsAnswerFault }
 {
     match read_deployment(alloc, deployment) {
-        Ok(lists) => lists_refuted(alloc, lists),
+        Ok(lists) => lists_refuted(alloc, lists, style),
         Err(fault) => Err(deployment_fault(fault)),
     }
 }

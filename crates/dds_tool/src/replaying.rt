@@ -1,21 +1,25 @@
 //! What `replay` answers.
-ghost use Rattle.std.specs.Prelude.{◌≡◌, Ok, IfErr, IfOk, length};
+ghost use Rattle.std.specs.Prelude.{◌≡◌, Ok, IfErr, IfOk, length, string_bytes};
 ghost use Rattle.dds_match.specs.Plan.{network_of};
 ghost use Rattle.dds_check.specs.Runs.{IsRun};
 ghost use Rattle.dds_domain.specs.Standing.{paired};
 ghost use Rattle.dds_answers.specs.Answers.{GivesOneOf};
 ghost use Rattle.dds_answers.specs.Fault.{IsAnswerFault};
 ghost use Rattle.dds_deploy.specs.Sections.{read as deployment_read};
-ghost use Rattle.dds_tool.specs.Replaying.{IsEventsFault, IsReplayed, MayReplay, MayReplayLists};
+ghost use Rattle.serde_json.specs.View.{view};
+ghost use Rattle.dds_json.specs.Line.{line_of};
+ghost use Rattle.dds_tool.specs.Replaying.{IsEventsFault, IsReplayed, MayReplay, MayReplayLists, replay_document, told_replay};
 
 use dds_answers::{Answer, ToolFault, deployment_fault};
 use dds_base::{Event, Reply};
 use dds_deploy::{Deployment, read_deployment};
 use dds_domain::Simulator;
 use dds_events::{EventsFault, lines_text, read_events};
+use dds_json::{Style, line_of};
 use dds_match::planning::plan;
 use dds_match::{NoMemory, Plan};
-use std::alloc::Global;
+use serde_json::{Value, json};
+use std::alloc::{AllocError, Global};
 
 /// The replies to events that are made on a plan from its opening, and the plan.
 fn replies_of(alloc: Global, plan: Plan, events: &[Event]) -> Result<(Vec<Reply>, Plan), NoMemory>
@@ -37,15 +41,62 @@ fn replies_of(alloc: Global, plan: Plan, events: &[Event]) -> Result<(Vec<Reply>
     Ok((replies, simulator.close()))
 }
 
+/// The document of events with their replies: the lines of both.
+fn replay_document(
+    alloc: Global,
+    lists: &Deployment,
+    events: &[Event],
+    replies: &[Reply],
+) -> Result<Value, AllocError>
+    ensures { IfOk result (λ v. view v ≡ replay_document lists.now events.now replies.now) }
+{
+    let lines = lines_text(alloc, lists, events, replies)?;
+    json!(in alloc; {"answer": "yes", "events": lines})
+}
+
+/// The line of that document.
+fn replay_line(
+    alloc: Global,
+    lists: &Deployment,
+    events: &[Event],
+    replies: &[Reply],
+) -> Result<String, AllocError>
+    ensures { IfOk result (λ text. string_bytes text ≡ line_of (replay_document lists.now events.now replies.now)) }
+{
+    let document = replay_document(alloc, lists, events, replies)?;
+    line_of(alloc, &document)
+}
+
+/// Events with their replies, told in this style.
+fn told_replay(
+    alloc: Global,
+    lists: &Deployment,
+    events: &[Event],
+    replies: &[Reply],
+    style: Style,
+) -> Result<String, AllocError>
+    ensures { IfOk result (λ text. string_bytes text ≡ told_replay style lists.now events.now replies.now) }
+{
+    match style {
+        Style::Text => lines_text(alloc, lists, events, replies),
+        Style::Json => replay_line(alloc, lists, events, replies),
+    }
+}
+
 /// The answer to events that are made on a plan.
-fn replayed(alloc: Global, plan: Plan, events: Vec<Event>) -> Result<Answer, ToolFault>
-    ensures gives { IfOk result (λ a. IsReplayed plan events.items a) }
+fn replayed(
+    alloc: Global,
+    plan: Plan,
+    events: Vec<Event>,
+    style: Style,
+) -> Result<Answer, ToolFault>
+    ensures gives { IfOk result (λ a. IsReplayed style plan events.items a) }
     ensures fault { IfErr result (λ e. e ≡ ToolFault.NoMemory) }
 {
     let Ok((replies, plan)) = replies_of(alloc, plan, &events) else {
         return Err(ToolFault::NoMemory);
     };
-    let text = lines_text(alloc, plan.lists(), &events, &replies);
+    let text = told_replay(alloc, plan.lists(), &events, &replies, style);
     drop(plan);
     match text {
         Ok(text) => Ok(Answer {
@@ -68,8 +119,13 @@ fn events_fault(fault: EventsFault) -> ToolFault
 }
 
 /// The answer to the events that bytes say, on the lists of a deployment.
-fn lists_replayed(alloc: Global, lists: Deployment, events: &[u8]) -> Result<Answer, ToolFault>
-    ensures gives { GivesOneOf (MayReplayLists lists events.now) result }
+fn lists_replayed(
+    alloc: Global,
+    lists: Deployment,
+    events: &[u8],
+    style: Style,
+) -> Result<Answer, ToolFault>
+    ensures gives { GivesOneOf (MayReplayLists style lists events.now) result }
     ensures fault { IfErr result IsAnswerFault }
 {
     let events = match read_events(alloc, &lists, events) {
@@ -80,7 +136,7 @@ fn lists_replayed(alloc: Global, lists: Deployment, events: &[u8]) -> Result<Ans
         }
     };
     match plan(alloc, lists) {
-        Ok(plan) => replayed(alloc, plan, events),
+        Ok(plan) => replayed(alloc, plan, events, style),
         Err((_, lists)) => {
             drop(lists);
             Err(ToolFault::NoMemory)
@@ -88,13 +144,18 @@ fn lists_replayed(alloc: Global, lists: Deployment, events: &[u8]) -> Result<Ans
     }
 }
 
-/// The answer of `replay` to the bytes of a deployment and of a file of events: yes with the lines of the events, each with its reply.
-pub fn replay_answer(alloc: Global, deployment: &[u8], events: &[u8]) -> Result<Answer, ToolFault>
-    ensures gives { GivesOneOf (MayReplay (deployment_read deployment.now) events.now) result }
+/// The answer of `replay` to the bytes of a deployment and of a file of events, told in this style: yes with the lines of the events, each with its reply.
+pub fn replay_answer(
+    alloc: Global,
+    deployment: &[u8],
+    events: &[u8],
+    style: Style,
+) -> Result<Answer, ToolFault>
+    ensures gives { GivesOneOf (MayReplay style (deployment_read deployment.now) events.now) result }
     ensures fault { IfErr result IsAnswerFault }
 {
     match read_deployment(alloc, deployment) {
-        Ok(lists) => lists_replayed(alloc, lists, events),
+        Ok(lists) => lists_replayed(alloc, lists, events, style),
         Err(fault) => Err(deployment_fault(fault)),
     }
 }

@@ -3,13 +3,15 @@ ghost use Rattle.std.specs.Prelude.{◌≡◌, ℕ, List, IfNone, IfOk, IfErr, I
 ghost use Rattle.clap.specs.Words.{Text, app_of, first_of, found_of, kind_of, rows_of, rule_of, subcommand_of, subcommand_rows_of, takes, with_subcommand};
 ghost use Rattle.clap.specs.declared.builder.command.Command.TheViews.{out-Command as fields_of};
 ghost use Rattle.dds_answers.specs.declared.format.Format.{Format};
-ghost use Rattle.dds_tool.specs.Asking.{Asks, Counts, IsHelp, NamesBoth, NamesEvents, Wants, checking, count_rule, detail_of, drawing, file_rule, flag_rule, is_input_twice, is_set, one_file, optional_file_rule, replaying, running, searching, showing, top_app, two_files, whole, wish_rule};
+ghost use Rattle.dds_json.specs.declared.style.Style.{Style};
+ghost use Rattle.dds_tool.specs.Asking.{Asks, Counts, IsHelp, IsStyled, NamesBoth, NamesEvents, Wants, checking, count_rule, detail_of, drawing, file_rule, flag_rule, is_input_twice, is_set, matching, one_file, optional_file_rule, refuting, replaying, running, searching, showing, style_of, styled, top_app, two_files, whole, wish_rule};
 ghost use Rattle.dds_tool.specs.Wishes.{format_word};
 
-use crate::wishes::{Wishes, read_fates, read_format};
+use crate::wishes::{Wishes, read_fates, read_format, read_style};
 use clap::error::ErrorKind;
 use clap::{Arg, ArgAction, ArgMatches, Command, value_parser};
 use dds_answers::{Detail, Format};
+use dds_json::Style;
 use std::alloc::{AllocError, Global};
 use std::convert::AsStr;
 
@@ -36,6 +38,9 @@ const TAKES: &str = "How many samples each application takes";
 /// What help says of the format.
 const FORMAT: &str = "json or dds-xml";
 
+/// What help says of the style of an answer.
+const STYLE: &str = "text or json";
+
 /// What help says of the flag of an explained answer.
 const EXPLAIN: &str =
     "Tells the reason too: the numbers behind a refusal, or how near each bound is to its limit";
@@ -52,6 +57,9 @@ const INPUT_TWICE: &str = "error: standard input can be read only once\n";
 /// What is told of a word that is no format.
 const WRONG_FORMAT: &str = "error: the format is json or dds-xml\n";
 
+/// What is told of a word that is no style.
+const WRONG_STYLE: &str = "error: the format is text or json\n";
+
 /// What is told of fates that are no list.
 const WRONG_FATES: &str =
     "error: the fates are 1 to 64 of the words pass, keep, last and lose, with commas between them\n";
@@ -62,14 +70,17 @@ pub enum Request<'a> {
     /// Which endpoints of a deployment match.
     Match {
         deployment: &'a str,
+        style: Style,
     },
     /// A certificate that shows that a deployment is safe.
     Propose {
         deployment: &'a str,
+        style: Style,
     },
     /// A certificate with the least bounds that weights show, or which limit has none.
     ProposeThoroughly {
         deployment: &'a str,
+        style: Style,
     },
     /// A deployment of version 1 as one of version 2.
     Migrate {
@@ -78,11 +89,13 @@ pub enum Request<'a> {
     /// A run of a deployment that loses a sample, or why there is none.
     Refute {
         deployment: &'a str,
+        style: Style,
     },
     /// What comes of events that are made on a deployment.
     Replay {
         deployment: &'a str,
         events: &'a str,
+        style: Style,
     },
     /// A deployment as it was read, in a format.
     Show {
@@ -99,13 +112,33 @@ pub enum Request<'a> {
         deployment: &'a str,
         certificate: &'a str,
         detail: Detail,
+        style: Style,
     },
     /// What a deployment does that a certificate shows to be safe.
     Run {
         deployment: &'a str,
         certificate: &'a str,
         wishes: Wishes,
+        style: Style,
     },
+}
+
+impl<'a> Request<'a> {
+    /// The style in which the answer is told: in lines where it has no other.
+    pub fn style(&self) -> Style
+        ensures { result ≡ style_of self.now }
+    {
+        match self {
+            Request::Match { style, .. }
+            | Request::Propose { style, .. }
+            | Request::ProposeThoroughly { style, .. }
+            | Request::Check { style, .. }
+            | Request::Run { style, .. }
+            | Request::Refute { style, .. }
+            | Request::Replay { style, .. } => *style,
+            Request::Migrate { .. } | Request::Show { .. } | Request::Draw { .. } => Style::Text,
+        }
+    }
 }
 
 /// Why no request was read.
@@ -146,14 +179,49 @@ fn flag<'a>(alloc: Global, id: &'a str, help: &'a str) -> Arg<'a>
         .action(ArgAction::SetTrue)
 }
 
+fn wish<'a>(alloc: Global, id: &'a str, value: &'a str, default: &'a str, help: &'a str) -> Arg<'a>
+    ensures rule { rule_of result ≡ wish_rule id.entry.now default.entry.now }
+    ensures local { result.global ≡ false }
+{
+    Arg::new(alloc, id)
+        .long(id)
+        .value_name(value)
+        .default_value(default)
+        .help(help)
+        .action(ArgAction::Set)
+}
+
+/// The command, told in lines where it isn't asked for a document.
+fn styled<'a>(alloc: Global, command: Command<'a>) -> Result<Command<'a>, AllocError>
+    requires local { (fields_of command).has_globals ≡ false }
+    ensures app { IfOk result (λ c. app_of c ≡ styled (app_of command.entry)) }
+    ensures local { IfOk result (λ c. (fields_of c).has_globals ≡ false) }
+{
+    command.arg(wish(alloc, "format", "FORMAT", "text", STYLE))
+}
+
+fn match_command<'a>(alloc: Global) -> Result<Command<'a>, AllocError>
+    ensures app { IfOk result (λ c. app_of c ≡ matching) }
+    ensures local { IfOk result (λ c. (fields_of c).has_globals ≡ false) }
+{
+    let command = one_file_command(
+        alloc,
+        "match",
+        "Tells which writers and readers match, and why others don't",
+    )?;
+    styled(alloc, command)
+}
+
 fn propose_command<'a>(alloc: Global) -> Result<Command<'a>, AllocError>
     ensures app { IfOk result (λ c. app_of c ≡ searching) }
     ensures local { IfOk result (λ c. (fields_of c).has_globals ≡ false) }
 {
-    Command::new(alloc, "propose")
-        .about("Looks for a certificate of a deployment")
-        .arg(file(alloc, "deployment", DEPLOYMENT))?
-        .arg(flag(alloc, "thorough", THOROUGH))
+    let command = one_file_command(
+        alloc,
+        "propose",
+        "Looks for a certificate of a deployment",
+    )?.arg(flag(alloc, "thorough", THOROUGH))?;
+    styled(alloc, command)
 }
 
 fn one_file_command<'a>(
@@ -187,21 +255,10 @@ fn check_command<'a>(alloc: Global) -> Result<Command<'a>, AllocError>
     ensures app { IfOk result (λ c. app_of c ≡ checking) }
     ensures local { IfOk result (λ c. (fields_of c).has_globals ≡ false) }
 {
-    two_files_command(alloc, "check", "Checks a certificate of a deployment")?.arg(flag(
-        alloc, "explain", EXPLAIN,
-    ))
-}
-
-fn wish<'a>(alloc: Global, id: &'a str, value: &'a str, default: &'a str, help: &'a str) -> Arg<'a>
-    ensures rule { rule_of result ≡ wish_rule id.entry.now default.entry.now }
-    ensures local { result.global ≡ false }
-{
-    Arg::new(alloc, id)
-        .long(id)
-        .value_name(value)
-        .default_value(default)
-        .help(help)
-        .action(ArgAction::Set)
+    let command = two_files_command(alloc, "check", "Checks a certificate of a deployment")?.arg(
+        flag(alloc, "explain", EXPLAIN),
+    )?;
+    styled(alloc, command)
 }
 
 fn count<'a>(alloc: Global, id: &'a str, help: &'a str) -> Arg<'a>
@@ -215,14 +272,15 @@ fn run_command<'a>(alloc: Global) -> Result<Command<'a>, AllocError>
     ensures app { IfOk result (λ c. app_of c ≡ running) }
     ensures local { IfOk result (λ c. (fields_of c).has_globals ≡ false) }
 {
-    two_files_command(
+    let command = two_files_command(
         alloc,
         "run",
         "Runs a deployment that a certificate shows to be safe",
     )?
     .arg(wish(alloc, "fates", "LIST", "pass", FATES))?
     .arg(count(alloc, "writes", WRITES))?
-    .arg(count(alloc, "takes", TAKES))
+    .arg(count(alloc, "takes", TAKES))?;
+    styled(alloc, command)
 }
 
 fn show_command<'a>(alloc: Global) -> Result<Command<'a>, AllocError>
@@ -249,16 +307,29 @@ fn draw_command<'a>(alloc: Global) -> Result<Command<'a>, AllocError>
     .arg(optional_file(alloc, "certificate", DRAWN_CERTIFICATE))
 }
 
+fn refute_command<'a>(alloc: Global) -> Result<Command<'a>, AllocError>
+    ensures app { IfOk result (λ c. app_of c ≡ refuting) }
+    ensures local { IfOk result (λ c. (fields_of c).has_globals ≡ false) }
+{
+    let command = one_file_command(
+        alloc,
+        "refute",
+        "Looks for a run of a deployment that loses a sample",
+    )?;
+    styled(alloc, command)
+}
+
 fn replay_command<'a>(alloc: Global) -> Result<Command<'a>, AllocError>
     ensures app { IfOk result (λ c. app_of c ≡ replaying) }
     ensures local { IfOk result (λ c. (fields_of c).has_globals ≡ false) }
 {
-    one_file_command(
+    let command = one_file_command(
         alloc,
         "replay",
         "Makes the events of a file on a deployment, and prints what comes of each",
     )?
-    .arg(file(alloc, "events", EVENTS))
+    .arg(file(alloc, "events", EVENTS))?;
+    styled(alloc, command)
 }
 
 /// The command, and a subcommand more that has no global argument.
@@ -281,11 +352,7 @@ fn top_command<'a>(alloc: Global) -> Command<'a>
 fn whole_command<'a>(alloc: Global) -> Result<Command<'a>, AllocError>
     ensures { IfOk result (λ c. app_of c ≡ whole) }
 {
-    let matching = one_file_command(
-        alloc,
-        "match",
-        "Tells which writers and readers match, and why others don't",
-    )?;
+    let matching = match_command(alloc)?;
     let command = with_command(top_command(alloc), matching)?;
     let checking = check_command(alloc)?;
     let command = with_command(command, checking)?;
@@ -303,11 +370,7 @@ fn whole_command<'a>(alloc: Global) -> Result<Command<'a>, AllocError>
     let command = with_command(command, showing)?;
     let drawing = draw_command(alloc)?;
     let command = with_command(command, drawing)?;
-    let refuting = one_file_command(
-        alloc,
-        "refute",
-        "Looks for a run of a deployment that loses a sample",
-    )?;
+    let refuting = refute_command(alloc)?;
     let command = with_command(command, refuting)?;
     let replaying = replay_command(alloc)?;
     with_command(command, replaying)
@@ -412,16 +475,28 @@ fn detail(matches: &ArgMatches) -> Detail
     }
 }
 
+/// The style in which an answer is asked for, or `None` where the word stands for none.
+fn style(matches: &ArgMatches) -> Option<Style>
+    ensures some { IfSome result (IsStyled (rows_of (found_of matches.now))) }
+    ensures none { IfNone result ((style : Style) → IsStyled (rows_of (found_of matches.now)) style → ⊥) }
+{
+    read_style(argument(matches, "format")?)
+}
+
 fn check_request<'a>(alloc: Global, matches: &ArgMatches<'a>) -> Result<Request<'a>, NoRequest>
     ensures asked { (words : List Text) → subcommand_of whole words ≡ Some (codes "check", rows_of (found_of matches.now)) → IfOk result (Asks words) }
     ensures fault { IfErr result (λ e. ¬ IsHelp e) }
     ensures unasked { (words : List Text) → subcommand_of whole words ≡ Some (codes "check", rows_of (found_of matches.now)) → (r : _) → Asks words r → IfErr result (λ _. ⊥) }
 {
+    let Some(style) = style(matches) else {
+        return Err(usage(alloc, WRONG_STYLE));
+    };
     let (deployment, certificate) = both_files(alloc, matches)?;
     Ok(Request::Check {
         deployment,
         certificate,
         detail: detail(matches),
+        style,
     })
 }
 
@@ -430,8 +505,11 @@ fn match_request<'a>(alloc: Global, matches: &ArgMatches<'a>) -> Result<Request<
     ensures fault { IfErr result (λ e. ¬ IsHelp e) }
     ensures unasked { (words : List Text) → subcommand_of whole words ≡ Some (codes "match", rows_of (found_of matches.now)) → (r : _) → Asks words r → IfErr result (λ _. ⊥) }
 {
+    let Some(style) = style(matches) else {
+        return Err(usage(alloc, WRONG_STYLE));
+    };
     match argument(matches, "deployment") {
-        Some(deployment) => Ok(Request::Match { deployment }),
+        Some(deployment) => Ok(Request::Match { deployment, style }),
         None => Err(usage(alloc, "error: a file is missing\n")),
     }
 }
@@ -441,11 +519,15 @@ fn propose_request<'a>(alloc: Global, matches: &ArgMatches<'a>) -> Result<Reques
     ensures fault { IfErr result (λ e. ¬ IsHelp e) }
     ensures unasked { (words : List Text) → subcommand_of whole words ≡ Some (codes "propose", rows_of (found_of matches.now)) → (r : _) → Asks words r → IfErr result (λ _. ⊥) }
 {
+    let Some(style) = style(matches) else {
+        return Err(usage(alloc, WRONG_STYLE));
+    };
     match argument(matches, "deployment") {
         Some(deployment) if is_set(matches, "thorough") => Ok(Request::ProposeThoroughly {
             deployment,
+            style,
         }),
-        Some(deployment) => Ok(Request::Propose { deployment }),
+        Some(deployment) => Ok(Request::Propose { deployment, style }),
         None => Err(usage(alloc, "error: a file is missing\n")),
     }
 }
@@ -478,11 +560,15 @@ fn run_request<'a>(alloc: Global, matches: &ArgMatches<'a>) -> Result<Request<'a
     let Some(wishes) = wishes(matches) else {
         return Err(usage(alloc, WRONG_FATES));
     };
+    let Some(style) = style(matches) else {
+        return Err(usage(alloc, WRONG_STYLE));
+    };
     let (deployment, certificate) = both_files(alloc, matches)?;
     Ok(Request::Run {
         deployment,
         certificate,
         wishes,
+        style,
     })
 }
 
@@ -543,8 +629,11 @@ fn refute_request<'a>(alloc: Global, matches: &ArgMatches<'a>) -> Result<Request
     ensures fault { IfErr result (λ e. ¬ IsHelp e) }
     ensures unasked { (words : List Text) → subcommand_of whole words ≡ Some (codes "refute", rows_of (found_of matches.now)) → (r : _) → Asks words r → IfErr result (λ _. ⊥) }
 {
+    let Some(style) = style(matches) else {
+        return Err(usage(alloc, WRONG_STYLE));
+    };
     match argument(matches, "deployment") {
-        Some(deployment) => Ok(Request::Refute { deployment }),
+        Some(deployment) => Ok(Request::Refute { deployment, style }),
         None => Err(usage(alloc, "error: a file is missing\n")),
     }
 }
@@ -572,8 +661,15 @@ fn replay_request<'a>(alloc: Global, matches: &ArgMatches<'a>) -> Result<Request
     ensures fault { IfErr result (λ e. ¬ IsHelp e) }
     ensures unasked { (words : List Text) → subcommand_of whole words ≡ Some (codes "replay", rows_of (found_of matches.now)) → (r : _) → Asks words r → IfErr result (λ _. ⊥) }
 {
+    let Some(style) = style(matches) else {
+        return Err(usage(alloc, WRONG_STYLE));
+    };
     let (deployment, events) = with_events(alloc, matches)?;
-    Ok(Request::Replay { deployment, events })
+    Ok(Request::Replay {
+        deployment,
+        events,
+        style,
+    })
 }
 
 /// What the words ask for, of which the first is the program's name. Words that the command does not take are `Usage`, unless they ask for help or the

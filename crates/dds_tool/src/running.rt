@@ -3,11 +3,16 @@ ghost use Rattle.std.specs.Prelude.{◌≡◌, ◌⊎◌, IfErr, IfOk, length, m
 ghost use Rattle.std.specs.List.{count_by};
 ghost use Rattle.dds_book.specs.Journal.{IsJournal};
 ghost use Rattle.dds_peers.specs.Kept.{AreOwners, entries_of};
+ghost use Rattle.dds_answers.specs.Answers.{Gives};
 ghost use Rattle.dds_answers.specs.Fault.{IsAnswerFault};
 ghost use Rattle.dds_answers.specs.Outcome.{accepted, outcome};
+ghost use Rattle.dds_answers.specs.Report.{outcome_of};
+ghost use Rattle.dds_json.specs.Ends.{in_style};
+ghost use Rattle.dds_tool.specs.RunDocument.{told_run};
 ghost use Rattle.dds_tool.specs.RunEnds.{GivesRun};
 ghost use Rattle.dds_tool.specs.Running.{all_stopped, app_line, app_names, end_word, is_taken, is_written, run_lines};
 
+use crate::run_document::run_line;
 use crate::wishes::Wishes;
 use dds_answers::{Answer, Detail, Report, ToolFault, answer_check, reported};
 use dds_base::{AppNo, Reply};
@@ -15,6 +20,7 @@ use dds_book::{Entry, Gauge, GaugeSeat, Journal};
 use dds_cert::naming::name_at;
 use dds_check::Checked;
 use dds_deploy::Deployment;
+use dds_json::{Style, reported_in_json};
 use dds_match::{NoMemory, Plan};
 use dds_peers::{App, AppEnd, Gate, Limits, Outcome, RunFault, Steady, run_peers};
 use std::alloc::{AllocError, Global};
@@ -49,7 +55,7 @@ fn names_of(alloc: Global, lists: &Deployment) -> Result<Vec<String>, AllocError
 }
 
 /// The word for the end of an application's thread.
-fn end_word(end: AppEnd) -> &'static str
+pub(crate) fn end_word(end: AppEnd) -> &'static str
     ensures { result.now ≡ end_word end }
 {
     match end {
@@ -63,7 +69,7 @@ fn end_word(end: AppEnd) -> &'static str
 }
 
 /// How many samples the seat wrote.
-fn written_by(seat: usize, entries: &[Entry]) -> usize
+pub(crate) fn written_by(seat: usize, entries: &[Entry]) -> usize
     ensures { result ≡ count_by is_written (entries_of seat entries.now) }
 {
     entries
@@ -73,7 +79,7 @@ fn written_by(seat: usize, entries: &[Entry]) -> usize
 }
 
 /// How many samples the seat took.
-fn taken_by(seat: usize, entries: &[Entry]) -> usize
+pub(crate) fn taken_by(seat: usize, entries: &[Entry]) -> usize
     ensures { result ≡ count_by is_taken (entries_of seat entries.now) }
 {
     entries
@@ -123,10 +129,27 @@ fn run_text(
 }
 
 /// Whether the thread of each application ended as the application asked.
-fn all_stopped(ends: &[AppEnd]) -> bool
+pub(crate) fn all_stopped(ends: &[AppEnd]) -> bool
     ensures { result ≡ all_stopped ends.now }
 {
     ends.iter().all(|end| matches!(end, AppEnd::Stopped))
+}
+
+/// A run, told in this style.
+fn told_run(
+    alloc: Global,
+    names: &[String],
+    journal: &Journal,
+    ends: &[AppEnd],
+    style: Style,
+) -> Result<String, AllocError>
+    requires { length ends.now ≡ length names.now }
+    ensures { IfOk result (λ text. string_bytes text ≡ told_run style (map string_bytes names.now) journal.now ends.now) }
+{
+    match style {
+        Style::Text => run_text(alloc, names, journal, ends),
+        Style::Json => run_line(alloc, names, journal, ends),
+    }
 }
 
 /// A steady application for each of the plan's.
@@ -225,8 +248,9 @@ fn played<R: Threads + Wait + Clock + Sync>(
     alloc: Global,
     checked: Checked,
     wishes: &Wishes,
+    style: Style,
 ) -> Result<Answer, ToolFault>
-    ensures gives { GivesRun (accepted checked.plan checked.certificate) result }
+    ensures gives { GivesRun style (accepted checked.plan checked.certificate) result }
     ensures fault { IfErr result (λ e. (e ≡ ToolFault.Run) ⊎ (e ≡ ToolFault.NoMemory)) }
 {
     let Ok(names) = names_of(alloc, checked.plan().lists()) else {
@@ -234,7 +258,7 @@ fn played<R: Threads + Wait + Clock + Sync>(
         return Err(ToolFault::NoMemory);
     };
     let (journal, ends) = ran(rt, alloc, checked, wishes)?;
-    match run_text(alloc, names.as_slice(), &journal, ends.as_slice()) {
+    match told_run(alloc, names.as_slice(), &journal, ends.as_slice(), style) {
         Ok(text) => Ok(Answer {
             text,
             is_yes: all_stopped(ends.as_slice()),
@@ -244,21 +268,33 @@ fn played<R: Threads + Wait + Clock + Sync>(
     }
 }
 
-/// The answer of `run` to the bytes of a deployment and of a certificate: a no of the checker as `check` answers it, and else what the applications
-/// did: yes where the thread of each ended as the application asked. `Run` comes where the journal became full or a thread couldn't be made.
+/// The answer of a check that refuses, or accepts, told in this style.
+fn told_check(alloc: Global, report: Report, style: Style) -> Result<Answer, ToolFault>
+    ensures gives { Gives result (in_style style (outcome_of report)) }
+    ensures fault { IfErr result IsAnswerFault }
+{
+    match style {
+        Style::Text => reported(alloc, report, Detail::Plain),
+        Style::Json => reported_in_json(alloc, report, Detail::Plain),
+    }
+}
+
+/// The answer of `run` to the bytes of a deployment and of a certificate, told in this style: a no of the checker as `check` answers it, and else what the
+/// applications did: yes where the thread of each ended as the application asked. `Run` comes where the journal became full or a thread couldn't be made.
 pub fn run_answer<R: Threads + Wait + Clock + Sync>(
     rt: &R,
     alloc: Global,
     deployment: &[u8],
     certificate: &[u8],
     wishes: &Wishes,
+    style: Style,
 ) -> Result<Answer, ToolFault>
-    ensures gives { GivesRun (outcome deployment.now certificate.now) result }
+    ensures gives { GivesRun style (outcome deployment.now certificate.now) result }
     ensures fault { IfErr result (λ e. (e ≡ ToolFault.Run) ⊎ IsAnswerFault e) }
 {
     match answer_check(alloc, deployment, certificate) {
-        Ok(Report::Yes(checked)) => played(rt, alloc, checked, wishes),
-        Ok(refused) => reported(alloc, refused, Detail::Plain),
+        Ok(Report::Yes(checked)) => played(rt, alloc, checked, wishes, style),
+        Ok(refused) => told_check(alloc, refused, style),
         Err(fault) => Err(fault),
     }
 }

@@ -3,10 +3,12 @@ ghost use Rattle.std.specs.Prelude.{◌≡◌, ◌≢◌, List, IfNone, IfSome};
 ghost use Rattle.dds_base.specs.declared.events.Fate.{Fate};
 ghost use Rattle.dds_peers.specs.Fates.{AreFates};
 ghost use Rattle.dds_answers.specs.declared.format.Format.{Format};
-ghost use Rattle.dds_tool.specs.Wishes.{fate_word, fates_text, format_word};
+ghost use Rattle.dds_json.specs.declared.style.Style.{Style};
+ghost use Rattle.dds_tool.specs.Wishes.{fate_word, fates_text, format_word, style_word};
 
 use dds_answers::Format;
 use dds_base::Fate;
+use dds_json::Style;
 use dds_peers::Fates;
 
 /// The most fates that a list has.
@@ -28,6 +30,18 @@ pub(crate) fn read_format(word: &str) -> Option<Format>
     match word {
         "json" => Some(Format::Json),
         "dds-xml" => Some(Format::DdsXml),
+        _ => None,
+    }
+}
+
+/// The style for which a word stands, or `None` where it stands for none.
+pub(crate) fn read_style(word: &str) -> Option<Style>
+    ensures some { IfSome result (λ style. word.now ≡ style_word style) }
+    ensures none { IfNone result ((style : Style) → word.now ≢ style_word style) }
+{
+    match word {
+        "text" => Some(Style::Text),
+        "json" => Some(Style::Json),
         _ => None,
     }
 }

@@ -219,9 +219,10 @@ fn expect_write_fault<R: Threads + Wait + Clock + Sync + Abort>(
     rt: &R,
     alloc: Global,
     words: &[&str],
+    deployment: &[u8],
     room: usize,
 ) {
-    let mut files = readable(PING.as_bytes(), PING_CERT.as_bytes());
+    let mut files = readable(deployment, PING_CERT.as_bytes());
     let mut err = Stream::new(Vec::new(alloc));
     let mut out = Stream::new(Full { room });
     let exit = tool(rt, alloc, words, &mut files, &mut out, &mut err);
@@ -239,8 +240,19 @@ fn expect_write_fault<R: Threads + Wait + Clock + Sync + Abort>(
 fn tells_a_failed_write(rt: HostRuntime) -> Result<(), Fail> {
     for command in &COMMANDS {
         for room in [0, 1, 5] {
-            expect_write_fault(&rt, rt.alloc(), command.words, room);
+            expect_write_fault(&rt, rt.alloc(), command.words, PING.as_bytes(), room);
         }
+    }
+    Ok(())
+}
+
+// The document of an answer, and that of a fault, which then isn't told.
+#[test]
+fn tells_a_document_that_was_not_written(rt: HostRuntime) -> Result<(), Fail> {
+    let words = ["ddscheck", "check", "d", "c", "--format", "json"];
+    for room in [0, 1, 5] {
+        expect_write_fault(&rt, rt.alloc(), words.as_slice(), PING.as_bytes(), room);
+        expect_write_fault(&rt, rt.alloc(), words.as_slice(), b"", room);
     }
     Ok(())
 }

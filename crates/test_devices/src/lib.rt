@@ -1,8 +1,11 @@
-//! The whole tool over files in memory: devices that fail or are slow, every beginning of a file, files before and after `migrate`, and runs over and over.
+//! The whole tool over files in memory: devices that fail or are slow, every beginning of a file, documents that are read
+//! again, files before and after `migrate`, and runs over and over.
 #![tactic(auto)]
 
 #[cfg(test)]
 mod devices;
+#[cfg(test)]
+mod documents;
 #[cfg(test)]
 mod files;
 #[cfg(test)]

@@ -8,9 +8,9 @@ use Rattle.dds_tool.proofs.commands.refute_file.Goals as goal
 pub returns-in-Ok-clause-gives : goal.returns-in-Ok-clause-gives
 returns-in-Ok-clause-gives g c = λ d held.
     let first = subst (λ (bytes : Option (List ℕ)). IfSome bytes (λ xs. (c.in-Ok.bytes.items ≡ xs) × (length xs ≤ 1048576))) held c.in-Ok.ensures.bytes in
-    file_refuted d c.refute_answer.result first.1
-    (subst (λ (bytes : List ℕ). GivesOneOf (MayRefute (read bytes)) c.refute_answer.result) (c.as_slice.ensures.value ∙ first.0) c.refute_answer.ensures.gives)
+    file_refuted c.args.style d c.refute_answer.result first.1
+    (subst (λ (bytes : List ℕ). GivesOneOf (MayRefute c.args.style (read bytes)) c.refute_answer.result) (c.as_slice.ensures.value ∙ first.0) c.refute_answer.ensures.gives)
 
 pub returns-in-Err-clause-gives : goal.returns-in-Err-clause-gives
 returns-in-Err-clause-gives g c = λ d held.
-    unread_refuted d c.in-Err.fault c.in-Err.ensures.faults (λ is. subst (λ bytes. IfSome bytes (λ xs. 1048576 < length xs)) held (c.in-Err.ensures.too_large (ap Err is)))
+    unread_refuted c.args.style d c.in-Err.fault c.in-Err.ensures.faults (λ is. subst (λ bytes. IfSome bytes (λ xs. 1048576 < length xs)) held (c.in-Err.ensures.too_large (ap Err is)))

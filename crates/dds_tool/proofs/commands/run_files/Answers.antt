@@ -15,13 +15,13 @@ AreRead items bytes = IfSome bytes (λ xs. (items ≡ xs) × (length xs ≤ 1048
 
 pub returns-in_err-deployment-clause-gives : goal.returns-in_err-deployment-clause-gives
 returns-in_err-deployment-clause-gives g c = λ x y held_x held_y.
-    passed_gives x y c.from_residual.result c.in_err-deployment.field-0.0 c.from_residual.ensures.1 c.in_err-deployment.ensures.faults
+    passed_gives c.args.style x y c.from_residual.result c.in_err-deployment.field-0.0 c.from_residual.ensures.1 c.in_err-deployment.ensures.faults
     (λ is. inl (subst IsLarge held_x (c.in_err-deployment.ensures.too_large (ap Err is))))
 
 pub returns-in_err-certificate-clause-gives : goal.returns-in_err-certificate-clause-gives
 returns-in_err-certificate-clause-gives g c = λ x y held_x held_y.
     let held = ap (λ (holds : List ℕ → Option (List ℕ)). holds c.args.certificate.now) c.in_ok-deployment.ensures.others ∙ held_y in
-    passed_gives x y c.from_residual-in_err-certificate.result c.in_err-certificate.field-0.0 c.from_residual-in_err-certificate.ensures.1 c.in_err-certificate.ensures.faults
+    passed_gives c.args.style x y c.from_residual-in_err-certificate.result c.in_err-certificate.field-0.0 c.from_residual-in_err-certificate.ensures.1 c.in_err-certificate.ensures.faults
     (λ is. inr (subst IsLarge held (c.in_err-certificate.ensures.too_large (ap Err is))))
 
 pub returns-clause-gives : goal.returns-clause-gives
@@ -29,8 +29,8 @@ returns-clause-gives g c = λ x y held_x held_y.
     let held = ap (λ (holds : List ℕ → Option (List ℕ)). holds c.args.certificate.now) c.in_ok-deployment.ensures.others ∙ held_y in
     let first = subst (AreRead c.in_ok-deployment.deployment.items) held_x c.in_ok-deployment.ensures.bytes in
     let second = subst (AreRead c.in_ok-certificate.certificate.items) held c.in_ok-certificate.ensures.bytes in
-    file_gives x y c.run_answer.result first.1 second.1
-    (subst (λ (end : Outcome). GivesRun end c.run_answer.result) (ap₂ outcome (c.as_slice.ensures.value ∙ first.0) (c.as_slice-2.ensures.value ∙ second.0)) c.run_answer.ensures.gives)
+    file_gives c.args.style x y c.run_answer.result first.1 second.1
+    (subst (λ (end : Outcome). GivesRun c.args.style end c.run_answer.result) (ap₂ outcome (c.as_slice.ensures.value ∙ first.0) (c.as_slice-2.ensures.value ∙ second.0)) c.run_answer.ensures.gives)
 
 pub returns-in_err-certificate-clause-opened : goal.returns-in_err-certificate-clause-opened
 returns-in_err-certificate-clause-opened g c =

@@ -3,4 +3,4 @@ use Rattle.dds_tool.proofs.Refutes.{unrefuted_ends}
 use Rattle.dds_tool.proofs.refuting.refute_answer.Goals as goal
 
 pub returns-in-Err-clause-gives : goal.returns-in-Err-clause-gives
-returns-in-Err-clause-gives c = unrefuted_ends (read c.args.deployment.now) c.in-Err.fault c.deployment_fault.result c.in-Err.ensures c.deployment_fault.ensures
+returns-in-Err-clause-gives c = unrefuted_ends c.args.style (read c.args.deployment.now) c.in-Err.fault c.deployment_fault.result c.in-Err.ensures c.deployment_fault.ensures

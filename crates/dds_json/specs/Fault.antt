@@ -1,0 +1,34 @@
+-- The document of a fault.
+use Rattle.std.specs.Prelude.{ℕ, List, codes, string_bytes}
+use Rattle.serde_json.specs.Data.{Data, member, no_members, number, object, string, unsigned}
+use Rattle.dds_fields.specs.FaultTable as deployment
+use Rattle.dds_cert.specs.Faults.{kind_entry}
+use Rattle.dds_events.specs.Faults as events
+use Rattle.dds_answers.specs.declared.fault.ToolFault.{ToolFault}
+use Rattle.dds_answers.specs.declared.fault.ToolFault.TheVariants as fault
+
+-- a fault with this number and this word
+abbrev pub plain_document : ℕ → List ℕ → Data
+plain_document n name = object (member (codes "answer") (string (codes "fault")) (member (codes "name") (string name) (member (codes "number") (number (unsigned n)) no_members)))
+
+-- the number and the word of a flaw of a file, and its path, which is empty where it has none
+abbrev pub flaw_document : List ℕ → ℕ → List ℕ → List ℕ → Data
+flaw_document file n name path =
+    object (member (codes "answer") (string (codes "fault")) (member (codes "file") (string file) (member (codes "name") (string name) (member (codes "number") (number (unsigned n)) (member (codes "path") (string path) no_members)))))
+
+-- the number and the word of a flaw of a file of events, and its line, which is 0 where it has none
+abbrev pub events_document : ℕ → List ℕ → ℕ → Data
+events_document n name line =
+    object (member (codes "answer") (string (codes "fault")) (member (codes "file") (string (codes "events")) (member (codes "line") (number (unsigned line)) (member (codes "name") (string name) (member (codes "number") (number (unsigned n)) no_members)))))
+
+-- the document of a fault
+abbrev pub fault_document : ToolFault → Data
+fault_document (fault.Usage text) = plain_document 1 (codes "Usage")
+fault_document (fault.Deployment flaw) = flaw_document (codes "deployment") (deployment.number_of flaw.kind) (deployment.name_of flaw.kind) (string_bytes flaw.path)
+fault_document (fault.Certificate flaw) = flaw_document (codes "certificate") (kind_entry flaw.kind).0 (kind_entry flaw.kind).1 (string_bytes flaw.path)
+fault_document (fault.Events kind line) = events_document (events.number_of kind) (events.name_of kind) line
+fault_document fault.TooLarge = plain_document 4 (codes "TooLarge")
+fault_document fault.Read = plain_document 5 (codes "Read")
+fault_document fault.Write = plain_document 6 (codes "Write")
+fault_document fault.NoMemory = plain_document 7 (codes "NoMemory")
+fault_document fault.Run = plain_document 8 (codes "Run")

@@ -1,0 +1,19 @@
+//! The text of a document.
+ghost use Rattle.std.specs.Prelude.{◌≡◌, IfOk, false, string_bytes};
+ghost use Rattle.serde_json.specs.View.{view};
+ghost use Rattle.serde_json.specs.Written.{has_float};
+ghost use Rattle.dds_json.specs.Line.{line_of};
+
+use serde_json::Value;
+use std::alloc::{AllocError, Global};
+
+/// The text of a document without fractions, without blanks, on a line of its own. Only want of memory is an error.
+#[tactic(auto, unfolding(crate::specs::Line::line_of))]
+pub fn line_of(alloc: Global, document: &Value) -> Result<String, AllocError>
+    requires { has_float (view document.now) ≡ false }
+    ensures { IfOk result (λ text. string_bytes text ≡ line_of (view document.now)) }
+{
+    let mut text = document.to_string(alloc)?;
+    text.push_str("\n")?;
+    Ok(text)
+}

@@ -1,0 +1,133 @@
+//! The document of a comparison of endpoints.
+ghost use Rattle.std.specs.Prelude.{◌≡◌, ◌++◌, IfErr, IfOk, length, map, string_bytes};
+ghost use Rattle.serde_json.specs.View.{view};
+ghost use Rattle.dds_match.specs.Plan.{network_of};
+ghost use Rattle.dds_answers.specs.Answers.{Gives};
+ghost use Rattle.dds_answers.specs.Fault.{IsAnswerFault};
+ghost use Rattle.dds_answers.specs.Matches.{is_as_intended};
+ghost use Rattle.dds_answers.specs.Outcome.{compared, match_outcome};
+ghost use Rattle.dds_json.specs.Ends.{in_json};
+ghost use Rattle.dds_json.specs.Line.{line_of};
+ghost use Rattle.dds_json.specs.Matching.{answer_word, match_document, pair_document, pairs, writer_pairs};
+
+use crate::line::line_of;
+use dds_answers::{Answer, ToolFault, answered, deployment_fault, is_as_intended};
+use dds_base::{ReaderNo, WriterNo};
+use dds_cert::naming::name_at;
+use dds_deploy::{Deployment, read_deployment};
+use dds_match::Plan;
+use dds_match::planning::plan;
+use dds_show::reasons::reason_text;
+use serde_json::{Value, json};
+use std::alloc::{AllocError, Global};
+
+/// A writer and a reader, and why they don't match, if they don't.
+fn pair_document(
+    alloc: Global,
+    plan: &Plan,
+    writer: WriterNo,
+    reader: ReaderNo,
+) -> Result<Value, AllocError>
+    ensures { IfOk result (λ v. view v ≡ pair_document plan.now writer reader) }
+{
+    let lists = plan.lists();
+    let writer_name = name_at(lists.writer_names(), writer.number());
+    let reader_name = name_at(lists.reader_names(), reader.number());
+    match plan.why_not(writer, reader) {
+        None => json!(in alloc; {"writer": writer_name, "reader": reader_name, "matches": true}),
+        Some(reason) => {
+            let because = reason_text(alloc, reason)?;
+            json!(in alloc;
+                {"writer": writer_name, "reader": reader_name, "matches": false, "because": because}
+            )
+        }
+    }
+}
+
+/// Adds the pairs of a writer, by readers in file order.
+fn push_writer(
+    alloc: Global,
+    documents: &mut Vec<Value>,
+    plan: &Plan,
+    writer: WriterNo,
+    readers: usize,
+) -> Result<(), AllocError>
+    ensures { IfOk result (λ _. map view documents.new.items ≡ map view documents.old.items ++ writer_pairs plan.now readers writer) }
+{
+    for r in 0..readers {
+        documents.push(pair_document(alloc, plan, writer, ReaderNo::new(r))?)?;
+    }
+    Ok(())
+}
+
+/// The pairs of all writers and readers, in file order.
+fn pairs_of(alloc: Global, plan: &Plan) -> Result<Vec<Value>, AllocError>
+    ensures { IfOk result (λ documents. map view documents.items ≡ pairs plan.now (length plan.now.writers.entries) (length plan.now.readers.entries)) }
+{
+    let writers = plan.lists().writers();
+    let readers = plan.lists().readers();
+    let mut documents = Vec::new(alloc);
+    for w in 0..writers {
+        push_writer(alloc, &mut documents, plan, WriterNo::new(w), readers)?;
+    }
+    Ok(documents)
+}
+
+/// The word for yes or no.
+pub fn answer_word(is_yes: bool) -> &'static str
+    ensures { result.now ≡ answer_word is_yes }
+{
+    if is_yes { "yes" } else { "no" }
+}
+
+/// The document of a plan's pairs.
+fn match_document(alloc: Global, plan: &Plan) -> Result<Value, AllocError>
+    ensures { IfOk result (λ v. view v ≡ match_document plan.now) }
+{
+    let pairs = Value::Array(pairs_of(alloc, plan)?);
+    let answer = answer_word(is_as_intended(plan));
+    json!(in alloc; {"answer": answer, "pairs": pairs})
+}
+
+/// The line of the document of a plan's pairs.
+fn match_line(alloc: Global, plan: &Plan) -> Result<String, AllocError>
+    ensures { IfOk result (λ text. string_bytes text ≡ line_of (match_document plan.now)) }
+{
+    let document = match_document(alloc, plan)?;
+    line_of(alloc, &document)
+}
+
+/// The answer to which endpoints of a plan match, which is needed no longer.
+fn compared_in_json(alloc: Global, plan: Plan) -> Result<Answer, ToolFault>
+    ensures gives { Gives result (in_json (compared plan)) }
+    ensures fault { IfErr result IsAnswerFault }
+{
+    let answer = answered(match_line(alloc, &plan), is_as_intended(&plan));
+    drop(plan);
+    answer
+}
+
+/// The answer to which endpoints of the lists of a deployment match.
+fn lists_compared(alloc: Global, lists: Deployment) -> Result<Answer, ToolFault>
+    ensures gives { Gives result (in_json (compared lists)) }
+    ensures fault { IfErr result IsAnswerFault }
+{
+    match plan(alloc, lists) {
+        Ok(plan) => compared_in_json(alloc, plan),
+        Err((_, lists)) => {
+            drop(lists);
+            Err(ToolFault::NoMemory)
+        }
+    }
+}
+
+/// The answer of `match` to the bytes of a deployment, as a document.
+pub(crate) fn match_answer_in_json(alloc: Global, deployment: &[u8]) -> Result<Answer, ToolFault>
+    ensures gives { Gives result (in_json (match_outcome deployment.now)) }
+    ensures fault { IfErr result IsAnswerFault }
+{
+    match read_deployment(alloc, deployment) {
+        Ok(lists) => lists_compared(alloc, lists),
+        Err(fault) => Err(deployment_fault(fault)),
+    }
+}

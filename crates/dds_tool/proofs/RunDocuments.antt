@@ -1,0 +1,12 @@
+-- The document of a run.
+use Rattle.std.proofs.Common.{◌≡◌, ℕ, false, List, [], length, refl}
+use Rattle.std.specs.List.{range_with_len}
+use Rattle.serde_json.specs.Written.{has_float}
+use Rattle.dds_book.specs.declared.entry.Entry.{Entry}
+use Rattle.dds_peers.specs.declared.player.AppEnd.{AppEnd}
+use Rattle.dds_json.proofs.Documents.{no_fractions}
+use Rattle.dds_tool.specs.RunDocument.{document_at, run_document}
+
+-- it has no fraction
+pub run_plain : (names : List (List ℕ)) (journal : List Entry) (ends : List AppEnd) → has_float (run_document names journal ends) ≡ false
+run_plain names journal ends = let none = no_fractions (document_at names journal ends) (λ app. refl) (range_with_len 0 (length names)) in rw none refl

@@ -1,0 +1,83 @@
+-- What is said where a fault is told in a style.
+use Rattle.std.proofs.Common.{◌≡◌, ◌≢◌, ◌⊎◌, ◌≤◌, ◌∙◌, ℕ, Bool, true, List, ◌++◌, Option, Some, None, Result, Ok, Err, IfErr, IsErrOf, inl, inr, refl, sym, ap, subst, arith}
+use Rattle.std.specs.Io.KnownBytes.{Appends, Keeps}
+use Rattle.dds_answers.specs.Causes.{IsFileFault}
+use Rattle.dds_answers.specs.declared.answer.Answer.{Answer}
+use Rattle.dds_answers.specs.Exit.{exit_status}
+use Rattle.dds_answers.specs.Fault.{exit_of, fault_status}
+use Rattle.dds_answers.specs.declared.exit.Exit.{Exit}
+use Rattle.dds_answers.specs.declared.exit.Exit.TheVariants as exit
+use Rattle.dds_answers.specs.declared.fault.ToolFault.{ToolFault}
+use Rattle.dds_answers.specs.declared.fault.ToolFault.TheVariants as fault
+use Rattle.dds_json.specs.Fault.{fault_document}
+use Rattle.dds_json.specs.Line.{line_of}
+use Rattle.dds_json.specs.declared.style.Style.{Style}
+use Rattle.dds_json.specs.declared.style.Style.TheVariants.{Text, Json}
+use Rattle.dds_tool.specs.Asking.{Answers, GivesTo, Tells, style_of}
+use Rattle.dds_tool.specs.Causes.{IsCaused, IsRun}
+use Rattle.dds_tool.specs.declared.request.Request.{Request}
+
+-- how a command ends that tells this fault
+abbrev pub EndsTold : ToolFault → Bool → Exit → Type 0
+EndsTold f failed e = (e ≡ exit_of f) ⊎ ((e ≡ exit.NoMemory) ⊎ ((e ≡ exit.Device) × (failed ≡ true)))
+
+-- what is added to what was kept is added
+kept_appends : (old mid new : Option (List ℕ)) (text : List ℕ) → Keeps old mid → Appends mid new text → Appends old new text
+kept_appends None mid new text keeps appends = tt
+kept_appends (Some xs) None new text keeps appends = absurd keeps
+kept_appends (Some xs) (Some ys) None text keeps appends = absurd appends
+kept_appends (Some xs) (Some ys) (Some zs) text keeps appends = appends ∙ ap (λ bytes. bytes ++ text) keeps
+
+-- its status is the fault's, or 3
+status_told : (f : ToolFault) (failed : Bool) (e : Exit) → EndsTold f failed e → (exit_status e ≡ fault_status f) ⊎ (exit_status e ≡ 3)
+status_told f failed e (inl is) = inl (ap exit_status is)
+status_told f failed e (inr (inl is)) = inr (ap exit_status is)
+status_told f failed e (inr (inr is)) = inr (ap exit_status is.0)
+
+-- where it isn't 3, it is the fault's, which is not that the output failed
+own_status : (f : ToolFault) (failed : Bool) (e : Exit) → EndsTold f failed e → exit_status e ≢ 3 → exit_status e ≡ fault_status f
+own_status f failed e told other = elim (status_told f failed e told) [ inl is ↦ is | inr is ↦ absurd (other is) ]
+
+unwritten : (f : ToolFault) (status : ℕ) (P : Type 0) → status ≡ fault_status f → status ≢ 3 → (f ≡ fault.Write) ⊎ P → P
+unwritten f status P is other (inl write) = absurd (other (is ∙ ap fault_status write))
+unwritten f status P is other (inr p) = p
+
+text_or_json : (s : Style) → (s ≡ Text) ⊎ (s ≡ Json)
+text_or_json Text = inl refl
+text_or_json Json = inr refl
+
+-- a fault that is told is what the request says
+pub fault_tells : (holds : List ℕ → Option (List ℕ)) (request : Request) (f : ToolFault) (e : Exit) (failed : Bool) (old mid new : Option (List ℕ))
+    → ((status : ℕ) → (status ≡ fault_status f) ⊎ (status ≡ 3) → Answers holds request status old mid)
+    → (f ≡ fault.Write) ⊎ GivesTo holds request (Err f)
+    → (f ≡ fault.Write) ⊎ Keeps old mid
+    → EndsTold f failed e
+    → (style_of request ≡ Text → new ≡ mid)
+    → (style_of request ≡ Json → exit_status e ≢ 3 → Appends mid new (line_of (fault_document f)))
+    → exit_status e ≤ 2 → Tells holds request (exit_status e) old new
+fault_tells holds request f e failed old mid new said gives nothing told lines document few = elim (text_or_json (style_of request)) [
+  | inl text ↦ inl ((λ json. let no : Text ≡ Json = sym text ∙ json in cc), subst (Answers holds request (exit_status e) old) (sym (lines text)) (said (exit_status e) (status_told f failed e told)))
+  | inr json ↦
+      let other : exit_status e ≢ 3 = λ three. omega (arith, three, few) in
+      let own = own_status f failed e told other in
+      inr (json, (f, unwritten f (exit_status e) (GivesTo holds request (Err f)) own other gives, own, kept_appends old mid new (line_of (fault_document f)) (unwritten f (exit_status e) (Keeps old mid) own other nothing) (document json other)))
+]
+
+-- nothing is said of it in lines
+pub fault_keeps : (request : Request) (f : ToolFault) (e : Exit) (failed : Bool) (old mid new : Option (List ℕ))
+    → (f ≡ fault.Write) ⊎ Keeps old mid → EndsTold f failed e → (style_of request ≡ Text → new ≡ mid) → exit_status e ≢ 3 → Keeps old new ⊎ (style_of request ≡ Json)
+fault_keeps request f e failed old mid new nothing told lines other = elim (text_or_json (style_of request)) [
+  | inl text ↦ inl (subst (Keeps old) (sym (lines text)) (unwritten f (exit_status e) (Keeps old mid) (own_status f failed e told other) other nothing))
+  | inr json ↦ inr json
+]
+
+-- an answer that was written is what the request says
+pub answer_tells : (holds : List ℕ → Option (List ℕ)) (request : Request) (e : Exit) (old new : Option (List ℕ)) → exit_status e ≤ 1 → Answers holds request (exit_status e) old new
+    → Tells holds request (exit_status e) old new
+answer_tells holds request e old new few answers = inl ((λ json two. omega (arith, two, few)), answers)
+
+-- a fault of a proposal that is told in a style is one of its own, or want of memory
+pub styled_causes : (failed : Bool) (answer r : Result Answer ToolFault) → IfErr r (λ e. (e ≡ fault.NoMemory) ⊎ IsErrOf answer e) → IfErr answer (IsFileFault failed) → IfErr r (IsFileFault failed)
+styled_causes failed answer (Ok a) is causes = tt
+styled_causes failed answer (Err e) (inl memory) causes = subst (IsFileFault failed) (sym memory) tt
+styled_causes failed answer (Err e) (inr same) causes = subst (λ (a : Result Answer ToolFault). IfErr a (IsFileFault failed)) same causes

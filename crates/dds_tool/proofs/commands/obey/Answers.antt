@@ -1,0 +1,18 @@
+use Rattle.std.proofs.Common.{◌∙◌, ap}
+use Rattle.dds_tool.proofs.Told.{answer_tells, fault_keeps, fault_tells}
+use Rattle.dds_tool.proofs.commands.obey.Goals as goal
+
+pub returns-in-Ok-clause-answer : goal.returns-in-Ok-clause-answer
+returns-in-Ok-clause-answer g c = λ few. answer_tells (g.S.Sources.holds c.args.files.now) c.args.request c.in-Ok.exit (g.O.Output.contents c.args.out.now) _ c.in-Ok.ensures.exit c.in-Ok.ensures.answer
+
+pub returns-in-Err-clause-answer : goal.returns-in-Err-clause-answer
+returns-in-Err-clause-answer g c =
+    fault_tells (g.S.Sources.holds c.args.files.now) c.args.request c.in-Err.fault c.tell_in_style.result (g.O.Output.has_failed c.tell_in_style.new.out) (g.O.Output.contents c.args.out.now)
+    (g.O.Output.contents c.run_request.new.out) (g.O.Output.contents c.tell_in_style.new.out) c.in-Err.ensures.fault c.in-Err.ensures.ends c.in-Err.ensures.nothing c.tell_in_style.ensures.exit
+    (λ text. ap g.O.Output.contents (c.tell_in_style.ensures.lines (c.style-style.ensures ∙ text))) (λ json. c.tell_in_style.ensures.document (c.style-style.ensures ∙ json))
+
+pub returns-in-Err-clause-nothing : goal.returns-in-Err-clause-nothing
+returns-in-Err-clause-nothing g c = λ fault other.
+    fault_keeps c.args.request c.in-Err.fault c.tell_in_style.result (g.O.Output.has_failed c.tell_in_style.new.out) (g.O.Output.contents c.args.out.now)
+    (g.O.Output.contents c.run_request.new.out) (g.O.Output.contents c.tell_in_style.new.out) c.in-Err.ensures.nothing c.tell_in_style.ensures.exit
+    (λ text. ap g.O.Output.contents (c.tell_in_style.ensures.lines (c.style-style.ensures ∙ text))) other

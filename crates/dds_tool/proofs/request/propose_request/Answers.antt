@@ -1,0 +1,6 @@
+use Rattle.clap.specs.Words.{found_of, rows_of}
+use Rattle.dds_tool.proofs.Requested.{proposes_one}
+use Rattle.dds_tool.proofs.request.propose_request.Goals as goal
+
+pub returns-in-None-clause-unasked : goal.returns-in-None-clause-unasked
+returns-in-None-clause-unasked c = λ words is r asks. proposes_one words (rows_of (found_of c.args.matches.now)) is r asks c.in-None.ensures

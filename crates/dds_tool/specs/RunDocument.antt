@@ -1,0 +1,35 @@
+-- The document that tells of a run.
+use Rattle.std.specs.Prelude.{ℕ, List, [], codes, length, map}
+use Rattle.std.specs.List.{count_by, range_with_len, slice_index_or}
+use Rattle.serde_json.specs.Data.{Data, array, member, no_members, number, object, string, unsigned}
+use Rattle.serde_json.specs.View.{items_of}
+use Rattle.dds_base.specs.declared.events.Event.{Event}
+use Rattle.dds_base.specs.declared.events.Reply.{Reply}
+use Rattle.dds_book.specs.declared.entry.Entry.{Entry}
+use Rattle.dds_peers.specs.declared.player.AppEnd.{AppEnd}
+use Rattle.dds_peers.specs.declared.player.AppEnd.TheVariants as end
+use Rattle.dds_peers.specs.Kept.{entries_of}
+use Rattle.dds_json.specs.Line.{line_of}
+use Rattle.dds_json.specs.Matching.{answer_word}
+use Rattle.dds_json.specs.declared.style.Style.{Style}
+use Rattle.dds_json.specs.declared.style.Style.TheVariants.{Text, Json}
+use Rattle.dds_tool.specs.Running.{all_stopped, end_word, is_taken, is_written, run_lines}
+
+-- the application with this name: how much it wrote and took, and how its thread ended
+abbrev pub app_document : List ℕ → List (Event × Reply) → AppEnd → Data
+app_document name entries ended =
+    object (member (codes "application") (string name) (member (codes "end") (string (end_word ended)) (member (codes "taken") (number (unsigned (count_by is_taken entries))) (member (codes "written") (number (unsigned (count_by is_written entries))) no_members))))
+
+-- the application with this number: of its name, of its part of the journal, and of the end of its thread
+abbrev pub document_at : List (List ℕ) → List Entry → List AppEnd → ℕ → Data
+document_at names journal ends app = app_document (slice_index_or names app []) (entries_of app journal) (slice_index_or ends app end.Stopped)
+
+-- yes where the thread of each application ended as the application asked, with each application
+abbrev pub run_document : List (List ℕ) → List Entry → List AppEnd → Data
+run_document names journal ends =
+    object (member (codes "answer") (string (answer_word (all_stopped ends))) (member (codes "applications") (array (items_of (map (document_at names journal ends) (range_with_len 0 (length names))))) no_members))
+
+-- a run, told in this style
+abbrev pub told_run : Style → List (List ℕ) → List Entry → List AppEnd → List ℕ
+told_run Text names journal ends = run_lines names journal ends
+told_run Json names journal ends = line_of (run_document names journal ends)

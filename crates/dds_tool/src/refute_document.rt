@@ -1,0 +1,57 @@
+//! The document of what is known of the runs of a plan.
+ghost use Rattle.std.specs.Prelude.{◌≡◌, IfOk, string_bytes};
+ghost use Rattle.serde_json.specs.View.{view};
+ghost use Rattle.dds_json.specs.Line.{line_of};
+ghost use Rattle.dds_tool.specs.Refuting.{known_document, unsafe_document};
+
+use crate::refuting::{loss_name, unknown_word};
+use dds_cert::naming::{name_at, reader_key};
+use dds_deploy::Deployment;
+use dds_events::lines_text;
+use dds_json::{line_of, structure_document};
+use dds_match::Plan;
+use dds_search::{Counterexample, Refutation};
+use serde_json::{Value, json};
+use std::alloc::{AllocError, Global};
+
+/// The document of a counterexample: the reader, the key, the loss, and the lines of its events with their replies.
+fn unsafe_document(
+    alloc: Global,
+    lists: &Deployment,
+    found: &Counterexample,
+) -> Result<Value, AllocError>
+    ensures { IfOk result (λ v. view v ≡ unsafe_document lists.now found.now) }
+{
+    let key = reader_key(lists, found.reader, found.key);
+    let reader = name_at(lists.reader_names(), found.reader.number());
+    let loss = loss_name(found.loss);
+    let events = lines_text(alloc, lists, &found.events, &found.replies)?;
+    json!(in alloc; {"answer": "no", "reader": reader, "key": key, "loss": loss, "events": events})
+}
+
+/// The document for what is known.
+fn known_document(alloc: Global, plan: &Plan, refutation: &Refutation) -> Result<Value, AllocError>
+    ensures { IfOk result (λ v. view v ≡ known_document plan.now refutation.now) }
+{
+    match refutation {
+        Refutation::Safe(_) => json!(in alloc; {"answer": "yes"}),
+        Refutation::Structure(no) => structure_document(alloc, plan.lists(), *no),
+        Refutation::Unsafe(found) => unsafe_document(alloc, plan.lists(), found),
+        Refutation::Unknown(why) => {
+            let word = unknown_word(*why);
+            json!(in alloc; {"answer": "no", "unknown": word})
+        }
+    }
+}
+
+/// The line of the document for what is known.
+pub(crate) fn known_line(
+    alloc: Global,
+    plan: &Plan,
+    refutation: &Refutation,
+) -> Result<String, AllocError>
+    ensures { IfOk result (λ text. string_bytes text ≡ line_of (known_document plan.now refutation.now)) }
+{
+    let document = known_document(alloc, plan, refutation)?;
+    line_of(alloc, &document)
+}

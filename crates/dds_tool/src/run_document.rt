@@ -1,0 +1,79 @@
+//! The document of a run.
+ghost use Rattle.std.specs.Prelude.{◌≡◌, IfOk, length, map, string_bytes};
+ghost use Rattle.std.specs.List.{range_with_len};
+ghost use Rattle.serde_json.specs.Data.{array};
+ghost use Rattle.serde_json.specs.View.{items_of, view};
+ghost use Rattle.dds_json.specs.Line.{line_of};
+ghost use Rattle.dds_peers.specs.Kept.{entries_of};
+ghost use Rattle.dds_tool.specs.RunDocument.{app_document, document_at, run_document};
+
+use crate::running::{all_stopped, end_word, taken_by, written_by};
+use dds_book::{Entry, Journal};
+use dds_json::{answer_word, line_of};
+use dds_peers::AppEnd;
+use serde_json::{Value, json};
+use std::alloc::{AllocError, Global};
+
+/// The document of an application.
+fn app_document(
+    alloc: Global,
+    name: &str,
+    seat: usize,
+    entries: &[Entry],
+    end: AppEnd,
+) -> Result<Value, AllocError>
+    ensures { IfOk result (λ v. view v ≡ app_document name.now (entries_of seat entries.now) end) }
+{
+    let written = written_by(seat, entries);
+    let taken = taken_by(seat, entries);
+    let end = end_word(end);
+    json!(in alloc; {"application": name, "written": written, "taken": taken, "end": end})
+}
+
+/// The documents of all applications.
+fn app_documents(
+    alloc: Global,
+    names: &[String],
+    journal: &Journal,
+    ends: &[AppEnd],
+) -> Result<Vec<Value>, AllocError>
+    requires { length ends.now ≡ length names.now }
+    ensures { IfOk result (λ documents. map view documents.items ≡ map (document_at (map string_bytes names.now) journal.now ends.now) (range_with_len 0 (length names.now))) }
+{
+    let mut documents = Vec::new(alloc);
+    for app in 0..names.len() {
+        let name = names[app].as_str();
+        let document = app_document(alloc, name, app, journal.entries(), ends[app])?;
+        documents.push(document)?;
+    }
+    Ok(documents)
+}
+
+/// The document of a run: yes where the thread of each application ended as the application asked, with each application.
+fn run_document(
+    alloc: Global,
+    names: &[String],
+    journal: &Journal,
+    ends: &[AppEnd],
+) -> Result<Value, AllocError>
+    requires { length ends.now ≡ length names.now }
+    ensures { IfOk result (λ v. view v ≡ run_document (map string_bytes names.now) journal.now ends.now) }
+{
+    let applications = Value::Array(app_documents(alloc, names, journal, ends)?);
+    let answer = answer_word(all_stopped(ends));
+    json!(in alloc; {"answer": answer, "applications": applications})
+}
+
+/// The line of the document of a run.
+pub(crate) fn run_line(
+    alloc: Global,
+    names: &[String],
+    journal: &Journal,
+    ends: &[AppEnd],
+) -> Result<String, AllocError>
+    requires { length ends.now ≡ length names.now }
+    ensures { IfOk result (λ text. string_bytes text ≡ line_of (run_document (map string_bytes names.now) journal.now ends.now)) }
+{
+    let document = run_document(alloc, names, journal, ends)?;
+    line_of(alloc, &document)
+}
