@@ -1,19 +1,17 @@
 -- Endpoints and rules as nodes of a picture, in DOT, with their labels. Names have no byte that DOT escapes; a label has `\n`, two bytes, where a new line begins.
-use Rattle.std.specs.Prelude.{codes, ℕ, List, [], ◌++◌, ◌==◌, flat_map, slice_get, Option, Some, None, if◌then◌else◌}
+use Rattle.std.specs.Prelude.{codes, ℕ, List, [], ◌++◌, ◌==◌, flat_map, Option, Some, None, if◌then◌else◌}
 use Rattle.std.specs.Fmt.{decimal}
-use Rattle.std.specs.Option.{option_map_or}
 use Rattle.dds_qos.specs.declared.policies.HistoryKind.{HistoryKind}
 use Rattle.dds_qos.specs.declared.policies.HistoryKind.TheVariants.{KeepLast, KeepAll}
 use Rattle.dds_qos.specs.declared.policies.Policies.{Policies}
 use Rattle.dds_qos.specs.declared.policies.Reliability.{Reliability}
 use Rattle.dds_qos.specs.declared.policies.Reliability.TheVariants.{BestEffort, Reliable}
 use Rattle.dds_deploy.specs.Lists.{Lists, Reader, Rule, Writer}
-use Rattle.dds_deploy.specs.Sections.{key_name}
-use Rattle.dds_deploy.specs.declared.sections.Origin.{Origin}
 use Rattle.dds_cert.specs.Lists.{Certificate}
 use Rattle.dds_cert.specs.Naming.{name_at, reader_key}
 use Rattle.dds_cert.specs.declared.certificate.Bound.{Bound}
 use Rattle.dds_cert.specs.declared.certificate.Total.{Total}
+use Rattle.dds_events.specs.Naming.{rule_text}
 
 -- how many samples of an instance stay by KEEP_LAST; nothing of KEEP_ALL (OMG DDS 1.4, clause 2.2.3.18)
 abbrev pub history_line : HistoryKind → ℕ → List ℕ
@@ -69,14 +67,6 @@ reader_node d c r x =
     ++ (name_at d.readers.names r
     ++ (codes "\" [style=filled, fillcolor=white, label=\""
     ++ (endpoint_label (name_at d.readers.names r) (name_at d.topics.names x.topic) x.qos.requested ++ (certificate_lines d r c ++ codes "\"];\n"))))
-
--- the name of a rule's entry, and the key where the rule stands for one
-abbrev pub origin_text : Lists → Origin → List ℕ
-origin_text d o = option_map_or (λ k. name_at d.rules.names o.name ++ (codes " " ++ key_name d.topics k.0 k.1)) o.key (name_at d.rules.names o.name)
-
--- the same of the rule with this number
-abbrev pub rule_text : Lists → ℕ → List ℕ
-rule_text d u = option_map_or (origin_text d) (slice_get d.rules.origins u) []
 
 -- how often a rule may write at the opening, nothing where it may not
 abbrev pub start_line : ℕ → List ℕ

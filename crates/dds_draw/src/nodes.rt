@@ -2,12 +2,13 @@
 ghost use Rattle.std.specs.Prelude.{◌≡◌, ◌++◌, IfOk, flat_map, option_map, string_bytes};
 ghost use Rattle.dds_deploy.specs.Views.{reader_view, rule_view, writer_view};
 ghost use Rattle.dds_cert.specs.Views.{certificate_view};
-ghost use Rattle.dds_draw.specs.Nodes.{bound_line, certificate_lines, endpoint_label, history_line, limit_line, policies_lines, reader_node, reliability_line, rule_node, rule_text, start_line, total_line, writer_node};
+ghost use Rattle.dds_draw.specs.Nodes.{bound_line, certificate_lines, endpoint_label, history_line, limit_line, policies_lines, reader_node, reliability_line, rule_node, start_line, total_line, writer_node};
 
 use dds_base::{ReaderNo, RuleNo, WriterNo};
 use dds_cert::naming::{name_at, reader_key};
 use dds_cert::{Bound, Certificate, Total};
 use dds_deploy::{Deployment, Reader, Rule, Writer};
+use dds_events::rule_text;
 use dds_qos::{History, HistoryKind, Policies, Reliability};
 use std::alloc::{AllocError, Global};
 
@@ -196,25 +197,6 @@ pub(crate) fn reader_node(
     format!(in alloc;
         "    \"reader {name}\" [style=filled, fillcolor=white, label=\"{label}{shown}\"];\n"
     )
-}
-
-/// The name of a rule's entry, and the key where the rule stands for one.
-fn rule_text(alloc: Global, lists: &Deployment, rule: RuleNo) -> Result<String, AllocError>
-    ensures { IfOk result (λ text. string_bytes text ≡ rule_text lists.now rule) }
-{
-    match lists.rule_origin(rule) {
-        Some(origin) => {
-            let name = name_at(lists.rule_names(), origin.name);
-            match origin.key {
-                Some((topic, key)) => {
-                    let key = lists.key_name(topic, key);
-                    format!(in alloc; "{name} {key}")
-                }
-                None => String::from_str(alloc, name),
-            }
-        }
-        None => Ok(String::new(alloc)),
-    }
 }
 
 /// How often a rule may write at the opening, nothing where it may not.

@@ -12,7 +12,8 @@ use Rattle.dds_cert.specs.declared.certificate.Bound.{Bound}
 use Rattle.dds_check.specs.Accepted.{instance_limit}
 use Rattle.dds_check.specs.Limits.{is_bounded, reached_bound}
 use Rattle.dds_check.specs.Tables.{bound_of, total_of}
-use Rattle.dds_explain.specs.Pieces.{writer_name, reader_name, limit_text, instance_limit_name, key_line}
+use Rattle.dds_events.specs.Naming.{writer_name, reader_name}
+use Rattle.dds_explain.specs.Pieces.{limit_text, instance_limit_name, key_line}
 
 -- ── 20
 -- a key in a line of its own, if it can reach the reader

@@ -9,7 +9,8 @@ use Rattle.dds_cert.specs.Naming.{reader_key}
 use Rattle.dds_cert.specs.declared.certificate.Bound.{Bound}
 use Rattle.dds_cert.specs.declared.certificate.Total.{Total}
 use Rattle.dds_check.specs.Accepted.{row_of, budget, instance_limit}
-use Rattle.dds_explain.specs.Pieces.{reader_name, instance_limit_name}
+use Rattle.dds_events.specs.Naming.{reader_name}
+use Rattle.dds_explain.specs.Pieces.{instance_limit_name}
 use Rattle.dds_explain.specs.Shown.{shown_text}
 
 -- a limit with the name of its policy, or that there is none

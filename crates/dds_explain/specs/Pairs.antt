@@ -4,7 +4,7 @@ use Rattle.std.specs.Option.{option_map_or}
 use Rattle.dds_deploy.specs.Lists.{Lists}
 use Rattle.dds_match.specs.Matching.{why_not}
 use Rattle.dds_show.specs.Reasons.{reason_words}
-use Rattle.dds_explain.specs.Pieces.{writer_name, reader_name}
+use Rattle.dds_events.specs.Naming.{writer_name, reader_name}
 
 -- a connection whose endpoints don't match, and why (DDS 1.4, clause 2.2.3)
 abbrev pub not_matched_line : Lists → ℕ → ℕ → List ℕ

@@ -10,7 +10,8 @@ use Rattle.dds_cert.specs.Lists.{Certificate, Row}
 use Rattle.dds_cert.specs.Naming.{reader_key, writer_key}
 use Rattle.dds_cert.specs.Text.{each_below}
 use Rattle.dds_check.specs.Accepted.{row_of, spread}
-use Rattle.dds_explain.specs.Pieces.{writer_name, reader_name, rule_text, weighed_term}
+use Rattle.dds_events.specs.Naming.{writer_name, reader_name, rule_text}
+use Rattle.dds_explain.specs.Pieces.{weighed_term}
 
 -- ── 30
 -- what a take weighs, and a sample

@@ -12,7 +12,8 @@ use Rattle.dds_cert.specs.declared.certificate.Bound.{Bound}
 use Rattle.dds_cert.specs.declared.certificate.Total.{Total}
 use Rattle.dds_check.specs.Accepted.{row_of, budget, opening_permits}
 use Rattle.dds_check.specs.Shown.{shows, shows_all}
-use Rattle.dds_explain.specs.Pieces.{writer_name, reader_name, weighed_term}
+use Rattle.dds_events.specs.Naming.{writer_name, reader_name}
+use Rattle.dds_explain.specs.Pieces.{weighed_term}
 
 -- the least bound that a row shows, by what the permits at the opening weigh and what a sample weighs
 abbrev pub shown_text : ℕ → ℕ → List ℕ

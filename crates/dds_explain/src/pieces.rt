@@ -3,9 +3,10 @@ ghost use Rattle.std.specs.Prelude.{◌≡◌, IfOk, option_map, slice_get, stri
 ghost use Rattle.dds_match.specs.Plan.{network_of};
 ghost use Rattle.dds_cert.specs.Views.{certificate_view, row_view};
 ghost use Rattle.dds_check.specs.Accepted.{instance_limit};
-ghost use Rattle.dds_explain.specs.Pieces.{instance_limit_name, key_line, limit_text, reader_name, rule_text, weighed_term, writer_name};
+ghost use Rattle.dds_events.specs.Naming.{reader_name, writer_name};
+ghost use Rattle.dds_explain.specs.Pieces.{instance_limit_name, key_line, limit_text, weighed_term};
 
-use dds_base::{ReaderNo, RuleNo, WriterNo};
+use dds_base::{ReaderNo, WriterNo};
 use dds_cert::naming::name_at;
 use dds_cert::{Certificate, Row};
 use dds_match::Plan;
@@ -93,26 +94,6 @@ pub(crate) fn find_row(certificate: &Certificate, n: usize) -> Option<&Row>
     ensures { option_map (λ row. row_view row.now) result ≡ slice_get (certificate_view certificate.now).rows n }
 {
     certificate.rows.get(n)
-}
-
-/// The name of a rule's entry, and the key where the rule stands for one.
-pub(crate) fn rule_text(alloc: Global, plan: &Plan, rule: RuleNo) -> Result<String, AllocError>
-    ensures { IfOk result (λ text. string_bytes text ≡ rule_text plan.now rule) }
-{
-    let lists = plan.lists();
-    match lists.rule_origin(rule) {
-        Some(origin) => {
-            let name = name_at(lists.rule_names(), origin.name);
-            match origin.key {
-                Some((topic, key)) => {
-                    let key = lists.key_name(topic, key);
-                    format!(in alloc; "{name} {key}")
-                }
-                None => String::from_str(alloc, name),
-            }
-        }
-        None => Ok(String::new(alloc)),
-    }
 }
 
 /// A key in a line of its own.

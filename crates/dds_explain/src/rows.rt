@@ -5,7 +5,7 @@ ghost use Rattle.dds_cert.specs.Text.{each_below};
 ghost use Rattle.dds_cert.specs.Views.{certificate_view, row_view};
 ghost use Rattle.dds_explain.specs.Rows.{firing_line, firing_lines, heard_line, rule_lines, rule_raises_lines, take_line, take_raises_line, take_term, write_line, write_lines, write_raises_lines, write_term};
 
-use crate::pieces::{find_row, reader_name, rule_text, weighed_term, writer_name};
+use crate::pieces::{find_row, reader_name, weighed_term, writer_name};
 use crate::weights::{
     permit_weight, permits_weighed, sample_weight, spread, take_weight, takes_weighed,
 };
@@ -13,6 +13,7 @@ use dds_base::{KeyNo, Portion, ReaderNo, RuleNo, WriterNo};
 use dds_cert::naming::{reader_key, writer_key};
 use dds_cert::{Certificate, Row};
 use dds_deploy::Rule;
+use dds_events::rule_text;
 use dds_match::Plan;
 use std::alloc::{AllocError, Global};
 
@@ -139,7 +140,7 @@ fn firing_lines(
 ) -> Result<String, AllocError>
     ensures { IfOk result (λ text. string_bytes text ≡ firing_lines plan.now (row_view row.now) u (rule_view rule.now)) }
 {
-    let name = rule_text(alloc, plan, u)?;
+    let name = rule_text(alloc, plan.lists(), u)?;
     let line = firing_line(alloc, row, name.as_str(), rule)?;
     let writes = write_terms(alloc, plan, row, rule.writes.as_slice())?;
     let takes = take_terms(alloc, plan, row, rule.takes.as_slice())?;

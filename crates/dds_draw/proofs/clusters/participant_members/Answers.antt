@@ -1,4 +1,4 @@
-use Rattle.std.proofs.Common.{◌++◌, [], ap, ◌∙◌, length, option_map, string_bytes}
+use Rattle.std.proofs.Common.{◌++◌, ap, ◌∙◌, length, option_map, string_bytes}
 use Rattle.dds_cert.specs.Text.{each_below}
 use Rattle.dds_cert.specs.Views.{certificate_view}
 use Rattle.dds_draw.specs.Clusters.{application_at, participant_members, reader_at, writer_at}
