@@ -26,7 +26,7 @@ _ddscheck() {
                 '--help[Print help]' \
                 '1:deployment:_files -g "*.toml"' ;;
             check) _arguments \
-                '--explain[Tells the reason too: the numbers behind a refusal, or how near each bound is to its limit]' \
+                '--explain[Tells the reason too: the numbers behind a refusal, how near each bound is to its limit, or where a file is no TOML]' \
                 '--format[text or json \[default: text\]]:FORMAT:(text json)' \
                 '-h[Print help]' \
                 '--help[Print help]' \

@@ -3,3 +3,4 @@ mod Proposals
 pub mod Searches
 mod Migrations
 pub mod Opened
+pub mod Columns

@@ -45,8 +45,8 @@ unread_file_ends d fault.TooLarge is large = too_many d (large refl)
 unread_file_ends d fault.Read is large = let e = some_end (nat_le (length d) 1048576) d in (e.0, e.1, tt)
 unread_file_ends d fault.NoMemory is large = let e = some_end (nat_le (length d) 1048576) d in (e.0, e.1, tt)
 unread_file_ends d (fault.Usage text) is large = absurd is
-unread_file_ends d (fault.Deployment flaw) is large = absurd is
-unread_file_ends d (fault.Certificate flaw) is large = absurd is
+unread_file_ends d (fault.Deployment flaw syntax) is large = absurd is
+unread_file_ends d (fault.Certificate flaw syntax) is large = absurd is
 unread_file_ends d (fault.Events kind line) is large = absurd is
 unread_file_ends d fault.Write is large = absurd is
 unread_file_ends d fault.Run is large = absurd is

@@ -55,8 +55,8 @@ bad_certificate_told Explained flaw = refl
 
 -- what a report tells of the end of a check is given, with its reason or without
 pub reported_ends : (detail : Detail) (e : ToolFault) (end : Outcome) → Tells (Err e) end → Ends e (told detail end)
-reported_ends detail (fault.Deployment flaw) end tells = rw tells (bad_deployment_told detail (flaw.kind, string_bytes flaw.path))
-reported_ends detail (fault.Certificate flaw) end tells = rw tells (bad_certificate_told detail (kind_of flaw.kind, string_bytes flaw.path))
+reported_ends detail (fault.Deployment flaw syntax) end tells = rw tells (bad_deployment_told detail (flaw.kind, string_bytes flaw.path))
+reported_ends detail (fault.Certificate flaw syntax) end tells = rw tells (bad_certificate_told detail (kind_of flaw.kind, string_bytes flaw.path))
 reported_ends detail fault.NoMemory end tells = tt
 reported_ends detail (fault.Usage text) end tells = absurd tells
 reported_ends detail (fault.Events kind line) end tells = absurd tells

@@ -1,5 +1,5 @@
 -- What users are told of a fault.
-use Rattle.std.specs.Prelude.{ℕ, List, ◌++◌, length, codes, string_bytes, ◌==◌, if◌then◌else◌}
+use Rattle.std.specs.Prelude.{ℕ, List, [], Option, Some, None, ◌++◌, length, codes, string_bytes, ◌==◌, if◌then◌else◌}
 use Rattle.std.specs.Fmt.{decimal}
 use Rattle.dds_fields.specs.FaultTable as deployment
 use Rattle.dds_cert.specs.Faults.{kind_entry}
@@ -9,6 +9,7 @@ use Rattle.dds_answers.specs.declared.exit.Exit.{Exit}
 use Rattle.dds_answers.specs.declared.exit.Exit.TheVariants as exit
 use Rattle.dds_answers.specs.declared.fault.ToolFault.{ToolFault}
 use Rattle.dds_answers.specs.declared.fault.ToolFault.TheVariants as fault
+use Rattle.dds_answers.specs.declared.syntax.SyntaxError.{SyntaxError}
 
 -- the file, the number and the word of a flaw, and its path; an empty path is left out with the blank before it
 abbrev pub flaw_line : List ℕ → ℕ → List ℕ → List ℕ → List ℕ
@@ -24,11 +25,19 @@ events_line number name line =
     then codes "ddscheck: events " ++ (decimal number ++ (codes " " ++ (name ++ codes "\n")))
     else codes "ddscheck: events " ++ (decimal number ++ (codes " " ++ (name ++ (codes " line " ++ (decimal line ++ codes "\n")))))
 
--- the line that is told of a fault
+-- what the parser says of a file that is no TOML, where that is told
+abbrev pub syntax_line : Option SyntaxError → List ℕ
+syntax_line None = []
+syntax_line (Some e) =
+    codes "because line " ++ (decimal e.line ++ (codes ", column " ++ (decimal e.column ++ (codes ": " ++ (string_bytes e.message ++ codes "\n")))))
+
+-- the line that is told of a fault, and after it where a file is no TOML, if that is told
 abbrev pub fault_line : ToolFault → List ℕ
 fault_line (fault.Usage text) = string_bytes text
-fault_line (fault.Deployment flaw) = flaw_line (codes "deployment") (deployment.number_of flaw.kind) (deployment.name_of flaw.kind) (string_bytes flaw.path)
-fault_line (fault.Certificate flaw) = flaw_line (codes "certificate") (kind_entry flaw.kind).0 (kind_entry flaw.kind).1 (string_bytes flaw.path)
+fault_line (fault.Deployment flaw syntax) =
+    flaw_line (codes "deployment") (deployment.number_of flaw.kind) (deployment.name_of flaw.kind) (string_bytes flaw.path) ++ syntax_line syntax
+fault_line (fault.Certificate flaw syntax) =
+    flaw_line (codes "certificate") (kind_entry flaw.kind).0 (kind_entry flaw.kind).1 (string_bytes flaw.path) ++ syntax_line syntax
 fault_line (fault.Events kind line) = events_line (events.number_of kind) (events.name_of kind) line
 fault_line fault.TooLarge = codes "ddscheck: 4 TooLarge\n"
 fault_line fault.Read = codes "ddscheck: 5 Read\n"
@@ -39,8 +48,8 @@ fault_line fault.Run = codes "ddscheck: 8 Run\n"
 -- how a command ends with a fault
 abbrev pub exit_of : ToolFault → Exit
 exit_of (fault.Usage text) = exit.Usage
-exit_of (fault.Deployment flaw) = exit.BadFile
-exit_of (fault.Certificate flaw) = exit.BadFile
+exit_of (fault.Deployment flaw syntax) = exit.BadFile
+exit_of (fault.Certificate flaw syntax) = exit.BadFile
 exit_of (fault.Events kind line) = exit.BadFile
 exit_of fault.TooLarge = exit.BadFile
 exit_of fault.Read = exit.Device
@@ -54,8 +63,8 @@ fault_status f = exit_status (exit_of f)
 
 -- the faults that an answer to the bytes of files can end in: a flaw of a file, or want of memory
 abbrev pub IsAnswerFault : ToolFault → Type 0
-IsAnswerFault (fault.Deployment flaw) = Unit {0}
-IsAnswerFault (fault.Certificate flaw) = Unit {0}
+IsAnswerFault (fault.Deployment flaw syntax) = Unit {0}
+IsAnswerFault (fault.Certificate flaw syntax) = Unit {0}
 IsAnswerFault (fault.Events kind line) = Unit {0}
 IsAnswerFault fault.NoMemory = Unit {0}
 IsAnswerFault (fault.Usage text) = ⊥

@@ -12,3 +12,4 @@ pub mod Answers
 pub mod Opened
 pub mod Telling
 pub mod Structure
+pub mod Syntax

@@ -1,5 +1,5 @@
 -- What a check answers, and the lines that tell it.
-use Rattle.std.specs.Prelude.{ℕ, List, [], ◌++◌, ◌≡◌, length, if◌then◌else◌, codes, flat_map, string_bytes, Result, Ok, Err}
+use Rattle.std.specs.Prelude.{ℕ, List, [], ◌++◌, ◌≡◌, length, if◌then◌else◌, codes, flat_map, string_bytes, None, Result, Ok, Err}
 use Rattle.std.specs.Fmt.{decimal}
 use Rattle.dds_fields.specs.declared.fault.ReadFault.{ReadFault}
 use Rattle.dds_fields.specs.declared.fault.ReadFault.TheVariants as unread
@@ -40,8 +40,8 @@ outcome_of (answer.Refused first lists cert) = refused first lists (certificate_
 -- how the check ended that gave this report or fault; want of memory says nothing of it
 abbrev pub Tells : Result Report ToolFault → Outcome → Type 0
 Tells (Ok report) end = end ≡ outcome_of report
-Tells (Err (fault.Deployment flaw)) end = end ≡ bad_deployment (flaw.kind, string_bytes flaw.path)
-Tells (Err (fault.Certificate flaw)) end = end ≡ bad_certificate (kind_of flaw.kind, string_bytes flaw.path)
+Tells (Err (fault.Deployment flaw syntax)) end = end ≡ bad_deployment (flaw.kind, string_bytes flaw.path)
+Tells (Err (fault.Certificate flaw syntax)) end = end ≡ bad_certificate (kind_of flaw.kind, string_bytes flaw.path)
 Tells (Err (fault.Events kind line)) end = ⊥
 Tells (Err fault.NoMemory) end = Unit {0}
 Tells (Err (fault.Usage text)) end = ⊥
@@ -130,8 +130,8 @@ status_of too_large = 2
 
 -- the fault with which a command ends that ends so, or a fault of memory or of a device
 abbrev pub Ends : ToolFault → Outcome → Type 0
-Ends (fault.Deployment flaw) end = end ≡ bad_deployment (flaw.kind, string_bytes flaw.path)
-Ends (fault.Certificate flaw) end = end ≡ bad_certificate (kind_of flaw.kind, string_bytes flaw.path)
+Ends (fault.Deployment flaw syntax) end = end ≡ bad_deployment (flaw.kind, string_bytes flaw.path)
+Ends (fault.Certificate flaw syntax) end = end ≡ bad_certificate (kind_of flaw.kind, string_bytes flaw.path)
 Ends (fault.Events kind line) end = end ≡ bad_events kind line
 Ends fault.TooLarge end = end ≡ too_large
 Ends fault.Read end = Unit {0}
@@ -142,10 +142,10 @@ Ends fault.Run end = ⊥
 
 -- the fault of a deployment that could not be read
 abbrev pub IsDeploymentFault : ReadFault → ToolFault → Type 0
-IsDeploymentFault (unread.At flaw) told = told ≡ fault.Deployment flaw
+IsDeploymentFault (unread.At flaw) told = told ≡ fault.Deployment flaw None
 IsDeploymentFault unread.NoMemory told = told ≡ fault.NoMemory
 
 -- the fault of a certificate that could not be read
 abbrev pub IsCertificateFault : CertFault → ToolFault → Type 0
-IsCertificateFault (uncertified.At flaw) told = told ≡ fault.Certificate flaw
+IsCertificateFault (uncertified.At flaw) told = told ≡ fault.Certificate flaw None
 IsCertificateFault uncertified.NoMemory told = told ≡ fault.NoMemory

@@ -7,13 +7,14 @@ ghost use Rattle.dds_answers.specs.Outcome.{Outcome, compared, match_outcome, ou
 ghost use Rattle.dds_answers.specs.Migrations.{MayMigrate};
 ghost use Rattle.dds_answers.specs.Proposals.{MayPropose};
 ghost use Rattle.dds_answers.specs.Report.{outcome_of, shown_text};
+ghost use Rattle.dds_answers.specs.Syntax.{IsFaultTold};
 ghost use Rattle.dds_deploy.specs.Sections.{read as deployment_read, read_up_to};
 
 use crate::exit::Exit;
 use crate::fault::ToolFault;
 use crate::format::Format;
 use crate::matches::{is_as_intended, match_text};
-use crate::report::{Detail, Report, answer_check, deployment_fault, detailed_text};
+use crate::report::{Detail, Report, deployment_fault, detailed_check, detailed_text};
 use dds_cert::{Certificate, certificate_text};
 use dds_deploy::{Deployment, migrate, read_deployment};
 use dds_match::Plan;
@@ -62,6 +63,7 @@ pub fn answered(text: Result<String, AllocError>, is_yes: bool) -> Result<Answer
 pub fn reported(alloc: Global, report: Report, detail: Detail) -> Result<Answer, ToolFault>
     ensures gives { Gives result (told detail (outcome_of report)) }
     ensures fault { IfErr result IsAnswerFault }
+    ensures memory { IfErr result (λ e. e ≡ ToolFault.NoMemory) }
 {
     let is_yes = matches!(&report, Report::Yes(_));
     let answer = answered(detailed_text(alloc, &report, detail), is_yes);
@@ -70,7 +72,7 @@ pub fn reported(alloc: Global, report: Report, detail: Detail) -> Result<Answer,
 }
 
 /// The answer of `check` to the bytes of a deployment and of a certificate: yes where the certificate is accepted. It is that of the report on them, with
-/// its reason where it is asked for.
+/// its reason where it is asked for; so is the fault of a file that is no TOML.
 pub fn check_answer(
     alloc: Global,
     deployment: &[u8],
@@ -79,8 +81,9 @@ pub fn check_answer(
 ) -> Result<Answer, ToolFault>
     ensures gives { Gives result (told detail (outcome deployment.now certificate.now)) }
     ensures fault { IfErr result IsAnswerFault }
+    ensures told { IfErr result (IsFaultTold detail deployment.now certificate.now) }
 {
-    match answer_check(alloc, deployment, certificate) {
+    match detailed_check(alloc, deployment, certificate, detail) {
         Ok(report) => reported(alloc, report, detail),
         Err(fault) => Err(fault),
     }

@@ -1,8 +1,9 @@
 //! Why a command gave no answer, and what users are told of it.
-ghost use Rattle.std.specs.Prelude.{◌≡◌, IfOk, string_bytes};
-ghost use Rattle.dds_answers.specs.Fault.{events_line, exit_of, fault_line, flaw_line};
+ghost use Rattle.std.specs.Prelude.{◌≡◌, ◌++◌, IfOk, string_bytes};
+ghost use Rattle.dds_answers.specs.Fault.{events_line, exit_of, fault_line, flaw_line, syntax_line};
 
 use crate::exit::Exit;
+use crate::syntax::SyntaxError;
 use dds_cert::CertFlaw;
 use dds_events::EventsFaultKind;
 use dds_fields::fault::Fault;
@@ -13,12 +14,21 @@ use std::alloc::{AllocError, Global};
 pub enum ToolFault {
     /// 1: the words are no request. The text says what is wrong with them.
     Usage(String),
-    /// 2: the deployment has a fault.
-    Deployment(Fault),
-    /// 3: the certificate has a fault.
-    Certificate(CertFlaw),
+    /// 2: the deployment has a fault. Where it is no TOML, and a reason was asked for, that is what the parser says.
+    Deployment {
+        flaw: Fault,
+        syntax: Option<SyntaxError>,
+    },
+    /// 3: the certificate has a fault, with what the parser says as of a deployment.
+    Certificate {
+        flaw: CertFlaw,
+        syntax: Option<SyntaxError>,
+    },
     /// 3: the events have a fault, in the line with this number, from 1; 0 where it has none. No other file is read by a command that reads events.
-    Events { kind: EventsFaultKind, line: usize },
+    Events {
+        kind: EventsFaultKind,
+        line: usize,
+    },
     /// 4: a file has more than 1,048,576 bytes.
     TooLarge,
     /// 5: a file does not open, a read failed, or 1,001 reads were interrupted.
@@ -48,6 +58,23 @@ fn flaw_text(
     }
 }
 
+/// What is told of the flaw of a file, and after it what the parser says, where that is told.
+fn file_text(
+    alloc: Global,
+    line: String,
+    syntax: &Option<SyntaxError>,
+) -> Result<String, AllocError>
+    ensures { IfOk result (λ text. string_bytes text ≡ string_bytes line ++ syntax_line syntax.now) }
+{
+    let Some(error) = syntax else {
+        return Ok(line);
+    };
+    let row = error.line;
+    let column = error.column;
+    let message = error.message.as_str();
+    format!(in alloc; "{line}because line {row}, column {column}: {message}\n")
+}
+
 /// What is told of the flaw of a file of events: the number and the word of its kind, and its line. A line 0 is left out with the words before it.
 fn events_text(alloc: Global, number: u8, name: &str, line: usize) -> Result<String, AllocError>
     ensures { IfOk result (λ text. string_bytes text ≡ events_line number name.now line) }
@@ -59,31 +86,23 @@ fn events_text(alloc: Global, number: u8, name: &str, line: usize) -> Result<Str
     }
 }
 
-/// The line that is told to users of a fault. Only want of memory is an error.
+/// The line that is told to users of a fault, and after it where a file is no TOML, if the fault tells that. Only want of memory is an error.
 pub fn fault_text(alloc: Global, fault: &ToolFault) -> Result<String, AllocError>
     ensures { IfOk result (λ text. string_bytes text ≡ fault_line fault.now) }
 {
     match fault {
         ToolFault::Usage(text) => String::from_str(alloc, text.as_str()),
-        ToolFault::Deployment(flaw) => {
+        ToolFault::Deployment { flaw, syntax } => {
             let kind = flaw.kind;
-            flaw_text(
-                alloc,
-                "deployment",
-                kind.number(),
-                kind.name(),
-                flaw.path.as_str(),
-            )
+            let path = flaw.path.as_str();
+            let line = flaw_text(alloc, "deployment", kind.number(), kind.name(), path)?;
+            file_text(alloc, line, syntax)
         }
-        ToolFault::Certificate(flaw) => {
+        ToolFault::Certificate { flaw, syntax } => {
             let kind = flaw.kind;
-            flaw_text(
-                alloc,
-                "certificate",
-                kind.number(),
-                kind.name(),
-                flaw.path.as_str(),
-            )
+            let path = flaw.path.as_str();
+            let line = flaw_text(alloc, "certificate", kind.number(), kind.name(), path)?;
+            file_text(alloc, line, syntax)
         }
         ToolFault::Events { kind, line } => events_text(alloc, kind.number(), kind.name(), *line),
         ToolFault::TooLarge => String::from_str(alloc, "ddscheck: 4 TooLarge\n"),
@@ -103,8 +122,8 @@ pub fn exit_of(fault: &ToolFault) -> Exit
 {
     match fault {
         ToolFault::Usage(_) => Exit::Usage,
-        ToolFault::Deployment(_)
-        | ToolFault::Certificate(_)
+        ToolFault::Deployment { .. }
+        | ToolFault::Certificate { .. }
         | ToolFault::Events { .. }
         | ToolFault::TooLarge => Exit::BadFile,
         ToolFault::Read | ToolFault::Write => Exit::Device,

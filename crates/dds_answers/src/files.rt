@@ -8,6 +8,7 @@ ghost use Rattle.dds_answers.specs.Migrations.{MayMigrateFor};
 ghost use Rattle.dds_answers.specs.Proposals.{MayProposeFor};
 ghost use Rattle.dds_answers.specs.Searches.{MayFindFor};
 ghost use Rattle.dds_answers.specs.Reading.{IsReadingFault};
+ghost use Rattle.dds_answers.specs.Syntax.{IsFaultTold};
 
 use crate::answer::{
     Answer, check_answer, match_answer, migrate_answer, propose_answer, show_answer,
@@ -51,6 +52,8 @@ pub fn check_files<S: Sources>(
 ) -> Result<Answer, ToolFault>
     ensures gives { (d c : List ℕ) → S.holds files.old deployment.now ≡ Some d → S.holds files.old certificate.now ≡ Some c
         → Gives result (check_file_outcome detail d c) }
+    ensures told { (d c : List ℕ) → S.holds files.old deployment.now ≡ Some d → S.holds files.old certificate.now ≡ Some c
+        → IfErr result (IsFaultTold detail d c) }
     ensures causes { IfErr result (IsFileFault (S.has_failed files.new)) }
     ensures opened { Opens (S.opened files.old) (S.opened files.new) (deployment.now ∷ certificate.now ∷ []) }
     ensures all_opened { OnOk result (OpensAll (S.opened files.old) (S.opened files.new) (deployment.now ∷ certificate.now ∷ [])) }

@@ -18,6 +18,7 @@ mod reading;
 mod report;
 mod sources;
 mod structure;
+mod syntax;
 mod thorough;
 
 pub use answer::{
@@ -39,8 +40,10 @@ pub use matches::{is_as_intended, match_text};
 pub use output::{Output, Stream};
 pub use reading::{MAX_FILE, read_all};
 pub use report::{
-    Detail, Report, answer_check, because_text, deployment_fault, detailed_text, report_text,
+    Detail, Report, answer_check, because_text, deployment_fault, detailed_check, detailed_text,
+    report_text,
 };
 pub use sources::Sources;
 pub use structure::structure_text;
+pub use syntax::SyntaxError;
 pub use thorough::thorough_answer;

@@ -1,20 +1,23 @@
 //! The answer to two files, and its text.
-ghost use Rattle.std.specs.Prelude.{◌≡◌, ◌++◌, IfOk, flat_map, string_bytes, true};
+ghost use Rattle.std.specs.Prelude.{◌≡◌, ◌++◌, Err, IfErr, IfOk, flat_map, string_bytes, true};
 ghost use Rattle.dds_match.specs.Plan.{network_of};
 ghost use Rattle.dds_cert.specs.Fits.{fits};
 ghost use Rattle.dds_cert.specs.Views.{certificate_view};
 ghost use Rattle.dds_check.specs.Accepts.{first_no};
-ghost use Rattle.dds_answers.specs.Outcome.{judged, outcome, told, verdict};
+ghost use Rattle.dds_answers.specs.Outcome.{Outcome, judged, outcome, told, verdict};
 ghost use Rattle.dds_cert.specs.Sections.{read as certificate_read};
 ghost use Rattle.dds_answers.specs.Report.{IsCertificateFault, IsDeploymentFault, Tells, acceptance_lines, because_lines, bound_line, refusal_line, outcome_of, output_of, report_text_of, subject_text, total_line};
+ghost use Rattle.dds_answers.specs.Syntax.{IsFaultTold};
 
 use crate::fault::ToolFault;
+use crate::syntax::syntax_told;
 use dds_cert::naming::{name_at, reader_key, row_name, writer_key};
-use dds_cert::{Bound, CertFault, Certificate, Total, read_certificate};
+use dds_cert::{Bound, CertFault, CertKind, Certificate, Total, read_certificate};
 use dds_check::{Checked, No, Subject, check};
 use dds_deploy::{DeployFault, Deployment, read_deployment};
 use dds_events::rule_text;
 use dds_explain::{margins, reason};
+use dds_fields::fault::FaultKind;
 use dds_match::Plan;
 use dds_match::planning::plan;
 use std::alloc::{AllocError, Global};
@@ -42,7 +45,7 @@ pub fn deployment_fault(fault: DeployFault) -> ToolFault
     ensures { IsDeploymentFault fault result }
 {
     match fault {
-        DeployFault::At(flaw) => ToolFault::Deployment(flaw),
+        DeployFault::At(flaw) => ToolFault::Deployment { flaw, syntax: None },
         DeployFault::NoMemory => ToolFault::NoMemory,
     }
 }
@@ -51,7 +54,7 @@ pub(crate) fn certificate_fault(fault: CertFault) -> ToolFault
     ensures { IsCertificateFault fault result }
 {
     match fault {
-        CertFault::At(flaw) => ToolFault::Certificate(flaw),
+        CertFault::At(flaw) => ToolFault::Certificate { flaw, syntax: None },
         CertFault::NoMemory => ToolFault::NoMemory,
     }
 }
@@ -100,6 +103,53 @@ pub fn answer_check(
             drop(lists);
             Err(ToolFault::NoMemory)
         }
+    }
+}
+
+/// The fault of a check of these bytes, with what the parser says where a reason is asked for and a file is no TOML.
+fn detailed_fault(
+    alloc: Global,
+    fault: ToolFault,
+    deployment: &[u8],
+    certificate: &[u8],
+    detail: Detail,
+) -> ToolFault
+    ensures same { (end : Outcome) → Tells (Err fault) end → Tells (Err result) end }
+    ensures told { IsFaultTold detail deployment.now certificate.now result }
+{
+    match fault {
+        ToolFault::Deployment { flaw, .. } => {
+            let is_not_toml = matches!(flaw.kind, FaultKind::NotToml);
+            match syntax_told(alloc, detail, is_not_toml, deployment) {
+                Ok(syntax) => ToolFault::Deployment { flaw, syntax },
+                Err(_) => ToolFault::NoMemory,
+            }
+        }
+        ToolFault::Certificate { flaw, .. } => {
+            let is_not_toml = matches!(flaw.kind, CertKind::NotToml);
+            match syntax_told(alloc, detail, is_not_toml, certificate) {
+                Ok(syntax) => ToolFault::Certificate { flaw, syntax },
+                Err(_) => ToolFault::NoMemory,
+            }
+        }
+        other => other,
+    }
+}
+
+/// The report on the bytes of a deployment and of a certificate, as `answer_check` makes it. Where a reason is asked for, the fault of a file that is no
+/// TOML comes with what the parser says of it.
+pub fn detailed_check(
+    alloc: Global,
+    deployment: &[u8],
+    certificate: &[u8],
+    detail: Detail,
+) -> Result<Report, ToolFault>
+    ensures tells { Tells result (outcome deployment.now certificate.now) }
+    ensures told { IfErr result (IsFaultTold detail deployment.now certificate.now) }
+{
+    match answer_check(alloc, deployment, certificate) {
+        Ok(report) => Ok(report),
+        Err(fault) => Err(detailed_fault(alloc, fault, deployment, certificate, detail)),
     }
 }
 

@@ -98,8 +98,10 @@ match_plain d =
 
 pub fault_plain : (f : ToolFault) → has_float (fault_document f) ≡ false
 fault_plain (fault.Usage text) = refl
-fault_plain (fault.Deployment flaw) = refl
-fault_plain (fault.Certificate flaw) = refl
+fault_plain (fault.Deployment flaw None) = refl
+fault_plain (fault.Deployment flaw (Some error)) = refl
+fault_plain (fault.Certificate flaw None) = refl
+fault_plain (fault.Certificate flaw (Some error)) = refl
 fault_plain (fault.Events kind line) = refl
 fault_plain fault.TooLarge = refl
 fault_plain fault.Read = refl

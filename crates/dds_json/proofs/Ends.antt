@@ -33,8 +33,8 @@ says answer text is_yes is same = (is, ap answer_status same ∙ told_status is_
 
 -- a fault ends what is told as a document as it ends what is told in lines
 pub ends_in_json : (e : ToolFault) (end : Outcome) → Ends e end → Ends e (in_json end)
-ends_in_json (fault.Deployment flaw) end is = ap in_json is
-ends_in_json (fault.Certificate flaw) end is = ap in_json is
+ends_in_json (fault.Deployment flaw syntax) end is = ap in_json is
+ends_in_json (fault.Certificate flaw syntax) end is = ap in_json is
 ends_in_json (fault.Events kind line) end is = ap in_json is
 ends_in_json fault.TooLarge end is = ap in_json is
 ends_in_json fault.Read end is = tt

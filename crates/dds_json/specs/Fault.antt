@@ -1,11 +1,12 @@
 -- The document of a fault.
-use Rattle.std.specs.Prelude.{ℕ, List, codes, string_bytes}
+use Rattle.std.specs.Prelude.{ℕ, List, Option, Some, None, codes, string_bytes}
 use Rattle.serde_json.specs.Data.{Data, member, no_members, number, object, string, unsigned}
 use Rattle.dds_fields.specs.FaultTable as deployment
 use Rattle.dds_cert.specs.Faults.{kind_entry}
 use Rattle.dds_events.specs.Faults as events
 use Rattle.dds_answers.specs.declared.fault.ToolFault.{ToolFault}
 use Rattle.dds_answers.specs.declared.fault.ToolFault.TheVariants as fault
+use Rattle.dds_answers.specs.declared.syntax.SyntaxError.{SyntaxError}
 
 -- a fault with this number and this word
 abbrev pub plain_document : ℕ → List ℕ → Data
@@ -16,6 +17,18 @@ abbrev pub flaw_document : List ℕ → ℕ → List ℕ → List ℕ → Data
 flaw_document file n name path =
     object (member (codes "answer") (string (codes "fault")) (member (codes "file") (string file) (member (codes "name") (string name) (member (codes "number") (number (unsigned n)) (member (codes "path") (string path) no_members)))))
 
+-- of a file that is no TOML, with what the parser says: the place, and its words
+abbrev pub syntax_document : List ℕ → ℕ → List ℕ → List ℕ → SyntaxError → Data
+syntax_document file n name path e =
+    object (member (codes "answer") (string (codes "fault")) (member (codes "column") (number (unsigned e.column)) (member (codes "file") (string file)
+    (member (codes "line") (number (unsigned e.line)) (member (codes "message") (string (string_bytes e.message)) (member (codes "name") (string name)
+    (member (codes "number") (number (unsigned n)) (member (codes "path") (string path) no_members))))))))
+
+-- a flaw of a file, with what the parser says where that is told
+abbrev pub file_document : List ℕ → ℕ → List ℕ → List ℕ → Option SyntaxError → Data
+file_document file n name path None = flaw_document file n name path
+file_document file n name path (Some e) = syntax_document file n name path e
+
 -- the number and the word of a flaw of a file of events, and its line, which is 0 where it has none
 abbrev pub events_document : ℕ → List ℕ → ℕ → Data
 events_document n name line =
@@ -24,8 +37,8 @@ events_document n name line =
 -- the document of a fault
 abbrev pub fault_document : ToolFault → Data
 fault_document (fault.Usage text) = plain_document 1 (codes "Usage")
-fault_document (fault.Deployment flaw) = flaw_document (codes "deployment") (deployment.number_of flaw.kind) (deployment.name_of flaw.kind) (string_bytes flaw.path)
-fault_document (fault.Certificate flaw) = flaw_document (codes "certificate") (kind_entry flaw.kind).0 (kind_entry flaw.kind).1 (string_bytes flaw.path)
+fault_document (fault.Deployment flaw syntax) = file_document (codes "deployment") (deployment.number_of flaw.kind) (deployment.name_of flaw.kind) (string_bytes flaw.path) syntax
+fault_document (fault.Certificate flaw syntax) = file_document (codes "certificate") (kind_entry flaw.kind).0 (kind_entry flaw.kind).1 (string_bytes flaw.path) syntax
 fault_document (fault.Events kind line) = events_document (events.number_of kind) (events.name_of kind) line
 fault_document fault.TooLarge = plain_document 4 (codes "TooLarge")
 fault_document fault.Read = plain_document 5 (codes "Read")

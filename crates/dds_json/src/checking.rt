@@ -8,12 +8,13 @@ ghost use Rattle.dds_answers.specs.Answers.{Gives};
 ghost use Rattle.dds_answers.specs.Fault.{IsAnswerFault};
 ghost use Rattle.dds_answers.specs.Outcome.{outcome, told};
 ghost use Rattle.dds_answers.specs.Report.{because_lines, outcome_of};
+ghost use Rattle.dds_answers.specs.Syntax.{IsFaultTold};
 ghost use Rattle.dds_json.specs.Checking.{acceptance_document, bound_document, is_accepted, reason_of, refusal_document, report_document, subject_document, total_document};
 ghost use Rattle.dds_json.specs.Ends.{in_json};
 ghost use Rattle.dds_json.specs.Line.{line_of};
 
 use crate::line::line_of;
-use dds_answers::{Answer, Detail, Report, ToolFault, answer_check, answered, because_text};
+use dds_answers::{Answer, Detail, Report, ToolFault, answered, because_text, detailed_check};
 use dds_cert::naming::{name_at, reader_key, row_name, writer_key};
 use dds_cert::{Bound, Certificate, Total};
 use dds_check::{No, Subject};
@@ -209,6 +210,7 @@ fn is_accepted(report: &Report) -> bool
 pub fn reported_in_json(alloc: Global, report: Report, detail: Detail) -> Result<Answer, ToolFault>
     ensures gives { Gives result (in_json (told detail (outcome_of report))) }
     ensures fault { IfErr result IsAnswerFault }
+    ensures memory { IfErr result (λ e. e ≡ ToolFault.NoMemory) }
 {
     let answer = answered(report_line(alloc, &report, detail), is_accepted(&report));
     drop(report);
@@ -224,8 +226,9 @@ pub(crate) fn check_answer_in_json(
 ) -> Result<Answer, ToolFault>
     ensures gives { Gives result (in_json (told detail (outcome deployment.now certificate.now))) }
     ensures fault { IfErr result IsAnswerFault }
+    ensures told { IfErr result (IsFaultTold detail deployment.now certificate.now) }
 {
-    match answer_check(alloc, deployment, certificate) {
+    match detailed_check(alloc, deployment, certificate, detail) {
         Ok(report) => reported_in_json(alloc, report, detail),
         Err(fault) => Err(fault),
     }

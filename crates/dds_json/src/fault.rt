@@ -2,10 +2,10 @@
 ghost use Rattle.std.specs.Prelude.{◌≡◌, IfOk, string_bytes};
 ghost use Rattle.serde_json.specs.View.{view};
 ghost use Rattle.dds_json.specs.Line.{line_of};
-ghost use Rattle.dds_json.specs.Fault.{events_document, fault_document, flaw_document, plain_document};
+ghost use Rattle.dds_json.specs.Fault.{events_document, fault_document, file_document, flaw_document, plain_document, syntax_document};
 
 use crate::line::line_of;
-use dds_answers::ToolFault;
+use dds_answers::{SyntaxError, ToolFault};
 use serde_json::{Value, json};
 use std::alloc::{AllocError, Global};
 
@@ -29,6 +29,40 @@ fn flaw_document(
     json!(in alloc; {"answer": "fault", "file": file, "number": number, "name": name, "path": path})
 }
 
+/// The flaw of a file that is no TOML, with what the parser says.
+fn syntax_document(
+    alloc: Global,
+    file: &str,
+    number: u8,
+    name: &str,
+    path: &str,
+    error: &SyntaxError,
+) -> Result<Value, AllocError>
+    ensures { IfOk result (λ v. view v ≡ syntax_document file.now number name.now path.now error.now) }
+{
+    let message = error.message.as_str();
+    json!(in alloc;
+        {"answer": "fault", "file": file, "number": number, "name": name, "path": path, "line": error.line, "column": error.column, "message": message}
+    )
+}
+
+/// The flaw of a file, with what the parser says where that is told.
+fn file_document(
+    alloc: Global,
+    file: &str,
+    number: u8,
+    name: &str,
+    path: &str,
+    syntax: &Option<SyntaxError>,
+) -> Result<Value, AllocError>
+    ensures { IfOk result (λ v. view v ≡ file_document file.now number name.now path.now syntax.now) }
+{
+    match syntax {
+        None => flaw_document(alloc, file, number, name, path),
+        Some(error) => syntax_document(alloc, file, number, name, path, error),
+    }
+}
+
 /// The flaw of a file of events: the number and the word of its kind, and its line.
 fn events_document(alloc: Global, number: u8, name: &str, line: usize) -> Result<Value, AllocError>
     ensures { IfOk result (λ v. view v ≡ events_document number name.now line) }
@@ -42,15 +76,29 @@ fn fault_document(alloc: Global, fault: &ToolFault) -> Result<Value, AllocError>
 {
     match fault {
         ToolFault::Usage(_) => plain_document(alloc, 1, "Usage"),
-        ToolFault::Deployment(flaw) => {
+        ToolFault::Deployment { flaw, syntax } => {
             let kind = flaw.kind;
             let path = flaw.path.as_str();
-            flaw_document(alloc, "deployment", kind.number(), kind.name(), path)
+            file_document(
+                alloc,
+                "deployment",
+                kind.number(),
+                kind.name(),
+                path,
+                syntax,
+            )
         }
-        ToolFault::Certificate(flaw) => {
+        ToolFault::Certificate { flaw, syntax } => {
             let kind = flaw.kind;
             let path = flaw.path.as_str();
-            flaw_document(alloc, "certificate", kind.number(), kind.name(), path)
+            file_document(
+                alloc,
+                "certificate",
+                kind.number(),
+                kind.name(),
+                path,
+                syntax,
+            )
         }
         ToolFault::Events { kind, line } => {
             events_document(alloc, kind.number(), kind.name(), *line)

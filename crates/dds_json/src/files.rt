@@ -4,6 +4,7 @@ ghost use Rattle.dds_answers.specs.Answers.{Gives};
 ghost use Rattle.dds_answers.specs.Causes.{IsFileFault};
 ghost use Rattle.dds_answers.specs.Opened.{Opens, OpensAll};
 ghost use Rattle.dds_answers.specs.Outcome.{check_file_outcome, match_file_outcome};
+ghost use Rattle.dds_answers.specs.Syntax.{IsFaultTold};
 ghost use Rattle.dds_json.specs.Ends.{in_json};
 
 use crate::checking::check_answer_in_json;
@@ -23,6 +24,8 @@ pub fn check_files_in_json<S: Sources>(
 ) -> Result<Answer, ToolFault>
     ensures gives { (d c : List ℕ) → S.holds files.old deployment.now ≡ Some d → S.holds files.old certificate.now ≡ Some c
         → Gives result (in_json (check_file_outcome detail d c)) }
+    ensures told { (d c : List ℕ) → S.holds files.old deployment.now ≡ Some d → S.holds files.old certificate.now ≡ Some c
+        → IfErr result (IsFaultTold detail d c) }
     ensures causes { IfErr result (IsFileFault (S.has_failed files.new)) }
     ensures opened { Opens (S.opened files.old) (S.opened files.new) (deployment.now ∷ certificate.now ∷ []) }
     ensures all_opened { OnOk result (OpensAll (S.opened files.old) (S.opened files.new) (deployment.now ∷ certificate.now ∷ [])) }

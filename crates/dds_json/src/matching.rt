@@ -1,5 +1,5 @@
 //! The document of a comparison of endpoints.
-ghost use Rattle.std.specs.Prelude.{◌≡◌, ◌++◌, IfErr, IfOk, length, map, string_bytes};
+ghost use Rattle.std.specs.Prelude.{◌≡◌, ◌++◌, IfErr, IfOk, None, Some, length, map, string_bytes};
 ghost use Rattle.serde_json.specs.View.{view};
 ghost use Rattle.dds_match.specs.Plan.{network_of};
 ghost use Rattle.dds_answers.specs.Answers.{Gives};
@@ -8,18 +8,38 @@ ghost use Rattle.dds_answers.specs.Matches.{is_as_intended};
 ghost use Rattle.dds_answers.specs.Outcome.{compared, match_outcome};
 ghost use Rattle.dds_json.specs.Ends.{in_json};
 ghost use Rattle.dds_json.specs.Line.{line_of};
-ghost use Rattle.dds_json.specs.Matching.{answer_word, match_document, pair_document, pairs, writer_pairs};
+ghost use Rattle.dds_json.specs.Matching.{answer_word, match_document, named_pair, pair_document, pairs, writer_pairs};
 
 use crate::line::line_of;
 use dds_answers::{Answer, ToolFault, answered, deployment_fault, is_as_intended};
 use dds_base::{ReaderNo, WriterNo};
 use dds_cert::naming::name_at;
 use dds_deploy::{Deployment, read_deployment};
-use dds_match::Plan;
 use dds_match::planning::plan;
+use dds_match::{Plan, WhyNot};
 use dds_show::reasons::reason_text;
 use serde_json::{Value, json};
 use std::alloc::{AllocError, Global};
+
+/// A writer and a reader that match.
+fn matching_pair(alloc: Global, writer: &str, reader: &str) -> Result<Value, AllocError>
+    ensures { IfOk result (λ v. view v ≡ named_pair writer.now reader.now None) }
+{
+    json!(in alloc; {"writer": writer, "reader": reader, "matches": true})
+}
+
+/// A writer and a reader that don't match, for this reason.
+fn mismatched_pair(
+    alloc: Global,
+    writer: &str,
+    reader: &str,
+    reason: WhyNot,
+) -> Result<Value, AllocError>
+    ensures { IfOk result (λ v. view v ≡ named_pair writer.now reader.now (Some reason)) }
+{
+    let because = reason_text(alloc, reason)?;
+    json!(in alloc; {"writer": writer, "reader": reader, "matches": false, "because": because})
+}
 
 /// A writer and a reader, and why they don't match, if they don't.
 fn pair_document(
@@ -34,13 +54,8 @@ fn pair_document(
     let writer_name = name_at(lists.writer_names(), writer.number());
     let reader_name = name_at(lists.reader_names(), reader.number());
     match plan.why_not(writer, reader) {
-        None => json!(in alloc; {"writer": writer_name, "reader": reader_name, "matches": true}),
-        Some(reason) => {
-            let because = reason_text(alloc, reason)?;
-            json!(in alloc;
-                {"writer": writer_name, "reader": reader_name, "matches": false, "because": because}
-            )
-        }
+        None => matching_pair(alloc, writer_name, reader_name),
+        Some(reason) => mismatched_pair(alloc, writer_name, reader_name, reason),
     }
 }
 

@@ -1,14 +1,20 @@
 -- What words ask for that draw a deployment, or look for its certificate.
-use Rattle.std.proofs.Common.{◌≡◌, ◌∙◌, ◌<◌, ℕ, Bool, true, false, List, [], Option, Some, None, codes, option_map, slice_index, sym, ap, arith, unwrap_or}
+use Rattle.std.proofs.Common.{◌≡◌, ◌∙◌, ◌<◌, ℕ, Bool, true, false, List, [], Option, Some, None, codes, option_map, slice_index, sym, ap, arith, subst, unwrap_or}
 use Rattle.std.specs.Option.{option_map_or}
 use Rattle.clap.specs.Words.{Row, Text, first_of, subcommand_of}
-use Rattle.dds_tool.specs.Asking.{Asks, is_input_twice, whole}
+use Rattle.dds_json.specs.declared.style.Style.{Style}
+use Rattle.dds_tool.specs.Asking.{Asks, NamesStyled, is_input_twice}
+use Rattle.dds_tool.specs.Command.{whole}
 use Rattle.dds_tool.specs.declared.request.Request.{Request}
 use Rattle.dds_tool.specs.declared.request.Request.TheVariants as asked
 
 abbrev first_byte : Option (Text × List Row) → ℕ
 first_byte None = 0
 first_byte (Some p) = slice_index p.0 0
+
+abbrev third_byte : Option (Text × List Row) → ℕ
+third_byte None = 0
+third_byte (Some p) = slice_index p.0 2
 
 abbrev rows_at : Option (Text × List Row) → List Row
 rows_at None = []
@@ -43,11 +49,21 @@ draws_once words rows is (asked.Draw x y) asks d c first second twice =
     let once : is_input_twice x.now c ≡ false = ap (λ path. option_map_or (is_input_twice x.now) path false) certificate ∙ asks.4 in
     true_and_false (is_input_twice x.now c) (ap (λ path. is_input_twice path c) (sym deployment) ∙ twice) once
 
--- words that look for a certificate, and ask for something, name a deployment
-pub proposes_one : (words : List Text) (rows : List Row) → subcommand_of whole words ≡ Some (codes "propose", rows) → (r : Request) → Asks words r → None ≡ first_of (codes "deployment") rows → ⊥
+-- no deployment and no style are named by these arguments
+abbrev NamesNone : List Row → Type 0
+NamesNone rows = (d : Text) (style : Style) → NamesStyled rows d style → ⊥
+
+-- the arguments are those of the request
+same_rows : (rows other : List Row) (p : Option (Text × List Row)) (name : Text) → p ≡ Some (name, rows) → p ≡ Some (name, other) → other ≡ rows
+same_rows rows other p name is asked = ap rows_at (sym asked ∙ is)
+
+-- words that look for a certificate, and ask for something, name a deployment and a style
+pub proposes_one : (words : List Text) (rows : List Row) → subcommand_of whole words ≡ Some (codes "propose", rows) → (r : Request) → Asks words r → NamesNone rows → ⊥
+proposes_one words rows is (asked.Propose x style) asks none =
+    none x.now style (subst (λ (found : List Row). NamesStyled found x.now style) (same_rows rows asks.0 (subcommand_of whole words) (codes "propose") is asks.1) asks.3)
+proposes_one words rows is (asked.ProposeThoroughly x style) asks none =
+    none x.now style (subst (λ (found : List Row). NamesStyled found x.now style) (same_rows rows asks.0 (subcommand_of whole words) (codes "propose") is asks.1) asks.3)
 proposes_one words rows is (asked.Match x style) asks none = earlier 109 112 (omega arith) (ap first_byte (sym asks.1 ∙ is))
-proposes_one words rows is (asked.Propose x style) asks none = let found : None ≡ Some x.now = none ∙ ap (λ (p : Option (Text × List Row)). first_of (codes "deployment") (rows_at p)) (sym is ∙ asks.1) ∙ asks.2 in cc
-proposes_one words rows is (asked.ProposeThoroughly x style) asks none = let found : None ≡ Some x.now = none ∙ ap (λ (p : Option (Text × List Row)). first_of (codes "deployment") (rows_at p)) (sym is ∙ asks.1) ∙ asks.2 in cc
 proposes_one words rows is (asked.Migrate x) asks none = earlier 109 112 (omega arith) (ap first_byte (sym asks.1 ∙ is))
 proposes_one words rows is (asked.Refute x style) asks none = later 114 112 (omega arith) (ap first_byte (sym asks.1 ∙ is))
 proposes_one words rows is (asked.Replay x y style) asks none = later 114 112 (omega arith) (ap first_byte (sym asks.1 ∙ is))
@@ -55,3 +71,17 @@ proposes_one words rows is (asked.Show x format) asks none = later 115 112 (omeg
 proposes_one words rows is (asked.Run x y wishes style) asks none = later 114 112 (omega arith) (ap first_byte (sym asks.1 ∙ is))
 proposes_one words rows is (asked.Check x y detail style) asks none = earlier 99 112 (omega arith) (ap first_byte (sym asks.1 ∙ is))
 proposes_one words rows is (asked.Draw x y) asks none = earlier 100 112 (omega arith) (ap first_byte (sym asks.1 ∙ is))
+
+-- words that look for a run that loses a sample, and ask for something, name a deployment and a style
+pub refutes_one : (words : List Text) (rows : List Row) → subcommand_of whole words ≡ Some (codes "refute", rows) → (r : Request) → Asks words r → NamesNone rows → ⊥
+refutes_one words rows is (asked.Refute x style) asks none =
+    none x.now style (subst (λ (found : List Row). NamesStyled found x.now style) (same_rows rows asks.0 (subcommand_of whole words) (codes "refute") is asks.1) asks.2)
+refutes_one words rows is (asked.Match x style) asks none = earlier 109 114 (omega arith) (ap first_byte (sym asks.1 ∙ is))
+refutes_one words rows is (asked.Propose x style) asks none = earlier 112 114 (omega arith) (ap first_byte (sym asks.1 ∙ is))
+refutes_one words rows is (asked.ProposeThoroughly x style) asks none = earlier 112 114 (omega arith) (ap first_byte (sym asks.1 ∙ is))
+refutes_one words rows is (asked.Migrate x) asks none = earlier 109 114 (omega arith) (ap first_byte (sym asks.1 ∙ is))
+refutes_one words rows is (asked.Replay x y style) asks none = later 112 102 (omega arith) (ap third_byte (sym asks.1 ∙ is))
+refutes_one words rows is (asked.Show x format) asks none = later 115 114 (omega arith) (ap first_byte (sym asks.1 ∙ is))
+refutes_one words rows is (asked.Run x y wishes style) asks none = later 110 102 (omega arith) (ap third_byte (sym asks.1 ∙ is))
+refutes_one words rows is (asked.Check x y detail style) asks none = earlier 99 114 (omega arith) (ap first_byte (sym asks.1 ∙ is))
+refutes_one words rows is (asked.Draw x y) asks none = earlier 100 114 (omega arith) (ap first_byte (sym asks.1 ∙ is))

@@ -41,8 +41,8 @@ bad f status old new other (inr keeps) (inr h) = inr h
 fault_said : (end : Outcome) (f : ToolFault) (status : ℕ) (old new : Option (List ℕ)) → Ends f end → (f ≡ fault.Write) ⊎ Keeps old new
     → (status ≡ fault_status f) ⊎ (status ≡ 3) → Said end status old new
 unfolding output_of status_of
-fault_said end (fault.Deployment flaw) status old new is nothing told = rw is (bad (fault.Deployment flaw) status old new (λ e. cc) nothing told)
-fault_said end (fault.Certificate flaw) status old new is nothing told = rw is (bad (fault.Certificate flaw) status old new (λ e. cc) nothing told)
+fault_said end (fault.Deployment flaw syntax) status old new is nothing told = rw is (bad (fault.Deployment flaw syntax) status old new (λ e. cc) nothing told)
+fault_said end (fault.Certificate flaw syntax) status old new is nothing told = rw is (bad (fault.Certificate flaw syntax) status old new (λ e. cc) nothing told)
 fault_said end (fault.Events kind line) status old new is nothing told = rw is (bad (fault.Events kind line) status old new (λ e. cc) nothing told)
 fault_said end fault.TooLarge status old new is nothing told = rw is (bad fault.TooLarge status old new (λ e. cc) nothing told)
 fault_said end fault.Read status old new is nothing told = inr (three status told)
@@ -57,8 +57,8 @@ any_end fault.Read end h = tt
 any_end fault.Write end h = tt
 any_end fault.NoMemory end h = tt
 any_end (fault.Usage text) end h = absurd h
-any_end (fault.Deployment flaw) end h = absurd h
-any_end (fault.Certificate flaw) end h = absurd h
+any_end (fault.Deployment flaw syntax) end h = absurd h
+any_end (fault.Certificate flaw syntax) end h = absurd h
 any_end (fault.Events kind line) end h = absurd h
 any_end fault.TooLarge end h = absurd h
 any_end fault.Run end h = absurd h
@@ -69,8 +69,8 @@ every_end fault.Read a b = refl
 every_end fault.Write a b = refl
 every_end fault.NoMemory a b = refl
 every_end (fault.Usage text) a b = absurd a
-every_end (fault.Deployment flaw) a b = absurd (let x : too_large ≡ unproposed = a ∙ sym b in cc)
-every_end (fault.Certificate flaw) a b = absurd (let x : too_large ≡ unproposed = a ∙ sym b in cc)
+every_end (fault.Deployment flaw syntax) a b = absurd (let x : too_large ≡ unproposed = a ∙ sym b in cc)
+every_end (fault.Certificate flaw syntax) a b = absurd (let x : too_large ≡ unproposed = a ∙ sym b in cc)
 every_end (fault.Events kind line) a b = absurd (let x : too_large ≡ unproposed = a ∙ sym b in cc)
 every_end fault.TooLarge a b = absurd (let x : unproposed ≡ too_large = b in cc)
 every_end fault.Run a b = absurd a
@@ -132,7 +132,7 @@ pub answered : (holds : List ℕ → Option (List ℕ)) (request : Request) (giv
     → Passes given r
     → IfOk r (λ exit. Answers holds request (exit_status exit) old new)
 answered holds (asked.Check d b detail style) given (Ok exit) old new gives written passed =
-    λ x y hx hy. inl (written (in_style style (check_file_outcome detail x y)) (gives x y hx hy))
+    λ x y hx hy. inl (written (in_style style (check_file_outcome detail x y)) (gives x y hx hy).0)
 answered holds (asked.Match d style) given (Ok exit) old new gives written passed = λ x hx. inl (written (in_style style (match_file_outcome x)) (gives x hx))
 answered holds (asked.Propose d style) given (Ok exit) old new gives written passed = λ x hx. let g = gives x hx in (g.0, g.1, inl (written (in_style style g.0) g.2))
 answered holds (asked.ProposeThoroughly d style) given (Ok exit) old new gives written passed = λ x hx. let g = gives x hx in (g.0, g.1, inl (written (in_style style g.0) g.2))
@@ -165,7 +165,7 @@ pub faulted : (holds : List ℕ → Option (List ℕ)) (request : Request) (give
     → Passes given r
     → IfErr r (λ f. (status : ℕ) → (status ≡ fault_status f) ⊎ (status ≡ 3) → Answers holds request status old new)
 faulted holds (asked.Check d b detail style) given (Err f) old new gives ends nothing passed =
-    λ status told x y hx hy. fault_said (in_style style (check_file_outcome detail x y)) f status old new (ends (in_style style (check_file_outcome detail x y)) (gives x y hx hy)) nothing told
+    λ status told x y hx hy. fault_said (in_style style (check_file_outcome detail x y)) f status old new (ends (in_style style (check_file_outcome detail x y)) (gives x y hx hy).0) nothing told
 faulted holds (asked.Match d style) given (Err f) old new gives ends nothing passed =
     λ status told x hx. fault_said (in_style style (match_file_outcome x)) f status old new (ends (in_style style (match_file_outcome x)) (gives x hx)) nothing told
 faulted holds (asked.Propose d style) given (Err f) old new gives ends nothing passed =

@@ -69,12 +69,12 @@ too_large_styled Json = refl
 
 -- a fault that a check tells is one that a run gives
 pub told_gives : (style : Style) (checked : Outcome) (e : ToolFault) → Tells (Err e) checked → GivesRun style checked (Err e)
-told_gives style checked (fault.Deployment flaw) tells =
+told_gives style checked (fault.Deployment flaw syntax) tells =
     let bad = bad_deployment (flaw.kind, string_bytes flaw.path) in
-    subst (λ (c : Outcome). GivesRun style c (Err (fault.Deployment flaw))) (sym tells) (inr (inr (bad, bad_deployment_styled style (flaw.kind, string_bytes flaw.path), refl)))
-told_gives style checked (fault.Certificate flaw) tells =
+    subst (λ (c : Outcome). GivesRun style c (Err (fault.Deployment flaw syntax))) (sym tells) (inr (inr (bad, bad_deployment_styled style (flaw.kind, string_bytes flaw.path), refl)))
+told_gives style checked (fault.Certificate flaw syntax) tells =
     let bad = bad_certificate (kind_of flaw.kind, string_bytes flaw.path) in
-    subst (λ (c : Outcome). GivesRun style c (Err (fault.Certificate flaw))) (sym tells) (inr (inr (bad, bad_certificate_styled style (kind_of flaw.kind, string_bytes flaw.path), refl)))
+    subst (λ (c : Outcome). GivesRun style c (Err (fault.Certificate flaw syntax))) (sym tells) (inr (inr (bad, bad_certificate_styled style (kind_of flaw.kind, string_bytes flaw.path), refl)))
 told_gives style checked fault.NoMemory tells = inr (inl tt)
 told_gives style checked (fault.Usage text) tells = absurd tells
 told_gives style checked (fault.Events kind line) tells = absurd tells
@@ -107,8 +107,8 @@ unread_gives style d c fault.TooLarge is large =
 unread_gives style d c fault.Read is large = inr (inl tt)
 unread_gives style d c fault.NoMemory is large = inr (inl tt)
 unread_gives style d c (fault.Usage text) is large = absurd is
-unread_gives style d c (fault.Deployment flaw) is large = absurd is
-unread_gives style d c (fault.Certificate flaw) is large = absurd is
+unread_gives style d c (fault.Deployment flaw syntax) is large = absurd is
+unread_gives style d c (fault.Certificate flaw syntax) is large = absurd is
 unread_gives style d c (fault.Events kind line) is large = absurd is
 unread_gives style d c fault.Write is large = absurd is
 unread_gives style d c fault.Run is large = absurd is

@@ -1,14 +1,12 @@
 -- What the words of a command line ask for, by clap's own account of a command and its words.
-use Rattle.std.specs.Prelude.{ℕ, Err, ◌≡◌, ◌≢◌, ◌⊎◌, ◌&&◌, ◌<◌, ◌^◌, Bool, List, [], ◌∷◌, Option, Some, None, Result, option_map, true, false, codes, pos, if◌then◌else◌}
+use Rattle.std.specs.Prelude.{ℕ, Err, IfErr, IfOk, ◌≡◌, ◌≢◌, ◌⊎◌, ◌&&◌, ◌<◌, ◌^◌, Bool, List, [], ◌∷◌, Option, Some, None, Result, option_map, true, false, codes, pos, if◌then◌else◌}
 use Rattle.std.specs.Option.{option_map_or}
 use Rattle.std.specs.Str.{bytes_eq}
 use Rattle.std.specs.Io.KnownBytes.{Appends}
 use Rattle.std.specs.Str.Parse.{IsNumeral, digits_value, without_leading_plus}
-use Rattle.clap.specs.Words.{App, Row, Rule, Text, new_app, new_rule, with_rule, with_subcommand, subcommand_of, first_of, one_of}
-use Rattle.clap.specs.declared.builder.ArgAction.TheVariants.{Set, SetTrue}
-use Rattle.clap.specs.declared.builder.value_parser.ValueParser.TheVariants.{Signed}
-use Rattle.clap.specs.Simple.{on_top}
+use Rattle.clap.specs.Words.{Row, Text, subcommand_of, first_of, one_of}
 use Rattle.dds_peers.specs.Fates.{AreFates}
+use Rattle.dds_tool.specs.Command.{whole}
 use Rattle.dds_tool.specs.Wishes.{fates_text, format_word, style_word}
 use Rattle.dds_tool.specs.declared.wishes.Wishes.{Wishes}
 use Rattle.dds_tool.specs.declared.request.Request.{Request}
@@ -28,6 +26,7 @@ use Rattle.dds_tool.specs.Refuting.{MayRefuteFor}
 use Rattle.dds_tool.specs.Replaying.{MayReplayFor}
 use Rattle.dds_tool.specs.RunEnds.{GivesRun, MayRun}
 use Rattle.dds_answers.specs.Searches.{MayFindFor}
+use Rattle.dds_answers.specs.Syntax.{IsFaultTold}
 use Rattle.dds_answers.specs.Report.{output_of, status_of}
 use Rattle.dds_answers.specs.Fault.{fault_status}
 use Rattle.dds_json.specs.Ends.{in_style}
@@ -35,89 +34,6 @@ use Rattle.dds_json.specs.Fault.{fault_document}
 use Rattle.dds_json.specs.Line.{line_of}
 use Rattle.dds_json.specs.declared.style.Style.{Style}
 use Rattle.dds_json.specs.declared.style.Style.TheVariants as style
-
--- a file that has to be named
-abbrev pub file_rule : Text → Rule
-file_rule id = record (new_rule id) { required = true; action = Some Set }
-
--- a command with a deployment
-abbrev pub one_file : Text → App
-one_file name = with_rule (new_app name) (file_rule (codes "deployment"))
-
--- a file that may be named
-abbrev pub optional_file_rule : Text → Rule
-optional_file_rule id = record (new_rule id) { action = Some Set }
-
--- a flag
-abbrev pub flag_rule : Text → Rule
-flag_rule id = record (new_rule id) { long = Some id; action = Some SetTrue }
-
--- a wish with a text that holds where it isn't given
-abbrev pub wish_rule : Text → Text → Rule
-wish_rule id default = record (new_rule id) { long = Some id; value_names = 1; defaults = default ∷ []; action = Some Set }
-
--- a command that is told in lines where it isn't asked for a document
-abbrev pub styled : App → App
-styled command = with_rule command (wish_rule (codes "format") (codes "text"))
-
--- the command that compares the endpoints of a deployment
-abbrev pub matching : App
-matching = styled (one_file (codes "match"))
-
--- the command that looks for a certificate, thoroughly where its flag is given
-abbrev pub searching : App
-searching = styled (with_rule (one_file (codes "propose")) (flag_rule (codes "thorough")))
-
--- a command with a deployment and a certificate
-abbrev pub two_files : Text → App
-two_files name = with_rule (one_file name) (file_rule (codes "certificate"))
-
--- the command that checks a certificate, with its reason where its flag is given
-abbrev pub checking : App
-checking = styled (with_rule (two_files (codes "check")) (flag_rule (codes "explain")))
-
--- a wish for a number up to 65,535, which is 10 where it isn't given
-abbrev pub count_rule : Text → Rule
-count_rule id = record (wish_rule id (codes "10")) { parser = Some (Signed (pos 0) (pos 65535)) }
-
--- the command that runs a deployment
-abbrev pub running : App
-running = styled (with_rule (with_rule (with_rule (two_files (codes "run")) (wish_rule (codes "fates") (codes "pass"))) (count_rule (codes "writes"))) (count_rule (codes "takes")))
-
--- the command that shows a deployment in a format
-abbrev pub showing : App
-showing = with_rule (one_file (codes "show")) (wish_rule (codes "format") (codes "json"))
-
--- the command that draws a deployment, with a certificate where one is named
-abbrev pub drawing : App
-drawing = with_rule (one_file (codes "draw")) (optional_file_rule (codes "certificate"))
-
--- the command that looks for a run that loses a sample
-abbrev pub refuting : App
-refuting = styled (one_file (codes "refute"))
-
--- the command that makes the events of a file again
-abbrev pub replaying : App
-replaying = styled (with_rule (one_file (codes "replay")) (file_rule (codes "events")))
-
--- the command by itself: it has a version, and wants a subcommand
-abbrev pub top_app : App
-top_app = on_top (λ s. record s { subcommand_required = true; has_version = true }) (new_app (codes "ddscheck"))
-
--- the command with its subcommands
-abbrev pub whole : App
-whole =
-    with_subcommand
-    (with_subcommand
-    (with_subcommand
-    (with_subcommand
-    (with_subcommand
-    (with_subcommand (with_subcommand (with_subcommand (with_subcommand top_app matching.top) checking.top) searching.top) running.top)
-    (one_file (codes "migrate")).top)
-    showing.top)
-    drawing.top)
-    refuting.top)
-    replaying.top
 
 -- the words name the subcommand, and the argument has this text
 abbrev pub Names : List Text → Text → Text → Text → Type 0
@@ -131,34 +47,31 @@ is_set rows id = option_map_or (λ text. bytes_eq text (codes "true")) (first_of
 abbrev pub IsStyled : List Row → Style → Type 0
 IsStyled rows style = first_of (codes "format") rows ≡ Some (style_word style)
 
+-- the arguments name a deployment, and ask for an answer in this style
+abbrev pub NamesStyled : List Row → Text → Style → Type 0
+NamesStyled rows name style = (first_of (codes "deployment") rows ≡ Some name) × IsStyled rows style
+
 -- the words name the subcommand and a deployment, and ask for an answer in this style
 abbrev pub NamesOne : List Text → Text → Text → Style → Type 0
-NamesOne words command name style =
-    (rows : List Row) × (subcommand_of whole words ≡ Some (command, rows)) × (first_of (codes "deployment") rows ≡ Some name) × IsStyled rows style
+NamesOne words command name style = (rows : List Row) × (subcommand_of whole words ≡ Some (command, rows)) × NamesStyled rows name style
 
 -- the words look for a certificate of the deployment with this name, thoroughly or not, and ask for an answer in this style
 abbrev pub Looks : List Text → Text → Bool → Style → Type 0
 Looks words name thorough style =
-    (rows : List Row) × (subcommand_of whole words ≡ Some (codes "propose", rows)) × (first_of (codes "deployment") rows ≡ Some name) × (is_set rows (codes "thorough") ≡ thorough)
-    × IsStyled rows style
+    (rows : List Row) × (subcommand_of whole words ≡ Some (codes "propose", rows)) × (is_set rows (codes "thorough") ≡ thorough) × NamesStyled rows name style
 
 -- both names are `-`, which stands for standard input: it can be read only once
 abbrev pub is_input_twice : Text → Text → Bool
 is_input_twice d c = bytes_eq d (codes "-") && bytes_eq c (codes "-")
 
--- the arguments name a deployment and a certificate, not both on standard input
-abbrev pub NamesBoth : List Row → Text → Text → Type 0
-NamesBoth rows deployment certificate =
-    (first_of (codes "deployment") rows ≡ Some deployment) × (first_of (codes "certificate") rows ≡ Some certificate) × (is_input_twice deployment certificate ≡ false)
-
--- the arguments name a deployment and a file of events, not both on standard input
-abbrev pub NamesEvents : List Row → Text → Text → Type 0
-NamesEvents rows deployment events =
-    (first_of (codes "deployment") rows ≡ Some deployment) × (first_of (codes "events") rows ≡ Some events) × (is_input_twice deployment events ≡ false)
+-- the arguments name a deployment and a second file, whose argument has this name, not both on standard input
+abbrev pub NamesBoth : (second : Text) → List Row → (deployment file : Text) → Type 0
+NamesBoth second rows deployment file =
+    (first_of (codes "deployment") rows ≡ Some deployment) × (first_of second rows ≡ Some file) × (is_input_twice deployment file ≡ false)
 
 -- the words make the events of the file with that name again, on the deployment with this name, and ask for an answer in this style
 abbrev pub Replays : List Text → Text → Text → Style → Type 0
-Replays words deployment events style = (rows : List Row) × (subcommand_of whole words ≡ Some (codes "replay", rows)) × NamesEvents rows deployment events × IsStyled rows style
+Replays words deployment events style = (rows : List Row) × (subcommand_of whole words ≡ Some (codes "replay", rows)) × NamesBoth (codes "events") rows deployment events × IsStyled rows style
 
 -- how much a check is asked to tell
 abbrev pub detail_of : List Row → Detail
@@ -167,7 +80,7 @@ detail_of rows = if is_set rows (codes "explain") then Explained else Plain
 -- the words check the deployment with this name, by the certificate with that name, and ask for so much to be told, in this style
 abbrev pub Checks : List Text → Text → Text → Detail → Style → Type 0
 Checks words deployment certificate detail style =
-    (rows : List Row) × (subcommand_of whole words ≡ Some (codes "check", rows)) × NamesBoth rows deployment certificate × (detail_of rows ≡ detail) × IsStyled rows style
+    (rows : List Row) × (subcommand_of whole words ≡ Some (codes "check", rows)) × NamesBoth (codes "certificate") rows deployment certificate × (detail_of rows ≡ detail) × IsStyled rows style
 
 -- the words show the deployment with this name in this format
 abbrev pub Shows : List Text → Text → Format → Type 0
@@ -194,7 +107,7 @@ Wants rows wishes =
 -- the words run the deployment with this name, by the certificate with that name, with these wishes, and ask for an answer in this style
 abbrev pub Runs : List Text → Text → Text → Wishes → Style → Type 0
 Runs words deployment certificate wishes style =
-    (rows : List Row) × (subcommand_of whole words ≡ Some (codes "run", rows)) × NamesBoth rows deployment certificate × Wants rows wishes × IsStyled rows style
+    (rows : List Row) × (subcommand_of whole words ≡ Some (codes "run", rows)) × NamesBoth (codes "certificate") rows deployment certificate × Wants rows wishes × IsStyled rows style
 
 -- the words ask for this, by clap's own account of the command
 abbrev pub Asks : List Text → Request → Type 0
@@ -208,6 +121,14 @@ Asks words (asked.Show d format) = Shows words d.now format
 Asks words (asked.Draw d c) = Draws words d.now (option_map (λ path. path.now) c)
 Asks words (asked.Check d c detail style) = Checks words d.now c.now detail style
 Asks words (asked.Run d c wishes style) = Runs words d.now c.now wishes style
+
+-- where the words name this subcommand, with these arguments, what was read is what they ask for
+abbrev pub Reads : (command : Text) → List Row → Result Request NoRequest → Type 0
+Reads command rows result = (words : List Text) → subcommand_of whole words ≡ Some (command, rows) → IfOk result (Asks words)
+
+-- where the words name this subcommand, with these arguments, and ask for something, it is no fault that was read
+abbrev pub Misses : (command : Text) → List Row → Result Request NoRequest → Type 0
+Misses command rows result = (words : List Text) → subcommand_of whole words ≡ Some (command, rows) → (r : Request) → Asks words r → IfErr result (λ _. ⊥)
 
 -- the paths of the files that a request names, in the order of the words
 abbrev pub paths_of : Request → List Text
@@ -241,10 +162,10 @@ IsHelp (none.Help text) = Unit {0}
 IsHelp (none.Usage text) = ⊥
 IsHelp none.NoMemory = ⊥
 
--- what a request is answered whose files hold bytes that are known
+-- what a request is answered whose files hold bytes that are known; a fault of a check tells of their syntax what it has to
 abbrev pub GivesTo : (List ℕ → Option (List ℕ)) → Request → Result Answer ToolFault → Type 0
 GivesTo holds (asked.Check d c detail style) result =
-    (x y : List ℕ) → holds d.now ≡ Some x → holds c.now ≡ Some y → Gives result (in_style style (check_file_outcome detail x y))
+    (x y : List ℕ) → holds d.now ≡ Some x → holds c.now ≡ Some y → Gives result (in_style style (check_file_outcome detail x y)) × IfErr result (IsFaultTold detail x y)
 GivesTo holds (asked.Match d style) result = (x : List ℕ) → holds d.now ≡ Some x → Gives result (in_style style (match_file_outcome x))
 GivesTo holds (asked.Propose d style) result = (x : List ℕ) → holds d.now ≡ Some x → (end : Outcome) × MayProposeFor x end × Gives result (in_style style end)
 GivesTo holds (asked.ProposeThoroughly d style) result = (x : List ℕ) → holds d.now ≡ Some x → (end : Outcome) × MayFindFor x end × Gives result (in_style style end)

@@ -2,6 +2,7 @@ pub mod Running
 pub mod RunDocument
 pub mod RunEnds
 pub mod Wishes
+pub mod Command
 pub mod Asking
 pub mod Causes
 pub mod Refuting

@@ -3,6 +3,7 @@
 //! the journal of its run and of how the threads of its applications ended.
 #![tactic(auto)]
 
+mod command;
 mod commands;
 mod refute_document;
 mod refuting;

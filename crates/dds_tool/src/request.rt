@@ -1,55 +1,23 @@
 //! What the words of a command line ask for.
 ghost use Rattle.std.specs.Prelude.{◌≡◌, ℕ, List, IfNone, IfOk, IfErr, IfSome, Some, true, false, codes, map, option_map};
-ghost use Rattle.clap.specs.Words.{Text, app_of, first_of, found_of, kind_of, rows_of, rule_of, subcommand_of, subcommand_rows_of, takes, with_subcommand};
-ghost use Rattle.clap.specs.declared.builder.command.Command.TheViews.{out-Command as fields_of};
+ghost use Rattle.clap.specs.Words.{Text, first_of, found_of, kind_of, rows_of, subcommand_of, subcommand_rows_of, takes};
 ghost use Rattle.dds_answers.specs.declared.format.Format.{Format};
 ghost use Rattle.dds_json.specs.declared.style.Style.{Style};
-ghost use Rattle.dds_tool.specs.Asking.{Asks, Counts, IsHelp, IsStyled, NamesBoth, NamesEvents, Wants, checking, count_rule, detail_of, drawing, file_rule, flag_rule, is_input_twice, is_set, matching, one_file, optional_file_rule, refuting, replaying, running, searching, showing, style_of, styled, top_app, two_files, whole, wish_rule};
+ghost use Rattle.dds_tool.specs.Asking.{Asks, Counts, IsHelp, IsStyled, Misses, NamesBoth, NamesStyled, Reads, Wants, detail_of, is_input_twice, is_set, style_of};
+ghost use Rattle.dds_tool.specs.Command.{whole};
 ghost use Rattle.dds_tool.specs.Wishes.{format_word};
 
+use crate::command::whole_command;
 use crate::wishes::{Wishes, read_fates, read_format, read_style};
+use clap::ArgMatches;
 use clap::error::ErrorKind;
-use clap::{Arg, ArgAction, ArgMatches, Command, value_parser};
 use dds_answers::{Detail, Format};
 use dds_json::Style;
-use std::alloc::{AllocError, Global};
+use std::alloc::Global;
 use std::convert::AsStr;
 
-/// What help says of the argument that names a deployment.
-const DEPLOYMENT: &str =
-    "A TOML file: participants, topics, writers, readers, applications, rules, connections";
-
-/// What help says of the flag of a thorough search.
-const THOROUGH: &str =
-    "Searches by linear programming, for the least bounds, and tells which limit has no certificate";
-
-/// What help says of the argument that names a certificate.
-const CERTIFICATE: &str = "A TOML file: rows of weights, and the bounds and totals that they show";
-
-/// What help says of the fates of packets.
-const FATES: &str = "What befalls packets, in a circle: pass, keep, last, lose, with commas";
-
-/// What help says of the number of writes.
-const WRITES: &str = "How many samples each application writes";
-
-/// What help says of the number of takes.
-const TAKES: &str = "How many samples each application takes";
-
-/// What help says of the format.
-const FORMAT: &str = "json or dds-xml";
-
-/// What help says of the style of an answer.
-const STYLE: &str = "text or json";
-
-/// What help says of the flag of an explained answer.
-const EXPLAIN: &str =
-    "Tells the reason too: the numbers behind a refusal, or how near each bound is to its limit";
-
-/// What help says of the certificate of a picture.
-const DRAWN_CERTIFICATE: &str = "A certificate whose bounds are drawn";
-
-/// What help says of the argument that names a file of events.
-const EVENTS: &str = "Events, a line each, as refute prints them";
+/// What is told of words that leave out a file.
+const MISSING: &str = "error: a file is missing\n";
 
 /// What is told of words that name standard input twice.
 const INPUT_TWICE: &str = "error: standard input can be read only once\n";
@@ -152,230 +120,6 @@ pub enum NoRequest {
     NoMemory,
 }
 
-fn file<'a>(alloc: Global, id: &'a str, help: &'a str) -> Arg<'a>
-    ensures rule { rule_of result ≡ file_rule id.entry.now }
-    ensures local { result.global ≡ false }
-{
-    Arg::new(alloc, id)
-        .help(help)
-        .required(true)
-        .action(ArgAction::Set)
-}
-
-fn optional_file<'a>(alloc: Global, id: &'a str, help: &'a str) -> Arg<'a>
-    ensures rule { rule_of result ≡ optional_file_rule id.entry.now }
-    ensures local { result.global ≡ false }
-{
-    Arg::new(alloc, id).help(help).action(ArgAction::Set)
-}
-
-fn flag<'a>(alloc: Global, id: &'a str, help: &'a str) -> Arg<'a>
-    ensures rule { rule_of result ≡ flag_rule id.entry.now }
-    ensures local { result.global ≡ false }
-{
-    Arg::new(alloc, id)
-        .long(id)
-        .help(help)
-        .action(ArgAction::SetTrue)
-}
-
-fn wish<'a>(alloc: Global, id: &'a str, value: &'a str, default: &'a str, help: &'a str) -> Arg<'a>
-    ensures rule { rule_of result ≡ wish_rule id.entry.now default.entry.now }
-    ensures local { result.global ≡ false }
-{
-    Arg::new(alloc, id)
-        .long(id)
-        .value_name(value)
-        .default_value(default)
-        .help(help)
-        .action(ArgAction::Set)
-}
-
-/// The command, told in lines where it isn't asked for a document.
-fn styled<'a>(alloc: Global, command: Command<'a>) -> Result<Command<'a>, AllocError>
-    requires local { (fields_of command).has_globals ≡ false }
-    ensures app { IfOk result (λ c. app_of c ≡ styled (app_of command.entry)) }
-    ensures local { IfOk result (λ c. (fields_of c).has_globals ≡ false) }
-{
-    command.arg(wish(alloc, "format", "FORMAT", "text", STYLE))
-}
-
-fn match_command<'a>(alloc: Global) -> Result<Command<'a>, AllocError>
-    ensures app { IfOk result (λ c. app_of c ≡ matching) }
-    ensures local { IfOk result (λ c. (fields_of c).has_globals ≡ false) }
-{
-    let command = one_file_command(
-        alloc,
-        "match",
-        "Tells which writers and readers match, and why others don't",
-    )?;
-    styled(alloc, command)
-}
-
-fn propose_command<'a>(alloc: Global) -> Result<Command<'a>, AllocError>
-    ensures app { IfOk result (λ c. app_of c ≡ searching) }
-    ensures local { IfOk result (λ c. (fields_of c).has_globals ≡ false) }
-{
-    let command = one_file_command(
-        alloc,
-        "propose",
-        "Looks for a certificate of a deployment",
-    )?.arg(flag(alloc, "thorough", THOROUGH))?;
-    styled(alloc, command)
-}
-
-fn one_file_command<'a>(
-    alloc: Global,
-    name: &'a str,
-    about: &'a str,
-) -> Result<Command<'a>, AllocError>
-    ensures app { IfOk result (λ c. app_of c ≡ one_file name.entry.now) }
-    ensures local { IfOk result (λ c. (fields_of c).has_globals ≡ false) }
-{
-    Command::new(alloc, name)
-        .about(about)
-        .arg(file(alloc, "deployment", DEPLOYMENT))
-}
-
-fn two_files_command<'a>(
-    alloc: Global,
-    name: &'a str,
-    about: &'a str,
-) -> Result<Command<'a>, AllocError>
-    ensures app { IfOk result (λ c. app_of c ≡ two_files name.entry.now) }
-    ensures local { IfOk result (λ c. (fields_of c).has_globals ≡ false) }
-{
-    Command::new(alloc, name)
-        .about(about)
-        .arg(file(alloc, "deployment", DEPLOYMENT))?
-        .arg(file(alloc, "certificate", CERTIFICATE))
-}
-
-fn check_command<'a>(alloc: Global) -> Result<Command<'a>, AllocError>
-    ensures app { IfOk result (λ c. app_of c ≡ checking) }
-    ensures local { IfOk result (λ c. (fields_of c).has_globals ≡ false) }
-{
-    let command = two_files_command(alloc, "check", "Checks a certificate of a deployment")?.arg(
-        flag(alloc, "explain", EXPLAIN),
-    )?;
-    styled(alloc, command)
-}
-
-fn count<'a>(alloc: Global, id: &'a str, help: &'a str) -> Arg<'a>
-    ensures rule { rule_of result ≡ count_rule id.entry.now }
-    ensures local { result.global ≡ false }
-{
-    wish(alloc, id, "N", "10", help).value_parser(value_parser!(u16))
-}
-
-fn run_command<'a>(alloc: Global) -> Result<Command<'a>, AllocError>
-    ensures app { IfOk result (λ c. app_of c ≡ running) }
-    ensures local { IfOk result (λ c. (fields_of c).has_globals ≡ false) }
-{
-    let command = two_files_command(
-        alloc,
-        "run",
-        "Runs a deployment that a certificate shows to be safe",
-    )?
-    .arg(wish(alloc, "fates", "LIST", "pass", FATES))?
-    .arg(count(alloc, "writes", WRITES))?
-    .arg(count(alloc, "takes", TAKES))?;
-    styled(alloc, command)
-}
-
-fn show_command<'a>(alloc: Global) -> Result<Command<'a>, AllocError>
-    ensures app { IfOk result (λ c. app_of c ≡ showing) }
-    ensures local { IfOk result (λ c. (fields_of c).has_globals ≡ false) }
-{
-    one_file_command(
-        alloc,
-        "show",
-        "Prints a deployment as it was read, with every field",
-    )?
-    .arg(wish(alloc, "format", "FORMAT", "json", FORMAT))
-}
-
-fn draw_command<'a>(alloc: Global) -> Result<Command<'a>, AllocError>
-    ensures app { IfOk result (λ c. app_of c ≡ drawing) }
-    ensures local { IfOk result (λ c. (fields_of c).has_globals ≡ false) }
-{
-    one_file_command(
-        alloc,
-        "draw",
-        "Prints a picture of a deployment, for Graphviz",
-    )?
-    .arg(optional_file(alloc, "certificate", DRAWN_CERTIFICATE))
-}
-
-fn refute_command<'a>(alloc: Global) -> Result<Command<'a>, AllocError>
-    ensures app { IfOk result (λ c. app_of c ≡ refuting) }
-    ensures local { IfOk result (λ c. (fields_of c).has_globals ≡ false) }
-{
-    let command = one_file_command(
-        alloc,
-        "refute",
-        "Looks for a run of a deployment that loses a sample",
-    )?;
-    styled(alloc, command)
-}
-
-fn replay_command<'a>(alloc: Global) -> Result<Command<'a>, AllocError>
-    ensures app { IfOk result (λ c. app_of c ≡ replaying) }
-    ensures local { IfOk result (λ c. (fields_of c).has_globals ≡ false) }
-{
-    let command = one_file_command(
-        alloc,
-        "replay",
-        "Makes the events of a file on a deployment, and prints what comes of each",
-    )?
-    .arg(file(alloc, "events", EVENTS))?;
-    styled(alloc, command)
-}
-
-/// The command, and a subcommand more that has no global argument.
-fn with_command<'a>(command: Command<'a>, below: Command<'a>) -> Result<Command<'a>, AllocError>
-    requires below { (fields_of below).has_globals ≡ false }
-    ensures { IfOk result (λ c. app_of c ≡ with_subcommand (app_of command.entry) (app_of below.entry).top) }
-{
-    command.subcommand(below)
-}
-
-fn top_command<'a>(alloc: Global) -> Command<'a>
-    ensures { app_of result ≡ top_app }
-{
-    Command::new(alloc, "ddscheck")
-        .version("0.1.0")
-        .about("Shows before a launch that the bounds of a DDS deployment suffice")
-        .subcommand_required(true)
-}
-
-fn whole_command<'a>(alloc: Global) -> Result<Command<'a>, AllocError>
-    ensures { IfOk result (λ c. app_of c ≡ whole) }
-{
-    let matching = match_command(alloc)?;
-    let command = with_command(top_command(alloc), matching)?;
-    let checking = check_command(alloc)?;
-    let command = with_command(command, checking)?;
-    let proposing = propose_command(alloc)?;
-    let command = with_command(command, proposing)?;
-    let running = run_command(alloc)?;
-    let command = with_command(command, running)?;
-    let migrating = one_file_command(
-        alloc,
-        "migrate",
-        "Prints a deployment file of version 1 as one of version 2",
-    )?;
-    let command = with_command(command, migrating)?;
-    let showing = show_command(alloc)?;
-    let command = with_command(command, showing)?;
-    let drawing = draw_command(alloc)?;
-    let command = with_command(command, drawing)?;
-    let refuting = refute_command(alloc)?;
-    let command = with_command(command, refuting)?;
-    let replaying = replay_command(alloc)?;
-    with_command(command, replaying)
-}
-
 /// The words are no request, for this reason.
 fn usage(alloc: Global, text: &str) -> NoRequest
     ensures { ¬ IsHelp result }
@@ -446,22 +190,36 @@ fn is_input_twice(deployment: &str, certificate: &str) -> bool
     deployment == "-" && certificate == "-"
 }
 
-/// The names of a deployment and of a certificate, if both are given, not both on standard input.
-fn both_files<'a>(alloc: Global, matches: &ArgMatches<'a>) -> Result<(&'a str, &'a str), NoRequest>
-    ensures both { IfOk result (λ files. NamesBoth (rows_of (found_of matches.now)) files.0.now files.1.now) }
+/// The name of a deployment, if it is given.
+fn deployment<'a>(alloc: Global, matches: &ArgMatches<'a>) -> Result<&'a str, NoRequest>
+    ensures named { IfOk result (λ d. first_of (codes "deployment") (rows_of (found_of matches.now)) ≡ Some d.now) }
     ensures fault { IfErr result (λ e. ¬ IsHelp e) }
-    ensures none { IfErr result (λ _. (d c : Text) → NamesBoth (rows_of (found_of matches.now)) d c → ⊥) }
+    ensures none { IfErr result (λ _. (d : Text) → first_of (codes "deployment") (rows_of (found_of matches.now)) ≡ Some d → ⊥) }
 {
-    let (Some(deployment), Some(certificate)) = (
-        argument(matches, "deployment"),
-        argument(matches, "certificate"),
-    ) else {
-        return Err(usage(alloc, "error: a file is missing\n"));
+    match argument(matches, "deployment") {
+        Some(deployment) => Ok(deployment),
+        None => Err(usage(alloc, MISSING)),
+    }
+}
+
+/// The names of a deployment and of a second file, whose argument has this name, if both are given, not both on standard input.
+fn both_files<'a>(
+    alloc: Global,
+    matches: &ArgMatches<'a>,
+    second: &str,
+) -> Result<(&'a str, &'a str), NoRequest>
+    ensures both { IfOk result (λ files. NamesBoth second.now (rows_of (found_of matches.now)) files.0.now files.1.now) }
+    ensures fault { IfErr result (λ e. ¬ IsHelp e) }
+    ensures none { IfErr result (λ _. (d f : Text) → NamesBoth second.now (rows_of (found_of matches.now)) d f → ⊥) }
+{
+    let deployment = deployment(alloc, matches)?;
+    let Some(file) = argument(matches, second) else {
+        return Err(usage(alloc, MISSING));
     };
-    if is_input_twice(deployment, certificate) {
+    if is_input_twice(deployment, file) {
         return Err(usage(alloc, INPUT_TWICE));
     }
-    Ok((deployment, certificate))
+    Ok((deployment, file))
 }
 
 /// How much a check is asked to tell.
@@ -483,15 +241,40 @@ fn style(matches: &ArgMatches) -> Option<Style>
     read_style(argument(matches, "format")?)
 }
 
-fn check_request<'a>(alloc: Global, matches: &ArgMatches<'a>) -> Result<Request<'a>, NoRequest>
-    ensures asked { (words : List Text) → subcommand_of whole words ≡ Some (codes "check", rows_of (found_of matches.now)) → IfOk result (Asks words) }
+/// The name of a deployment, if it is given, and the style in which an answer is asked for.
+fn styled_deployment<'a>(
+    alloc: Global,
+    matches: &ArgMatches<'a>,
+) -> Result<(&'a str, Style), NoRequest>
+    ensures named { IfOk result (λ asked. NamesStyled (rows_of (found_of matches.now)) asked.0.now asked.1) }
     ensures fault { IfErr result (λ e. ¬ IsHelp e) }
-    ensures unasked { (words : List Text) → subcommand_of whole words ≡ Some (codes "check", rows_of (found_of matches.now)) → (r : _) → Asks words r → IfErr result (λ _. ⊥) }
+    ensures none { IfErr result (λ _. (d : Text) (style : Style) → NamesStyled (rows_of (found_of matches.now)) d style → ⊥) }
 {
     let Some(style) = style(matches) else {
         return Err(usage(alloc, WRONG_STYLE));
     };
-    let (deployment, certificate) = both_files(alloc, matches)?;
+    let deployment = deployment(alloc, matches)?;
+    Ok((deployment, style))
+}
+
+fn match_request<'a>(alloc: Global, matches: &ArgMatches<'a>) -> Result<Request<'a>, NoRequest>
+    ensures asked { Reads (codes "match") (rows_of (found_of matches.now)) result }
+    ensures fault { IfErr result (λ e. ¬ IsHelp e) }
+    ensures unasked { Misses (codes "match") (rows_of (found_of matches.now)) result }
+{
+    let (deployment, style) = styled_deployment(alloc, matches)?;
+    Ok(Request::Match { deployment, style })
+}
+
+fn check_request<'a>(alloc: Global, matches: &ArgMatches<'a>) -> Result<Request<'a>, NoRequest>
+    ensures asked { Reads (codes "check") (rows_of (found_of matches.now)) result }
+    ensures fault { IfErr result (λ e. ¬ IsHelp e) }
+    ensures unasked { Misses (codes "check") (rows_of (found_of matches.now)) result }
+{
+    let Some(style) = style(matches) else {
+        return Err(usage(alloc, WRONG_STYLE));
+    };
+    let (deployment, certificate) = both_files(alloc, matches, "certificate")?;
     Ok(Request::Check {
         deployment,
         certificate,
@@ -500,35 +283,16 @@ fn check_request<'a>(alloc: Global, matches: &ArgMatches<'a>) -> Result<Request<
     })
 }
 
-fn match_request<'a>(alloc: Global, matches: &ArgMatches<'a>) -> Result<Request<'a>, NoRequest>
-    ensures asked { (words : List Text) → subcommand_of whole words ≡ Some (codes "match", rows_of (found_of matches.now)) → IfOk result (Asks words) }
-    ensures fault { IfErr result (λ e. ¬ IsHelp e) }
-    ensures unasked { (words : List Text) → subcommand_of whole words ≡ Some (codes "match", rows_of (found_of matches.now)) → (r : _) → Asks words r → IfErr result (λ _. ⊥) }
-{
-    let Some(style) = style(matches) else {
-        return Err(usage(alloc, WRONG_STYLE));
-    };
-    match argument(matches, "deployment") {
-        Some(deployment) => Ok(Request::Match { deployment, style }),
-        None => Err(usage(alloc, "error: a file is missing\n")),
-    }
-}
-
 fn propose_request<'a>(alloc: Global, matches: &ArgMatches<'a>) -> Result<Request<'a>, NoRequest>
-    ensures asked { (words : List Text) → subcommand_of whole words ≡ Some (codes "propose", rows_of (found_of matches.now)) → IfOk result (Asks words) }
+    ensures asked { Reads (codes "propose") (rows_of (found_of matches.now)) result }
     ensures fault { IfErr result (λ e. ¬ IsHelp e) }
-    ensures unasked { (words : List Text) → subcommand_of whole words ≡ Some (codes "propose", rows_of (found_of matches.now)) → (r : _) → Asks words r → IfErr result (λ _. ⊥) }
+    ensures unasked { Misses (codes "propose") (rows_of (found_of matches.now)) result }
 {
-    let Some(style) = style(matches) else {
-        return Err(usage(alloc, WRONG_STYLE));
-    };
-    match argument(matches, "deployment") {
-        Some(deployment) if is_set(matches, "thorough") => Ok(Request::ProposeThoroughly {
-            deployment,
-            style,
-        }),
-        Some(deployment) => Ok(Request::Propose { deployment, style }),
-        None => Err(usage(alloc, "error: a file is missing\n")),
+    let (deployment, style) = styled_deployment(alloc, matches)?;
+    if is_set(matches, "thorough") {
+        Ok(Request::ProposeThoroughly { deployment, style })
+    } else {
+        Ok(Request::Propose { deployment, style })
     }
 }
 
@@ -553,9 +317,9 @@ fn wishes(matches: &ArgMatches) -> Option<Wishes>
 }
 
 fn run_request<'a>(alloc: Global, matches: &ArgMatches<'a>) -> Result<Request<'a>, NoRequest>
-    ensures asked { (words : List Text) → subcommand_of whole words ≡ Some (codes "run", rows_of (found_of matches.now)) → IfOk result (Asks words) }
+    ensures asked { Reads (codes "run") (rows_of (found_of matches.now)) result }
     ensures fault { IfErr result (λ e. ¬ IsHelp e) }
-    ensures unasked { (words : List Text) → subcommand_of whole words ≡ Some (codes "run", rows_of (found_of matches.now)) → (r : _) → Asks words r → IfErr result (λ _. ⊥) }
+    ensures unasked { Misses (codes "run") (rows_of (found_of matches.now)) result }
 {
     let Some(wishes) = wishes(matches) else {
         return Err(usage(alloc, WRONG_FATES));
@@ -563,7 +327,7 @@ fn run_request<'a>(alloc: Global, matches: &ArgMatches<'a>) -> Result<Request<'a
     let Some(style) = style(matches) else {
         return Err(usage(alloc, WRONG_STYLE));
     };
-    let (deployment, certificate) = both_files(alloc, matches)?;
+    let (deployment, certificate) = both_files(alloc, matches, "certificate")?;
     Ok(Request::Run {
         deployment,
         certificate,
@@ -573,14 +337,12 @@ fn run_request<'a>(alloc: Global, matches: &ArgMatches<'a>) -> Result<Request<'a
 }
 
 fn migrate_request<'a>(alloc: Global, matches: &ArgMatches<'a>) -> Result<Request<'a>, NoRequest>
-    ensures asked { (words : List Text) → subcommand_of whole words ≡ Some (codes "migrate", rows_of (found_of matches.now)) → IfOk result (Asks words) }
+    ensures asked { Reads (codes "migrate") (rows_of (found_of matches.now)) result }
     ensures fault { IfErr result (λ e. ¬ IsHelp e) }
-    ensures unasked { (words : List Text) → subcommand_of whole words ≡ Some (codes "migrate", rows_of (found_of matches.now)) → (r : _) → Asks words r → IfErr result (λ _. ⊥) }
+    ensures unasked { Misses (codes "migrate") (rows_of (found_of matches.now)) result }
 {
-    match argument(matches, "deployment") {
-        Some(deployment) => Ok(Request::Migrate { deployment }),
-        None => Err(usage(alloc, "error: a file is missing\n")),
-    }
+    let deployment = deployment(alloc, matches)?;
+    Ok(Request::Migrate { deployment })
 }
 
 /// The format in which a deployment is to be shown, or `None` where the word stands for none.
@@ -592,27 +354,23 @@ fn format(matches: &ArgMatches) -> Option<Format>
 }
 
 fn show_request<'a>(alloc: Global, matches: &ArgMatches<'a>) -> Result<Request<'a>, NoRequest>
-    ensures asked { (words : List Text) → subcommand_of whole words ≡ Some (codes "show", rows_of (found_of matches.now)) → IfOk result (Asks words) }
+    ensures asked { Reads (codes "show") (rows_of (found_of matches.now)) result }
     ensures fault { IfErr result (λ e. ¬ IsHelp e) }
-    ensures unasked { (words : List Text) → subcommand_of whole words ≡ Some (codes "show", rows_of (found_of matches.now)) → (r : _) → Asks words r → IfErr result (λ _. ⊥) }
+    ensures unasked { Misses (codes "show") (rows_of (found_of matches.now)) result }
 {
     let Some(format) = format(matches) else {
         return Err(usage(alloc, WRONG_FORMAT));
     };
-    match argument(matches, "deployment") {
-        Some(deployment) => Ok(Request::Show { deployment, format }),
-        None => Err(usage(alloc, "error: a file is missing\n")),
-    }
+    let deployment = deployment(alloc, matches)?;
+    Ok(Request::Show { deployment, format })
 }
 
 fn draw_request<'a>(alloc: Global, matches: &ArgMatches<'a>) -> Result<Request<'a>, NoRequest>
-    ensures asked { (words : List Text) → subcommand_of whole words ≡ Some (codes "draw", rows_of (found_of matches.now)) → IfOk result (Asks words) }
+    ensures asked { Reads (codes "draw") (rows_of (found_of matches.now)) result }
     ensures fault { IfErr result (λ e. ¬ IsHelp e) }
-    ensures unasked { (words : List Text) → subcommand_of whole words ≡ Some (codes "draw", rows_of (found_of matches.now)) → (r : _) → Asks words r → IfErr result (λ _. ⊥) }
+    ensures unasked { Misses (codes "draw") (rows_of (found_of matches.now)) result }
 {
-    let Some(deployment) = argument(matches, "deployment") else {
-        return Err(usage(alloc, "error: a file is missing\n"));
-    };
+    let deployment = deployment(alloc, matches)?;
     match argument(matches, "certificate") {
         Some(certificate) if is_input_twice(deployment, certificate) => {
             Err(usage(alloc, INPUT_TWICE))
@@ -625,46 +383,23 @@ fn draw_request<'a>(alloc: Global, matches: &ArgMatches<'a>) -> Result<Request<'
 }
 
 fn refute_request<'a>(alloc: Global, matches: &ArgMatches<'a>) -> Result<Request<'a>, NoRequest>
-    ensures asked { (words : List Text) → subcommand_of whole words ≡ Some (codes "refute", rows_of (found_of matches.now)) → IfOk result (Asks words) }
+    ensures asked { Reads (codes "refute") (rows_of (found_of matches.now)) result }
     ensures fault { IfErr result (λ e. ¬ IsHelp e) }
-    ensures unasked { (words : List Text) → subcommand_of whole words ≡ Some (codes "refute", rows_of (found_of matches.now)) → (r : _) → Asks words r → IfErr result (λ _. ⊥) }
+    ensures unasked { Misses (codes "refute") (rows_of (found_of matches.now)) result }
 {
-    let Some(style) = style(matches) else {
-        return Err(usage(alloc, WRONG_STYLE));
-    };
-    match argument(matches, "deployment") {
-        Some(deployment) => Ok(Request::Refute { deployment, style }),
-        None => Err(usage(alloc, "error: a file is missing\n")),
-    }
-}
-
-/// The names of a deployment and of a file of events, if both are given, not both on standard input.
-fn with_events<'a>(alloc: Global, matches: &ArgMatches<'a>) -> Result<(&'a str, &'a str), NoRequest>
-    ensures both { IfOk result (λ files. NamesEvents (rows_of (found_of matches.now)) files.0.now files.1.now) }
-    ensures fault { IfErr result (λ e. ¬ IsHelp e) }
-    ensures none { IfErr result (λ _. (d e : Text) → NamesEvents (rows_of (found_of matches.now)) d e → ⊥) }
-{
-    let (Some(deployment), Some(events)) = (
-        argument(matches, "deployment"),
-        argument(matches, "events"),
-    ) else {
-        return Err(usage(alloc, "error: a file is missing\n"));
-    };
-    if is_input_twice(deployment, events) {
-        return Err(usage(alloc, INPUT_TWICE));
-    }
-    Ok((deployment, events))
+    let (deployment, style) = styled_deployment(alloc, matches)?;
+    Ok(Request::Refute { deployment, style })
 }
 
 fn replay_request<'a>(alloc: Global, matches: &ArgMatches<'a>) -> Result<Request<'a>, NoRequest>
-    ensures asked { (words : List Text) → subcommand_of whole words ≡ Some (codes "replay", rows_of (found_of matches.now)) → IfOk result (Asks words) }
+    ensures asked { Reads (codes "replay") (rows_of (found_of matches.now)) result }
     ensures fault { IfErr result (λ e. ¬ IsHelp e) }
-    ensures unasked { (words : List Text) → subcommand_of whole words ≡ Some (codes "replay", rows_of (found_of matches.now)) → (r : _) → Asks words r → IfErr result (λ _. ⊥) }
+    ensures unasked { Misses (codes "replay") (rows_of (found_of matches.now)) result }
 {
     let Some(style) = style(matches) else {
         return Err(usage(alloc, WRONG_STYLE));
     };
-    let (deployment, events) = with_events(alloc, matches)?;
+    let (deployment, events) = both_files(alloc, matches, "events")?;
     Ok(Request::Replay {
         deployment,
         events,
@@ -672,15 +407,13 @@ fn replay_request<'a>(alloc: Global, matches: &ArgMatches<'a>) -> Result<Request
     })
 }
 
-/// What the words ask for, of which the first is the program's name. Words that the command does not take are `Usage`, unless they ask for help or the
-/// version; words that it takes are never `Help`. No file is opened.
-pub fn read_request<'a, S: AsStr>(alloc: Global, words: &'a [S]) -> Result<Request<'a>, NoRequest>
-    ensures asked { IfOk result (Asks (map S.text words.entry.now)) }
-    ensures taken { IfErr result (λ e. takes whole (map S.text words.entry.now) ≡ true → ¬ IsHelp e) }
-    ensures unasked { takes whole (map S.text words.entry.now) ≡ true → (r : _) → Asks (map S.text words.entry.now) r → IfErr result (λ e. e ≡ NoRequest.NoMemory) }
+/// What the matches of the words ask for.
+fn request_of<'a>(alloc: Global, matches: &ArgMatches<'a>) -> Result<Request<'a>, NoRequest>
+    ensures asked { (words : List Text) → subcommand_rows_of matches.now ≡ subcommand_of whole words → IfOk result (Asks words) }
+    ensures fault { IfErr result (λ e. ¬ IsHelp e) }
+    ensures unasked { (words : List Text) → subcommand_rows_of matches.now ≡ subcommand_of whole words → (r : _) → Asks words r → IfErr result (λ _. ⊥) }
 {
-    let matches = matches_of(alloc, words)?;
-    match part(&matches) {
+    match part(matches) {
         Some(("match", inner)) => match_request(alloc, inner),
         Some(("check", inner)) => check_request(alloc, inner),
         Some(("propose", inner)) => propose_request(alloc, inner),
@@ -692,4 +425,17 @@ pub fn read_request<'a, S: AsStr>(alloc: Global, words: &'a [S]) -> Result<Reque
         Some(("replay", inner)) => replay_request(alloc, inner),
         _ => Err(usage(alloc, "error: no such command\n")),
     }
+}
+
+/// What the words ask for, of which the first is the program's name. Words that the command does not take are `Usage`, unless they ask for help or the
+/// version; words that it takes are never `Help`. No file is opened.
+pub fn read_request<'a, S: AsStr>(alloc: Global, words: &'a [S]) -> Result<Request<'a>, NoRequest>
+    ensures asked { IfOk result (Asks (map S.text words.entry.now)) }
+    ensures taken { IfErr result (λ e. takes whole (map S.text words.entry.now) ≡ true → ¬ IsHelp e) }
+    ensures unasked { takes whole (map S.text words.entry.now) ≡ true → (r : _) → Asks (map S.text words.entry.now) r → IfErr result (λ e. e ≡ NoRequest.NoMemory) }
+{
+    let matches = matches_of(alloc, words)?;
+    let request = request_of(alloc, &matches);
+    drop(matches);
+    request
 }

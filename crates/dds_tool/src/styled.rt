@@ -6,6 +6,7 @@ ghost use Rattle.dds_answers.specs.Opened.{Opens, OpensAll};
 ghost use Rattle.dds_answers.specs.Outcome.{Outcome, check_file_outcome, match_file_outcome};
 ghost use Rattle.dds_answers.specs.Proposals.{MayProposeFor};
 ghost use Rattle.dds_answers.specs.Searches.{MayFindFor};
+ghost use Rattle.dds_answers.specs.Syntax.{IsFaultTold};
 ghost use Rattle.dds_json.specs.Ends.{EndsProposal, in_style};
 
 use dds_answers::{
@@ -25,6 +26,8 @@ pub(crate) fn check_in_style<S: Sources>(
 ) -> Result<Answer, ToolFault>
     ensures gives { (d c : List ℕ) → S.holds files.old deployment.now ≡ Some d → S.holds files.old certificate.now ≡ Some c
         → Gives result (in_style style (check_file_outcome detail d c)) }
+    ensures told { (d c : List ℕ) → S.holds files.old deployment.now ≡ Some d → S.holds files.old certificate.now ≡ Some c
+        → IfErr result (IsFaultTold detail d c) }
     ensures causes { IfErr result (IsFileFault (S.has_failed files.new)) }
     ensures opened { Opens (S.opened files.old) (S.opened files.new) (deployment.now ∷ certificate.now ∷ []) }
     ensures all_opened { OnOk result (OpensAll (S.opened files.old) (S.opened files.new) (deployment.now ∷ certificate.now ∷ [])) }

@@ -7,9 +7,9 @@ use Rattle.dds_json.proofs.Ends.{ends_in_json}
 use Rattle.dds_json.proofs.checking.check_answer_in_json.Goals as goal
 
 pub returns-in-Ok-clause-gives : goal.returns-in-Ok-clause-gives
-returns-in-Ok-clause-gives c = subst (λ (end : Outcome). Gives c.reported_in_json.result (in_json (told c.args.detail end))) (sym c.in-Ok.ensures) c.reported_in_json.ensures.gives
+returns-in-Ok-clause-gives c = subst (λ (end : Outcome). Gives c.reported_in_json.result (in_json (told c.args.detail end))) (sym c.in-Ok.ensures.tells) c.reported_in_json.ensures.gives
 
 pub returns-in-Err-clause-gives : goal.returns-in-Err-clause-gives
 returns-in-Err-clause-gives c =
     let end = outcome c.args.deployment.now c.args.certificate.now in
-    ends_in_json c.in-Err.fault (told c.args.detail end) (reported_ends c.args.detail c.in-Err.fault end c.in-Err.ensures)
+    ends_in_json c.in-Err.fault (told c.args.detail end) (reported_ends c.args.detail c.in-Err.fault end c.in-Err.ensures.tells)

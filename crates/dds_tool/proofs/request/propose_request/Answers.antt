@@ -2,5 +2,5 @@ use Rattle.clap.specs.Words.{found_of, rows_of}
 use Rattle.dds_tool.proofs.Requested.{proposes_one}
 use Rattle.dds_tool.proofs.request.propose_request.Goals as goal
 
-pub returns-in-None-clause-unasked : goal.returns-in-None-clause-unasked
-returns-in-None-clause-unasked c = λ words is r asks. proposes_one words (rows_of (found_of c.args.matches.now)) is r asks c.in-None.ensures
+pub returns-in_err-deployment-clause-unasked : goal.returns-in_err-deployment-clause-unasked
+returns-in_err-deployment-clause-unasked c = λ words is r asks. absurd (proposes_one words (rows_of (found_of c.args.matches.now)) is r asks c.in_err-deployment.ensures.none)

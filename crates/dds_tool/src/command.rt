@@ -1,0 +1,277 @@
+//! The command, its subcommands and their arguments, as `clap` knows them.
+ghost use Rattle.std.specs.Prelude.{◌≡◌, IfOk, IsOk, OnOk, codes, false};
+ghost use Rattle.clap.specs.Words.{app_of, rule_of, with_subcommand};
+ghost use Rattle.clap.specs.declared.builder.command.Command.TheViews.{out-Command as fields_of};
+ghost use Rattle.dds_tool.specs.Command.{checking, count_rule, drawing, file_rule, flag_rule, matching, one_file, optional_file_rule, refuting, replaying, running, searching, showing, styled, top_app, two_files, whole, wish_rule};
+
+use clap::{Arg, ArgAction, Command, value_parser};
+use std::alloc::{AllocError, Global};
+
+/// What help says of the argument that names a deployment.
+const DEPLOYMENT: &str =
+    "A TOML file: participants, topics, writers, readers, applications, rules, connections";
+
+/// What help says of the flag of a thorough search.
+const THOROUGH: &str =
+    "Searches by linear programming, for the least bounds, and tells which limit has no certificate";
+
+/// What help says of the argument that names a certificate.
+const CERTIFICATE: &str = "A TOML file: rows of weights, and the bounds and totals that they show";
+
+/// What help says of the fates of packets.
+const FATES: &str = "What befalls packets, in a circle: pass, keep, last, lose, with commas";
+
+/// What help says of the number of writes.
+const WRITES: &str = "How many samples each application writes";
+
+/// What help says of the number of takes.
+const TAKES: &str = "How many samples each application takes";
+
+/// What help says of the format.
+const FORMAT: &str = "json or dds-xml";
+
+/// What help says of the style of an answer.
+const STYLE: &str = "text or json";
+
+/// What help says of the flag of an explained answer.
+const EXPLAIN: &str =
+    "Tells the reason too: the numbers behind a refusal, how near each bound is to its limit, or where a file is no TOML";
+
+/// What help says of the certificate of a picture.
+const DRAWN_CERTIFICATE: &str = "A certificate whose bounds are drawn";
+
+/// What help says of the argument that names a file of events.
+const EVENTS: &str = "Events, a line each, as refute prints them";
+
+fn file<'a>(alloc: Global, id: &'a str, help: &'a str) -> Arg<'a>
+    ensures rule { rule_of result ≡ file_rule id.entry.now }
+    ensures local { result.global ≡ false }
+{
+    Arg::new(alloc, id)
+        .help(help)
+        .required(true)
+        .action(ArgAction::Set)
+}
+
+fn optional_file<'a>(alloc: Global, id: &'a str, help: &'a str) -> Arg<'a>
+    ensures rule { rule_of result ≡ optional_file_rule id.entry.now }
+    ensures local { result.global ≡ false }
+{
+    Arg::new(alloc, id).help(help).action(ArgAction::Set)
+}
+
+fn flag<'a>(alloc: Global, id: &'a str, help: &'a str) -> Arg<'a>
+    ensures rule { rule_of result ≡ flag_rule id.entry.now }
+    ensures local { result.global ≡ false }
+{
+    Arg::new(alloc, id)
+        .long(id)
+        .help(help)
+        .action(ArgAction::SetTrue)
+}
+
+fn wish<'a>(alloc: Global, id: &'a str, value: &'a str, default: &'a str, help: &'a str) -> Arg<'a>
+    ensures rule { rule_of result ≡ wish_rule id.entry.now default.entry.now }
+    ensures local { result.global ≡ false }
+{
+    Arg::new(alloc, id)
+        .long(id)
+        .value_name(value)
+        .default_value(default)
+        .help(help)
+        .action(ArgAction::Set)
+}
+
+/// The command, told in lines where it isn't asked for a document.
+fn styled<'a>(alloc: Global, command: Command<'a>) -> Result<Command<'a>, AllocError>
+    requires local { (fields_of command).has_globals ≡ false }
+    ensures app { IfOk result (λ c. app_of c ≡ styled (app_of command.entry)) }
+    ensures local { IfOk result (λ c. (fields_of c).has_globals ≡ false) }
+{
+    command.arg(wish(alloc, "format", "FORMAT", "text", STYLE))
+}
+
+fn match_command<'a>(alloc: Global) -> Result<Command<'a>, AllocError>
+    ensures app { IfOk result (λ c. app_of c ≡ matching) }
+    ensures local { IfOk result (λ c. (fields_of c).has_globals ≡ false) }
+{
+    let command = one_file_command(
+        alloc,
+        "match",
+        "Tells which writers and readers match, and why others don't",
+    )?;
+    styled(alloc, command)
+}
+
+fn propose_command<'a>(alloc: Global) -> Result<Command<'a>, AllocError>
+    ensures app { IfOk result (λ c. app_of c ≡ searching) }
+    ensures local { IfOk result (λ c. (fields_of c).has_globals ≡ false) }
+{
+    let command = one_file_command(
+        alloc,
+        "propose",
+        "Looks for a certificate of a deployment",
+    )?.arg(flag(alloc, "thorough", THOROUGH))?;
+    styled(alloc, command)
+}
+
+fn one_file_command<'a>(
+    alloc: Global,
+    name: &'a str,
+    about: &'a str,
+) -> Result<Command<'a>, AllocError>
+    ensures app { IfOk result (λ c. app_of c ≡ one_file name.entry.now) }
+    ensures local { IfOk result (λ c. (fields_of c).has_globals ≡ false) }
+{
+    Command::new(alloc, name)
+        .about(about)
+        .arg(file(alloc, "deployment", DEPLOYMENT))
+}
+
+fn two_files_command<'a>(
+    alloc: Global,
+    name: &'a str,
+    about: &'a str,
+) -> Result<Command<'a>, AllocError>
+    ensures app { IfOk result (λ c. app_of c ≡ two_files name.entry.now) }
+    ensures local { IfOk result (λ c. (fields_of c).has_globals ≡ false) }
+{
+    Command::new(alloc, name)
+        .about(about)
+        .arg(file(alloc, "deployment", DEPLOYMENT))?
+        .arg(file(alloc, "certificate", CERTIFICATE))
+}
+
+fn check_command<'a>(alloc: Global) -> Result<Command<'a>, AllocError>
+    ensures app { IfOk result (λ c. app_of c ≡ checking) }
+    ensures local { IfOk result (λ c. (fields_of c).has_globals ≡ false) }
+{
+    let command = two_files_command(alloc, "check", "Checks a certificate of a deployment")?.arg(
+        flag(alloc, "explain", EXPLAIN),
+    )?;
+    styled(alloc, command)
+}
+
+fn count<'a>(alloc: Global, id: &'a str, help: &'a str) -> Arg<'a>
+    ensures rule { rule_of result ≡ count_rule id.entry.now }
+    ensures local { result.global ≡ false }
+{
+    wish(alloc, id, "N", "10", help).value_parser(value_parser!(u16))
+}
+
+fn run_command<'a>(alloc: Global) -> Result<Command<'a>, AllocError>
+    ensures app { IfOk result (λ c. app_of c ≡ running) }
+    ensures local { IfOk result (λ c. (fields_of c).has_globals ≡ false) }
+{
+    let command = two_files_command(
+        alloc,
+        "run",
+        "Runs a deployment that a certificate shows to be safe",
+    )?
+    .arg(wish(alloc, "fates", "LIST", "pass", FATES))?
+    .arg(count(alloc, "writes", WRITES))?
+    .arg(count(alloc, "takes", TAKES))?;
+    styled(alloc, command)
+}
+
+fn show_command<'a>(alloc: Global) -> Result<Command<'a>, AllocError>
+    ensures app { IfOk result (λ c. app_of c ≡ showing) }
+    ensures local { IfOk result (λ c. (fields_of c).has_globals ≡ false) }
+{
+    one_file_command(
+        alloc,
+        "show",
+        "Prints a deployment as it was read, with every field",
+    )?
+    .arg(wish(alloc, "format", "FORMAT", "json", FORMAT))
+}
+
+fn draw_command<'a>(alloc: Global) -> Result<Command<'a>, AllocError>
+    ensures app { IfOk result (λ c. app_of c ≡ drawing) }
+    ensures local { IfOk result (λ c. (fields_of c).has_globals ≡ false) }
+{
+    one_file_command(
+        alloc,
+        "draw",
+        "Prints a picture of a deployment, for Graphviz",
+    )?
+    .arg(optional_file(alloc, "certificate", DRAWN_CERTIFICATE))
+}
+
+fn refute_command<'a>(alloc: Global) -> Result<Command<'a>, AllocError>
+    ensures app { IfOk result (λ c. app_of c ≡ refuting) }
+    ensures local { IfOk result (λ c. (fields_of c).has_globals ≡ false) }
+{
+    let command = one_file_command(
+        alloc,
+        "refute",
+        "Looks for a run of a deployment that loses a sample",
+    )?;
+    styled(alloc, command)
+}
+
+fn replay_command<'a>(alloc: Global) -> Result<Command<'a>, AllocError>
+    ensures app { IfOk result (λ c. app_of c ≡ replaying) }
+    ensures local { IfOk result (λ c. (fields_of c).has_globals ≡ false) }
+{
+    let command = one_file_command(
+        alloc,
+        "replay",
+        "Makes the events of a file on a deployment, and prints what comes of each",
+    )?
+    .arg(file(alloc, "events", EVENTS))?;
+    styled(alloc, command)
+}
+
+fn migrate_command<'a>(alloc: Global) -> Result<Command<'a>, AllocError>
+    ensures app { IfOk result (λ c. app_of c ≡ one_file (codes "migrate")) }
+    ensures local { IfOk result (λ c. (fields_of c).has_globals ≡ false) }
+{
+    one_file_command(
+        alloc,
+        "migrate",
+        "Prints a deployment file of version 1 as one of version 2",
+    )
+}
+
+/// The command, and a subcommand more that has no global argument.
+fn with_command<'a>(
+    command: Command<'a>,
+    below: Result<Command<'a>, AllocError>,
+) -> Result<Command<'a>, AllocError>
+    requires below { IfOk below (λ b. (fields_of b).has_globals ≡ false) }
+    ensures app { IfOk result (λ c. IfOk below.entry (λ b. app_of c ≡ with_subcommand (app_of command.entry) (app_of b).top)) }
+    ensures below { OnOk result (IsOk below.entry) }
+{
+    match below {
+        Ok(below) => command.subcommand(below),
+        Err(refused) => {
+            drop(command);
+            Err(refused)
+        }
+    }
+}
+
+fn top_command<'a>(alloc: Global) -> Command<'a>
+    ensures { app_of result ≡ top_app }
+{
+    Command::new(alloc, "ddscheck")
+        .version("0.1.0")
+        .about("Shows before a launch that the bounds of a DDS deployment suffice")
+        .subcommand_required(true)
+}
+
+/// The whole command. Only want of memory is an error.
+pub(crate) fn whole_command<'a>(alloc: Global) -> Result<Command<'a>, AllocError>
+    ensures { IfOk result (λ c. app_of c ≡ whole) }
+{
+    let command = with_command(top_command(alloc), match_command(alloc))?;
+    let command = with_command(command, check_command(alloc))?;
+    let command = with_command(command, propose_command(alloc))?;
+    let command = with_command(command, run_command(alloc))?;
+    let command = with_command(command, migrate_command(alloc))?;
+    let command = with_command(command, show_command(alloc))?;
+    let command = with_command(command, draw_command(alloc))?;
+    let command = with_command(command, refute_command(alloc))?;
+    with_command(command, replay_command(alloc))
+}
