@@ -3,7 +3,8 @@ ghost use Rattle.std.specs.Prelude.{◌≡◌, ◌≢◌, ℕ, List, [], ◌∷�
 ghost use Rattle.std.specs.Io.KnownBytes.{Keeps};
 ghost use Rattle.clap.specs.Words.{takes};
 ghost use Rattle.dds_json.specs.declared.style.Style.TheVariants.{Json};
-ghost use Rattle.dds_tool.specs.Asking.{Answers, Asks, GivesTo, IsHelp, Tells, paths_of, style_of, whole};
+ghost use Rattle.dds_tool.specs.Asking.{Answers, Asks, GivesTo, IsHelp, Tells, paths_of, style_of};
+ghost use Rattle.dds_tool.specs.Command.{whole};
 ghost use Rattle.dds_answers.specs.Answers.{GivesOneOf};
 ghost use Rattle.dds_answers.specs.Causes.{IsFileFault};
 ghost use Rattle.dds_answers.specs.Exit.{exit_status};
