@@ -178,6 +178,3 @@ fn monitor(
         seat,
     }
 }
-
-#[cfg(test)]
-mod tests;

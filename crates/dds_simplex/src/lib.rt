@@ -7,8 +7,6 @@
 mod dictionary;
 mod divisor;
 mod line;
-#[cfg(test)]
-mod tests;
 
 pub use dictionary::{Dictionary, End, Stop, Variable};
 pub use divisor::common_divisor;

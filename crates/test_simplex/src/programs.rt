@@ -1,7 +1,6 @@
 //! Small programs whose greatest values are known by hand.
 
-use crate::dictionary::{Dictionary, End, Stop, Variable};
-use crate::line::Line;
+use dds_simplex::{Dictionary, End, Line, Stop, Variable};
 use std::alloc::Global;
 use std::test::Fail;
 
@@ -13,13 +12,19 @@ fn line(alloc: Global, constant: i128, x: i128, y: i128) -> Result<Line, Fail> {
     Ok(line)
 }
 
+/// Two conditions: each line may not fall below 0.
+fn under_two(alloc: Global, first: Line, second: Line) -> Result<Dictionary, Fail> {
+    let mut dictionary = Dictionary::new(alloc, 2)?;
+    dictionary.push(first)?;
+    dictionary.push(second)?;
+    Ok(dictionary)
+}
+
 /// Under `x + 2 y <= 4` and `3 x + y <= 6` the greatest value of `x + y` is 14/5, at x = 8/5 and y = 6/5.
 #[test]
 fn meets_in_a_corner(rt: HostRuntime) -> Result<(), Fail> {
     let alloc = rt.alloc();
-    let mut dictionary = Dictionary::new(alloc, 2)?;
-    dictionary.push(line(alloc, 4, -1, -2)?)?;
-    dictionary.push(line(alloc, 6, -3, -1)?)?;
+    let mut dictionary = under_two(alloc, line(alloc, 4, -1, -2)?, line(alloc, 6, -3, -1)?)?;
     let mut sum = line(alloc, 0, 1, 1)?;
     let mut left = 10;
     assert_eq!(rt; dictionary.climb(&mut sum, &mut left), Ok(End::Greatest));
@@ -33,9 +38,7 @@ fn meets_in_a_corner(rt: HostRuntime) -> Result<(), Fail> {
 #[test]
 fn keeps_a_sum(rt: HostRuntime) -> Result<(), Fail> {
     let alloc = rt.alloc();
-    let mut dictionary = Dictionary::new(alloc, 2)?;
-    dictionary.push(line(alloc, 4, -1, -1)?)?;
-    dictionary.push(line(alloc, 3, -1, 0)?)?;
+    let mut dictionary = under_two(alloc, line(alloc, 4, -1, -1)?, line(alloc, 3, -1, 0)?)?;
     let mut sum = line(alloc, 0, 1, 1)?;
     let mut left = 10;
     assert_eq!(rt; dictionary.climb(&mut sum, &mut left), Ok(End::Greatest));
@@ -71,9 +74,7 @@ fn has_no_greatest_value(rt: HostRuntime) -> Result<(), Fail> {
 #[test]
 fn spends_the_pivots(rt: HostRuntime) -> Result<(), Fail> {
     let alloc = rt.alloc();
-    let mut dictionary = Dictionary::new(alloc, 2)?;
-    dictionary.push(line(alloc, 4, -1, -2)?)?;
-    dictionary.push(line(alloc, 6, -3, -1)?)?;
+    let mut dictionary = under_two(alloc, line(alloc, 4, -1, -2)?, line(alloc, 6, -3, -1)?)?;
     let mut sum = line(alloc, 0, 1, 1)?;
     let mut left = 1;
     assert_eq!(rt; dictionary.climb(&mut sum, &mut left), Err(Stop::Budget));
@@ -85,9 +86,11 @@ fn spends_the_pivots(rt: HostRuntime) -> Result<(), Fail> {
 fn gives_up_great_numbers(rt: HostRuntime) -> Result<(), Fail> {
     let alloc = rt.alloc();
     let great = i128::MAX / 2;
-    let mut dictionary = Dictionary::new(alloc, 2)?;
-    dictionary.push(line(alloc, 4, 1 - great, -3)?)?;
-    dictionary.push(line(alloc, 6, -3, 2 - great)?)?;
+    let lines = (
+        line(alloc, 4, 1 - great, -3)?,
+        line(alloc, 6, -3, 2 - great)?,
+    );
+    let mut dictionary = under_two(alloc, lines.0, lines.1)?;
     let mut sum = line(alloc, 0, 1, 1)?;
     let mut left = 10;
     assert_eq!(rt; dictionary.climb(&mut sum, &mut left), Err(Stop::Overflow));

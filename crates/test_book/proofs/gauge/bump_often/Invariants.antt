@@ -1,5 +1,5 @@
 use Rattle.std.proofs.Common.{◌≡◌, IsSome}
-use Rattle.dds_book.proofs.gauge.tests.bump_often.Given as goal
+use Rattle.test_book.proofs.gauge.bump_often.Given as goal
 
 -- the seat stays an owner's of this gauge
 abbrev pub invariant-loop : goal.invariant-loop

@@ -1,12 +1,14 @@
+//! A count that one thread raises, as a monitor reads it after that thread.
+
 ghost use Rattle.std.specs.Prelude.{◌≡◌, ◌<◌, IsSome};
 
-use super::*;
 use dds_base::AppNo;
-use std::test::*;
+use dds_book::{Gauge, GaugeSeat};
+use std::test::Fail;
 use std::thread;
 use std::thread::Threads;
 
-// Raises the seat's count a thousand times.
+/// Raises the seat's count a thousand times.
 fn bump_often(gauge: &Gauge, mut seat: GaugeSeat)
     requires gauge { seat.table ≡ gauge.now.table }
     requires owner { IsSome seat.owner }
@@ -16,7 +18,7 @@ fn bump_often(gauge: &Gauge, mut seat: GaugeSeat)
     }
 }
 
-// The count of the first application, as a monitor reads it once the thread of the owner was joined.
+/// The count of the first application, as a monitor reads it once the thread of the owner was joined.
 fn read_after<R: Threads>(rt: &R, gauge: &Gauge, owner: GaugeSeat, mut monitor: GaugeSeat) -> u64
     requires owner { (owner.table ≡ gauge.now.table) × IsSome owner.owner }
     requires monitor { monitor.table ≡ gauge.now.table }
