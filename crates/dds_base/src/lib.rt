@@ -4,6 +4,7 @@
 #![tactic(auto)]
 
 pub mod events;
+pub mod grid;
 pub mod messages;
 pub mod names;
 pub mod numbered;

@@ -15,7 +15,7 @@ pub mod naming;
 mod rows;
 pub mod text;
 mod totals;
-mod weighing;
+pub mod weighing;
 mod weights;
 
 pub use certificate::{Bound, Certificate, Row, Total, Weight};

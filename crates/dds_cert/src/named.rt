@@ -5,8 +5,8 @@ ghost use Rattle.dds_cert.specs.Named.{IsWithin};
 ghost use Rattle.dds_cert.specs.Sections.{bound_place};
 
 use crate::certificate::{Bound, Weight};
-use crate::weighing::{KEYS, PLACES};
 use dds_base::Endpoint;
+use dds_base::grid::{KEYS, PLACES};
 
 /// Whether no two of the weights are of one endpoint and key.
 pub(crate) fn weights_name_nothing_twice<E: Endpoint>(weights: &[Weight<E>]) -> bool

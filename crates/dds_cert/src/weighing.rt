@@ -3,19 +3,11 @@ ghost use Rattle.dds_cert.specs.Weighing.{ShowsWeights};
 
 use crate::certificate::Weight;
 use dds_base::Endpoint;
-
-/// No plan has more writers or more readers.
-const ENDPOINTS: usize = 256;
-
-/// No topic has more keys.
-pub(crate) const KEYS: usize = 64;
-
-/// A place for each key of each endpoint.
-pub(crate) const PLACES: usize = 16384;
+use dds_base::grid::{ENDPOINTS, KEYS, PLACES};
 
 /// The weight of key k of endpoint e at the place e * 64 + k, 0 where none is named. Of weights for one endpoint and key the first
 /// counts, and one that has no place is left out.
-pub(crate) fn weights_by_place<E: Endpoint>(entries: &[Weight<E>]) -> [u32; PLACES]
+pub fn weights_by_place<E: Endpoint>(entries: &[Weight<E>]) -> [u32; PLACES]
     ensures { ShowsWeights E.number_of result entries.now }
 {
     let mut cells = [0; PLACES];

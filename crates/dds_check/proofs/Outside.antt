@@ -1,14 +1,14 @@
 -- Past the limits no weight is named, and numbers that are numbers already change nothing.
-use Rattle.std.proofs.Common.{ℕ, ◌≡◌, ◌⊎◌, ◌+◌, ◌*◌, ◌<◌, ◌≤◌, List, [], ◌∷◌, refl, ap, arith, ◌==◌, ◌&&◌, false, cond, length, replicate, drop, sym, ◌∙◌}
+use Rattle.std.proofs.Common.{ℕ, ◌≡◌, ◌⊎◌, ◌+◌, ◌*◌, ◌<◌, ◌≤◌, List, [], ◌∷◌, refl, ap, arith, ◌==◌, ◌&&◌, false, cond, ◌∙◌}
 use Rattle.std.specs.List.{AllByRecursion}
-use Rattle.std.proofs.lemmas.List.{get_or-replicate, length-replicate, drop_all}
 use Rattle.std.proofs.lemmas.List.Elements.{recursion_from_All}
 use Rattle.std.proofs.lemmas.Bool.Decides.{nat_tests}
 use Rattle.dds_base.specs.declared.portion.Portion.{Portion}
 use Rattle.dds_match.specs.Network.{weighed}
 use Rattle.dds_cert.specs.declared.certificate.Weight.{Weight}
 use Rattle.dds_cert.specs.Lists.{weight_of}
-use Rattle.dds_check.specs.Tables.{weight_by, weighed_by, IsWithin, ShowsWeights}
+use Rattle.dds_cert.specs.Weighing.{weight_by}
+use Rattle.dds_check.specs.Tables.{weighed_by, IsWithin}
 
 differs : (m j e k : ℕ) → (m < 256) × (j < 64) → (256 ≤ e) ⊎ (64 ≤ k) → ((m == e) && (j == k)) ≡ false
 differs m j e k h o = grind (arith, nat_tests)
@@ -19,13 +19,6 @@ outside number (x ∷ xs) e k h o = let no = differs (number x.endpoint) x.key e
 
 pub weight_outside : {E : Type 0} (number : E → ℕ) (xs : List (Weight E)) (e k : ℕ) → IsWithin number xs → (256 ≤ e) ⊎ (64 ≤ k) → weight_by number xs e k ≡ 0
 weight_outside number xs e k h o = outside number xs e k (recursion_from_All _ _ h) o
-
--- a table of zeros shows no entries
-pub no_entries : {E : Type 0} (number : E → ℕ) (n : ℕ) (entries : List (Weight E)) → n ≡ 16384 → ShowsWeights number (replicate n 0) (drop (length entries) entries)
-no_entries number n entries same = record {
-  len = length-replicate n 0 ∙ same;
-  shown = λ e k he hk. get_or-replicate n (e * 64 + k) 0 0 (omega arith) ∙ sym (ap (λ xs. weight_by number xs e k) (drop_all (length entries) entries (omega arith)));
-}
 
 pub weight_same : (xs : List (Weight ℕ)) (e k : ℕ) → weight_by (λ n. n) xs e k ≡ weight_of xs e k
 weight_same [] e k = refl

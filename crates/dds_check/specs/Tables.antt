@@ -1,5 +1,5 @@
 -- Look-ups in the lists of a certificate, and tables that answer them at once.
-use Rattle.std.specs.Prelude.{ℕ, ◌≡◌, ◌+◌, ◌*◌, ◌<◌, ◌≤◌, ◌==◌, ◌&&◌, List, [], ◌∷◌, All, length, slice_index, slice_index_or, Option, Some, None, if◌then◌else◌}
+use Rattle.std.specs.Prelude.{ℕ, ◌≡◌, ◌+◌, ◌*◌, ◌<◌, ◌≤◌, ◌==◌, ◌&&◌, List, [], ◌∷◌, All, length, slice_index_or, Option, Some, None, if◌then◌else◌}
 use Rattle.dds_base.specs.declared.portion.Portion.{Portion}
 use Rattle.dds_cert.specs.Lists.{Row, Certificate}
 use Rattle.dds_cert.specs.declared.certificate.Weight.{Weight}
@@ -16,11 +16,6 @@ abbrev pub total_of : List Total → ℕ → Option ℕ
 total_of [] r = None
 total_of (t ∷ ts) r = if t.reader == r then Some t.bound else total_of ts r
 
--- the weight of a key of an endpoint, 0 where none is named, by the numbers of the endpoints
-abbrev pub weight_by : {E : Type 0} → (E → ℕ) → List (Weight E) → ℕ → ℕ → ℕ
-weight_by number [] e k = 0
-weight_by number (x ∷ xs) e k = if (number x.endpoint == e) && (x.key == k) then x.weight else weight_by number xs e k
-
 -- the sum of count times weight over a rule's list, by the numbers of the endpoints
 abbrev pub weighed_by : {E : Type 0} → (E → ℕ) → List (Portion E) → (ℕ → ℕ → ℕ) → ℕ
 weighed_by number [] f = 0
@@ -29,11 +24,6 @@ weighed_by number (x ∷ xs) f = x.count * f (number x.endpoint) x.key + weighed
 -- the entries name endpoints below 256 and keys below 64
 abbrev pub IsWithin : {E : Type 0} → (E → ℕ) → List (Weight E) → Type 0
 IsWithin number xs = All (λ x. (number x.endpoint < 256) × (x.key < 64)) xs
-
--- the place of key k of endpoint e has its weight
-pub record ShowsWeights {E : Type 0} (number : E → ℕ) (cells : List ℕ) (entries : List (Weight E)) : Type 0 where
-  pub len : length cells ≡ 16384
-  pub shown : (e k : ℕ) → e < 256 → k < 64 → slice_index cells (e * 64 + k) ≡ weight_by number entries e k
 
 -- the entries of all lists of a row are within a table
 pub record IsRowWithin (row : Row) : Type 0 where

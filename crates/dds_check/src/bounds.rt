@@ -3,19 +3,16 @@
 ghost use Rattle.std.specs.Prelude.{◌≡◌, ◌<◌, All, Some, None};
 ghost use Rattle.dds_check.specs.Tables.{bound_of, total_of, IsBoundWithin, IsTotalWithin, ShowsBounds, ShowsTotals};
 
-use crate::sizes::{ENDPOINTS, KEYS};
+use dds_base::grid::{ENDPOINTS, KEYS, PLACES};
 use dds_base::{KeyNo, ReaderNo};
 use dds_cert::{Bound, Total};
 use std::marker::Model;
-
-/// A place for each key of each reader.
-const CELLS: usize = 16384;
 
 /// The bounds of a certificate, with each where its reader and key say. Contracts see it as the list.
 #[derive(Drop)]
 pub struct Bounds<'a> {
     entries: &'a [Bound],
-    cells: [Option<u32>; CELLS],
+    cells: [Option<u32>; PLACES],
 }
 
 impl<'a> Model for Bounds<'a> {
@@ -49,11 +46,11 @@ impl<'a> Model for Totals<'a> {
     ghost invariant = { λ t. ShowsTotals t.cells t.entries.now × All IsTotalWithin t.entries.now };
 }
 
-fn bound_cells(entries: &[Bound]) -> [Option<u32>; CELLS]
+fn bound_cells(entries: &[Bound]) -> [Option<u32>; PLACES]
     requires { All IsBoundWithin entries.now }
     ensures { ShowsBounds result entries.now }
 {
-    let mut cells = [None; CELLS];
+    let mut cells = [None; PLACES];
     let mut i = entries.len();
     while 0 < i {
         i -= 1;

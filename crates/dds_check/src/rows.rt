@@ -7,10 +7,11 @@ ghost use Rattle.dds_check.specs.Accepted.{row_of};
 ghost use Rattle.dds_check.specs.Tables.{IsTabled};
 ghost use Rattle.dds_check.specs.Rows.{take_raises, row_take_raises, rule_raises, row_rule_raises, write_raises, row_write_raises, rows_no, ShowsSpreads};
 
-use crate::sizes::{KEYS, readers_of, rules_of, writers_of};
-use crate::spreads::{CELLS, spreads_of};
+use crate::sizes::{readers_of, rules_of, writers_of};
+use crate::spreads::spreads_of;
 use crate::tables::{Tables, tables_of};
 use crate::verdict::{No, Number, Subject, refusal_if};
+use dds_base::grid::{KEYS, PLACES};
 use dds_base::{KeyNo, ReaderNo, RuleNo, WriterNo};
 use dds_cert::Certificate;
 use dds_match::Plan;
@@ -82,7 +83,7 @@ fn row_rule_raises(plan: &Plan, weights: &Tables, row: usize) -> Option<No>
 fn write_raises(
     plan: &Plan,
     weights: &Tables,
-    spreads: &[u64; CELLS],
+    spreads: &[u64; PLACES],
     row: usize,
     writer: WriterNo,
     key: KeyNo,
@@ -105,7 +106,7 @@ fn write_raises(
 fn writer_write_raises(
     plan: &Plan,
     weights: &Tables,
-    spreads: &[u64; CELLS],
+    spreads: &[u64; PLACES],
     row: usize,
     writer: WriterNo,
 ) -> Option<No>

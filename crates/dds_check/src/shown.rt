@@ -10,9 +10,9 @@ ghost use Rattle.dds_check.specs.Tables.{IsTabled};
 ghost use Rattle.dds_check.specs.Shown.{shows, is_unshown, is_unshown_by, names_no_row, bound_not_shown, shows_all, total_not_shown, HasBudgets, shown_no};
 
 use crate::budget::budget;
-use crate::sizes::KEYS;
 use crate::tables::{Tables, tables_of};
 use crate::verdict::{No, Number, Subject, refusal_if};
+use dds_base::grid::KEYS;
 use dds_base::{KeyNo, ReaderNo};
 use dds_cert::{Bound, Certificate, Row, Total};
 use dds_match::Plan;

@@ -5,12 +5,6 @@ ghost use Rattle.dds_match.specs.Plan.{network_of};
 
 use dds_match::Plan;
 
-/// No plan has more writers or more readers.
-pub(crate) const ENDPOINTS: usize = 256;
-
-/// No topic has more keys. A key that a topic doesn't have is neither heard nor written.
-pub(crate) const KEYS: usize = 64;
-
 /// How many writers the plan has, at most 256.
 pub(crate) fn writers_of(plan: &Plan) -> usize
     ensures count { result ≡ (network_of plan.now).writers }

@@ -5,16 +5,14 @@ ghost use Rattle.dds_check.specs.Accepted.{row_of};
 ghost use Rattle.dds_check.specs.Rows.{ShowsSpreads};
 ghost use Rattle.dds_check.specs.Spreads.{Adds, ShowsHeard};
 
-use crate::sizes::{ENDPOINTS, KEYS, readers_of, writers_of};
+use crate::sizes::{readers_of, writers_of};
 use crate::tables::Tables;
+use dds_base::grid::{KEYS, PLACES};
 use dds_base::{KeyNo, ReaderNo, WriterNo};
 use dds_match::Plan;
 
-/// A place for each key of each writer.
-pub(crate) const CELLS: usize = ENDPOINTS * KEYS;
-
 /// Adds the weight of a key that the reader hears for each writer that matches it.
-fn add_heard(plan: &Plan, cells: &mut [u64; CELLS], reader: ReaderNo, key: KeyNo, weight: u32)
+fn add_heard(plan: &Plan, cells: &mut [u64; PLACES], reader: ReaderNo, key: KeyNo, weight: u32)
     requires key { key < 64 }
     requires room { (w : ℕ) → w < (network_of plan.now).writers → slice_index cells.old (w * 64 + key) < 2 ^ 63 }
     ensures { Adds (network_of plan.now).writers (λ w k. if (key == k) && (network_of plan.now).matched w reader then weight else 0) cells.old cells.new }
@@ -27,7 +25,7 @@ fn add_heard(plan: &Plan, cells: &mut [u64; CELLS], reader: ReaderNo, key: KeyNo
 }
 
 /// Adds what one reader hears: a key that the row doesn't weigh costs no walk over the writers.
-fn add_reader(plan: &Plan, weights: &Tables, cells: &mut [u64; CELLS], reader: ReaderNo)
+fn add_reader(plan: &Plan, weights: &Tables, cells: &mut [u64; PLACES], reader: ReaderNo)
     requires reader { reader < 256 }
     requires cells { ShowsHeard (network_of plan.now) (row_of weights.now) reader cells.old }
     ensures { ShowsHeard (network_of plan.now) (row_of weights.now) (reader + 1) cells.new }
@@ -42,10 +40,10 @@ fn add_reader(plan: &Plan, weights: &Tables, cells: &mut [u64; CELLS], reader: R
 }
 
 /// For each writer and key what a write puts in flight, weighed by the row.
-pub(crate) fn spreads_of(plan: &Plan, weights: &Tables) -> [u64; CELLS]
+pub(crate) fn spreads_of(plan: &Plan, weights: &Tables) -> [u64; PLACES]
     ensures { ShowsSpreads (network_of plan.now) (row_of weights.now) result }
 {
-    let mut cells = [0; CELLS];
+    let mut cells = [0; PLACES];
     for r in 0..readers_of(plan) {
         add_reader(plan, weights, &mut cells, ReaderNo::new(r));
     }

@@ -3,47 +3,33 @@ ghost use Rattle.std.specs.Prelude.{◌≡◌, ◌<◌, ◌≤◌, ◌*◌, ◌^
 ghost use Rattle.dds_match.specs.Network.{weighed};
 ghost use Rattle.dds_cert.specs.Views.{row_view, certificate_view};
 ghost use Rattle.dds_check.specs.Accepted.{row_of};
-ghost use Rattle.dds_check.specs.Tables.{weight_by, weighed_by, IsWithin, ShowsWeights, IsRowWithin, IsTabled};
+ghost use Rattle.dds_cert.specs.Weighing.{weight_by};
+ghost use Rattle.dds_check.specs.Tables.{weighed_by, IsWithin, IsRowWithin, IsTabled};
 
-use crate::sizes::{ENDPOINTS, KEYS};
+use dds_base::grid::{ENDPOINTS, KEYS, PLACES};
 use dds_base::{Endpoint, KeyNo, Portion, ReaderNo, WriterNo};
+use dds_cert::weighing::weights_by_place;
 use dds_cert::{Certificate, Row, Weight};
 use std::marker::Model;
-
-/// A place for each key of each endpoint.
-const CELLS: usize = 16384;
 
 /// A list of weights, with each where its endpoint and key say. Contracts see it as the list.
 #[derive(Drop)]
 pub struct Table<'a, E: Endpoint> {
     entries: &'a [Weight<E>],
-    cells: [u32; CELLS],
+    cells: [u32; PLACES],
 }
 
 impl<'a, E: Endpoint> Model for Table<'a, E> {
     ghost use Rattle.std.specs.Prelude.{List};
     ghost use Rattle.dds_cert.specs.declared.certificate.Weight.{Weight};
-    ghost use Rattle.dds_check.specs.Tables.{ShowsWeights, IsWithin};
+    ghost use Rattle.dds_cert.specs.Weighing.{ShowsWeights};
+    ghost use Rattle.dds_check.specs.Tables.{IsWithin};
 
     ghost Value = { List (Weight E) };
 
     ghost view = { λ t. t.entries.now };
 
     ghost invariant = { λ t. ShowsWeights E.number_of t.cells t.entries.now × IsWithin E.number_of t.entries.now };
-}
-
-fn cells_of<E: Endpoint>(entries: &[Weight<E>]) -> [u32; CELLS]
-    requires { IsWithin E.number_of entries.now }
-    ensures { ShowsWeights E.number_of result entries.now }
-{
-    let mut cells = [0; CELLS];
-    let mut i = entries.len();
-    while 0 < i {
-        i -= 1;
-        let x = &entries[i];
-        cells[x.endpoint.place() * KEYS + x.key.number()] = x.weight;
-    }
-    cells
 }
 
 impl<'a, E: Endpoint> Table<'a, E> {
@@ -54,7 +40,7 @@ impl<'a, E: Endpoint> Table<'a, E> {
     {
         Table {
             entries,
-            cells: cells_of(entries),
+            cells: weights_by_place(entries),
         }
     }
 

@@ -6,7 +6,8 @@ ghost use Rattle.dds_match.specs.Plan.{network_of};
 ghost use Rattle.dds_cert.specs.Views.{row_view};
 ghost use Rattle.dds_check.specs.Accepted.{budget, opening_permits, row_of, spread};
 ghost use Rattle.dds_check.specs.Spreads.{heard};
-ghost use Rattle.dds_check.specs.Tables.{weight_by, weighed_by};
+ghost use Rattle.dds_cert.specs.Weighing.{weight_by};
+ghost use Rattle.dds_check.specs.Tables.{weighed_by};
 
 use dds_base::{Endpoint, KeyNo, Portion, ReaderNo, RuleNo, WriterNo};
 use dds_cert::{Row, Weight};

@@ -2,11 +2,9 @@
 ghost use Rattle.std.specs.Prelude.{◌≡◌, ◌+◌, ◌*◌, ◌<◌, ◌≤◌, ◌==◌, ◌&&◌, Bool, false, List, length, replicate, IfOk};
 ghost use Rattle.dds_match.specs.Marks.{AddsMarks, is_marked};
 
+use dds_base::grid::KEYS;
 use std::alloc::{AllocError, Global};
 use std::marker::Model;
-
-/// The most keys that a topic has.
-const KEYS: usize = 64;
 
 /// Marks at endpoints and keys: a row of 64 places for each endpoint.
 #[derive(Drop)]

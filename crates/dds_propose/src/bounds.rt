@@ -8,9 +8,9 @@ ghost use Rattle.dds_check.specs.Accepted.{budget};
 ghost use Rattle.dds_propose.specs.Bounds.{bound, least_sample};
 ghost use Rattle.dds_propose.specs.Tables.{cell, row_of};
 
-use crate::sizes::KEYS;
 use crate::targets::Target;
 use crate::weights::Weights;
+use dds_base::grid::KEYS;
 use dds_base::{KeyNo, RuleNo};
 use dds_deploy::Rule;
 use dds_match::Plan;

@@ -11,7 +11,6 @@ mod listing;
 mod matches;
 mod proposer;
 mod rounds;
-mod sizes;
 pub mod targets;
 mod weights;
 

@@ -5,8 +5,8 @@ ghost use Rattle.dds_cert.specs.Views.{row_view};
 ghost use Rattle.dds_propose.specs.Listing.{entries, entries_of, listed};
 ghost use Rattle.dds_propose.specs.Tables.{cell, row_of};
 
-use crate::sizes::KEYS;
 use crate::weights::{Table, Weights};
+use dds_base::grid::KEYS;
 use dds_base::{Endpoint, KeyNo, ReaderNo, WriterNo};
 use dds_cert::{Row, Weight};
 use dds_match::Plan;

@@ -12,9 +12,9 @@ ghost use Rattle.dds_propose.specs.Tables.{cell, is_place, row_of};
 ghost use Rattle.dds_propose.specs.Targets.{IsReached, counts, reader_of};
 
 use crate::matches::Matches;
-use crate::sizes::KEYS;
 use crate::targets::Target;
 use crate::weights::Weights;
+use dds_base::grid::KEYS;
 use dds_base::{KeyNo, ReaderNo, RuleNo, WriterNo};
 use dds_deploy::Rule;
 use dds_match::Plan;

@@ -4,7 +4,7 @@ ghost use Rattle.dds_check.specs.Tables.{weighed_by};
 ghost use Rattle.dds_propose.specs.Following.{IsZero};
 ghost use Rattle.dds_propose.specs.Tables.{cell, is_place};
 
-use crate::sizes::{CELLS, ENDPOINTS, KEYS};
+use dds_base::grid::{ENDPOINTS, KEYS, PLACES};
 use dds_base::{Endpoint, KeyNo, Portion, ReaderNo, WriterNo};
 use std::alloc::{AllocError, Global};
 use std::marker::Model;
@@ -31,7 +31,7 @@ impl Table {
     fn zero(alloc: Global) -> Result<Table, AllocError>
         ensures { IfOk result (λ t. (e k : ℕ) → cell t e k ≡ 0) }
     {
-        let cells = vec![in alloc; 0; CELLS]?;
+        let cells = vec![in alloc; 0; PLACES]?;
         Ok(Table { cells })
     }
 

@@ -1,5 +1,6 @@
 use Rattle.std.proofs.Common.{◌≡◌, ◌+◌, ◌≤◌, ◌*◌, ◌^◌, drop}
-use Rattle.dds_check.specs.Tables.{weight_by, weighed_by}
+use Rattle.dds_cert.specs.Weighing.{weight_by}
+use Rattle.dds_check.specs.Tables.{weighed_by}
 use Rattle.dds_check.proofs.tables.weighed_by.Given as goal
 
 abbrev pub invariant-loop-x : goal.invariant-loop-x
