@@ -1,5 +1,5 @@
 -- The messages between a writer and a reader, as contracts see them, and their ranges (DDSI-RTPS 2.5, clause 8.3.8).
-use Rattle.std.specs.Prelude.{ℕ, ◌+◌, ◌≤◌, Bool, ◌&&◌, ◌||◌, leb, ltb}
+use Rattle.std.specs.Prelude.{ℕ, ◌+◌, ◌≤◌, Bool, ◌&&◌, ◌||◌, nat_le, nat_lt}
 use Rattle.dds_base.specs.declared.sample.Sample.{Sample}
 use Rattle.dds_base.specs.Sets.{NumberSet, has, last_number}
 
@@ -34,4 +34,4 @@ FitsHeartbeat first last = (1 ≤ first) × (first ≤ last + 1) × (last ≤ la
 
 -- the numbers that a GAP speaks of
 abbrev pub covers : GapFor → ℕ → Bool
-covers g n = (leb g.start n && ltb n g.set.base) || has g.set n
+covers g n = (nat_le g.start n && nat_lt n g.set.base) || has g.set n

@@ -1,5 +1,5 @@
 -- Sets of numbers of one writer, as a message has them (DDSI-RTPS 2.5, clause 8.3.5.5).
-use Rattle.std.specs.Prelude.{ℕ, ◌+◌, ◌-◌, ◌≤◌, ◌^◌, Bool, false, ◌&&◌, ◌==◌, leb, List, map, slice_index_or}
+use Rattle.std.specs.Prelude.{ℕ, ◌+◌, ◌-◌, ◌≤◌, ◌^◌, Bool, false, ◌&&◌, ◌==◌, List, map, slice_index_or, nat_le}
 use Rattle.std.specs.List.{All, list_any, range_with_len}
 
 -- the numbers of a writer are 1 to this
@@ -22,7 +22,7 @@ set_of base p = record { base = base; flags = flags_of base p }
 
 -- the flags from a base on have the number
 abbrev pub has_flag : ℕ → List Bool → ℕ → Bool
-has_flag base flags n = leb base n && slice_index_or flags (n - base) false
+has_flag base flags n = nat_le base n && slice_index_or flags (n - base) false
 
 -- the set has the number
 abbrev pub has : NumberSet → ℕ → Bool

@@ -1,5 +1,5 @@
 -- Sums and least numbers below a bound, and functions changed at one place.
-use Rattle.std.specs.Prelude.{ℕ, zero, suc, ◌+◌, Bool, false, ◌||◌, if◌then◌else◌, eqb, List, [], ◌∷◌, ◌≡◌, ◌⊎◌}
+use Rattle.std.specs.Prelude.{ℕ, zero, suc, ◌+◌, Bool, false, ◌||◌, if◌then◌else◌, List, [], ◌∷◌, ◌≡◌, ◌⊎◌, ◌==◌}
 
 -- f 0 + .. + f (n - 1)
 unfoldable pub total : ℕ → (ℕ → ℕ) → ℕ
@@ -29,7 +29,7 @@ least p (suc fuel) from = let later = least p fuel (suc from) in if p from then 
 
 -- f, but v at i
 abbrev pub put : {A : Type 0} → (ℕ → A) → ℕ → A → ℕ → A
-put f i v j = if eqb i j then v else f j
+put f i v j = if i == j then v else f j
 
 -- x is an element
 abbrev pub In : {A : Type 0} → A → List A → Type 0

@@ -1,5 +1,5 @@
 -- Two halves of one front, and the rule of the table that keeps them equal.
-use Rattle.std.specs.Prelude.{◌≡◌, ℕ, ◌+◌, ◌<◌, eqb, List, [], ◌∷◌, length, slice_index}
+use Rattle.std.specs.Prelude.{◌≡◌, ℕ, ◌+◌, ◌<◌, List, [], ◌∷◌, length, slice_index, ◌==◌}
 use Rattle.std.specs.List.{count_by}
 use mathlib.Core.Option.{some}
 use lib.ListN.{get_elem?}
@@ -67,7 +67,7 @@ module _ {E : Type 0} where
 
   -- how many entries are this owner's
   abbrev pub entries_by : (E → ℕ) → ℕ → List E → ℕ
-  entries_by owner by entries = count_by (λ e. eqb (owner e) by) entries
+  entries_by owner by entries = count_by (λ e. owner e == by) entries
 
   -- There is one front, and the word counts the owner's entries in it. The views have two parts in all, so they are one whole or two halves, and
   -- each that has a part has that front

@@ -9,6 +9,7 @@ use dds_deploy::Deployment;
 pub(crate) fn seat_count(lists: &Deployment) -> usize
     ensures { result ≡ seat_count lists.now }
 {
+    // What is known of every deployment: each name has an entry.
     let _well_formed = lists.writers();
     lists.applications() + lists.participants()
 }

@@ -1,5 +1,5 @@
 -- A bounded cache of a reader's samples, as its callers see it.
-use Rattle.std.specs.Prelude.{ℕ, Bool, leb, List}
+use Rattle.std.specs.Prelude.{ℕ, Bool, List, nat_le}
 use Rattle.dds_base.specs.declared.sample.Sample.{Sample}
 use Rattle.dds_qos.specs.declared.limits.ReaderLimits.{ReaderLimits}
 use Rattle.dds_qos.specs.Samples.{Keys}
@@ -16,7 +16,7 @@ pub record CacheState : Type 0 where
 
 -- a sample is available: its number is not above its writer's released one
 abbrev pub is_available : CacheState → Sample → Bool
-is_available c x = leb x.sn (released_of x.writer c.writers)
+is_available c x = nat_le x.sn (released_of x.writer c.writers)
 
 -- the stored samples of the key that are available, in order of admission
 abbrev pub available : CacheState → ℕ → List Sample

@@ -52,6 +52,7 @@ pub fn accepts(plan: &Plan, certificate: &Certificate) -> Result<(), No>
     ensures holds { OnOk result (Accepted (network_of plan.now) (certificate_of (certificate_view certificate.now))) }
     ensures safe { OnOk result (Safe (network_of plan.now) (certificate_of (certificate_view certificate.now))) }
 {
+    // What is known of every plan: its lists name nothing that isn't there.
     let _lists = plan.lists();
     match first_no(plan, certificate) {
         Some(no) => Err(no),

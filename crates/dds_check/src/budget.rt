@@ -16,6 +16,7 @@ fn rule_at(plan: &Plan, u: RuleNo) -> &Rule
     ensures value { (network_of plan.now).rule u ≡ rule_view result.now }
     ensures short { length result.now.writes.items ≤ 16 }
 {
+    // What is known of every plan: a rule writes at most 16 keys.
     let _lists = plan.lists();
     plan.rule(u)
 }

@@ -23,6 +23,7 @@ pub fn shows(plan: &Plan, certificate: &Certificate) -> bool
     requires fits { fits (network_of plan.now) (certificate_view certificate.now) ≡ true }
     ensures { IsTrue result → IsShown (network_of plan.now) (certificate_of (certificate_view certificate.now)) }
 {
+    // What is known of every plan: its lists name nothing that isn't there.
     let _lists = plan.lists();
     match rows_no(plan, certificate) {
         Some(_) => false,

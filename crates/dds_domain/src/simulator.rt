@@ -67,7 +67,9 @@ impl Simulator {
         ensures runs { MatchResult result (λ replies. GoesOn self.old (paired events.now replies.items) self.new) (λ e. GoesOn self.old (paired events.now e.1.items) self.new) }
         ensures plan { self.new.plan ≡ self.old.plan }
     {
+        // What is known of the parts: they stand for a world of a run of their plan.
         let _parts = &self.parts;
+        // The borrow checker finds the type inside `Reply` where the code names it.
         let _arrival: Option<Arrival> = None;
         let mut replies = Vec::new(self.alloc);
         if replies.reserve(events.len()).is_err() {

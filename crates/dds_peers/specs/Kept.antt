@@ -1,5 +1,5 @@
 -- What the threads of applications keep: their parts of the journal, their counts, and their diaries.
-use Rattle.std.specs.Prelude.{◌≡◌, ℕ, ◌<◌, eqb, Bool, true, List, length, map, Option, Some}
+use Rattle.std.specs.Prelude.{◌≡◌, ℕ, ◌<◌, Bool, true, List, length, map, Option, Some, ◌==◌}
 use Rattle.std.specs.List.{filter, range_with_len}
 use Rattle.atomic_table.specs.Seated.{TableId}
 use Rattle.dds_base.specs.declared.events.Event.{Event}
@@ -12,7 +12,7 @@ use Rattle.dds_book.specs.Seat.{SeatState}
 -- ── parts of a journal
 -- the events of a seat with their replies, in order
 abbrev pub entries_of : ℕ → List Entry → List (Event × Reply)
-entries_of seat entries = pairs_of (filter (λ (e : Entry). eqb e.seat seat) entries)
+entries_of seat entries = pairs_of (filter (λ (e : Entry). e.seat == seat) entries)
 
 -- what a seat has done: its part of its front
 abbrev pub done_by : SeatState → List (Event × Reply)

@@ -24,6 +24,7 @@ fn push_takes_of(
     requires { reader < length lists.now.readers.entries }
     ensures { IfOk result (λ _. circle.new.items ≡ circle.old.items ++ takes_of lists.now reader) }
 {
+    // What is known of every deployment: the topic is there.
     let _well_formed = lists.readers();
     let heard = lists.reader(reader);
     for key in 0..lists.keys(heard.topic).len() {
@@ -111,6 +112,7 @@ fn push_writes_of(
     requires { writer < length lists.now.writers.entries }
     ensures { IfOk result (λ _. circle.new.items ≡ circle.old.items ++ writes_of lists.now app writer) }
 {
+    // What is known of every deployment: the topic is there.
     let _well_formed = lists.writers();
     for key in 0..lists.keys(lists.writer(writer).topic).len() {
         let key = KeyNo::new(key);

@@ -63,6 +63,7 @@ fn follow_samples(
     ensures followed { IfOk result (Follows (network_of plan.now) weights.old weights.new) }
     ensures done { IfOk result (λ _. cell weights.new.risen reader key ≡ 0) }
 {
+    // What is known of every plan: its lists name nothing that isn't there.
     let _lists = plan.lists();
     let rise = weights.risen.at(reader, key);
     if rise == 0 {
@@ -233,6 +234,7 @@ fn round(
     requires made { IsMade (network_of plan.now) target.now weights.old }
     ensures { IfOk result (IsRound (network_of plan.now) target.now weights.old weights.new) }
 {
+    // What is known of every plan: its lists name nothing that isn't there.
     let _lists = plan.lists();
     let by_target = follow_target(plan, matches, target, weights)?;
     let by_needs = follow_needs(plan, matches, weights)?;
@@ -267,6 +269,7 @@ fn opening_weights(alloc: Global, plan: &Plan, target: &Target) -> Result<Weight
     ensures made { IfOk result (IsMade (network_of plan.now) target.now) }
     ensures opened { IfOk result (λ weights. IsSame (row_of weights) (opening (network_of plan.now) target.now)) }
 {
+    // What is known of every plan: its lists name nothing that isn't there.
     let _lists = plan.lists();
     let mut weights = Weights::zero(alloc)?;
     for k in 0..KEYS {

@@ -1,5 +1,5 @@
 -- The marked numbers of one writer: those below a base, and ranges above it.
-use Rattle.std.specs.Prelude.{◌≡◌, ℕ, ◌-◌, ◌<◌, ◌≤◌, Bool, true, false, ◌&&◌, ◌||◌, leb, ltb, List, Option, None, Some, IsSome}
+use Rattle.std.specs.Prelude.{◌≡◌, ℕ, ◌-◌, ◌<◌, ◌≤◌, Bool, true, false, ◌&&◌, ◌||◌, List, Option, None, Some, IsSome, nat_le, nat_lt}
 use Rattle.std.specs.List.{list_any}
 use Rattle.std.specs.Ordering.{nat_cmp}
 use Rattle.std.specs.BTreeMap.{BTreeMap}
@@ -18,7 +18,7 @@ at m s = tree.get nat_cmp m s
 
 -- the number is one of those from the first to the second less one
 abbrev pub is_between : ℕ → ℕ → ℕ → Bool
-is_between from until n = leb from n && ltb n until
+is_between from until n = nat_le from n && nat_lt n until
 
 -- a range has the number
 abbrev pub holds : List (ℕ × ℕ) → ℕ → Bool

@@ -1,5 +1,5 @@
 -- A stateful reader, or a watcher, as its callers see it (DDSI-RTPS 2.5, clause 8.4.12).
-use Rattle.std.specs.Prelude.{◌≡◌, ℕ, Bool, not, ◌&&◌, ◌==◌, ltb, List}
+use Rattle.std.specs.Prelude.{◌≡◌, ℕ, Bool, not, ◌&&◌, ◌==◌, List, nat_lt}
 use Rattle.std.specs.List.{list_any}
 use Rattle.dds_base.specs.declared.sample.Sample.{Sample}
 use Rattle.dds_base.specs.declared.sample.Arrival.{Arrival}
@@ -71,7 +71,7 @@ acknack_of r w = record { reader = r.me; writer = w; set = missing_of (is_marked
 
 -- the samples of the key that are below their writer's base, in order of admission
 abbrev pub available_in : (ℕ → ℕ → Bool) → List Sample → ℕ → List Sample
-available_in marked stored key = available_of (λ s. ltb s.sn (base_of (marked s.writer))) key stored
+available_in marked stored key = available_of (λ s. nat_lt s.sn (base_of (marked s.writer))) key stored
 
 -- the stored samples of the key that are available
 abbrev pub available : ReaderState → ℕ → List Sample

@@ -73,6 +73,7 @@ fn opened(alloc: Global, lists: &Deployment) -> Result<Ledger, AllocError>
     ensures permits { IfOk result (λ l. (w k : ℕ) → count_at l.permits w k ≡ opening_permits (network_of lists.now) w k) }
     ensures spare { IfOk result (λ l. (r k : ℕ) → count_at l.spare r k ≡ 0) }
 {
+    // What is known of every deployment: its rules name what is there.
     let _applications = lists.applications();
     let rules = exchanges_of(alloc, lists)?;
     let spare = Counts::new(alloc, lists.readers())?;
