@@ -3,7 +3,7 @@
 ghost use Rattle.std.specs.Prelude.{◌≡◌, ◌↔◌, [], length, IfOk, OnErr, MatchOption, IsTrue};
 ghost use Rattle.std.specs.FinSet as set;
 ghost use Rattle.dds_qos.specs.Samples.{IsFresh, in_instance, without};
-ghost use Rattle.dds_qos.specs.Admission.{is_reached, admission, stored_after, keys_after};
+ghost use Rattle.dds_qos.specs.Admission.{admission, stored_after, keys_after};
 ghost use Rattle.dds_qos.specs.Taking.{IsLeastOfWriter};
 ghost use Rattle.dds_cache.specs.Released.{is_listed, opened, raised};
 ghost use Rattle.dds_cache.specs.Cache.{available};
@@ -11,6 +11,7 @@ ghost use Rattle.dds_cache.specs.Cache.{available};
 use crate::contents::Contents;
 use crate::released::{Released, raise};
 use dds_base::{KeyNo, Rejection, Sample, WriterNo, are_rising};
+use dds_qos::admission::is_reached;
 use dds_qos::{Admit, ReaderLimits};
 use std::alloc::{AllocError, Global};
 use std::marker::Model;
@@ -173,15 +174,5 @@ impl Cache {
         ensures { result ≡ set.contains self.now.keys key }
     {
         self.contents.knows(key)
-    }
-}
-
-// Whether a finite limit is reached.
-fn is_reached(limit: Option<u32>, count: usize) -> bool
-    ensures { result ≡ is_reached limit count }
-{
-    match limit {
-        Some(limit) => limit as usize <= count,
-        None => false,
     }
 }

@@ -1,6 +1,6 @@
 //! What a cache answers on a sample.
 ghost use Rattle.std.specs.Prelude.{◌≡◌};
-ghost use Rattle.dds_qos.specs.Admission.{is_rejected, is_overwrote};
+ghost use Rattle.dds_qos.specs.Admission.{is_overwrote, is_reached, is_rejected};
 
 use dds_base::{Rejection, Sample};
 
@@ -27,5 +27,15 @@ impl Admit {
         ensures { result ≡ is_overwrote self.now }
     {
         matches!(self, Admit::Overwrote(_))
+    }
+}
+
+/// Whether so many reach a limit, `None` where there is none: one more would pass it (OMG DDS 1.4, clause 2.2.3.19).
+pub fn is_reached(limit: Option<u32>, count: usize) -> bool
+    ensures { result ≡ is_reached limit count }
+{
+    match limit {
+        Some(limit) => limit as usize <= count,
+        None => false,
     }
 }

@@ -9,6 +9,7 @@
 mod history;
 pub mod proxies;
 pub mod refused;
+mod sending;
 pub mod writer;
 
 pub use proxies::Proxy;

@@ -1,7 +1,4 @@
 //! Why a write is refused.
-ghost use Rattle.std.specs.Prelude.{◌≡◌};
-ghost use Rattle.dds_qos.specs.Admission.{is_reached};
-
 use std::alloc::AllocError;
 use thiserror::Error;
 
@@ -33,15 +30,5 @@ impl From<AllocError> for WriteRefused {
 
     fn from(_error: AllocError) -> WriteRefused {
         WriteRefused::NoMemory
-    }
-}
-
-// Whether a finite limit is reached.
-pub(crate) fn is_reached(limit: Option<u32>, count: usize) -> bool
-    ensures { result ≡ is_reached limit count }
-{
-    match limit {
-        Some(limit) => limit as usize <= count,
-        None => false,
     }
 }

@@ -3,17 +3,17 @@
 ghost use Rattle.std.specs.Prelude.{◌≡◌, [], length, IfOk, OnErr, MatchOption, IsTrue};
 ghost use Rattle.std.specs.FinSet as set;
 ghost use Rattle.dds_qos.specs.Samples.{IsFresh, in_instance, without};
-ghost use Rattle.dds_qos.specs.Admission.{is_reached, admission, stored_after, keys_after};
+ghost use Rattle.dds_qos.specs.Admission.{admission, stored_after, keys_after};
 ghost use Rattle.dds_qos.specs.Taking.{IsLeastOfWriter};
 ghost use Rattle.dds_cache.specs.Released.{is_listed, opened, raised, released_of};
 ghost use Rattle.dds_cache.specs.Cache.{is_available, available};
 ghost use Rattle.test_forms.specs.Least.{IsLeastAt, NoneAvailable};
 
 use crate::contents::{Contents, first_of};
-use crate::limits::is_reached;
 use crate::released::{raise, released_upto};
 use dds_base::{KeyNo, Rejection, Sample, WriterNo};
 use dds_cache::Released;
+use dds_qos::admission::is_reached;
 use dds_qos::{Admit, ReaderLimits};
 use std::alloc::{AllocError, Global};
 use std::marker::Model;

@@ -7,7 +7,6 @@ mod contents;
 mod held;
 mod history;
 mod keys;
-mod limits;
 mod marks;
 mod notes;
 mod proxies;

@@ -10,11 +10,11 @@ ghost use Rattle.dds_writer.specs.Writer.{IsKept, keeps, is_last, is_offered, is
 
 use crate::history::{count_of, keep, next_heard, next_unsent, next_wanted, place_of, trim};
 use crate::keys::{is_among, learn};
-use crate::limits::is_reached;
 use crate::proxies::{MatchedReader, acknowledge, is_awaited, last_of, note_sent, open, proxy_of};
 use dds_base::{
     AckNack, Data, DataMsg, GapMsg, Heartbeat, KeyNo, ReaderNo, Sample, SnSet, WriterNo,
 };
+use dds_qos::admission::is_reached;
 use dds_qos::{Due, WriterLimits};
 use dds_writer::{Proxy, WriteRefused};
 use std::alloc::{AllocError, Global};

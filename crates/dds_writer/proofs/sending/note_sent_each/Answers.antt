@@ -1,7 +1,7 @@
 use Rattle.std.proofs.lemmas.List.Edits.{map_over_more}
 use Rattle.dds_writer.specs.Proxies.{after_message}
 use Rattle.dds_writer.specs.History.{is_silent_in}
-use Rattle.dds_writer.proofs.proxies.note_sent_each.Goals as goal
+use Rattle.dds_writer.proofs.sending.note_sent_each.Goals as goal
 
 pub loop-proxy-preserved : goal.loop-proxy-preserved
 loop-proxy-preserved c =

@@ -1,7 +1,7 @@
 use Rattle.std.proofs.Common.{◌≡◌, ◌++◌, map, take, drop}
 use Rattle.dds_writer.specs.Proxies.{after_message}
 use Rattle.dds_writer.specs.History.{is_silent_in}
-use Rattle.dds_writer.proofs.proxies.note_sent_each.Given as goal
+use Rattle.dds_writer.proofs.sending.note_sent_each.Given as goal
 
 abbrev pub invariant-loop-proxy : goal.invariant-loop-proxy
 invariant-loop-proxy l =

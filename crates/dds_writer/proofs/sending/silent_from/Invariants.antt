@@ -1,7 +1,7 @@
 use Rattle.std.proofs.Common.{◌≡◌, ℕ, ◌≤◌, false}
 use Rattle.dds_base.specs.declared.sample.Sample.{Sample}
 use Rattle.dds_writer.specs.History.{hears_at}
-use Rattle.dds_writer.proofs.history.silent_from.Given as goal
+use Rattle.dds_writer.proofs.sending.silent_from.Given as goal
 
 abbrev pub invariant-loop-from : goal.invariant-loop-from
 invariant-loop-from l = record {

@@ -1,7 +1,7 @@
 use Rattle.std.proofs.Common.{arith}
 use Rattle.dds_writer.proofs.Relevance.{nothing}
 use Rattle.dds_writer.proofs.Runs.{run_start, no_run}
-use Rattle.dds_writer.proofs.history.first_silent.Goals as goal
+use Rattle.dds_writer.proofs.sending.first_silent.Goals as goal
 
 pub overflow_sub-result-in-Some : goal.overflow_sub-result-in-Some
 overflow_sub-result-in-Some c =

@@ -3,7 +3,7 @@ use Rattle.dds_base.proofs.NumberedLaws.{changed_at, changed_nowhere}
 use Rattle.dds_writer.specs.Proxies.{ProxyState, is_of, after_message}
 use Rattle.dds_writer.specs.History.{is_silent_in}
 use Rattle.dds_writer.proofs.InOrder.{message_other}
-use Rattle.dds_writer.proofs.proxies.note_sent.Goals as goal
+use Rattle.dds_writer.proofs.sending.note_sent.Goals as goal
 
 pub returns-in-Some : goal.returns-in-Some
 returns-in-Some c =
