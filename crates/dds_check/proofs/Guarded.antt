@@ -19,11 +19,11 @@ use Rattle.dds_check.specs.Runs.{Move, MayMove, after_move, replay, IsRunFrom, b
 use Rattle.dds_check.specs.Runs.Move.{Do, Redeliver}
 use Rattle.dds_check.specs.Accepted.{Row, budget, Certificate, Accepted}
 use Rattle.dds_check.specs.Certified.{weight, IsGood, IsGoodArrival}
-use Rattle.dds_check.proofs.Weights.{write_weight, fire_weight, take_weight, after_write, after_fire, after_take}
-use Rattle.dds_check.proofs.Supply.{IsWrittenFor}
-use Rattle.dds_check.proofs.Facts.{FactOf}
-use Rattle.dds_check.proofs.Arrivals.{no_loss}
-use Rattle.dds_check.proofs.InFlight.{admitted}
+use Rattle.dds_check.proofs.CountsWeights.{write_weight, fire_weight, take_weight, after_write, after_fire, after_take}
+use Rattle.dds_check.proofs.StoredSupply.{IsWrittenFor}
+use Rattle.dds_check.proofs.PacketsFacts.{FactOf}
+use Rattle.dds_check.proofs.PacketsArrivals.{no_loss}
+use Rattle.dds_check.proofs.StoredInFlight.{admitted}
 use Rattle.dds_check.proofs.Moves.{Healthy, served, repeat_is, answered_is, may_write, may_fire, may_take, delivered, move_step}
 
 -- no row weighs more than its budget, and no reliable reader overwrote a sample

@@ -6,7 +6,7 @@ use Rattle.std.proofs.lemmas.Bool.{cases_eq, eq-eqb, eqb-true, ne_eqb, and_left,
 use Rattle.dds_base.specs.Sums.{In, count_below, bit, total}
 use Rattle.dds_base.specs.Counts.{count_from, count_between}
 use Rattle.dds_qos.specs.Samples.{is_numbered, is_same, has_number, holds, without}
-use Rattle.dds_check.proofs.Places.{Distinct, apart_in, place_self, place_sym}
+use Rattle.dds_check.proofs.StoredPlaces.{Distinct, apart_in, place_self, place_sym}
 use Rattle.dds_qos.specs.Writing.{is_awaited, still_kept, is_relevant_in}
 use Rattle.dds_match.specs.Network.{Network}
 use Rattle.dds_check.specs.World.{World, Sample, entry_at, samples_from, history, hears_entry, is_relevant}

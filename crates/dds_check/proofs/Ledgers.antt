@@ -10,10 +10,10 @@ use Rattle.dds_check.specs.Facts.{CountsOk, IsWrittenFor}
 use Rattle.dds_check.specs.CountRuns.{CountMove, Suffices, counted, counted_all, AllSuffice, CountRuns}
 use Rattle.dds_check.specs.CountRuns.CountMove.{Writes, Fires, Takes}
 use Rattle.dds_base.proofs.SumLaws.{put_all}
-use Rattle.dds_check.proofs.Places.{Distinct, count_cons}
-use Rattle.dds_check.proofs.Supply.{supply_holds, In_cases}
-use Rattle.dds_check.proofs.Weights.{write_weight, fire_weight, take_weight, write_counts, fire_counts, take_counts}
-use Rattle.dds_check.proofs.Facts.{written_grows}
+use Rattle.dds_check.proofs.StoredPlaces.{Distinct, count_cons}
+use Rattle.dds_check.proofs.StoredSupply.{supply_holds, In_cases}
+use Rattle.dds_check.proofs.CountsWeights.{write_weight, fire_weight, take_weight, write_counts, fire_counts, take_counts}
+use Rattle.dds_check.proofs.PacketsFacts.{written_grows}
 use Rattle.dds_check.proofs.Sound.{Distinct_push, write_grows_of}
 use Rattle.dds_check.proofs.Opening.{counts_opening, weight_opening}
 

@@ -21,20 +21,20 @@ use Rattle.dds_base.specs.declared.events.Refusal.TheVariants.{Foreign, NoPermit
 use Rattle.dds_base.specs.declared.sample.Arrival.TheVariants.{Repeat}
 use Rattle.dds_check.specs.Runs.{Move, MayMove, after_move, replay, IsRunFrom}
 use Rattle.dds_check.specs.Runs.Move.{Do, Redeliver}
-use Rattle.dds_check.proofs.Weights.{after_write, after_fire, after_take}
-use Rattle.dds_check.proofs.Places.{count_cons, filter_in}
+use Rattle.dds_check.proofs.CountsWeights.{after_write, after_fire, after_take}
+use Rattle.dds_check.proofs.StoredPlaces.{count_cons, filter_in}
 use Rattle.std.specs.Prelude.{slice_index_or}
 use Rattle.dds_qos.specs.declared.limits.ReaderLimits.{ReaderLimits}
 use Rattle.dds_base.specs.declared.sample.Rejection.TheVariants.{InstancesLimit, SamplesLimit, SamplesPerInstanceLimit}
 use Rattle.dds_qos.specs.Samples.{Keys, in_instance, first_of}
 use Rattle.dds_qos.specs.Admission.{is_reached, is_one_too_many}
 use Rattle.dds_base.proofs.SumLaws.{put_at}
-use Rattle.dds_check.proofs.Supply.{IsWrittenFor, In_left, In_right}
-use Rattle.dds_check.proofs.Facts.{FactOf, written_grows, data_fact, gap_fact, heartbeat_fact, acknack_fact}
+use Rattle.dds_check.proofs.StoredSupply.{IsWrittenFor, In_left, In_right}
+use Rattle.dds_check.proofs.PacketsFacts.{FactOf, written_grows, data_fact, gap_fact, heartbeat_fact, acknack_fact}
 use Rattle.dds_check.proofs.Sound.{Sound, write_sound, fire_sound, take_sound, send_sound, away_sound, unread_in_flight}
-use Rattle.dds_check.proofs.Arrivals.{store_sound, gap_sound, heartbeat_sound, ack_sound}
-use Rattle.dds_check.proofs.InFlight.{stored_in}
-use Rattle.dds_check.proofs.Watching.{Watched, marked_give_up, give_up_grows, give_up_sound, over_sound, take_watched, store_watched, over_watched, give_up_watched, gap_watched, heartbeat_watched}
+use Rattle.dds_check.proofs.PacketsArrivals.{store_sound, gap_sound, heartbeat_sound, ack_sound}
+use Rattle.dds_check.proofs.StoredInFlight.{stored_in}
+use Rattle.dds_check.proofs.PartsWatching.{Watched, marked_give_up, give_up_grows, give_up_sound, over_sound, take_watched, store_watched, over_watched, give_up_watched, gap_watched, heartbeat_watched}
 
 -- what holds of every world of a wide run, accepted or not
 pub record Healthy (net : Network) (v : World) : Type 0 where

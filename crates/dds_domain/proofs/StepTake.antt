@@ -15,8 +15,8 @@ use Rattle.dds_check.specs.CountRuns.CountMove.{Takes}
 use Rattle.dds_check.specs.World.{World, spare, stored}
 use Rattle.dds_check.specs.Steps.{refusal, May, is_empty, is_available, available as available_at}
 use Rattle.dds_check.proofs.Moves.{Healthy}
-use Rattle.dds_check.proofs.Places.{filter_in}
-use Rattle.dds_check.proofs.Weights.{after_take}
+use Rattle.dds_check.proofs.StoredPlaces.{filter_in}
+use Rattle.dds_check.proofs.CountsWeights.{after_take}
 use Rattle.dds_rules.specs.Counts.{count_at}
 use Rattle.dds_rules.specs.Ledger.{LedgerState}
 use Rattle.dds_rules.specs.Standing.{Makes}

@@ -5,7 +5,7 @@ use Rattle.dds_match.specs.Network.{Network, named}
 use Rattle.dds_check.specs.World.{World}
 use Rattle.dds_check.specs.CountRuns.CountMove.{Fires}
 use Rattle.dds_check.specs.Steps.{any_entry, is_empty, fire_needs_more, fire_passes_limit}
-use Rattle.dds_check.proofs.Weights.{fire_given, fire_spent}
+use Rattle.dds_check.proofs.CountsWeights.{fire_given, fire_spent}
 use Rattle.dds_rules.specs.Counts.{IsMoreBy, count_at}
 use Rattle.dds_rules.specs.Exchange.{Exchange, lacks_takes, lacks_room}
 use Rattle.dds_rules.specs.Ledger.{LedgerState, IsLedgerOf, KeepsPlan, exchange_at, no_exchange}

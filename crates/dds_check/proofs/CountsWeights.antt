@@ -10,7 +10,7 @@ use Rattle.dds_check.specs.World.{World, Sample, given, permits, spent, spare, s
 use Rattle.dds_check.specs.Accepted.{Row, RowHolds}
 use Rattle.dds_check.specs.Certified.{weight}
 use Rattle.dds_base.proofs.SumLaws.{total_ext, total_zero, total_add, total_one, put_at, put_other}
-use Rattle.dds_check.proofs.PairSums.{at_pair, pairs_one, weigh_balance, weighed_is}
+use Rattle.dds_check.proofs.CountsSums.{at_pair, pairs_one, weigh_balance, weighed_is}
 pub use Rattle.dds_check.specs.Facts.{CountsOk}
 
 at_pair_here : (i k l : ℕ) → at_pair i k i l ≡ cond (eqb k l) 1 0

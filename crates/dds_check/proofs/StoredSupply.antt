@@ -6,7 +6,7 @@ use Rattle.std.proofs.lemmas.List.Sums.{sum_by-append}
 use Rattle.dds_base.specs.Sums.{total, In}
 use Rattle.dds_match.specs.Network.{Network, IsNetwork}
 use Rattle.dds_check.specs.World.{World, Sample, entry_at, is_same, holds, has_key, count_key, supply}
-use Rattle.dds_check.proofs.Places.{Distinct, count_part, numbered, numbered_other, numbered_distinct, numbered_in, numbered_count}
+use Rattle.dds_check.proofs.StoredPlaces.{Distinct, count_part, numbered, numbered_other, numbered_distinct, numbered_in, numbered_count}
 pub use Rattle.dds_check.specs.Facts.{IsWrittenFor}
 
 pub In_left : {A : Type 0} (xs ys : List A) (x : A) → In x xs → In x (xs ++ ys)
