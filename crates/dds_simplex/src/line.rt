@@ -1,5 +1,5 @@
 //! A line of a dictionary: one variable in terms of others.
-ghost use Rattle.std.specs.Prelude.{◌≡◌, ◌<◌, ◌≤◌, vec_len, IfOk};
+ghost use Rattle.std.specs.Prelude.{◌≡◌, ◌+ℤ◌, ◌*ℤ◌, pos, replicate, slice_index_or, slice_set, vec_len, IfNone, IfOk, IfSome};
 
 use crate::divisor::common_divisor;
 use std::alloc::{AllocError, Global};
@@ -41,7 +41,10 @@ fn reduced_pair(first: i128, second: i128) -> Option<(i128, i128)> {
 
 impl Line {
     /// `x = constant`, over so many columns.
-    pub fn constant(alloc: Global, constant: i128, columns: usize) -> Result<Line, AllocError> {
+    pub fn constant(alloc: Global, constant: i128, columns: usize) -> Result<Line, AllocError>
+        ensures value { IfOk result (λ l. (l.den ≡ pos 1) × (l.constant ≡ constant)) }
+        ensures columns { IfOk result (λ l. l.numbers.items ≡ replicate columns (pos 0)) }
+    {
         Ok(Line {
             den: 1,
             constant,
@@ -64,7 +67,9 @@ impl Line {
     }
 
     /// The number of a column's variable, 0 where there is no such column.
-    pub fn number(&self, column: usize) -> i128 {
+    pub fn number(&self, column: usize) -> i128
+        ensures { result ≡ slice_index_or self.now.numbers.items column (pos 0) }
+    {
         match self.numbers.get(column) {
             Some(number) => *number,
             None => 0,
@@ -112,8 +117,13 @@ impl Line {
         self.reduce()
     }
 
-    /// Adds a number to that of a column: `times` the column's variable. Nothing changes where there is no such column.
-    pub fn add_column(&mut self, times: i128, column: usize) -> Option<()> {
+    /// Adds `times` a column's variable. Nothing changes where there is no such column. `None`, with nothing changed, where a number would
+    /// pass 128 bits.
+    pub fn add_column(&mut self, times: i128, column: usize) -> Option<()>
+        ensures added { IfSome result (λ _. self.new.numbers.items ≡ slice_set self.old.numbers.items column (slice_index_or self.old.numbers.items column (pos 0) +ℤ times *ℤ self.old.den)) }
+        ensures refused { IfNone result (self.new.numbers.items ≡ self.old.numbers.items) }
+        ensures others { (self.new.den ≡ self.old.den) × (self.new.constant ≡ self.old.constant) }
+    {
         let more = times.checked_mul(self.den)?;
         if let Some(number) = self.numbers.get_mut(column) {
             *number = number.checked_add(more)?;
@@ -121,14 +131,18 @@ impl Line {
         Some(())
     }
 
-    /// Adds a number.
-    pub fn add_constant(&mut self, number: i128) -> Option<()> {
+    /// Adds a number. `None`, with nothing changed, where one would pass 128 bits.
+    pub fn add_constant(&mut self, number: i128) -> Option<()>
+        ensures added { IfSome result (λ _. self.new.constant ≡ self.old.constant +ℤ number *ℤ self.old.den) }
+        ensures refused { IfNone result (self.new.constant ≡ self.old.constant) }
+        ensures others { (self.new.den ≡ self.old.den) × (self.new.numbers.items ≡ self.old.numbers.items) }
+    {
         let more = number.checked_mul(self.den)?;
         self.constant = self.constant.checked_add(more)?;
         Some(())
     }
 
-    /// Adds `times` another line.
+    /// Adds `times` another line. `None` where a number would pass 128 bits: then what is left of the line means nothing.
     pub fn add(&mut self, times: i128, other: &Line) -> Option<()> {
         let (mine, own) = reduced_pair(self.den, other.den)?;
         let part = times.checked_mul(mine)?;
