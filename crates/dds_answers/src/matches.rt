@@ -72,7 +72,7 @@ fn is_pair_as_intended(plan: &Plan, writer: WriterNo, reader: ReaderNo) -> bool
 }
 
 /// Whether a writer matches exactly the readers to which a connection joins it.
-#[tactic(auto, using(dds_check::proofs::First::all_below_start, dds_check::proofs::First::all_below_more))]
+#[tactic(auto, using(dds_check::proofs::FirstLemmas::all_below_start, dds_check::proofs::FirstLemmas::all_below_more))]
 fn is_writer_as_intended(plan: &Plan, writer: WriterNo) -> bool
     ensures { result ≡ is_writer_as_intended (network_of plan.now) writer }
 {
@@ -85,7 +85,7 @@ fn is_writer_as_intended(plan: &Plan, writer: WriterNo) -> bool
 }
 
 /// Whether exactly the pairs of the connections match.
-#[tactic(auto, using(dds_check::proofs::First::all_below_start, dds_check::proofs::First::all_below_more))]
+#[tactic(auto, using(dds_check::proofs::FirstLemmas::all_below_start, dds_check::proofs::FirstLemmas::all_below_more))]
 pub fn is_as_intended(plan: &Plan) -> bool
     ensures { result ≡ is_as_intended (network_of plan.now) }
 {

@@ -12,7 +12,7 @@ use Rattle.dds_cert.specs.declared.certificate.Total.{Total}
 use Rattle.dds_cert.specs.Lists.{Row, Certificate}
 use Rattle.dds_cert.specs.Fits.{is_distinct, same_weight_place, weights_fit, row_fits, names_differ, rows_fit, same_bound_place, bounds_fit, totals_fit, fits}
 use Rattle.dds_check.specs.Tables.{IsWithin, IsRowWithin, IsBoundWithin, IsTotalWithin, IsTabled}
-use Rattle.dds_check.proofs.First.{both_first, both_second}
+use Rattle.dds_check.proofs.FirstLemmas.{both_first, both_second}
 use Rattle.dds_check.proofs.Plans.{heard_in, written_in}
 
 all_recursion : {X : Type 0} (P : X → Type 0) (f : X → Bool) (xs : List X) → ((x : X) → f x ≡ true → P x) → list_all f xs ≡ true → AllByRecursion P xs

@@ -12,7 +12,7 @@ use Rattle.dds_cert.specs.Fits.{is_distinct, same_bound_place, rows_fit, bounds_
 use Rattle.dds_check.specs.Accepted.{Bound, Total, bound_with, total_with}
 use Rattle.dds_check.specs.Checked.{IsLeastBound, IsLeastTotal}
 use Rattle.dds_check.specs.Tables.{bound_of, total_of}
-use Rattle.dds_check.proofs.First.{both_first, both_second}
+use Rattle.dds_check.proofs.FirstLemmas.{both_first, both_second}
 use Rattle.dds_check.proofs.Holds.{bound_found, total_found}
 use Rattle.dds_check.proofs.Mapped.{mapped_from}
 

@@ -14,7 +14,7 @@ use Rattle.dds_deploy.specs.WellFormed.{IsWellFormed, IsRuleOf, IsReaderOf, IsWr
 use Rattle.dds_match.specs.Plan.{network_of, no_rule, hears, writes_key, matched, intended}
 use Rattle.dds_qos.specs.Limits.{reader_limits_of, no_reader_limits}
 use Rattle.dds_qos.specs.declared.limits.ReaderLimits.{ReaderLimits}
-use Rattle.dds_check.proofs.First.{both_first, both_second}
+use Rattle.dds_check.proofs.FirstLemmas.{both_first, both_second}
 use Rattle.dds_check.proofs.Holds.{IsKnown}
 use Rattle.dds_check.proofs.Mapped.{All_at, list_any_one}
 use Rattle.dds_check.proofs.Grid.{InGrid}

@@ -13,7 +13,7 @@ use Rattle.dds_check.specs.First.{first_in, at_item, IsFirstBefore}
 use Rattle.dds_check.specs.Verdict.{fails}
 use Rattle.dds_check.specs.Accepted.{row_of}
 use Rattle.dds_check.specs.Shown.{shows, is_unshown, is_unshown_by, names_no_row, bound_not_shown}
-use Rattle.dds_check.proofs.First.{first_in_found, first_below_all}
+use Rattle.dds_check.proofs.FirstLemmas.{first_in_found, first_below_all}
 use Rattle.dds_check.proofs.FirstBefore.{first_of_same, first_of_either}
 
 -- the bound isn't shown, and its row is one of the first n or none

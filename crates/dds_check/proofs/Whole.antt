@@ -12,7 +12,7 @@ use Rattle.dds_check.specs.Limits.{limits_no}
 use Rattle.dds_check.specs.Rows.{rows_no}
 use Rattle.dds_check.specs.Shown.{shown_no}
 use Rattle.dds_check.specs.Accepts.{first_no}
-use Rattle.dds_check.proofs.First.{orElse_none}
+use Rattle.dds_check.proofs.FirstLemmas.{orElse_none}
 use Rattle.dds_check.proofs.Holds.{accepted_of}
 use Rattle.dds_check.proofs.Plans.{known_of}
 

@@ -4,6 +4,7 @@ ghost use Rattle.dds_match.specs.Plan.{network_of};
 ghost use Rattle.dds_check.specs.First.{first_below};
 ghost use Rattle.dds_check.specs.Pairs.{not_matched, not_intended, first_pair, pairs_no};
 
+use crate::first::first_below;
 use crate::sizes::{readers_of, writers_of};
 use crate::verdict::{No, Number, Subject, refusal_if};
 use dds_base::{ReaderNo, WriterNo};
@@ -23,23 +24,19 @@ fn not_matched(plan: &Plan, writer: WriterNo, reader: ReaderNo) -> Option<No>
 fn first_not_matched_with(plan: &Plan, writer: WriterNo) -> Option<No>
     ensures { result ≡ first_below (network_of plan.now).readers (not_matched (network_of plan.now) writer) }
 {
-    for r in 0..readers_of(plan) {
-        if let Some(no) = not_matched(plan, writer, ReaderNo::new(r)) {
-            return Some(no);
-        }
-    }
-    None
+    first_below(
+        readers_of(plan),
+        |r| not_matched(plan, writer, ReaderNo::new(r)),
+    )
 }
 
 fn first_not_matched(plan: &Plan) -> Option<No>
     ensures { result ≡ first_pair (network_of plan.now) (not_matched (network_of plan.now)) }
 {
-    for w in 0..writers_of(plan) {
-        if let Some(no) = first_not_matched_with(plan, WriterNo::new(w)) {
-            return Some(no);
-        }
-    }
-    None
+    first_below(
+        writers_of(plan),
+        |w| first_not_matched_with(plan, WriterNo::new(w)),
+    )
 }
 
 fn not_intended(plan: &Plan, writer: WriterNo, reader: ReaderNo) -> Option<No>
@@ -56,23 +53,19 @@ fn not_intended(plan: &Plan, writer: WriterNo, reader: ReaderNo) -> Option<No>
 fn first_not_intended_with(plan: &Plan, writer: WriterNo) -> Option<No>
     ensures { result ≡ first_below (network_of plan.now).readers (not_intended (network_of plan.now) writer) }
 {
-    for r in 0..readers_of(plan) {
-        if let Some(no) = not_intended(plan, writer, ReaderNo::new(r)) {
-            return Some(no);
-        }
-    }
-    None
+    first_below(
+        readers_of(plan),
+        |r| not_intended(plan, writer, ReaderNo::new(r)),
+    )
 }
 
 fn first_not_intended(plan: &Plan) -> Option<No>
     ensures { result ≡ first_pair (network_of plan.now) (not_intended (network_of plan.now)) }
 {
-    for w in 0..writers_of(plan) {
-        if let Some(no) = first_not_intended_with(plan, WriterNo::new(w)) {
-            return Some(no);
-        }
-    }
-    None
+    first_below(
+        writers_of(plan),
+        |w| first_not_intended_with(plan, WriterNo::new(w)),
+    )
 }
 
 /// The first pair that is intended and doesn't match, else the first that matches and isn't intended; both by writer and

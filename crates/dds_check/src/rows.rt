@@ -7,6 +7,7 @@ ghost use Rattle.dds_check.specs.Accepted.{row_of};
 ghost use Rattle.dds_check.specs.Tables.{IsTabled};
 ghost use Rattle.dds_check.specs.Rows.{take_raises, row_take_raises, rule_raises, row_rule_raises, write_raises, row_write_raises, rows_no, ShowsSpreads};
 
+use crate::first::first_below;
 use crate::sizes::{readers_of, rules_of, writers_of};
 use crate::spreads::spreads_of;
 use crate::tables::{Tables, tables_of};
@@ -36,23 +37,19 @@ fn take_raises(
 fn reader_take_raises(plan: &Plan, weights: &Tables, row: usize, reader: ReaderNo) -> Option<No>
     ensures { result ≡ first_below (network_of plan.now).keys (take_raises (network_of plan.now) (row_of weights.now) row reader) }
 {
-    for k in 0..KEYS {
-        if let Some(no) = take_raises(plan, weights, row, reader, KeyNo::new(k)) {
-            return Some(no);
-        }
-    }
-    None
+    first_below(
+        KEYS,
+        |k| take_raises(plan, weights, row, reader, KeyNo::new(k)),
+    )
 }
 
 fn row_take_raises(plan: &Plan, weights: &Tables, row: usize) -> Option<No>
     ensures { result ≡ row_take_raises (network_of plan.now) weights.now row }
 {
-    for r in 0..readers_of(plan) {
-        if let Some(no) = reader_take_raises(plan, weights, row, ReaderNo::new(r)) {
-            return Some(no);
-        }
-    }
-    None
+    first_below(
+        readers_of(plan),
+        |r| reader_take_raises(plan, weights, row, ReaderNo::new(r)),
+    )
 }
 
 fn rule_raises(plan: &Plan, weights: &Tables, row: usize, u: RuleNo) -> Option<No>
@@ -72,12 +69,10 @@ fn rule_raises(plan: &Plan, weights: &Tables, row: usize, u: RuleNo) -> Option<N
 fn row_rule_raises(plan: &Plan, weights: &Tables, row: usize) -> Option<No>
     ensures { result ≡ row_rule_raises (network_of plan.now) weights.now row }
 {
-    for u in 0..rules_of(plan) {
-        if let Some(no) = rule_raises(plan, weights, row, RuleNo::new(u)) {
-            return Some(no);
-        }
-    }
-    None
+    first_below(
+        rules_of(plan),
+        |u| rule_raises(plan, weights, row, RuleNo::new(u)),
+    )
 }
 
 fn write_raises(
@@ -115,24 +110,20 @@ fn writer_write_raises(
     requires few { (network_of plan.now).writers ≤ 256 }
     ensures { result ≡ first_below (network_of plan.now).keys (write_raises (network_of plan.now) (row_of weights.now) row writer) }
 {
-    for k in 0..KEYS {
-        if let Some(no) = write_raises(plan, weights, spreads, row, writer, KeyNo::new(k)) {
-            return Some(no);
-        }
-    }
-    None
+    first_below(
+        KEYS,
+        |k| write_raises(plan, weights, spreads, row, writer, KeyNo::new(k)),
+    )
 }
 
 fn row_write_raises(plan: &Plan, weights: &Tables, row: usize) -> Option<No>
     ensures { result ≡ row_write_raises (network_of plan.now) weights.now row }
 {
     let spreads = spreads_of(plan, weights);
-    for w in 0..writers_of(plan) {
-        if let Some(no) = writer_write_raises(plan, weights, &spreads, row, WriterNo::new(w)) {
-            return Some(no);
-        }
-    }
-    None
+    first_below(
+        writers_of(plan),
+        |w| writer_write_raises(plan, weights, &spreads, row, WriterNo::new(w)),
+    )
 }
 
 /// The first refusal of each number by some rows.

@@ -10,6 +10,7 @@ ghost use Rattle.dds_check.specs.Tables.{IsTabled};
 ghost use Rattle.dds_check.specs.Shown.{shows, is_unshown, is_unshown_by, names_no_row, bound_not_shown, shows_all, total_not_shown, HasBudgets, shown_no};
 
 use crate::budget::budget;
+use crate::first::first_below;
 use crate::tables::{Tables, tables_of};
 use crate::verdict::{No, Number, Subject, refusal_if};
 use dds_base::grid::KEYS;
@@ -211,12 +212,10 @@ fn first_total_not_shown(
     requires opened { HasBudgets (network_of plan.now) (certificate_view certificate.now).rows budgets.now }
     ensures { result ≡ first_in (certificate_view certificate.now).totals (total_not_shown (network_of plan.now) (certificate_view certificate.now).rows) }
 {
-    for i in 0..certificate.totals.len() {
-        if let Some(no) = total_not_shown(plan, certificate, budgets, i, total_at(certificate, i)) {
-            return Some(no);
-        }
-    }
-    None
+    first_below(
+        certificate.totals.len(),
+        |i| total_not_shown(plan, certificate, budgets, i, total_at(certificate, i)),
+    )
 }
 
 /// The first bound that its row doesn't show, else the first total, each in the order of the certificate.

@@ -3,7 +3,7 @@ use Rattle.std.proofs.Common.{◌≡◌, ℕ, ◌+◌, ◌<◌, Bool, true, fals
 use Rattle.std.specs.Option.{option_map_or}
 use Rattle.dds_deploy.specs.Lists.{Lists, Writer, Reader}
 use Rattle.dds_check.specs.First.{first_below}
-use Rattle.dds_check.proofs.First.{first_below_found, first_below_next}
+use Rattle.dds_check.proofs.FirstLemmas.{first_below_found, first_below_next}
 use Rattle.dds_domain.specs.Schedule.{is_reader_of, is_writer_of}
 
 -- ── whose an endpoint is

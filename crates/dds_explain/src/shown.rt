@@ -210,7 +210,7 @@ fn shows_reached(plan: &Plan, row: &Row, opening: u128, total: &Total, key: KeyN
 }
 
 /// Whether a row shows a total for each key that can reach its reader.
-#[tactic(auto, using(dds_check::proofs::First::all_below_start, dds_check::proofs::First::all_below_more))]
+#[tactic(auto, using(dds_check::proofs::FirstLemmas::all_below_start, dds_check::proofs::FirstLemmas::all_below_more))]
 fn shows_all(plan: &Plan, row: &Row, opening: u128, total: &Total) -> bool
     requires { opening ≡ budget (network_of plan.now) (row_of (row_view row.now)) }
     ensures { result ≡ shows_all (network_of plan.now) (row_of (row_view row.now)) total.now }

@@ -1,6 +1,6 @@
 use Rattle.dds_match.specs.Plan.{network_of}
 use Rattle.dds_check.specs.Rows.{row_take_raises, row_rule_raises, row_write_raises}
-use Rattle.dds_check.proofs.First.{first_in_next}
+use Rattle.dds_check.proofs.FirstLemmas.{first_in_next}
 use Rattle.dds_check.proofs.rows.refusals_of.Goals as goal
 
 pub loop-n-preserved : goal.loop-n-preserved

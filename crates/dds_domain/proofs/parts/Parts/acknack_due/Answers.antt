@@ -1,6 +1,6 @@
 use Rattle.std.proofs.Common.{◌≡◌, ◌<◌, ◌≤◌, Some, true, false, length, slice_get, sym, ◌∙◌, rules, arith}
 use Rattle.dds_deploy.specs.Views.{reader_view}
-use Rattle.dds_check.proofs.First.{first_below_start}
+use Rattle.dds_check.proofs.FirstLemmas.{first_below_start}
 use Rattle.dds_domain.specs.Schedule.{acknack_due, first_of_reader, is_reader_of}
 use Rattle.dds_domain.specs.Standing.{PartsState}
 use Rattle.dds_domain.proofs.ScheduleDue.{reader_entries}

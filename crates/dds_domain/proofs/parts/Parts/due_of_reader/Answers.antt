@@ -1,7 +1,7 @@
 use Rattle.std.proofs.Common.{◌≡◌, ◌<◌, ◌≤◌, true, false, length, get_or, rules, arith}
 use Rattle.dds_match.specs.Plan.{matched}
 use Rattle.dds_base.specs.declared.events.Event.TheVariants.{SendAckNack}
-use Rattle.dds_check.proofs.First.{first_below_start}
+use Rattle.dds_check.proofs.FirstLemmas.{first_below_start}
 use Rattle.dds_reader.specs.Reader.{ReaderState, owes_to}
 use Rattle.dds_domain.specs.Schedule.{acknack_due}
 use Rattle.dds_domain.specs.Standing.{PartsState}

@@ -1,6 +1,6 @@
 use Rattle.std.proofs.Common.{◌≡◌, ◌<◌, ◌≤◌, true, false, length, sym, ◌∙◌, rules, arith}
 use Rattle.dds_match.specs.Plan.{matched, network_of}
-use Rattle.dds_check.proofs.First.{first_below_start}
+use Rattle.dds_check.proofs.FirstLemmas.{first_below_start}
 use Rattle.dds_domain.specs.Schedule.{due_to}
 use Rattle.dds_domain.specs.Standing.{PartsState}
 use Rattle.dds_domain.proofs.ScheduleDue.{reader_entries}

@@ -1,7 +1,7 @@
 use Rattle.std.proofs.Common.{◌≡◌, ◌<◌, ◌≤◌, Some, true, false, length, slice_get, sym, ◌∙◌, rules, arith}
 use Rattle.dds_deploy.specs.Views.{writer_view}
 use Rattle.dds_match.specs.Plan.{network_of}
-use Rattle.dds_check.proofs.First.{first_below_start}
+use Rattle.dds_check.proofs.FirstLemmas.{first_below_start}
 use Rattle.dds_domain.specs.Schedule.{due_to, first_of_writer, is_writer_of}
 use Rattle.dds_domain.specs.Standing.{PartsState}
 use Rattle.dds_domain.proofs.ScheduleDue.{writer_entries}

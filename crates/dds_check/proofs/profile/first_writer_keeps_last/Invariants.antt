@@ -1,7 +1,0 @@
-use Rattle.std.proofs.Common.{◌≡◌, None}
-use Rattle.dds_check.specs.First.{first_below, at_item}
-use Rattle.dds_check.specs.Profile.{writer_keeps_last}
-use Rattle.dds_check.proofs.profile.first_writer_keeps_last.Given as goal
-
-abbrev pub invariant-loop-w : goal.invariant-loop-w
-invariant-loop-w l = first_below l.w (at_item l.plan.writers.entries writer_keeps_last) ≡ None

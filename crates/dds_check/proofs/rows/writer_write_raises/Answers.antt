@@ -1,7 +1,0 @@
-use Rattle.std.proofs.Common.{sym, arith}
-use Rattle.dds_check.proofs.First.{first_below_found}
-use Rattle.dds_check.proofs.rows.writer_write_raises.Goals as goal
-
-pub returns-in-Some : goal.returns-in-Some
-returns-in-Some c =
-    sym (first_below_found _ c.loop-k.k c.new.result (64) _ (omega arith) c.loop-k.invariant (sym c.in-Some.ensures) (omega arith))
