@@ -95,6 +95,12 @@ an_array_of limit path d = do
   ds ← an_array path d
   unless TooMany path (nat_le (count ds) limit) ds
 
+-- an array of at most so many items, each read after what was read before it
+unfoldable pub a_list_of : {S : Type 0} → ℕ → (S → List ℕ → Data → Read S) → S → List ℕ → Data → Read S
+a_list_of limit read before path d = do
+  ds ← an_array_of limit path d
+  each read path 0 before ds
+
 -- what is read where something is there
 abbrev pub where_present : {A : Type 0} → A → (Data → Read A) → Option Data → Read A
 where_present absent read None = Ok absent
