@@ -114,6 +114,12 @@ optional key absent read path ms = where_present absent (read (key_path path key
 unfoldable pub section : List ℕ → ℕ → Members → Read Items
 section key limit ms = where_present no_items (an_array_of limit key) (get_member key ms)
 
+-- the section at a key of the document, each item read after what was read before it
+unfoldable pub a_section : {S : Type 0} → List ℕ → ℕ → (S → List ℕ → Data → Read S) → S → Members → Read S
+a_section key limit read before ms = do
+  ds ← section key limit ms
+  each read key 0 before ds
+
 -- how an unknown key is shown: its first 64 characters, those outside the alphabet of names as `?`
 abbrev pub shown_char : ℕ → ℕ
 shown_char c = if is_name_byte c then c else 63

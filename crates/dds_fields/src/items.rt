@@ -4,10 +4,10 @@ ghost use Rattle.toml.specs.Data.{Data};
 ghost use Rattle.toml.specs.View.{view, table_view, items_view};
 ghost use Rattle.dds_fields.specs.Gives.{Gives};
 ghost use Rattle.dds_fields.specs.Places.{place_text};
-ghost use Rattle.dds_fields.specs.Reading.{Read as Reading, each, a_list_of, optional};
+ghost use Rattle.dds_fields.specs.Reading.{Read as Reading, each, a_list_of, a_section, optional};
 
 use crate::fault::ReadFault;
-use crate::field::{array_of_limit, value_at};
+use crate::field::{array_of_limit, section, value_at};
 use crate::place::Place;
 use std::alloc::Global;
 use toml::{Table, Value};
@@ -25,7 +25,7 @@ pub trait Items {
     // what one more item gives, after what was read before it
     ghost step: { Self → State → List ℕ → Data → Reading State };
 
-    // what an item may be read for
+    // when an item may be read
     ghost is_ready: { Self → Type 0 } = { λ _. Unit {0} };
 
     /// Adds one more item, or tells its first fault.
@@ -100,4 +100,26 @@ pub fn optional_list<I: Items>(
         }
         None => Ok(empty),
     }
+}
+
+/// The entries of the section at a key of the document, of which there are at most `limit`, `empty` where it is absent: WrongKind
+/// where it is no list, TooMany where it has more entries.
+#[tactic(auto, unfolding(crate::specs::Reading::a_section, crate::specs::Paths::key_path))]
+pub fn section_of<I: Items>(
+    alloc: Global,
+    limit: usize,
+    items: &I,
+    empty: I::Read,
+    table: &Table,
+    key: &str,
+) -> Result<I::Read, ReadFault>
+    requires { I.is_ready items.now }
+    ensures { Gives I.state result (a_section key.now limit (I.step items.now) (I.state empty) (table_view table.now)) }
+{
+    let values = section(alloc, table, key, limit)?;
+    let at = Place::Key {
+        parent: &Place::Root,
+        key,
+    };
+    each(alloc, items, empty, &at, values)
 }
