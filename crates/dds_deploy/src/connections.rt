@@ -64,7 +64,6 @@ impl Items for ConnectionEntries<'_> {
 }
 
 /// The section `connections`, at most 65,536 entries, or its first fault. An absent section has none.
-#[tactic(auto, unfolding(crate::specs::Sections::connections, dds_fields::specs::Reading::a_section))]
 pub(crate) fn connections(
     alloc: Global,
     writers: &Section<Writer>,
