@@ -83,9 +83,9 @@ module _ (ps : Listed Participant) (ws : Listed Writer) (rs : Listed Reader) (pa
       subst (ApplicationFits ps ws rs others.entries) (ok_is made a r.2) (record {
         participant = number_field ps paired (codes "participant") path ms p.0 p.1;
         writers = optional_keeps W (codes "writers") [] (own_writers ws others p.0) path ms w.0 (none_own (λ x. x.writers) (writer_participant ws) others.entries (length ws.names) p.0)
-            (λ q x h. are_own (λ y. y.writers) (writer_participant ws) ws.names others p.0 q w.0 (list_each q x w.0 h)) w.1;
+            (λ q x h. are_own (λ y. y.writers) (writer_participant ws) ws.names others p.0 q w.0 (list_each _ q x w.0 h)) w.1;
         readers = optional_keeps R (codes "readers") [] (own_readers rs others p.0) path ms r.0 (none_own (λ x. x.readers) (reader_participant rs) others.entries (length rs.names) p.0)
-            (λ q x h. are_own (λ y. y.readers) (reader_participant rs) rs.names others p.0 q r.0 (list_each q x r.0 h)) r.1;
+            (λ q x h. are_own (λ y. y.readers) (reader_participant rs) rs.names others p.0 q r.0 (list_each _ q x r.0 h)) r.1;
       })
 
 -- the test finds nothing
@@ -171,7 +171,7 @@ applications_are_read ps ws rs ms all e =
     let w = bind_ok (are_owned (codes "writers") (λ x. x.writers) a.0 (length ws.entries)) _ all a.2 in
     let r = bind_ok (are_owned (codes "readers") (λ x. x.readers) a.0 (length rs.entries)) _ all w.2 in
     subst (ApplicationsRead ps ws rs) (ok_is a.0 all r.2) (record {
-      list = list_read (application ps ws rs) (IsApplicationRead ps ws rs) (application_adds ps ws rs) (codes "applications") 64 a.0 (section_each ms a.0 a.1);
+      list = list_read (application ps ws rs) (IsApplicationRead ps ws rs) (application_adds ps ws rs) (codes "applications") 64 a.0 (section_each _ _ ms a.0 a.1);
       writers = nothing_is EndpointOwner (index_path (codes "writers")) (without_owner (λ x. x.writers) a.0 (length ws.entries)) w.0 w.1;
       readers = nothing_is EndpointOwner (index_path (codes "readers")) (without_owner (λ x. x.readers) a.0 (length rs.entries)) r.0 r.1;
     })

@@ -74,7 +74,7 @@ record IsFilterOf (count : ℕ) (ns : List ℕ) : Type 0 where
 
 filter_fits : (ks : List (List ℕ)) (path : List ℕ) (item : Data) (ns : List ℕ) → filter ks path item ≡ Ok ns → IsFilterOf (length ks) ns
 filter_fits ks path item ns h =
-    let e = list_each path item ns h in
+    let e = list_each _ path item ns h in
     record {
       below = pushes_all (filter_key ks) (IsFilterKey ks) (filter_key_pushes ks) path e.0 ns (λ n. n < length ks) (λ s n f. f.below) e.2;
       distinct = pushes_distinct (λ n. n) (filter_key ks) (IsFilterKey ks) (filter_key_pushes ks) path e.0 ns (λ s n f. none_shows (λ m. m) (λ m. m == n) s n (λ m same. eq-eqb m n same) f.fresh) e.2;

@@ -23,7 +23,7 @@ use Rattle.dds_base.specs.declared.portion.Portion.{Portion}
 use Rattle.dds_deploy.specs.declared.sections.Origin.{Origin}
 use Rattle.dds_deploy.specs.Lists.{Participant, Topic, Writer, Reader, Application, Rule, EachRule, Rules, no_rules, Lists}
 use Rattle.dds_deploy.specs.Policies.{policies, timing, presentation, durability, access_scope, coherent, ordered, duration, deadline, latency_budget, delivery, ownership, liveliness, liveliness_kind, lease, reliability, destination_order, history, history_kind, depth, resource_limits, max_samples, max_instances, max_samples_per_instance, partition, partition_list, partitions, policy_keys}
-use Rattle.dds_deploy.specs.Sections.{participant, participant_entry, participants, key, keys, topic, topic_entry, topics, writer, writer_entry, writer_fields, writers, filter_key, filter, reader, reader_entry, reader_fields, readers, own, own_writers, own_readers, application, application_entry, application_fields, application_list, applications, take, take_entry, takes, write, write_entry, writes, each_take, each_take_entry, each_takes, each_write, each_write_entry, each_writes, each_rule, expanded, plain_rule, single, rule, rule_entry, rule_fields, rules, connection, connection_entry, connections, head, endpoints, lists, deployment}
+use Rattle.dds_deploy.specs.Sections.{participant, participant_entry, participants, key, keys, topic, topic_entry, topics, writer, writer_entry, writer_fields, writers, filter_key, filter, reader, reader_entry, reader_fields, readers, own, own_writers, own_readers, application, application_entry, application_fields, application_list, applications, portion, share, takes, writes, each_takes, each_writes, each_rule, expanded, plain_rule, single, rule, rule_entry, rule_fields, rules, connection, connection_entry, connections, head, endpoints, lists, deployment}
 use Rattle.dds_deploy.proofs.Ascending.{document_in_order}
 use Rattle.dds_deploy.proofs.Pushes.{passed}
 use Rattle.dds_deploy.proofs.Migrated.{only_is}
@@ -243,60 +243,39 @@ applications_plain ps ws rs ms apps e = let all = bind_ok (application_list ps w
 
 -- rules
 
+portion_plain : (word : List ℕ) (names : List (List ℕ)) (own : List ℕ) (key_at : List ℕ → ℕ → Option ℕ) (before : List (Portion ℕ)) → ReadsPlain 1 (portion word names own key_at before)
+unfolding portion
+portion_plain word names own key_at before = record {
+  plain = λ path d x e.
+      let ms = bind_ok (entry (word ∷ codes "key" ∷ codes "count" ∷ []) path d) _ x e in
+      let r = bind_ok _ _ x ms.2 in
+      let text = bind_ok _ _ x r.2 in
+      let n = bind_ok _ _ x text.2 in
+      entry_plain _ path d ms.0 ms.1 (field_plain (known_name_plain _) path _ r.1, (field_plain text_plain path _ text.1, (field_plain (number_plain _ _) path _ n.1, tt)));
+}
+
+share_plain : (word : List ℕ) (names : List (List ℕ)) (own : List ℕ) (before : List (ℕ × ℕ)) → ReadsPlain 1 (share word names own before)
+unfolding share
+share_plain word names own before = record {
+  plain = λ path d x e.
+      let ms = bind_ok (entry (word ∷ codes "count" ∷ []) path d) _ x e in
+      let r = bind_ok _ _ x ms.2 in
+      let n = bind_ok _ _ x r.2 in
+      entry_plain _ path d ms.0 ms.1 (field_plain (known_name_plain _) path _ r.1, (field_plain (number_plain _ _) path _ n.1, tt));
+}
+
 module _ (ts : Listed Topic) (ws : Listed Writer) (rs : Listed Reader) (apps : Listed Application) where
-  take_plain : (a : ℕ) (before : List (Portion ℕ)) → ReadsPlain 1 (take ts rs apps a before)
-  unfolding take take_entry
-  take_plain a before = record {
-    plain = λ path d x e.
-        let ms = bind_ok (take_entry path d) _ x e in
-        let r = bind_ok _ _ x ms.2 in
-        let text = bind_ok _ _ x r.2 in
-        let n = bind_ok _ _ x text.2 in
-        entry_plain _ path d ms.0 ms.1 (field_plain (known_name_plain _) path _ r.1, (field_plain text_plain path _ text.1, (field_plain (number_plain _ _) path _ n.1, tt)));
-  }
-
   takes_plain : (a : ℕ) → ReadsPlain 2 (takes ts rs apps a)
-  takes_plain a = list_plain 16 [] (take_plain a)
-
-  write_plain : (a : ℕ) (before : List (Portion ℕ)) → ReadsPlain 1 (write ts ws apps a before)
-  unfolding write write_entry
-  write_plain a before = record {
-    plain = λ path d x e.
-        let ms = bind_ok (write_entry path d) _ x e in
-        let w = bind_ok _ _ x ms.2 in
-        let text = bind_ok _ _ x w.2 in
-        let n = bind_ok _ _ x text.2 in
-        entry_plain _ path d ms.0 ms.1 (field_plain (known_name_plain _) path _ w.1, (field_plain text_plain path _ text.1, (field_plain (number_plain _ _) path _ n.1, tt)));
-  }
+  takes_plain a = list_plain 16 [] (portion_plain _ _ _ _)
 
   writes_plain : (a : ℕ) → ReadsPlain 2 (writes ts ws apps a)
-  writes_plain a = list_plain 16 [] (write_plain a)
-
-  each_take_plain : (a : ℕ) (before : List (ℕ × ℕ)) → ReadsPlain 1 (each_take rs apps a before)
-  unfolding each_take each_take_entry
-  each_take_plain a before = record {
-    plain = λ path d x e.
-        let ms = bind_ok (each_take_entry path d) _ x e in
-        let r = bind_ok _ _ x ms.2 in
-        let n = bind_ok _ _ x r.2 in
-        entry_plain _ path d ms.0 ms.1 (field_plain (known_name_plain _) path _ r.1, (field_plain (number_plain _ _) path _ n.1, tt));
-  }
+  writes_plain a = list_plain 16 [] (portion_plain _ _ _ _)
 
   each_takes_plain : (a : ℕ) → ReadsPlain 2 (each_takes rs apps a)
-  each_takes_plain a = list_plain 16 [] (each_take_plain a)
-
-  each_write_plain : (a : ℕ) (before : List (ℕ × ℕ)) → ReadsPlain 1 (each_write ws apps a before)
-  unfolding each_write each_write_entry
-  each_write_plain a before = record {
-    plain = λ path d x e.
-        let ms = bind_ok (each_write_entry path d) _ x e in
-        let w = bind_ok _ _ x ms.2 in
-        let n = bind_ok _ _ x w.2 in
-        entry_plain _ path d ms.0 ms.1 (field_plain (known_name_plain _) path _ w.1, (field_plain (number_plain _ _) path _ n.1, tt));
-  }
+  each_takes_plain a = list_plain 16 [] (share_plain _ _ _)
 
   each_writes_plain : (a : ℕ) → ReadsPlain 2 (each_writes ws apps a)
-  each_writes_plain a = list_plain 16 [] (each_write_plain a)
+  each_writes_plain a = list_plain 16 [] (share_plain _ _ _)
 
   -- the fields of a rule that its elements stand in
   abbrev PlainElements : Members → Type 0

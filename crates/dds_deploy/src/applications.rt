@@ -1,6 +1,6 @@
 //! The section `applications`: their names, participants, and the writers and readers that each owns. Together they own
 //! each writer and each reader of the file once.
-ghost use Rattle.std.specs.Prelude.{◌≡◌, ◌<◌, List, ℕ, [], length, string_bytes};
+ghost use Rattle.std.specs.Prelude.{◌≡◌, ◌<◌, List, ℕ, [], length, option_map, slice_get, unwrap_or};
 ghost use Rattle.std.specs.List.{list_any};
 ghost use Rattle.toml.specs.View.{view, table_view};
 ghost use Rattle.dds_fields.specs.Gives.{Gives};
@@ -33,6 +33,17 @@ fn is_owned<E: Endpoints>(applications: &Section<Application>, number: usize) ->
     false
 }
 
+/// The endpoints that the application with this number owns.
+pub(crate) fn owned_at<E: Endpoints>(
+    applications: &Section<Application>,
+    application: usize,
+) -> &[E::Number]
+    requires { application < length applications.now.names }
+    ensures { E.numbers result.now ≡ unwrap_or (option_map E.owned_by (slice_get (listed application_view applications.now).entries application)) [] }
+{
+    E::owned_by(&applications.entries[application])
+}
+
 // What reads the endpoints of one kind that an application at a participant owns, after these others.
 #[derive(Clone, Copy)]
 struct Own<'a, E> {
@@ -43,7 +54,7 @@ struct Own<'a, E> {
 
 impl<E: Endpoints> Own<'_, E> {
     // Whether the application may own the endpoint: it is there too, and neither the others nor the list so far have it.
-    fn may_own(&self, own: &E::Own, number: usize) -> bool
+    fn may_own(&self, own: &[E::Number], number: usize) -> bool
         requires { number < length (E.names self.now.endpoints.now) }
         ensures { result ≡ may_own E.owned_by (E.participant_of self.now.endpoints.now) (listed application_view self.now.others.now) self.now.participant (E.numbers own.now) number }
     {
@@ -53,11 +64,11 @@ impl<E: Endpoints> Own<'_, E> {
 }
 
 impl<E: Endpoints> Items for Own<'_, E> {
-    type Read = E::Own;
+    type Read = Vec<E::Number>;
 
     ghost State = { List ℕ };
 
-    ghost state = { E.numbers };
+    ghost state = { λ own. E.numbers own.items };
 
     ghost step = { λ it. own (E.names it.endpoints.now) E.owned_by (E.participant_of it.endpoints.now) (listed application_view it.others.now) it.participant };
 
@@ -65,7 +76,7 @@ impl<E: Endpoints> Items for Own<'_, E> {
     fn add(
         &self,
         alloc: Global,
-        all: &mut E::Own,
+        all: &mut Vec<E::Number>,
         path: &Place,
         value: &Value,
     ) -> Result<(), ReadFault> {

@@ -25,9 +25,6 @@ pub trait Items {
     // what one more item gives, after what was read before it
     ghost step: { Self → State → List ℕ → Data → Reading State };
 
-    // when an item may be read
-    ghost is_ready: { Self → Type 0 } = { λ _. Unit {0} };
-
     /// Adds one more item, or tells its first fault.
     fn add(
         &self,
@@ -36,7 +33,6 @@ pub trait Items {
         path: &Place,
         value: &Value,
     ) -> Result<(), ReadFault>
-        requires { is_ready self.now }
         ensures { Gives (λ _. state all.new) result (step self.now (state all.old) (place_text path.now) (view value.now)) };
 }
 
@@ -48,7 +44,6 @@ pub fn each<I: Items>(
     path: &Place,
     values: &[Value],
 ) -> Result<I::Read, ReadFault>
-    requires { I.is_ready items.now }
     ensures { Gives I.state result (each (I.step items.now) (place_text path.now) 0 (I.state all) (items_view values.now)) }
 {
     for (i, value) in values.iter().enumerate() {
@@ -72,7 +67,6 @@ pub fn list_of<I: Items>(
     path: &Place,
     value: &Value,
 ) -> Result<I::Read, ReadFault>
-    requires { I.is_ready items.now }
     ensures { Gives I.state result (a_list_of limit (I.step items.now) (I.state empty) (place_text path.now) (view value.now)) }
 {
     let values = array_of_limit(alloc, limit, path, value)?;
@@ -90,7 +84,6 @@ pub fn optional_list<I: Items>(
     table: &Table,
     key: &str,
 ) -> Result<I::Read, ReadFault>
-    requires { I.is_ready items.now }
     ensures { Gives I.state result (optional key.now (I.state empty) (a_list_of limit (I.step items.now) (I.state empty)) (place_text path.now) (table_view table.now)) }
 {
     match value_at(table, key) {
@@ -113,7 +106,6 @@ pub fn section_of<I: Items>(
     table: &Table,
     key: &str,
 ) -> Result<I::Read, ReadFault>
-    requires { I.is_ready items.now }
     ensures { Gives I.state result (a_section key.now limit (I.step items.now) (I.state empty) (table_view table.now)) }
 {
     let values = section(alloc, table, key, limit)?;
