@@ -73,5 +73,12 @@ pub(crate) fn connections(
     ensures { Gives (λ p. p) result (connections (listed writer_view writers.now) (listed reader_view readers.now) (table_view table.now)) }
 {
     let entries = ConnectionEntries { writers, readers };
-    section_of(alloc, 65_536, &entries, Pairs::new(alloc), table, "connections")
+    section_of(
+        alloc,
+        65_536,
+        &entries,
+        Pairs::new(alloc),
+        table,
+        "connections",
+    )
 }

@@ -92,7 +92,14 @@ fn filter_field(
     match value_at(table, key) {
         Some(value) => {
             let at = Place::Key { parent: path, key };
-            list_of(alloc, 64, &FilterKeys { names }, Vec::new(alloc), &at, value)
+            list_of(
+                alloc,
+                64,
+                &FilterKeys { names },
+                Vec::new(alloc),
+                &at,
+                value,
+            )
         }
         None => Ok(every_key(alloc, names)?),
     }

@@ -13,9 +13,7 @@ ghost use Rattle.dds_deploy.specs.Views.{topic_view};
 use crate::sections::Topic;
 use dds_base::Names;
 use dds_fields::fault::{FaultKind, ReadFault, refuse};
-use dds_fields::field::{
-    array_of_limit, entry, name_field, new_name_field, new_name_of, required,
-};
+use dds_fields::field::{array_of_limit, entry, name_field, new_name_field, new_name_of, required};
 use dds_fields::items::{Items, each, section_of};
 use dds_fields::place::Place;
 use dds_fields::sections::Section;
@@ -111,5 +109,12 @@ impl Items for TopicEntries {
 pub(crate) fn topics(alloc: Global, table: &Table) -> Result<Section<Topic>, ReadFault>
     ensures { Gives (listed topic_view) result (topics (table_view table.now)) }
 {
-    section_of(alloc, 256, &TopicEntries, Section::new(alloc), table, "topics")
+    section_of(
+        alloc,
+        256,
+        &TopicEntries,
+        Section::new(alloc),
+        table,
+        "topics",
+    )
 }
