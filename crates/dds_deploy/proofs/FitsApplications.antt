@@ -7,17 +7,17 @@ use Rattle.std.proofs.lemmas.List.Elements.{All-nil, All-from_recursion}
 use Rattle.std.proofs.lemmas.List.Folds.{list_any_at, Any-from_list_any}
 use Rattle.std.proofs.lemmas.List.FromFn.{length-range_with_len, get_or-range_with_len}
 use Rattle.std.proofs.lemmas.Option.{slice_get_within, slice_get-get_or, get_or_from_slice_get}
-use Rattle.toml.specs.Data.{Data, Members}
+use Rattle.toml.specs.Data.{Members}
 use Rattle.dds_fields.specs.declared.fault.FaultKind.{FaultKind}
 use Rattle.dds_fields.specs.declared.fault.FaultKind.TheVariants.{EndpointOwner}
-use Rattle.dds_fields.specs.Reading.{Read, nothing_or, field, a_known_name, optional}
+use Rattle.dds_fields.specs.Reading.{nothing_or, field, a_known_name, optional}
 use Rattle.dds_fields.specs.Lists.{Listed}
 use Rattle.dds_fields.specs.Paths.{index_path}
 use Rattle.dds_fields.proofs.Laws.{bind_ok, ok_is}
 use Rattle.dds_deploy.specs.Lists.{Participant, Writer, Reader, Application, Lists}
 use Rattle.dds_deploy.specs.Sections.{has, may_own, writer_participant, reader_participant, own, own_writers, own_readers, application, application_fields, application_list, applications, without_owner, are_owned}
 use Rattle.dds_deploy.specs.WellFormed.{AreDistinctBy, IsApplicationOf, IsOwnedOnce}
-use Rattle.dds_deploy.proofs.Pushes.{is_not, Pushes, optional_keeps, pushes_all}
+use Rattle.dds_deploy.proofs.Pushes.{is_not, optional_keeps, pushes_all}
 use Rattle.dds_deploy.proofs.Distinct.{neither, none_shows, pushes_distinct, distinct_nothing}
 use Rattle.dds_deploy.proofs.Readings.{both, number_field, IsReadEach, list_each, section_each, IsOwn, own_pushes, application_adds, IsApplicationRead}
 use Rattle.dds_deploy.proofs.ListsRead.{ListRead, list_read}

@@ -1,5 +1,5 @@
 //! What writers and readers have in common, for what names endpoints of either kind: applications and rules.
-ghost use Rattle.std.specs.Prelude.{codes, ◌≡◌, ◌==◌, ◌&&◌, ◌<◌, ◌++◌, ◌∷◌, [], IfOk, List, Option, ℕ, length, option_map, slice_get, unwrap_or};
+ghost use Rattle.std.specs.Prelude.{codes, ◌≡◌, ◌==◌, ◌&&◌, ◌<◌, ◌++◌, ◌∷◌, [], IfOk, List, Option, ℕ, length};
 ghost use Rattle.std.specs.List.{list_any};
 ghost use Rattle.dds_base.specs.Names.{number_of};
 ghost use Rattle.dds_base.specs.declared.portion.Portion.{Portion as PortionView};

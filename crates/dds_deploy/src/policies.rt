@@ -2,7 +2,7 @@
 //! default of RELIABILITY differs between the two, and the caller names it.
 ghost use Rattle.std.specs.Prelude.{◌≡◌, map, string_bytes, Option, List, ℕ};
 ghost use Rattle.std.specs.List.{list_all};
-ghost use Rattle.toml.specs.View.{view, table_view};
+ghost use Rattle.toml.specs.View.{table_view};
 ghost use Rattle.dds_fields.specs.Gives.{Gives};
 ghost use Rattle.dds_fields.specs.Places.{place_text};
 ghost use Rattle.dds_deploy.specs.Policies.{durability, access_scope, coherent, ordered, presentation, duration_of, duration, deadline, latency_budget, ownership, liveliness_kind, lease, liveliness, reliability, destination_order, history_kind, depth, history, max_samples, max_instances, max_samples_per_instance, resource_limits, timing, delivery, policies, is_partition_byte, is_partition_name, partition, partitions};

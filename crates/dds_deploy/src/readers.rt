@@ -29,8 +29,7 @@ fn topic_keys(topics: &Section<Topic>, topic: usize) -> &Names
     &topics.entries[topic].keys
 }
 
-/// Whether the key stands in the list.
-pub(crate) fn has_key(keys: &[KeyNo], key: KeyNo) -> bool
+fn has_key(keys: &[KeyNo], key: KeyNo) -> bool
     ensures { result ≡ has keys.now key }
 {
     keys.contains(&key)
