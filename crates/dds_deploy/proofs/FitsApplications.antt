@@ -7,19 +7,19 @@ use Rattle.std.proofs.lemmas.List.Elements.{All-nil, All-from_recursion}
 use Rattle.std.proofs.lemmas.List.Folds.{list_any_at, Any-from_list_any}
 use Rattle.std.proofs.lemmas.List.FromFn.{length-range_with_len, get_or-range_with_len}
 use Rattle.std.proofs.lemmas.Option.{slice_get_within, slice_get-get_or, get_or_from_slice_get}
-use Rattle.toml.specs.Data.{Data, Members}
+use Rattle.toml.specs.Data.{Members}
 use Rattle.dds_fields.specs.declared.fault.FaultKind.{FaultKind}
 use Rattle.dds_fields.specs.declared.fault.FaultKind.TheVariants.{EndpointOwner}
-use Rattle.dds_fields.specs.Reading.{Read, nothing_or, field, a_known_name, optional}
+use Rattle.dds_fields.specs.Reading.{nothing_or, field, a_known_name, optional}
 use Rattle.dds_fields.specs.Lists.{Listed}
 use Rattle.dds_fields.specs.Paths.{index_path}
 use Rattle.dds_fields.proofs.Laws.{bind_ok, ok_is}
 use Rattle.dds_deploy.specs.Lists.{Participant, Writer, Reader, Application, Lists}
-use Rattle.dds_deploy.specs.Sections.{has, may_own, writer_participant, reader_participant, own_writer, own_writers, own_reader, own_readers, application, application_fields, application_list, applications, without_owner, writers_owned, readers_owned}
+use Rattle.dds_deploy.specs.Sections.{has, may_own, writer_participant, reader_participant, own, own_writers, own_readers, application, application_fields, application_list, applications, without_owner, are_owned}
 use Rattle.dds_deploy.specs.WellFormed.{AreDistinctBy, IsApplicationOf, IsOwnedOnce}
-use Rattle.dds_deploy.proofs.Pushes.{is_not, Pushes, optional_keeps, pushes_all}
+use Rattle.dds_deploy.proofs.Pushes.{is_not, optional_keeps, pushes_all}
 use Rattle.dds_deploy.proofs.Distinct.{neither, none_shows, pushes_distinct, distinct_nothing}
-use Rattle.dds_deploy.proofs.Readings.{both, number_field, IsReadEach, IsOwn, own_writers_each, own_writer_pushes, own_readers_each, own_reader_pushes, applications_each, application_adds, IsApplicationRead}
+use Rattle.dds_deploy.proofs.Readings.{both, number_field, IsReadEach, list_each, section_each, IsOwn, own_pushes, application_adds, IsApplicationRead}
 use Rattle.dds_deploy.proofs.ListsRead.{ListRead, list_read}
 use Rattle.dds_deploy.proofs.FitsRules.{contains_has}
 
@@ -52,9 +52,10 @@ module _ (endpoints_of : Application → List ℕ) (participant_of : ℕ → ℕ
       let free = neither taken (has before n) (is_not (taken || has before n) two.0) in
       record { unowned = free.0; fresh = free.1; beside = eqb-true (participant_of n) p two.1 }
 
-  are_own : (read : List ℕ → List ℕ → Data → Read (List ℕ)) → ((s t : List ℕ) (path : List ℕ) (item : Data) → read s path item ≡ Ok t → Pushes (IsOwn endpoints_of participant_of names others p) s t)
-      → (path : List ℕ) (ns : List ℕ) → IsReadEach read path 256 [] ns → AreOwn endpoints_of participant_of others.entries (length names) p ns
-  are_own read step path ns e =
+  are_own : (path : List ℕ) (ns : List ℕ) → IsReadEach (own names endpoints_of participant_of others p) path 256 [] ns → AreOwn endpoints_of participant_of others.entries (length names) p ns
+  are_own path ns e =
+      let read = own names endpoints_of participant_of others p in
+      let step = own_pushes endpoints_of participant_of names others p in
       let P = IsOwn endpoints_of participant_of names others p in
       record {
         below = pushes_all read P step path e.0 ns (λ n. n < length names) (λ s n f. f.known) e.2;
@@ -82,9 +83,9 @@ module _ (ps : Listed Participant) (ws : Listed Writer) (rs : Listed Reader) (pa
       subst (ApplicationFits ps ws rs others.entries) (ok_is made a r.2) (record {
         participant = number_field ps paired (codes "participant") path ms p.0 p.1;
         writers = optional_keeps W (codes "writers") [] (own_writers ws others p.0) path ms w.0 (none_own (λ x. x.writers) (writer_participant ws) others.entries (length ws.names) p.0)
-            (λ q x h. are_own (λ y. y.writers) (writer_participant ws) ws.names others p.0 (own_writer ws others p.0) (own_writer_pushes ws others p.0) q w.0 (own_writers_each ws others p.0 q x w.0 h)) w.1;
+            (λ q x h. are_own (λ y. y.writers) (writer_participant ws) ws.names others p.0 q w.0 (list_each _ q x w.0 h)) w.1;
         readers = optional_keeps R (codes "readers") [] (own_readers rs others p.0) path ms r.0 (none_own (λ x. x.readers) (reader_participant rs) others.entries (length rs.names) p.0)
-            (λ q x h. are_own (λ y. y.readers) (reader_participant rs) rs.names others p.0 (own_reader rs others p.0) (own_reader_pushes rs others p.0) q r.0 (own_readers_each rs others p.0 q x r.0 h)) r.1;
+            (λ q x h. are_own (λ y. y.readers) (reader_participant rs) rs.names others p.0 q r.0 (list_each _ q x r.0 h)) r.1;
       })
 
 -- the test finds nothing
@@ -164,13 +165,13 @@ pub record ApplicationsRead (ps : Listed Participant) (ws : Listed Writer) (rs :
   pub readers : without_owner (λ a. a.readers) all (length rs.entries) ≡ None
 
 pub applications_are_read : (ps : Listed Participant) (ws : Listed Writer) (rs : Listed Reader) (ms : Members) (all : Listed Application) → applications ps ws rs ms ≡ Ok all → ApplicationsRead ps ws rs all
-unfolding applications writers_owned readers_owned
+unfolding applications are_owned
 applications_are_read ps ws rs ms all e =
     let a = bind_ok (application_list ps ws rs ms) _ all e in
-    let w = bind_ok (writers_owned a.0 (length ws.entries)) _ all a.2 in
-    let r = bind_ok (readers_owned a.0 (length rs.entries)) _ all w.2 in
+    let w = bind_ok (are_owned (codes "writers") (λ x. x.writers) a.0 (length ws.entries)) _ all a.2 in
+    let r = bind_ok (are_owned (codes "readers") (λ x. x.readers) a.0 (length rs.entries)) _ all w.2 in
     subst (ApplicationsRead ps ws rs) (ok_is a.0 all r.2) (record {
-      list = list_read (application ps ws rs) (IsApplicationRead ps ws rs) (application_adds ps ws rs) (codes "applications") 64 a.0 (applications_each ps ws rs ms a.0 a.1);
+      list = list_read (application ps ws rs) (IsApplicationRead ps ws rs) (application_adds ps ws rs) (codes "applications") 64 a.0 (section_each _ _ ms a.0 a.1);
       writers = nothing_is EndpointOwner (index_path (codes "writers")) (without_owner (λ x. x.writers) a.0 (length ws.entries)) w.0 w.1;
       readers = nothing_is EndpointOwner (index_path (codes "readers")) (without_owner (λ x. x.readers) a.0 (length rs.entries)) r.0 r.1;
     })

@@ -21,7 +21,7 @@ use Rattle.dds_deploy.specs.Sections.{key, writer_fields, reader_fields, filter,
 use Rattle.dds_deploy.specs.WellFormed.{IsWriterOf, IsReaderOf, KeepsWithin, AreNumbered, AreDistinctBy}
 use Rattle.dds_deploy.proofs.Pushes.{optional_keeps, each_counts, push_size, pushes_few, pushes_all}
 use Rattle.dds_deploy.proofs.Distinct.{pushes_distinct, pushes_numbered, none_shows}
-use Rattle.dds_deploy.proofs.Readings.{number_field, number_between, keys_each, key_pushes, IsNewName, filter_each, filter_key_pushes, IsFilterKey, IsTopicRead, IsWriterRead, IsReaderRead}
+use Rattle.dds_deploy.proofs.Readings.{number_field, number_between, keys_each, key_pushes, IsNewName, list_each, filter_key_pushes, IsFilterKey, IsTopicRead, IsWriterRead, IsReaderRead}
 
 pub none_is : {A : Type 0} (o : Option A) → is_none o ≡ true → o ≡ None
 none_is None e = refl
@@ -74,7 +74,7 @@ record IsFilterOf (count : ℕ) (ns : List ℕ) : Type 0 where
 
 filter_fits : (ks : List (List ℕ)) (path : List ℕ) (item : Data) (ns : List ℕ) → filter ks path item ≡ Ok ns → IsFilterOf (length ks) ns
 filter_fits ks path item ns h =
-    let e = filter_each ks path item ns h in
+    let e = list_each _ path item ns h in
     record {
       below = pushes_all (filter_key ks) (IsFilterKey ks) (filter_key_pushes ks) path e.0 ns (λ n. n < length ks) (λ s n f. f.below) e.2;
       distinct = pushes_distinct (λ n. n) (filter_key ks) (IsFilterKey ks) (filter_key_pushes ks) path e.0 ns (λ s n f. none_shows (λ m. m) (λ m. m == n) s n (λ m same. eq-eqb m n same) f.fresh) e.2;

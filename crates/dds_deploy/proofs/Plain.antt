@@ -13,7 +13,7 @@ use Rattle.toml.specs.Data.{Data, string, integer, boolean, array, table, Items,
 use Rattle.toml.proofs.Blanks.{below_from, greater_from}
 use Rattle.dds_fields.specs.declared.fault.FaultKind.TheVariants.{WrongKind, MissingKey, TooMany}
 use Rattle.dds_fields.specs.Paths.{key_path, index_path}
-use Rattle.dds_fields.specs.Reading.{Read, ◌>>=◌, or_fault, a_text, a_number, a_name, a_new_name, a_known_name, a_table, an_array, an_array_of, each, entry, field, optional, section, where_present, keys_of, unlisted, only}
+use Rattle.dds_fields.specs.Reading.{Read, ◌>>=◌, or_fault, a_text, a_number, a_name, a_new_name, a_known_name, a_table, an_array, an_array_of, a_list_of, a_section, each, entry, field, optional, section, where_present, keys_of, unlisted, only}
 use Rattle.dds_fields.specs.Words.{a_word, a_flag, a_long, a_duration, a_limit, word_or}
 use Rattle.dds_fields.specs.Lists.{version}
 use Rattle.dds_fields.proofs.Laws.{bind_ok, ok_is, found_is}
@@ -176,7 +176,8 @@ array_is limit path d ds e =
     is_array d a.0 (found_is WrongKind path (as_array d) a.0 a.1) ∙ ap array p.1
 
 -- an array of items each of which is plain
-pub list_plain : {S : Type 0} {n : ℕ} {read : S → List ℕ → Data → Read S} (limit : ℕ) (start : S) → ((s : S) → ReadsPlain n (read s)) → ReadsPlain (suc n) (λ path d. an_array_of limit path d >>= λ ds. each read path 0 start ds)
+pub list_plain : {S : Type 0} {n : ℕ} {read : S → List ℕ → Data → Read S} (limit : ℕ) (start : S) → ((s : S) → ReadsPlain n (read s)) → ReadsPlain (suc n) (a_list_of limit read start)
+unfolding a_list_of
 list_plain {n = n} {read = read} limit start reads = record {
   plain = λ path d x e. let a = bind_ok (an_array_of limit path d) _ x e in
       rw (array_is limit path d a.0 a.1) (array_plain n a.0 (record { if_sorted = each_plain read reads path 0 start a.0 x a.2 }));
@@ -184,8 +185,8 @@ list_plain {n = n} {read = read} limit start reads = record {
 
 -- a section each entry of which is plain
 pub section_plain : {S : Type 0} {n : ℕ} {key : List ℕ} {ms : Members} {read : S → List ℕ → Data → Read S} (limit : ℕ) (start : S) → ((s : S) → ReadsPlain n (read s)) → (x : S)
-    → (section key limit ms >>= λ ds. each read key 0 start ds) ≡ Ok x → IsPlainAt (suc n) ms key
-unfolding section
+    → a_section key limit read start ms ≡ Ok x → IsPlainAt (suc n) ms key
+unfolding section a_section
 section_plain {n = n} {key = key} {ms = ms} {read = read} limit start reads x e =
     let a = bind_ok (section key limit ms) _ x e in
     present_plain no_items (an_array_of limit key) a.0 (λ d h. rw (array_is limit key d a.0 h) (array_plain n a.0 (record { if_sorted = each_plain read reads key 0 start a.0 x a.2 }))) a.1

@@ -15,7 +15,7 @@ use Rattle.dds_qos.specs.declared.policies.Policies.{Policies}
 use Rattle.dds_qos.specs.declared.policies.Reliability.{Reliability}
 use Rattle.dds_qos.specs.declared.policies.Reliability.TheVariants.{BestEffort, Reliable}
 use Rattle.dds_fields.specs.declared.fault.FaultKind.TheVariants.{OutOfRange, NotToml}
-use Rattle.dds_fields.specs.Reading.{or_fault, a_text, a_new_name, a_known_name, an_array_of, count, unless, entry, optional, only, unlisted, keys_of}
+use Rattle.dds_fields.specs.Reading.{or_fault, a_text, a_new_name, a_known_name, an_array_of, a_list_of, count, unless, entry, optional, only, unlisted, keys_of}
 use Rattle.dds_fields.specs.Words.{a_duration}
 use Rattle.dds_fields.specs.Lists.{Listed, nothing, document}
 use Rattle.dds_fields.proofs.Laws.{bind_ok, found_is}
@@ -23,7 +23,7 @@ use Rattle.dds_base.specs.declared.portion.Portion.{Portion}
 use Rattle.dds_deploy.specs.declared.sections.Origin.{Origin}
 use Rattle.dds_deploy.specs.Lists.{Participant, Topic, Writer, Reader, Application, Rule, EachRule, Rules, no_rules, Lists}
 use Rattle.dds_deploy.specs.Policies.{policies, timing, presentation, durability, access_scope, coherent, ordered, duration, deadline, latency_budget, delivery, ownership, liveliness, liveliness_kind, lease, reliability, destination_order, history, history_kind, depth, resource_limits, max_samples, max_instances, max_samples_per_instance, partition, partition_list, partitions, policy_keys}
-use Rattle.dds_deploy.specs.Sections.{participant, participant_entry, participants, key, keys, topic, topic_entry, topics, writer, writer_entry, writer_fields, writers, filter_key, filter, reader, reader_entry, reader_fields, readers, own_writer, own_writers, own_reader, own_readers, application, application_entry, application_fields, application_list, applications, take, take_entry, takes, write, write_entry, writes, each_take, each_take_entry, each_takes, each_write, each_write_entry, each_writes, each_rule, expanded, plain_rule, single, rule, rule_entry, rule_fields, rules, connection, connection_entry, connections, head, endpoints, lists, deployment}
+use Rattle.dds_deploy.specs.Sections.{participant, participant_entry, participants, key, keys, topic, topic_entry, topics, writer, writer_entry, writer_fields, writers, filter_key, filter, reader, reader_entry, reader_fields, readers, own, own_writers, own_readers, application, application_entry, application_fields, application_list, applications, portion, share, takes, writes, each_takes, each_writes, each_rule, expanded, plain_rule, single, rule, rule_entry, rule_fields, rules, connection, connection_entry, connections, head, endpoints, lists, deployment}
 use Rattle.dds_deploy.proofs.Ascending.{document_in_order}
 use Rattle.dds_deploy.proofs.Pushes.{passed}
 use Rattle.dds_deploy.proofs.Migrated.{only_is}
@@ -42,7 +42,6 @@ participant_plain before = record {
 }
 
 participants_plain : (ms : Members) (ps : Listed Participant) → participants ms ≡ Ok ps → IsPlainAt 4 ms (codes "participants")
-unfolding participants
 participants_plain ms ps e = section_plain 64 nothing participant_plain ps e
 
 key_plain : (before : List (List ℕ)) → ReadsPlain 1 (key before)
@@ -50,7 +49,7 @@ unfolding key
 key_plain before = record { plain = λ path d x e. let name = bind_ok (a_new_name before path d) _ x e in (new_name_plain before).plain path d name.0 name.1 }
 
 keys_plain : ReadsPlain 2 keys
-unfolding keys
+unfolding keys a_list_of
 keys_plain = record {
   plain = λ path d x e.
       let all = bind_ok (an_array_of 64 path d) _ x e in
@@ -71,7 +70,6 @@ topic_plain before = record {
 }
 
 topics_plain : (ms : Members) (ts : Listed Topic) → topics ms ≡ Ok ts → IsPlainAt 4 ms (codes "topics")
-unfolding topics
 topics_plain ms ts e = section_plain 256 nothing topic_plain ts e
 
 -- endpoints
@@ -81,7 +79,6 @@ unfolding partition
 partition_plain before = record { plain = λ path d x e. let text = bind_ok (a_text path d) _ x e in text_plain.plain path d text.0 text.1 }
 
 partition_list_plain : ReadsPlain 2 partition_list
-unfolding partition_list
 partition_list_plain = list_plain 16 [] partition_plain
 
 module _ (path : List ℕ) (ms : Members) where
@@ -176,7 +173,6 @@ writer_plain ps ts before = record {
 }
 
 writers_plain : (ps : Listed Participant) (ts : Listed Topic) (ms : Members) (ws : Listed Writer) → writers ps ts ms ≡ Ok ws → IsPlainAt 4 ms (codes "writers")
-unfolding writers
 writers_plain ps ts ms ws e = section_plain 256 nothing (writer_plain ps ts) ws e
 
 filter_key_plain : (keys : List (List ℕ)) (before : List ℕ) → ReadsPlain 1 (filter_key keys before)
@@ -184,7 +180,6 @@ unfolding filter_key
 filter_key_plain keys before = record { plain = λ path d x e. let n = bind_ok (a_known_name keys path d) _ x e in (known_name_plain keys).plain path d n.0 n.1 }
 
 filter_plain : (keys : List (List ℕ)) → ReadsPlain 2 (filter keys)
-unfolding filter
 filter_plain keys = list_plain 64 [] (filter_key_plain keys)
 
 reader_fields_plain : (ps : Listed Participant) (ts : Listed Topic) (path : List ℕ) (ms : Members) (r : Reader) → reader_fields ps ts path ms ≡ Ok r
@@ -209,26 +204,19 @@ reader_plain ps ts before = record {
 }
 
 readers_plain : (ps : Listed Participant) (ts : Listed Topic) (ms : Members) (rs : Listed Reader) → readers ps ts ms ≡ Ok rs → IsPlainAt 4 ms (codes "readers")
-unfolding readers
 readers_plain ps ts ms rs e = section_plain 256 nothing (reader_plain ps ts) rs e
 
 -- applications
 
-own_writer_plain : (ws : Listed Writer) (others : Listed Application) (p : ℕ) (before : List ℕ) → ReadsPlain 1 (own_writer ws others p before)
-unfolding own_writer
-own_writer_plain ws others p before = record { plain = λ path d x e. let w = bind_ok (a_known_name ws.names path d) _ x e in (known_name_plain ws.names).plain path d w.0 w.1 }
+own_plain : (names : List (List ℕ)) (owned_by : Application → List ℕ) (participant_of : ℕ → ℕ) (others : Listed Application) (p : ℕ) (before : List ℕ) → ReadsPlain 1 (own names owned_by participant_of others p before)
+unfolding own
+own_plain names owned_by participant_of others p before = record { plain = λ path d x e. let n = bind_ok (a_known_name names path d) _ x e in (known_name_plain names).plain path d n.0 n.1 }
 
 own_writers_plain : (ws : Listed Writer) (others : Listed Application) (p : ℕ) → ReadsPlain 2 (own_writers ws others p)
-unfolding own_writers
-own_writers_plain ws others p = list_plain 256 [] (own_writer_plain ws others p)
-
-own_reader_plain : (rs : Listed Reader) (others : Listed Application) (p : ℕ) (before : List ℕ) → ReadsPlain 1 (own_reader rs others p before)
-unfolding own_reader
-own_reader_plain rs others p before = record { plain = λ path d x e. let r = bind_ok (a_known_name rs.names path d) _ x e in (known_name_plain rs.names).plain path d r.0 r.1 }
+own_writers_plain ws others p = list_plain 256 [] (own_plain _ _ _ others p)
 
 own_readers_plain : (rs : Listed Reader) (others : Listed Application) (p : ℕ) → ReadsPlain 2 (own_readers rs others p)
-unfolding own_readers
-own_readers_plain rs others p = list_plain 256 [] (own_reader_plain rs others p)
+own_readers_plain rs others p = list_plain 256 [] (own_plain _ _ _ others p)
 
 application_plain : (ps : Listed Participant) (ws : Listed Writer) (rs : Listed Reader) (before : Listed Application) → ReadsPlain 3 (application ps ws rs before)
 unfolding application application_entry application_fields
@@ -250,69 +238,44 @@ application_plain ps ws rs before = record {
 }
 
 applications_plain : (ps : Listed Participant) (ws : Listed Writer) (rs : Listed Reader) (ms : Members) (apps : Listed Application) → applications ps ws rs ms ≡ Ok apps → IsPlainAt 4 ms (codes "applications")
-unfolding applications application_list
+unfolding applications
 applications_plain ps ws rs ms apps e = let all = bind_ok (application_list ps ws rs ms) _ apps e in section_plain 64 nothing (application_plain ps ws rs) all.0 all.1
 
 -- rules
 
+portion_plain : (word : List ℕ) (names : List (List ℕ)) (own : List ℕ) (key_at : List ℕ → ℕ → Option ℕ) (before : List (Portion ℕ)) → ReadsPlain 1 (portion word names own key_at before)
+unfolding portion
+portion_plain word names own key_at before = record {
+  plain = λ path d x e.
+      let ms = bind_ok (entry (word ∷ codes "key" ∷ codes "count" ∷ []) path d) _ x e in
+      let r = bind_ok _ _ x ms.2 in
+      let text = bind_ok _ _ x r.2 in
+      let n = bind_ok _ _ x text.2 in
+      entry_plain _ path d ms.0 ms.1 (field_plain (known_name_plain _) path _ r.1, (field_plain text_plain path _ text.1, (field_plain (number_plain _ _) path _ n.1, tt)));
+}
+
+share_plain : (word : List ℕ) (names : List (List ℕ)) (own : List ℕ) (before : List (ℕ × ℕ)) → ReadsPlain 1 (share word names own before)
+unfolding share
+share_plain word names own before = record {
+  plain = λ path d x e.
+      let ms = bind_ok (entry (word ∷ codes "count" ∷ []) path d) _ x e in
+      let r = bind_ok _ _ x ms.2 in
+      let n = bind_ok _ _ x r.2 in
+      entry_plain _ path d ms.0 ms.1 (field_plain (known_name_plain _) path _ r.1, (field_plain (number_plain _ _) path _ n.1, tt));
+}
+
 module _ (ts : Listed Topic) (ws : Listed Writer) (rs : Listed Reader) (apps : Listed Application) where
-  take_plain : (a : ℕ) (before : List (Portion ℕ)) → ReadsPlain 1 (take ts rs apps a before)
-  unfolding take take_entry
-  take_plain a before = record {
-    plain = λ path d x e.
-        let ms = bind_ok (take_entry path d) _ x e in
-        let r = bind_ok _ _ x ms.2 in
-        let text = bind_ok _ _ x r.2 in
-        let n = bind_ok _ _ x text.2 in
-        entry_plain _ path d ms.0 ms.1 (field_plain (known_name_plain _) path _ r.1, (field_plain text_plain path _ text.1, (field_plain (number_plain _ _) path _ n.1, tt)));
-  }
-
   takes_plain : (a : ℕ) → ReadsPlain 2 (takes ts rs apps a)
-  unfolding takes
-  takes_plain a = list_plain 16 [] (take_plain a)
-
-  write_plain : (a : ℕ) (before : List (Portion ℕ)) → ReadsPlain 1 (write ts ws apps a before)
-  unfolding write write_entry
-  write_plain a before = record {
-    plain = λ path d x e.
-        let ms = bind_ok (write_entry path d) _ x e in
-        let w = bind_ok _ _ x ms.2 in
-        let text = bind_ok _ _ x w.2 in
-        let n = bind_ok _ _ x text.2 in
-        entry_plain _ path d ms.0 ms.1 (field_plain (known_name_plain _) path _ w.1, (field_plain text_plain path _ text.1, (field_plain (number_plain _ _) path _ n.1, tt)));
-  }
+  takes_plain a = list_plain 16 [] (portion_plain _ _ _ _)
 
   writes_plain : (a : ℕ) → ReadsPlain 2 (writes ts ws apps a)
-  unfolding writes
-  writes_plain a = list_plain 16 [] (write_plain a)
-
-  each_take_plain : (a : ℕ) (before : List (ℕ × ℕ)) → ReadsPlain 1 (each_take rs apps a before)
-  unfolding each_take each_take_entry
-  each_take_plain a before = record {
-    plain = λ path d x e.
-        let ms = bind_ok (each_take_entry path d) _ x e in
-        let r = bind_ok _ _ x ms.2 in
-        let n = bind_ok _ _ x r.2 in
-        entry_plain _ path d ms.0 ms.1 (field_plain (known_name_plain _) path _ r.1, (field_plain (number_plain _ _) path _ n.1, tt));
-  }
+  writes_plain a = list_plain 16 [] (portion_plain _ _ _ _)
 
   each_takes_plain : (a : ℕ) → ReadsPlain 2 (each_takes rs apps a)
-  unfolding each_takes
-  each_takes_plain a = list_plain 16 [] (each_take_plain a)
-
-  each_write_plain : (a : ℕ) (before : List (ℕ × ℕ)) → ReadsPlain 1 (each_write ws apps a before)
-  unfolding each_write each_write_entry
-  each_write_plain a before = record {
-    plain = λ path d x e.
-        let ms = bind_ok (each_write_entry path d) _ x e in
-        let w = bind_ok _ _ x ms.2 in
-        let n = bind_ok _ _ x w.2 in
-        entry_plain _ path d ms.0 ms.1 (field_plain (known_name_plain _) path _ w.1, (field_plain (number_plain _ _) path _ n.1, tt));
-  }
+  each_takes_plain a = list_plain 16 [] (share_plain _ _ _)
 
   each_writes_plain : (a : ℕ) → ReadsPlain 2 (each_writes ws apps a)
-  unfolding each_writes
-  each_writes_plain a = list_plain 16 [] (each_write_plain a)
+  each_writes_plain a = list_plain 16 [] (share_plain _ _ _)
 
   -- the fields of a rule that its elements stand in
   abbrev PlainElements : Members → Type 0
@@ -362,7 +325,6 @@ module _ (ts : Listed Topic) (ws : Listed Writer) (rs : Listed Reader) (apps : L
   }
 
   rules_plain : (v : ℕ) (ms : Members) (us : Rules) → rules v ts ws rs apps ms ≡ Ok us → IsPlainAt 4 ms (codes "rules")
-  unfolding rules
   rules_plain v ms us e = section_plain 256 no_rules (rule_plain v) us e
 
 -- connections
@@ -378,7 +340,6 @@ connection_plain ws rs before = record {
 }
 
 connections_plain : (ws : Listed Writer) (rs : Listed Reader) (ms : Members) (cs : List (ℕ × ℕ)) → connections ws rs ms ≡ Ok cs → IsPlainAt 4 ms (codes "connections")
-unfolding connections
 connections_plain ws rs ms cs e = section_plain 65536 [] (connection_plain ws rs) cs e
 
 -- the whole document

@@ -4,7 +4,7 @@ use Rattle.std.specs.List.{list_all}
 use Rattle.toml.specs.Data.{Data, Members}
 use Rattle.dds_base.specs.Names.{is_name_byte}
 use Rattle.dds_fields.specs.declared.fault.FaultKind.TheVariants.{BadName}
-use Rattle.dds_fields.specs.Reading.{Read, ◌>>=◌, unless, optional, a_text, a_number, an_array_of, each}
+use Rattle.dds_fields.specs.Reading.{Read, ◌>>=◌, unless, optional, a_text, a_number, a_list_of}
 use Rattle.dds_fields.specs.Words.{a_word, a_flag, a_duration, a_limit}
 use Rattle.dds_qos.specs.declared.policies.Durability.{Durability}
 use Rattle.dds_qos.specs.declared.policies.Durability.TheVariants.{Volatile, TransientLocal, Transient, Persistent}
@@ -165,10 +165,8 @@ partition before path d = do
   text ← a_text path d
   unless BadName path (is_partition_name text) (before ++ text ∷ [])
 
-unfoldable pub partition_list : List ℕ → Data → Read (List (List ℕ))
-partition_list path d = do
-  ds ← an_array_of 16 path d
-  each partition path 0 [] ds
+abbrev pub partition_list : List ℕ → Data → Read (List (List ℕ))
+partition_list = a_list_of 16 partition []
 
 unfoldable pub partitions : List ℕ → Members → Read (List (List ℕ))
 partitions path ms = optional (codes "partitions") [] partition_list path ms

@@ -1,263 +1,91 @@
 //! The section `applications`: their names, participants, and the writers and readers that each owns. Together they own
 //! each writer and each reader of the file once.
-ghost use Rattle.std.specs.Prelude.{◌≡◌, ◌<◌, [], length};
+ghost use Rattle.std.specs.Prelude.{◌≡◌, ◌<◌, List, ℕ, [], length, option_map, slice_get, unwrap_or};
 ghost use Rattle.std.specs.List.{list_any};
-ghost use Rattle.toml.specs.View.{view, items_view, table_view};
+ghost use Rattle.toml.specs.View.{view, table_view};
 ghost use Rattle.dds_fields.specs.Gives.{Gives};
-ghost use Rattle.dds_fields.specs.Lists.{nothing};
+ghost use Rattle.dds_fields.specs.Lists.{Listed};
 ghost use Rattle.dds_fields.specs.Places.{place_text};
-ghost use Rattle.dds_fields.specs.Reading.{each, optional};
 ghost use Rattle.dds_fields.specs.Views.{listed};
 ghost use Rattle.dds_deploy.specs.Lists.{Application as ApplicationView};
-ghost use Rattle.dds_deploy.specs.Sections.{has, writer_participant, reader_participant, may_own, own_writer, own_writers, own_reader, own_readers, application_entry, application_fields, application, application_list, without_owner, writers_owned, readers_owned, applications};
+ghost use Rattle.dds_deploy.specs.Sections.{has, may_own, own, application_entry, application_fields, application, application_list, without_owner, are_owned, applications};
 ghost use Rattle.dds_deploy.specs.Views.{participant_view, writer_view, reader_view, application_view};
 
+use crate::endpoints::Endpoints;
 use crate::sections::{Application, Participant, Reader, Writer};
-use dds_base::{ParticipantNo, ReaderNo, WriterNo};
+use dds_base::ParticipantNo;
 use dds_fields::fault::{FaultKind, ReadFault, refuse};
-use dds_fields::field::{
-    array_of_limit, entry, known_name_field, known_name_of, new_name_field, section, value_at,
-};
+use dds_fields::field::{entry, known_name_field, known_name_of, new_name_field};
+use dds_fields::items::{Items, optional_list, section_of};
 use dds_fields::place::Place;
 use dds_fields::sections::Section;
 use std::alloc::Global;
 use toml::{Table, Value};
 
-/// Whether the writer stands in the list.
-pub(crate) fn has_writer(writers: &[WriterNo], writer: WriterNo) -> bool
-    ensures { result ≡ has writers.now writer }
-{
-    writers.contains(&writer)
-}
-
-/// Whether the reader stands in the list.
-pub(crate) fn has_reader(readers: &[ReaderNo], reader: ReaderNo) -> bool
-    ensures { result ≡ has readers.now reader }
-{
-    readers.contains(&reader)
-}
-
-fn is_writer_owned(applications: &Section<Application>, writer: WriterNo) -> bool
-    ensures { result ≡ list_any (λ (a : ApplicationView). has a.writers writer) (listed application_view applications.now).entries }
+fn is_owned<E: Endpoints>(applications: &Section<Application>, number: usize) -> bool
+    ensures { result ≡ list_any (λ a. has (E.owned_by a) number) (listed application_view applications.now).entries }
 {
     for application in &applications.entries {
-        if has_writer(&application.writers, writer) {
+        if E::has_number(E::owned_by(application), number) {
             return true;
         }
     }
     false
 }
 
-fn is_reader_owned(applications: &Section<Application>, reader: ReaderNo) -> bool
-    ensures { result ≡ list_any (λ (a : ApplicationView). has a.readers reader) (listed application_view applications.now).entries }
+/// The endpoints that the application with this number owns.
+pub(crate) fn owned_at<E: Endpoints>(
+    applications: &Section<Application>,
+    application: usize,
+) -> &[E::Number]
+    requires { application < length applications.now.names }
+    ensures { E.numbers result.now ≡ unwrap_or (option_map E.owned_by (slice_get (listed application_view applications.now).entries application)) [] }
 {
-    for application in &applications.entries {
-        if has_reader(&application.readers, reader) {
-            return true;
+    E::owned_by(&applications.entries[application])
+}
+
+// What reads the endpoints of one kind that an application at a participant owns, after these others.
+#[derive(Clone, Copy)]
+struct Own<'a, E> {
+    endpoints: &'a E,
+    others: &'a Section<Application>,
+    participant: ParticipantNo,
+}
+
+impl<E: Endpoints> Own<'_, E> {
+    // Whether the application may own the endpoint: it is there too, and neither the others nor the list so far have it.
+    fn may_own(&self, own: &[E::Number], number: usize) -> bool
+        requires { number < length (E.names self.now.endpoints.now) }
+        ensures { result ≡ may_own E.owned_by (E.participant_of self.now.endpoints.now) (listed application_view self.now.others.now) self.now.participant (E.numbers own.now) number }
+    {
+        !(is_owned::<E>(self.others, number) || E::has_number(own, number))
+            && self.endpoints.participant_of(number) == self.participant
+    }
+}
+
+impl<E: Endpoints> Items for Own<'_, E> {
+    type Read = Vec<E::Number>;
+
+    ghost State = { List ℕ };
+
+    ghost state = { λ own. E.numbers own.items };
+
+    ghost step = { λ it. own (E.names it.endpoints.now) E.owned_by (E.participant_of it.endpoints.now) (listed application_view it.others.now) it.participant };
+
+    #[tactic(auto, unfolding(crate::specs::Sections::own))]
+    fn add(
+        &self,
+        alloc: Global,
+        all: &mut Vec<E::Number>,
+        path: &Place,
+        value: &Value,
+    ) -> Result<(), ReadFault> {
+        let number = known_name_of(alloc, self.endpoints.names(), path, value)?;
+        if !self.may_own(all, number) {
+            return Err(refuse(alloc, FaultKind::EndpointOwner, path));
         }
-    }
-    false
-}
-
-fn participant_of_writer(writers: &Section<Writer>, writer: usize) -> ParticipantNo
-    requires { writer < length writers.now.names }
-    ensures { result ≡ writer_participant (listed writer_view writers.now) writer }
-{
-    writers.entries[writer].participant
-}
-
-fn participant_of_reader(readers: &Section<Reader>, reader: usize) -> ParticipantNo
-    requires { reader < length readers.now.names }
-    ensures { result ≡ reader_participant (listed reader_view readers.now) reader }
-{
-    readers.entries[reader].participant
-}
-
-// Whether an application at the participant may own the writer: it is there too, and neither the other applications nor the
-// list so far have it.
-fn may_own_writer(
-    writers: &Section<Writer>,
-    others: &Section<Application>,
-    participant: ParticipantNo,
-    own: &[WriterNo],
-    number: usize,
-) -> bool
-    requires { number < length writers.now.names }
-    ensures { result ≡ may_own (λ (a : ApplicationView). a.writers) (writer_participant (listed writer_view writers.now)) (listed application_view others.now) participant own.now number }
-{
-    let writer = WriterNo::new(number);
-    !(is_writer_owned(others, writer) || has_writer(own, writer))
-        && participant_of_writer(writers, number) == participant
-}
-
-#[tactic(auto, unfolding(crate::specs::Sections::own_writer))]
-fn add_own_writer(
-    alloc: Global,
-    writers: &Section<Writer>,
-    others: &Section<Application>,
-    participant: ParticipantNo,
-    own: &mut Vec<WriterNo>,
-    path: &Place,
-    value: &Value,
-) -> Result<(), ReadFault>
-    ensures { Gives (λ _. own.new.items) result (own_writer (listed writer_view writers.now) (listed application_view others.now) participant own.old.items (place_text path.now) (view value.now)) }
-{
-    let number = known_name_of(alloc, &writers.names, path, value)?;
-    if !may_own_writer(writers, others, participant, own, number) {
-        return Err(refuse(alloc, FaultKind::EndpointOwner, path));
-    }
-    own.push(WriterNo::new(number))?;
-    Ok(())
-}
-
-// Whether an application at the participant may own the reader: it is there too, and neither the other applications nor the
-// list so far have it.
-fn may_own_reader(
-    readers: &Section<Reader>,
-    others: &Section<Application>,
-    participant: ParticipantNo,
-    own: &[ReaderNo],
-    number: usize,
-) -> bool
-    requires { number < length readers.now.names }
-    ensures { result ≡ may_own (λ (a : ApplicationView). a.readers) (reader_participant (listed reader_view readers.now)) (listed application_view others.now) participant own.now number }
-{
-    let reader = ReaderNo::new(number);
-    !(is_reader_owned(others, reader) || has_reader(own, reader))
-        && participant_of_reader(readers, number) == participant
-}
-
-#[tactic(auto, unfolding(crate::specs::Sections::own_reader))]
-fn add_own_reader(
-    alloc: Global,
-    readers: &Section<Reader>,
-    others: &Section<Application>,
-    participant: ParticipantNo,
-    own: &mut Vec<ReaderNo>,
-    path: &Place,
-    value: &Value,
-) -> Result<(), ReadFault>
-    ensures { Gives (λ _. own.new.items) result (own_reader (listed reader_view readers.now) (listed application_view others.now) participant own.old.items (place_text path.now) (view value.now)) }
-{
-    let number = known_name_of(alloc, &readers.names, path, value)?;
-    if !may_own_reader(readers, others, participant, own, number) {
-        return Err(refuse(alloc, FaultKind::EndpointOwner, path));
-    }
-    own.push(ReaderNo::new(number))?;
-    Ok(())
-}
-
-fn each_own_writer(
-    alloc: Global,
-    writers: &Section<Writer>,
-    others: &Section<Application>,
-    participant: ParticipantNo,
-    path: &Place,
-    values: &[Value],
-) -> Result<Vec<WriterNo>, ReadFault>
-    ensures { Gives (λ v. v.items) result (each (own_writer (listed writer_view writers.now) (listed application_view others.now) participant) (place_text path.now) 0 [] (items_view values.now)) }
-{
-    let mut own = Vec::new(alloc);
-    for (i, value) in values.iter().enumerate() {
-        let at = Place::Index {
-            parent: &*path,
-            index: i,
-        };
-        add_own_writer(alloc, writers, others, participant, &mut own, &at, value)?;
-    }
-    Ok(own)
-}
-
-fn each_own_reader(
-    alloc: Global,
-    readers: &Section<Reader>,
-    others: &Section<Application>,
-    participant: ParticipantNo,
-    path: &Place,
-    values: &[Value],
-) -> Result<Vec<ReaderNo>, ReadFault>
-    ensures { Gives (λ v. v.items) result (each (own_reader (listed reader_view readers.now) (listed application_view others.now) participant) (place_text path.now) 0 [] (items_view values.now)) }
-{
-    let mut own = Vec::new(alloc);
-    for (i, value) in values.iter().enumerate() {
-        let at = Place::Index {
-            parent: &*path,
-            index: i,
-        };
-        add_own_reader(alloc, readers, others, participant, &mut own, &at, value)?;
-    }
-    Ok(own)
-}
-
-#[tactic(auto, unfolding(crate::specs::Sections::own_writers))]
-fn own_writers_of(
-    alloc: Global,
-    writers: &Section<Writer>,
-    others: &Section<Application>,
-    participant: ParticipantNo,
-    path: &Place,
-    value: &Value,
-) -> Result<Vec<WriterNo>, ReadFault>
-    ensures { Gives (λ v. v.items) result (own_writers (listed writer_view writers.now) (listed application_view others.now) participant (place_text path.now) (view value.now)) }
-{
-    let values = array_of_limit(alloc, 256, path, value)?;
-    each_own_writer(alloc, writers, others, participant, path, values)
-}
-
-#[tactic(auto, unfolding(crate::specs::Sections::own_readers))]
-fn own_readers_of(
-    alloc: Global,
-    readers: &Section<Reader>,
-    others: &Section<Application>,
-    participant: ParticipantNo,
-    path: &Place,
-    value: &Value,
-) -> Result<Vec<ReaderNo>, ReadFault>
-    ensures { Gives (λ v. v.items) result (own_readers (listed reader_view readers.now) (listed application_view others.now) participant (place_text path.now) (view value.now)) }
-{
-    let values = array_of_limit(alloc, 256, path, value)?;
-    each_own_reader(alloc, readers, others, participant, path, values)
-}
-
-#[tactic(auto, unfolding(dds_fields::specs::Reading::optional))]
-fn own_writers_field(
-    alloc: Global,
-    writers: &Section<Writer>,
-    others: &Section<Application>,
-    participant: ParticipantNo,
-    path: &Place,
-    table: &Table,
-    key: &str,
-) -> Result<Vec<WriterNo>, ReadFault>
-    ensures { Gives (λ v. v.items) result (optional key.now [] (own_writers (listed writer_view writers.now) (listed application_view others.now) participant) (place_text path.now) (table_view table.now)) }
-{
-    match value_at(table, key) {
-        Some(value) => {
-            let at = Place::Key { parent: path, key };
-            own_writers_of(alloc, writers, others, participant, &at, value)
-        }
-        None => Ok(Vec::new(alloc)),
-    }
-}
-
-#[tactic(auto, unfolding(dds_fields::specs::Reading::optional))]
-fn own_readers_field(
-    alloc: Global,
-    readers: &Section<Reader>,
-    others: &Section<Application>,
-    participant: ParticipantNo,
-    path: &Place,
-    table: &Table,
-    key: &str,
-) -> Result<Vec<ReaderNo>, ReadFault>
-    ensures { Gives (λ v. v.items) result (optional key.now [] (own_readers (listed reader_view readers.now) (listed application_view others.now) participant) (place_text path.now) (table_view table.now)) }
-{
-    match value_at(table, key) {
-        Some(value) => {
-            let at = Place::Key { parent: path, key };
-            own_readers_of(alloc, readers, others, participant, &at, value)
-        }
-        None => Ok(Vec::new(alloc)),
+        E::push_number(all, number)?;
+        Ok(())
     }
 }
 
@@ -275,8 +103,20 @@ fn application_fields(
 {
     let number = known_name_field(alloc, &participants.names, path, table, "participant")?;
     let participant = ParticipantNo::new(number);
-    let writers = own_writers_field(alloc, writers, others, participant, path, table, "writers")?;
-    let readers = own_readers_field(alloc, readers, others, participant, path, table, "readers")?;
+    let of_writers = Own {
+        endpoints: writers,
+        others,
+        participant,
+    };
+    let none = Vec::new(alloc);
+    let writers = optional_list(alloc, 256, &of_writers, none, path, table, "writers")?;
+    let of_readers = Own {
+        endpoints: readers,
+        others,
+        participant,
+    };
+    let none = Vec::new(alloc);
+    let readers = optional_list(alloc, 256, &of_readers, none, path, table, "readers")?;
     Ok(Application {
         participant,
         writers,
@@ -300,47 +140,47 @@ fn application_entry<'a>(
     )
 }
 
-#[tactic(auto, unfolding(crate::specs::Sections::application))]
-fn add_application(
-    alloc: Global,
-    participants: &Section<Participant>,
-    writers: &Section<Writer>,
-    readers: &Section<Reader>,
-    all: &mut Section<Application>,
-    path: &Place,
-    value: &Value,
-) -> Result<(), ReadFault>
-    ensures { Gives (λ _. listed application_view all.new) result (application (listed participant_view participants.now) (listed writer_view writers.now) (listed reader_view readers.now) (listed application_view all.old) (place_text path.now) (view value.now)) }
-{
-    let table = application_entry(alloc, path, value)?;
-    let name = new_name_field(alloc, &all.names, path, table, "name")?;
-    let application = application_fields(alloc, participants, writers, readers, all, path, table)?;
-    all.push(alloc, name, application)?;
-    Ok(())
+// What reads the applications of a file.
+#[derive(Clone, Copy)]
+struct ApplicationEntries<'a> {
+    participants: &'a Section<Participant>,
+    writers: &'a Section<Writer>,
+    readers: &'a Section<Reader>,
 }
 
-fn each_application(
-    alloc: Global,
-    participants: &Section<Participant>,
-    writers: &Section<Writer>,
-    readers: &Section<Reader>,
-    path: &Place,
-    values: &[Value],
-) -> Result<Section<Application>, ReadFault>
-    ensures { Gives (listed application_view) result (each (application (listed participant_view participants.now) (listed writer_view writers.now) (listed reader_view readers.now)) (place_text path.now) 0 nothing (items_view values.now)) }
-{
-    let mut all = Section::new(alloc);
-    for (i, value) in values.iter().enumerate() {
-        let at = Place::Index {
-            parent: &*path,
-            index: i,
-        };
-        add_application(alloc, participants, writers, readers, &mut all, &at, value)?;
+impl Items for ApplicationEntries<'_> {
+    type Read = Section<Application>;
+
+    ghost State = { Listed ApplicationView };
+
+    ghost state = { λ all. listed application_view all };
+
+    ghost step = { λ it. application (listed participant_view it.participants.now) (listed writer_view it.writers.now) (listed reader_view it.readers.now) };
+
+    #[tactic(auto, unfolding(crate::specs::Sections::application))]
+    fn add(
+        &self,
+        alloc: Global,
+        all: &mut Section<Application>,
+        path: &Place,
+        value: &Value,
+    ) -> Result<(), ReadFault> {
+        let table = application_entry(alloc, path, value)?;
+        let name = new_name_field(alloc, &all.names, path, table, "name")?;
+        let application = application_fields(
+            alloc,
+            self.participants,
+            self.writers,
+            self.readers,
+            all,
+            path,
+            table,
+        )?;
+        all.push(alloc, name, application)?;
+        Ok(())
     }
-    Ok(all)
 }
 
-#[tactic(auto, unfolding(crate::specs::Sections::application_list, dds_fields::specs::Paths::key_path))]
 fn application_list(
     alloc: Global,
     participants: &Section<Participant>,
@@ -350,76 +190,49 @@ fn application_list(
 ) -> Result<Section<Application>, ReadFault>
     ensures { Gives (listed application_view) result (application_list (listed participant_view participants.now) (listed writer_view writers.now) (listed reader_view readers.now) (table_view table.now)) }
 {
-    let values = section(alloc, table, "applications", 64)?;
-    let at = Place::Key {
-        parent: &Place::Root,
-        key: "applications",
+    let entries = ApplicationEntries {
+        participants,
+        writers,
+        readers,
     };
-    each_application(alloc, participants, writers, readers, &at, values)
+    section_of(
+        alloc,
+        64,
+        &entries,
+        Section::new(alloc),
+        table,
+        "applications",
+    )
 }
 
 #[tactic(auto, using(dds_fields::proofs::Ranges::range_none))]
-fn writer_without_owner(applications: &Section<Application>, count: usize) -> Option<usize>
-    ensures { result ≡ without_owner (λ (a : ApplicationView). a.writers) (listed application_view applications.now) count }
+fn without_owner<E: Endpoints>(applications: &Section<Application>, count: usize) -> Option<usize>
+    ensures { result ≡ without_owner E.owned_by (listed application_view applications.now) count }
 {
     for number in 0..count {
-        if !is_writer_owned(applications, WriterNo::new(number)) {
+        if !is_owned::<E>(applications, number) {
             return Some(number);
         }
     }
     None
 }
 
-#[tactic(auto, using(dds_fields::proofs::Ranges::range_none))]
-fn reader_without_owner(applications: &Section<Application>, count: usize) -> Option<usize>
-    ensures { result ≡ without_owner (λ (a : ApplicationView). a.readers) (listed application_view applications.now) count }
-{
-    for number in 0..count {
-        if !is_reader_owned(applications, ReaderNo::new(number)) {
-            return Some(number);
-        }
-    }
-    None
-}
-
-// The fault is told at the entry of the endpoint, not at an application.
-#[tactic(auto, unfolding(crate::specs::Sections::writers_owned, dds_fields::specs::Paths::key_path))]
-fn writers_owned(
+// Whether each endpoint of the section at this key has an application. The fault is told at its entry there, not at an
+// application.
+#[tactic(auto, unfolding(crate::specs::Sections::are_owned, dds_fields::specs::Paths::key_path))]
+fn are_owned<E: Endpoints>(
     alloc: Global,
+    key: &str,
     applications: &Section<Application>,
     count: usize,
 ) -> Result<(), ReadFault>
-    ensures { Gives (λ u. u) result (writers_owned (listed application_view applications.now) count) }
+    ensures { Gives (λ u. u) result (are_owned key.now E.owned_by (listed application_view applications.now) count) }
 {
-    match writer_without_owner(applications, count) {
+    match without_owner::<E>(applications, count) {
         Some(index) => {
             let section = Place::Key {
                 parent: &Place::Root,
-                key: "writers",
-            };
-            let at = Place::Index {
-                parent: &section,
-                index,
-            };
-            Err(refuse(alloc, FaultKind::EndpointOwner, &at))
-        }
-        None => Ok(()),
-    }
-}
-
-#[tactic(auto, unfolding(crate::specs::Sections::readers_owned, dds_fields::specs::Paths::key_path))]
-fn readers_owned(
-    alloc: Global,
-    applications: &Section<Application>,
-    count: usize,
-) -> Result<(), ReadFault>
-    ensures { Gives (λ u. u) result (readers_owned (listed application_view applications.now) count) }
-{
-    match reader_without_owner(applications, count) {
-        Some(index) => {
-            let section = Place::Key {
-                parent: &Place::Root,
-                key: "readers",
+                key,
             };
             let at = Place::Index {
                 parent: &section,
@@ -444,7 +257,7 @@ pub(crate) fn applications(
     ensures { Gives (listed application_view) result (applications (listed participant_view participants.now) (listed writer_view writers.now) (listed reader_view readers.now) (table_view table.now)) }
 {
     let all = application_list(alloc, participants, writers, readers, table)?;
-    writers_owned(alloc, &all, writers.entries.len())?;
-    readers_owned(alloc, &all, readers.entries.len())?;
+    are_owned::<Section<Writer>>(alloc, "writers", &all, writers.entries.len())?;
+    are_owned::<Section<Reader>>(alloc, "readers", &all, readers.entries.len())?;
     Ok(all)
 }

@@ -1,16 +1,16 @@
 //! The policy fields of a writer or a reader (OMG DDS 1.4, clause 2.2.3). An absent field has its default; only the
 //! default of RELIABILITY differs between the two, and the caller names it.
-ghost use Rattle.std.specs.Prelude.{◌≡◌, [], map, string_bytes, Option, ℕ};
+ghost use Rattle.std.specs.Prelude.{◌≡◌, map, string_bytes, Option, List, ℕ};
 ghost use Rattle.std.specs.List.{list_all};
-ghost use Rattle.toml.specs.View.{view, items_view, table_view};
+ghost use Rattle.toml.specs.View.{table_view};
 ghost use Rattle.dds_fields.specs.Gives.{Gives};
 ghost use Rattle.dds_fields.specs.Places.{place_text};
-ghost use Rattle.dds_fields.specs.Reading.{each, optional};
-ghost use Rattle.dds_deploy.specs.Policies.{durability, access_scope, coherent, ordered, presentation, duration_of, duration, deadline, latency_budget, ownership, liveliness_kind, lease, liveliness, reliability, destination_order, history_kind, depth, history, max_samples, max_instances, max_samples_per_instance, resource_limits, timing, delivery, policies, is_partition_byte, is_partition_name, partition, partition_list, partitions};
+ghost use Rattle.dds_deploy.specs.Policies.{durability, access_scope, coherent, ordered, presentation, duration_of, duration, deadline, latency_budget, ownership, liveliness_kind, lease, liveliness, reliability, destination_order, history_kind, depth, history, max_samples, max_instances, max_samples_per_instance, resource_limits, timing, delivery, policies, is_partition_byte, is_partition_name, partition, partitions};
 
 use dds_base::is_name_byte;
 use dds_fields::fault::{FaultKind, ReadFault, refuse};
-use dds_fields::field::{array_of_limit, optional_number, text_of, value_at};
+use dds_fields::field::{optional_number, text_of};
+use dds_fields::items::{Items, optional_list};
 use dds_fields::place::Place;
 use dds_fields::words::{optional_duration, optional_flag, optional_limit, optional_word};
 use dds_qos::{
@@ -359,60 +359,33 @@ fn is_partition_name(text: &str) -> bool
     text.len() <= 64 && has_partition_bytes(text)
 }
 
-#[tactic(auto, unfolding(crate::specs::Policies::partition))]
-fn add_partition(
-    alloc: Global,
-    names: &mut Vec<String>,
-    path: &Place,
-    value: &Value,
-) -> Result<(), ReadFault>
-    ensures { Gives (λ _. map string_bytes names.new.items) result (partition (map string_bytes names.old.items) (place_text path.now) (view value.now)) }
-{
-    let text = text_of(alloc, path, value)?;
-    if !is_partition_name(text) {
-        return Err(refuse(alloc, FaultKind::BadName, path));
-    }
-    names.push(String::from_str(alloc, text)?)?;
-    Ok(())
-}
+// What reads the partitions of an endpoint.
+#[derive(Clone, Copy)]
+struct PartitionNames;
 
-fn each_partition(alloc: Global, path: &Place, values: &[Value]) -> Result<Vec<String>, ReadFault>
-    ensures { Gives (λ v. map string_bytes v.items) result (each partition (place_text path.now) 0 [] (items_view values.now)) }
-{
-    let mut names = Vec::new(alloc);
-    for (i, value) in values.iter().enumerate() {
-        let at = Place::Index {
-            parent: &*path,
-            index: i,
-        };
-        add_partition(alloc, &mut names, &at, value)?;
-    }
-    Ok(names)
-}
+impl Items for PartitionNames {
+    type Read = Vec<String>;
 
-#[tactic(auto, unfolding(crate::specs::Policies::partition_list))]
-fn partitions_of(alloc: Global, path: &Place, value: &Value) -> Result<Vec<String>, ReadFault>
-    ensures { Gives (λ v. map string_bytes v.items) result (partition_list (place_text path.now) (view value.now)) }
-{
-    let values = array_of_limit(alloc, 16, path, value)?;
-    each_partition(alloc, path, values)
-}
+    ghost State = { List (List ℕ) };
 
-#[tactic(auto, unfolding(dds_fields::specs::Reading::optional))]
-fn partitions_field(
-    alloc: Global,
-    path: &Place,
-    table: &Table,
-    key: &str,
-) -> Result<Vec<String>, ReadFault>
-    ensures { Gives (λ v. map string_bytes v.items) result (optional key.now [] partition_list (place_text path.now) (table_view table.now)) }
-{
-    match value_at(table, key) {
-        Some(value) => {
-            let at = Place::Key { parent: path, key };
-            partitions_of(alloc, &at, value)
+    ghost state = { λ names. map string_bytes names.items };
+
+    ghost step = { λ _. partition };
+
+    #[tactic(auto, unfolding(crate::specs::Policies::partition))]
+    fn add(
+        &self,
+        alloc: Global,
+        all: &mut Vec<String>,
+        path: &Place,
+        value: &Value,
+    ) -> Result<(), ReadFault> {
+        let text = text_of(alloc, path, value)?;
+        if !is_partition_name(text) {
+            return Err(refuse(alloc, FaultKind::BadName, path));
         }
-        None => Ok(Vec::new(alloc)),
+        all.push(String::from_str(alloc, text)?)?;
+        Ok(())
     }
 }
 
@@ -425,5 +398,6 @@ pub(crate) fn partitions(
 ) -> Result<Vec<String>, ReadFault>
     ensures { Gives (λ v. map string_bytes v.items) result (partitions (place_text path.now) (table_view table.now)) }
 {
-    partitions_field(alloc, path, table, "partitions")
+    let none = Vec::new(alloc);
+    optional_list(alloc, 16, &PartitionNames, none, path, table, "partitions")
 }

@@ -1,12 +1,12 @@
 //! The section `readers`: their names, participants, topics, filters and policies.
-ghost use Rattle.std.specs.Prelude.{◌≡◌, ◌<◌, [], length, IfOk};
-ghost use Rattle.toml.specs.View.{view, items_view, table_view};
+ghost use Rattle.std.specs.Prelude.{◌≡◌, ◌<◌, List, ℕ, length, IfOk};
+ghost use Rattle.toml.specs.View.{view, table_view};
 ghost use Rattle.dds_fields.specs.Gives.{Gives};
-ghost use Rattle.dds_fields.specs.Lists.{nothing};
+ghost use Rattle.dds_fields.specs.Lists.{Listed};
 ghost use Rattle.dds_fields.specs.Places.{place_text};
-ghost use Rattle.dds_fields.specs.Reading.{each, optional};
+ghost use Rattle.dds_fields.specs.Reading.{optional};
 ghost use Rattle.dds_fields.specs.Views.{listed};
-ghost use Rattle.dds_deploy.specs.Lists.{keys_at};
+ghost use Rattle.dds_deploy.specs.Lists.{Reader as ReaderView, keys_at};
 ghost use Rattle.dds_deploy.specs.Sections.{has, filter_key, filter, all_keys, reader_fields, reader_entry, reader, readers};
 ghost use Rattle.dds_deploy.specs.Views.{participant_view, topic_view, reader_view};
 
@@ -14,9 +14,8 @@ use crate::policies::{partitions, policies};
 use crate::sections::{Participant, Reader, Topic};
 use dds_base::{KeyNo, Names, ParticipantNo, TopicNo};
 use dds_fields::fault::{FaultKind, ReadFault, refuse};
-use dds_fields::field::{
-    array_of_limit, entry, known_name_field, known_name_of, new_name_field, section, value_at,
-};
+use dds_fields::field::{entry, known_name_field, known_name_of, new_name_field, value_at};
+use dds_fields::items::{Items, list_of, section_of};
 use dds_fields::place::Place;
 use dds_fields::sections::Section;
 use dds_qos::{ReaderQos, Reliability, consistent_reader};
@@ -30,62 +29,42 @@ fn topic_keys(topics: &Section<Topic>, topic: usize) -> &Names
     &topics.entries[topic].keys
 }
 
-/// Whether the key stands in the list.
-pub(crate) fn has_key(keys: &[KeyNo], key: KeyNo) -> bool
+fn has_key(keys: &[KeyNo], key: KeyNo) -> bool
     ensures { result ≡ has keys.now key }
 {
     keys.contains(&key)
 }
 
-#[tactic(auto, unfolding(crate::specs::Sections::filter_key))]
-fn add_filter_key(
-    alloc: Global,
-    names: &Names,
-    keys: &mut Vec<KeyNo>,
-    path: &Place,
-    value: &Value,
-) -> Result<(), ReadFault>
-    ensures { Gives (λ _. keys.new.items) result (filter_key names.now keys.old.items (place_text path.now) (view value.now)) }
-{
-    let number = known_name_of(alloc, names, path, value)?;
-    let key = KeyNo::new(number);
-    if has_key(keys, key) {
-        return Err(refuse(alloc, FaultKind::Duplicate, path));
-    }
-    keys.push(key)?;
-    Ok(())
+// What reads the filter of a reader: keys of its topic, which has these names.
+#[derive(Clone, Copy)]
+struct FilterKeys<'a> {
+    names: &'a Names,
 }
 
-fn each_filter_key(
-    alloc: Global,
-    names: &Names,
-    path: &Place,
-    values: &[Value],
-) -> Result<Vec<KeyNo>, ReadFault>
-    ensures { Gives (λ v. v.items) result (each (filter_key names.now) (place_text path.now) 0 [] (items_view values.now)) }
-{
-    let mut keys = Vec::new(alloc);
-    for (i, value) in values.iter().enumerate() {
-        let at = Place::Index {
-            parent: &*path,
-            index: i,
-        };
-        add_filter_key(alloc, names, &mut keys, &at, value)?;
-    }
-    Ok(keys)
-}
+impl Items for FilterKeys<'_> {
+    type Read = Vec<KeyNo>;
 
-#[tactic(auto, unfolding(crate::specs::Sections::filter))]
-fn filter_of(
-    alloc: Global,
-    names: &Names,
-    path: &Place,
-    value: &Value,
-) -> Result<Vec<KeyNo>, ReadFault>
-    ensures { Gives (λ v. v.items) result (filter names.now (place_text path.now) (view value.now)) }
-{
-    let values = array_of_limit(alloc, 64, path, value)?;
-    each_filter_key(alloc, names, path, values)
+    ghost State = { List ℕ };
+
+    ghost state = { λ keys. keys.items };
+
+    ghost step = { λ it. filter_key it.names.now };
+
+    #[tactic(auto, unfolding(crate::specs::Sections::filter_key))]
+    fn add(
+        &self,
+        alloc: Global,
+        all: &mut Vec<KeyNo>,
+        path: &Place,
+        value: &Value,
+    ) -> Result<(), ReadFault> {
+        let key = KeyNo::new(known_name_of(alloc, self.names, path, value)?);
+        if has_key(all, key) {
+            return Err(refuse(alloc, FaultKind::Duplicate, path));
+        }
+        all.push(key)?;
+        Ok(())
+    }
 }
 
 #[tactic(auto, using(dds_fields::proofs::Ranges::range_push))]
@@ -112,7 +91,14 @@ fn filter_field(
     match value_at(table, key) {
         Some(value) => {
             let at = Place::Key { parent: path, key };
-            filter_of(alloc, names, &at, value)
+            list_of(
+                alloc,
+                64,
+                &FilterKeys { names },
+                Vec::new(alloc),
+                &at,
+                value,
+            )
         }
         None => Ok(every_key(alloc, names)?),
     }
@@ -172,49 +158,42 @@ fn reader_entry<'a>(alloc: Global, path: &Place, value: &'a Value) -> Result<&'a
     entry(alloc, &keys, path, value)
 }
 
-#[tactic(auto, unfolding(crate::specs::Sections::reader))]
-fn add_reader(
-    alloc: Global,
-    participants: &Section<Participant>,
-    topics: &Section<Topic>,
-    all: &mut Section<Reader>,
-    path: &Place,
-    value: &Value,
-) -> Result<(), ReadFault>
-    ensures { Gives (λ _. listed reader_view all.new) result (reader (listed participant_view participants.now) (listed topic_view topics.now) (listed reader_view all.old) (place_text path.now) (view value.now)) }
-{
-    let table = reader_entry(alloc, path, value)?;
-    let name = new_name_field(alloc, &all.names, path, table, "name")?;
-    let reader = reader_fields(alloc, participants, topics, path, table)?;
-    if consistent_reader(&reader.qos).is_err() {
-        return Err(refuse(alloc, FaultKind::Qos, path));
-    }
-    all.push(alloc, name, reader)?;
-    Ok(())
+// What reads the readers of a file.
+#[derive(Clone, Copy)]
+struct ReaderEntries<'a> {
+    participants: &'a Section<Participant>,
+    topics: &'a Section<Topic>,
 }
 
-fn each_reader(
-    alloc: Global,
-    participants: &Section<Participant>,
-    topics: &Section<Topic>,
-    path: &Place,
-    values: &[Value],
-) -> Result<Section<Reader>, ReadFault>
-    ensures { Gives (listed reader_view) result (each (reader (listed participant_view participants.now) (listed topic_view topics.now)) (place_text path.now) 0 nothing (items_view values.now)) }
-{
-    let mut all = Section::new(alloc);
-    for (i, value) in values.iter().enumerate() {
-        let at = Place::Index {
-            parent: &*path,
-            index: i,
-        };
-        add_reader(alloc, participants, topics, &mut all, &at, value)?;
+impl Items for ReaderEntries<'_> {
+    type Read = Section<Reader>;
+
+    ghost State = { Listed ReaderView };
+
+    ghost state = { λ all. listed reader_view all };
+
+    ghost step = { λ it. reader (listed participant_view it.participants.now) (listed topic_view it.topics.now) };
+
+    #[tactic(auto, unfolding(crate::specs::Sections::reader))]
+    fn add(
+        &self,
+        alloc: Global,
+        all: &mut Section<Reader>,
+        path: &Place,
+        value: &Value,
+    ) -> Result<(), ReadFault> {
+        let table = reader_entry(alloc, path, value)?;
+        let name = new_name_field(alloc, &all.names, path, table, "name")?;
+        let reader = reader_fields(alloc, self.participants, self.topics, path, table)?;
+        if consistent_reader(&reader.qos).is_err() {
+            return Err(refuse(alloc, FaultKind::Qos, path));
+        }
+        all.push(alloc, name, reader)?;
+        Ok(())
     }
-    Ok(all)
 }
 
 /// The section `readers`, at most 256 entries, or its first fault. An absent section has none.
-#[tactic(auto, unfolding(crate::specs::Sections::readers, dds_fields::specs::Paths::key_path))]
 pub(crate) fn readers(
     alloc: Global,
     participants: &Section<Participant>,
@@ -223,10 +202,9 @@ pub(crate) fn readers(
 ) -> Result<Section<Reader>, ReadFault>
     ensures { Gives (listed reader_view) result (readers (listed participant_view participants.now) (listed topic_view topics.now) (table_view table.now)) }
 {
-    let values = section(alloc, table, "readers", 256)?;
-    let at = Place::Key {
-        parent: &Place::Root,
-        key: "readers",
+    let entries = ReaderEntries {
+        participants,
+        topics,
     };
-    each_reader(alloc, participants, topics, &at, values)
+    section_of(alloc, 256, &entries, Section::new(alloc), table, "readers")
 }

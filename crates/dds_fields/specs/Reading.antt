@@ -95,6 +95,12 @@ an_array_of limit path d = do
   ds ← an_array path d
   unless TooMany path (nat_le (count ds) limit) ds
 
+-- an array of at most so many items, each read after what was read before it
+unfoldable pub a_list_of : {S : Type 0} → ℕ → (S → List ℕ → Data → Read S) → S → List ℕ → Data → Read S
+a_list_of limit read before path d = do
+  ds ← an_array_of limit path d
+  each read path 0 before ds
+
 -- what is read where something is there
 abbrev pub where_present : {A : Type 0} → A → (Data → Read A) → Option Data → Read A
 where_present absent read None = Ok absent
@@ -107,6 +113,12 @@ optional key absent read path ms = where_present absent (read (key_path path key
 -- the items of the section at a key of the document
 unfoldable pub section : List ℕ → ℕ → Members → Read Items
 section key limit ms = where_present no_items (an_array_of limit key) (get_member key ms)
+
+-- the section at a key of the document, each item read after what was read before it
+unfoldable pub a_section : {S : Type 0} → List ℕ → ℕ → (S → List ℕ → Data → Read S) → S → Members → Read S
+a_section key limit read before ms = do
+  ds ← section key limit ms
+  each read key 0 before ds
 
 -- how an unknown key is shown: its first 64 characters, those outside the alphabet of names as `?`
 abbrev pub shown_char : ℕ → ℕ
