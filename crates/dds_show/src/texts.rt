@@ -1,5 +1,5 @@
 //! Texts made of a text for each number below a bound, or for each element of a list.
-ghost use Rattle.std.specs.Prelude.{◌≡◌, ◌<◌, ℕ, List, [], true, false, IfOk, flat_map, string_bytes};
+ghost use Rattle.std.specs.Prelude.{◌≡◌, ◌<◌, ℕ, List, IfOk, flat_map, string_bytes};
 ghost use Rattle.dds_cert.specs.Text.{each_below};
 
 use std::alloc::{AllocError, Global};
@@ -19,33 +19,6 @@ pub fn text_below<F: Fn(usize) -> Result<String, AllocError>>(
         text.push_str(next.as_str())?;
     }
     Ok(text)
-}
-
-/// The texts of the numbers below `n` that pass a test, one after another. Only want of memory is an error, and what `piece` gives.
-pub fn text_where<T: Fn(usize) -> bool, F: Fn(usize) -> Result<String, AllocError>>(
-    alloc: Global,
-    n: usize,
-    passes: T,
-    piece: F,
-) -> Result<String, AllocError>
-    requires test { (i : ℕ) → i < n → T.pre passes i }
-    requires piece { (i : ℕ) → i < n → F.pre piece i }
-    ensures { (text_of : ℕ → List ℕ) → ((i : ℕ) (r : _) → i < n → T.post passes i true → F.post piece i r → IfOk r (λ text. string_bytes text ≡ text_of i)) → ((i : ℕ) → i < n → T.post passes i false → text_of i ≡ []) → IfOk result (λ text. string_bytes text ≡ each_below n text_of) }
-{
-    text_below(
-        alloc,
-        n,
-        |i|
-            requires test { T.pre passes i }
-            requires piece { F.pre piece i }
-        {
-            if passes(i) {
-                piece(i)
-            } else {
-                Ok(String::new(alloc))
-            }
-        },
-    )
 }
 
 /// The texts of these elements, one after another. Only want of memory is an error, and what `piece` gives.
