@@ -1,6 +1,5 @@
-use Rattle.std.proofs.Common.{◌≡◌, ◌∙◌, ap₂, codes, flat_map, length, string_bytes}
-use Rattle.dds_cert.specs.Text.{each_below}
-use Rattle.dds_draw.specs.Clusters.{application_members, endpoint_name, rule_at}
+use Rattle.std.proofs.Common.{◌≡◌, ◌∙◌, ap₂, codes, flat_map, string_bytes}
+use Rattle.dds_draw.specs.Clusters.{application_members, endpoint_name}
 use Rattle.dds_draw.proofs.clusters.application_members.Goals as goal
 
 pub returns : goal.returns
