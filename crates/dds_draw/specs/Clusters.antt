@@ -19,8 +19,8 @@ rule_at d a u = option_map_or (λ (x : Rule). if x.application == a then rule_no
 -- the names of an application's writers and readers, in its order, and its rules
 unfoldable pub application_members : Lists → ℕ → Application → List ℕ
 application_members d a x =
-    (flat_map (endpoint_name (codes "writer") d.writers.names) x.writers ++ flat_map (endpoint_name (codes "reader") d.readers.names) x.readers)
-    ++ each_below (length d.rules.entries) (rule_at d a)
+    flat_map (endpoint_name (codes "writer") d.writers.names) x.writers
+    ++ (flat_map (endpoint_name (codes "reader") d.readers.names) x.readers ++ each_below (length d.rules.entries) (rule_at d a))
 
 -- the cluster of the application with this number
 unfoldable pub application_cluster : Lists → ℕ → Application → List ℕ
@@ -44,8 +44,8 @@ reader_at d c p r = option_map_or (λ (x : Reader). if x.participant == p then r
 -- the applications, writers and readers of a participant, each in file order
 unfoldable pub participant_members : Lists → Option Certificate → ℕ → List ℕ
 participant_members d c p =
-    (each_below (length d.applications.entries) (application_at d p) ++ each_below (length d.writers.entries) (writer_at d p))
-    ++ each_below (length d.readers.entries) (reader_at d c p)
+    each_below (length d.applications.entries) (application_at d p)
+    ++ (each_below (length d.writers.entries) (writer_at d p) ++ each_below (length d.readers.entries) (reader_at d c p))
 
 -- the cluster of the participant with this number
 unfoldable pub participant_cluster : Lists → Option Certificate → ℕ → Participant → List ℕ

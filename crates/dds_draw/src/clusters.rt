@@ -1,5 +1,5 @@
 //! Participants and applications as clusters.
-ghost use Rattle.std.specs.Prelude.{◌≡◌, ◌++◌, ◌<◌, IfOk, flat_map, length, option_map, string_bytes};
+ghost use Rattle.std.specs.Prelude.{◌≡◌, ◌<◌, IfOk, flat_map, length, option_map, string_bytes};
 ghost use Rattle.dds_deploy.specs.Views.{application_view, participant_view};
 ghost use Rattle.dds_cert.specs.Text.{each_below};
 ghost use Rattle.dds_cert.specs.Views.{certificate_view};
@@ -10,72 +10,63 @@ use dds_base::{AppNo, Endpoint, Names, ParticipantNo, ReaderNo, RuleNo, WriterNo
 use dds_cert::Certificate;
 use dds_cert::naming::name_at;
 use dds_deploy::{Application, Deployment, Participant};
+use dds_show::texts::{text_below, text_of_each};
 use std::alloc::{AllocError, Global};
 
-/// Adds the name of an endpoint's node. `side` is `writer` or `reader`.
-fn push_endpoint(
+/// The name of an endpoint's node. `side` is `writer` or `reader`.
+fn endpoint_name(
     alloc: Global,
-    text: &mut String,
     side: &str,
     names: &Names,
     number: usize,
-) -> Result<(), AllocError>
-    ensures { IfOk result (λ _. string_bytes text.new ≡ string_bytes text.old ++ endpoint_name side.now names.now number) }
+) -> Result<String, AllocError>
+    ensures { IfOk result (λ text. string_bytes text ≡ endpoint_name side.now names.now number) }
 {
     let name = name_at(names, number);
-    let line = format!(in alloc; "      \"{side} {name}\";\n")?;
-    text.push_str(line.as_str())
+    format!(in alloc; "      \"{side} {name}\";\n")
 }
 
-/// Adds the names of the nodes of endpoints.
-fn push_endpoints<E: Endpoint>(
+/// The names of the nodes of endpoints.
+fn endpoint_names<E: Endpoint>(
     alloc: Global,
-    text: &mut String,
     side: &str,
     names: &Names,
     endpoints: &[E],
-) -> Result<(), AllocError>
-    ensures { IfOk result (λ _. string_bytes text.new ≡ string_bytes text.old ++ flat_map (λ e. endpoint_name side.now names.now (E.number_of e)) endpoints.now) }
+) -> Result<String, AllocError>
+    ensures { IfOk result (λ text. string_bytes text ≡ flat_map (λ e. endpoint_name side.now names.now (E.number_of e)) endpoints.now) }
 {
-    for endpoint in endpoints {
-        push_endpoint(alloc, text, side, names, endpoint.place())?;
-    }
-    Ok(())
+    text_of_each(alloc, endpoints, |endpoint| {
+        endpoint_name(alloc, side, names, endpoint.place())
+    })
 }
 
-/// Adds a rule, if it is one of the application.
-fn push_rule(
+/// A rule, if it is one of the application.
+fn rule_at(
     alloc: Global,
-    text: &mut String,
     lists: &Deployment,
     application: AppNo,
     u: usize,
-) -> Result<(), AllocError>
+) -> Result<String, AllocError>
     requires { u < length lists.now.rules.entries }
-    ensures { IfOk result (λ _. string_bytes text.new ≡ string_bytes text.old ++ rule_at lists.now application u) }
+    ensures { IfOk result (λ text. string_bytes text ≡ rule_at lists.now application u) }
 {
     let number = RuleNo::new(u);
     let rule = lists.rule(number);
     if rule.application != application {
-        return Ok(());
+        return Ok(String::new(alloc));
     }
-    let node = rule_node(alloc, lists, number, rule)?;
-    text.push_str(node.as_str())
+    rule_node(alloc, lists, number, rule)
 }
 
-/// Adds the application's rules.
-fn push_rules(
-    alloc: Global,
-    text: &mut String,
-    lists: &Deployment,
-    application: AppNo,
-) -> Result<(), AllocError>
-    ensures { IfOk result (λ _. string_bytes text.new ≡ string_bytes text.old ++ each_below (length lists.now.rules.entries) (rule_at lists.now application)) }
+/// The nodes of the application's rules.
+fn rules_of(alloc: Global, lists: &Deployment, application: AppNo) -> Result<String, AllocError>
+    ensures { IfOk result (λ text. string_bytes text ≡ each_below (length lists.now.rules.entries) (rule_at lists.now application)) }
 {
-    for u in 0..lists.rules() {
-        push_rule(alloc, text, lists, application, u)?;
-    }
-    Ok(())
+    text_below(
+        alloc,
+        lists.rules(),
+        |u| rule_at(alloc, lists, application, u),
+    )
 }
 
 /// The names of an application's writers and readers, and its rules.
@@ -87,23 +78,10 @@ fn application_members(
 ) -> Result<String, AllocError>
     ensures { IfOk result (λ text. string_bytes text ≡ application_members lists.now number (application_view x.now)) }
 {
-    let mut text = String::new(alloc);
-    push_endpoints(
-        alloc,
-        &mut text,
-        "writer",
-        lists.writer_names(),
-        x.writers.as_slice(),
-    )?;
-    push_endpoints(
-        alloc,
-        &mut text,
-        "reader",
-        lists.reader_names(),
-        x.readers.as_slice(),
-    )?;
-    push_rules(alloc, &mut text, lists, number)?;
-    Ok(text)
+    let writers = endpoint_names(alloc, "writer", lists.writer_names(), x.writers.as_slice())?;
+    let readers = endpoint_names(alloc, "reader", lists.reader_names(), x.readers.as_slice())?;
+    let rules = rules_of(alloc, lists, number)?;
+    format!(in alloc; "{writers}{readers}{rules}")
 }
 
 /// The cluster of an application.
@@ -122,111 +100,105 @@ fn application_cluster(
     )
 }
 
-/// Adds the cluster of an application, if it is at the participant.
-fn push_application(
+/// The cluster of an application, if it is at the participant.
+fn application_at(
     alloc: Global,
-    text: &mut String,
     lists: &Deployment,
     participant: ParticipantNo,
     a: usize,
-) -> Result<(), AllocError>
+) -> Result<String, AllocError>
     requires { a < length lists.now.applications.entries }
-    ensures { IfOk result (λ _. string_bytes text.new ≡ string_bytes text.old ++ application_at lists.now participant a) }
+    ensures { IfOk result (λ text. string_bytes text ≡ application_at lists.now participant a) }
 {
     let number = AppNo::new(a);
     let application = lists.application(number);
     if application.participant != participant {
-        return Ok(());
+        return Ok(String::new(alloc));
     }
-    let cluster = application_cluster(alloc, lists, number, application)?;
-    text.push_str(cluster.as_str())
+    application_cluster(alloc, lists, number, application)
 }
 
-/// Adds the clusters of the participant's applications.
-fn push_applications(
+/// The clusters of the participant's applications.
+fn applications_of(
     alloc: Global,
-    text: &mut String,
     lists: &Deployment,
     participant: ParticipantNo,
-) -> Result<(), AllocError>
-    ensures { IfOk result (λ _. string_bytes text.new ≡ string_bytes text.old ++ each_below (length lists.now.applications.entries) (application_at lists.now participant)) }
+) -> Result<String, AllocError>
+    ensures { IfOk result (λ text. string_bytes text ≡ each_below (length lists.now.applications.entries) (application_at lists.now participant)) }
 {
-    for a in 0..lists.applications() {
-        push_application(alloc, text, lists, participant, a)?;
-    }
-    Ok(())
+    text_below(
+        alloc,
+        lists.applications(),
+        |a| application_at(alloc, lists, participant, a),
+    )
 }
 
-/// Adds a writer, if it is at the participant.
-fn push_writer(
+/// A writer, if it is at the participant.
+fn writer_at(
     alloc: Global,
-    text: &mut String,
     lists: &Deployment,
     participant: ParticipantNo,
     w: usize,
-) -> Result<(), AllocError>
+) -> Result<String, AllocError>
     requires { w < length lists.now.writers.entries }
-    ensures { IfOk result (λ _. string_bytes text.new ≡ string_bytes text.old ++ writer_at lists.now participant w) }
+    ensures { IfOk result (λ text. string_bytes text ≡ writer_at lists.now participant w) }
 {
     let number = WriterNo::new(w);
     let writer = lists.writer(number);
     if writer.participant != participant {
-        return Ok(());
+        return Ok(String::new(alloc));
     }
-    let node = writer_node(alloc, lists, number, writer)?;
-    text.push_str(node.as_str())
+    writer_node(alloc, lists, number, writer)
 }
 
-/// Adds the participant's writers.
-fn push_writers(
+/// The nodes of the participant's writers.
+fn writers_of(
     alloc: Global,
-    text: &mut String,
     lists: &Deployment,
     participant: ParticipantNo,
-) -> Result<(), AllocError>
-    ensures { IfOk result (λ _. string_bytes text.new ≡ string_bytes text.old ++ each_below (length lists.now.writers.entries) (writer_at lists.now participant)) }
+) -> Result<String, AllocError>
+    ensures { IfOk result (λ text. string_bytes text ≡ each_below (length lists.now.writers.entries) (writer_at lists.now participant)) }
 {
-    for w in 0..lists.writers() {
-        push_writer(alloc, text, lists, participant, w)?;
-    }
-    Ok(())
+    text_below(
+        alloc,
+        lists.writers(),
+        |w| writer_at(alloc, lists, participant, w),
+    )
 }
 
-/// Adds a reader, if it is at the participant.
-fn push_reader(
+/// A reader, if it is at the participant.
+fn reader_at(
     alloc: Global,
-    text: &mut String,
     lists: &Deployment,
     certificate: Option<&Certificate>,
     participant: ParticipantNo,
     r: usize,
-) -> Result<(), AllocError>
+) -> Result<String, AllocError>
     requires { r < length lists.now.readers.entries }
-    ensures { IfOk result (λ _. string_bytes text.new ≡ string_bytes text.old ++ reader_at lists.now (option_map (λ c. certificate_view c.now) certificate.entry) participant r) }
+    ensures { IfOk result (λ text. string_bytes text ≡ reader_at lists.now (option_map (λ c. certificate_view c.now) certificate.entry) participant r) }
 {
     let number = ReaderNo::new(r);
     let reader = lists.reader(number);
     if reader.participant != participant {
-        return Ok(());
+        return Ok(String::new(alloc));
     }
-    let node = reader_node(alloc, lists, certificate, number, reader)?;
-    text.push_str(node.as_str())
+    reader_node(alloc, lists, certificate, number, reader)
 }
 
-/// Adds the participant's readers.
-fn push_readers(
+/// The nodes of the participant's readers.
+fn readers_of(
     alloc: Global,
-    text: &mut String,
     lists: &Deployment,
     certificate: Option<&Certificate>,
     participant: ParticipantNo,
-) -> Result<(), AllocError>
-    ensures { IfOk result (λ _. string_bytes text.new ≡ string_bytes text.old ++ each_below (length lists.now.readers.entries) (reader_at lists.now (option_map (λ c. certificate_view c.now) certificate.entry) participant)) }
+) -> Result<String, AllocError>
+    ensures { IfOk result (λ text. string_bytes text ≡ each_below (length lists.now.readers.entries) (reader_at lists.now (option_map (λ c. certificate_view c.now) certificate.entry) participant)) }
 {
-    for r in 0..lists.readers() {
-        push_reader(alloc, text, lists, certificate, participant, r)?;
-    }
-    Ok(())
+    text_below(
+        alloc,
+        lists.readers(),
+        |r| reader_at(alloc, lists, certificate, participant, r),
+    )
 }
 
 /// The applications, writers and readers of a participant.
@@ -238,11 +210,10 @@ fn participant_members(
 ) -> Result<String, AllocError>
     ensures { IfOk result (λ text. string_bytes text ≡ participant_members lists.now (option_map (λ c. certificate_view c.now) certificate.entry) participant) }
 {
-    let mut text = String::new(alloc);
-    push_applications(alloc, &mut text, lists, participant)?;
-    push_writers(alloc, &mut text, lists, participant)?;
-    push_readers(alloc, &mut text, lists, certificate, participant)?;
-    Ok(text)
+    let applications = applications_of(alloc, lists, participant)?;
+    let writers = writers_of(alloc, lists, participant)?;
+    let readers = readers_of(alloc, lists, certificate, participant)?;
+    format!(in alloc; "{applications}{writers}{readers}")
 }
 
 /// The cluster of a participant.
@@ -263,28 +234,6 @@ fn participant_cluster(
     )
 }
 
-/// Adds the cluster of a participant.
-fn push_participant(
-    alloc: Global,
-    text: &mut String,
-    lists: &Deployment,
-    certificate: Option<&Certificate>,
-    p: usize,
-) -> Result<(), AllocError>
-    requires { p < length lists.now.participants.entries }
-    ensures { IfOk result (λ _. string_bytes text.new ≡ string_bytes text.old ++ participant_at lists.now (option_map (λ c. certificate_view c.now) certificate.entry) p) }
-{
-    let number = ParticipantNo::new(p);
-    let cluster = participant_cluster(
-        alloc,
-        lists,
-        certificate,
-        number,
-        lists.participant(number),
-    )?;
-    text.push_str(cluster.as_str())
-}
-
 /// The clusters of all participants, in file order.
 #[tactic(auto, unfolding(crate::specs::Clusters::participant_clusters))]
 pub(crate) fn participant_clusters(
@@ -294,9 +243,15 @@ pub(crate) fn participant_clusters(
 ) -> Result<String, AllocError>
     ensures { IfOk result (λ text. string_bytes text ≡ participant_clusters lists.now (option_map (λ c. certificate_view c.now) certificate.entry)) }
 {
-    let mut text = String::new(alloc);
-    for p in 0..lists.participants() {
-        push_participant(alloc, &mut text, lists, certificate, p)?;
-    }
-    Ok(text)
+    text_below(
+        alloc,
+        lists.participants(),
+        |p|
+            requires { p < length lists.now.participants.entries }
+            ensures { IfOk result (λ text. string_bytes text ≡ participant_at lists.entry.now (option_map (λ c. certificate_view c.now) certificate.entry) p) }
+        {
+            let number = ParticipantNo::new(p);
+            participant_cluster(alloc, lists, certificate, number, lists.participant(number))
+        },
+    )
 }

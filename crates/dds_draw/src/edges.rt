@@ -1,5 +1,5 @@
 //! What rules take and write, and which endpoints match, as edges.
-ghost use Rattle.std.specs.Prelude.{◌≡◌, ◌++◌, ◌<◌, IfOk, flat_map, length, string_bytes};
+ghost use Rattle.std.specs.Prelude.{◌≡◌, ◌<◌, IfOk, length, string_bytes};
 ghost use Rattle.dds_deploy.specs.Views.{rule_view};
 ghost use Rattle.dds_draw.specs.Edges.{all_pair_edges, all_rule_edges, connection_edge, edge_of, pair_edge, pair_edges, rule_at, rule_edges, take_edge, write_edge};
 
@@ -8,6 +8,7 @@ use dds_cert::naming::{name_at, reader_key, writer_key};
 use dds_deploy::{Deployment, Rule};
 use dds_match::{Plan, WhyNot};
 use dds_show::reasons::reason_text;
+use dds_show::texts::{text_below, text_of_each};
 use std::alloc::{AllocError, Global};
 
 /// What a rule takes of a key at a reader.
@@ -42,40 +43,6 @@ fn write_edge(
     format!(in alloc; "  \"rule {number}\" -> \"writer {writer}\" [label=\"{count} {key}\"];\n")
 }
 
-/// Adds what a rule takes.
-fn push_takes(
-    alloc: Global,
-    text: &mut String,
-    lists: &Deployment,
-    rule: RuleNo,
-    takes: &[Portion<ReaderNo>],
-) -> Result<(), AllocError>
-    ensures { IfOk result (λ _. string_bytes text.new ≡ string_bytes text.old ++ flat_map (take_edge lists.now rule) takes.now) }
-{
-    for take in takes {
-        let edge = take_edge(alloc, lists, rule, take)?;
-        text.push_str(edge.as_str())?;
-    }
-    Ok(())
-}
-
-/// Adds what a rule writes.
-fn push_writes(
-    alloc: Global,
-    text: &mut String,
-    lists: &Deployment,
-    rule: RuleNo,
-    writes: &[Portion<WriterNo>],
-) -> Result<(), AllocError>
-    ensures { IfOk result (λ _. string_bytes text.new ≡ string_bytes text.old ++ flat_map (write_edge lists.now rule) writes.now) }
-{
-    for write in writes {
-        let edge = write_edge(alloc, lists, rule, write)?;
-        text.push_str(edge.as_str())?;
-    }
-    Ok(())
-}
-
 /// What a rule takes, then what it writes.
 fn rule_edges(
     alloc: Global,
@@ -85,25 +52,13 @@ fn rule_edges(
 ) -> Result<String, AllocError>
     ensures { IfOk result (λ text. string_bytes text ≡ rule_edges lists.now number (rule_view x.now)) }
 {
-    let mut text = String::new(alloc);
-    push_takes(alloc, &mut text, lists, number, x.takes.as_slice())?;
-    push_writes(alloc, &mut text, lists, number, x.writes.as_slice())?;
-    Ok(text)
-}
-
-/// Adds the edges of a rule.
-fn push_rule(
-    alloc: Global,
-    text: &mut String,
-    lists: &Deployment,
-    u: usize,
-) -> Result<(), AllocError>
-    requires { u < length lists.now.rules.entries }
-    ensures { IfOk result (λ _. string_bytes text.new ≡ string_bytes text.old ++ rule_at lists.now u) }
-{
-    let number = RuleNo::new(u);
-    let edges = rule_edges(alloc, lists, number, lists.rule(number))?;
-    text.push_str(edges.as_str())
+    let takes = text_of_each(alloc, x.takes.as_slice(), |take| {
+        take_edge(alloc, lists, number, take)
+    })?;
+    let writes = text_of_each(alloc, x.writes.as_slice(), |write| {
+        write_edge(alloc, lists, number, write)
+    })?;
+    format!(in alloc; "{takes}{writes}")
 }
 
 /// The edges of all rules, in their order.
@@ -111,11 +66,17 @@ fn push_rule(
 pub(crate) fn all_rule_edges(alloc: Global, lists: &Deployment) -> Result<String, AllocError>
     ensures { IfOk result (λ text. string_bytes text ≡ all_rule_edges lists.now) }
 {
-    let mut text = String::new(alloc);
-    for u in 0..lists.rules() {
-        push_rule(alloc, &mut text, lists, u)?;
-    }
-    Ok(text)
+    text_below(
+        alloc,
+        lists.rules(),
+        |u|
+            requires { u < length lists.now.rules.entries }
+            ensures { IfOk result (λ text. string_bytes text ≡ rule_at lists.entry.now u) }
+        {
+            let number = RuleNo::new(u);
+            rule_edges(alloc, lists, number, lists.rule(number))
+        },
+    )
 }
 
 /// The edge from a writer to a reader, with these attributes.
@@ -180,20 +141,13 @@ fn pair_edge(
     )
 }
 
-/// Adds the edges of a writer, by readers in file order.
-fn push_pairs(
-    alloc: Global,
-    text: &mut String,
-    plan: &Plan,
-    writer: WriterNo,
-) -> Result<(), AllocError>
-    ensures { IfOk result (λ _. string_bytes text.new ≡ string_bytes text.old ++ pair_edges plan.now writer) }
+/// The edges of a writer, by readers in file order.
+fn pair_edges(alloc: Global, plan: &Plan, writer: WriterNo) -> Result<String, AllocError>
+    ensures { IfOk result (λ text. string_bytes text ≡ pair_edges plan.now writer) }
 {
-    for r in 0..plan.lists().readers() {
-        let edge = pair_edge(alloc, plan, writer, ReaderNo::new(r))?;
-        text.push_str(edge.as_str())?;
-    }
-    Ok(())
+    text_below(alloc, plan.lists().readers(), |r| {
+        pair_edge(alloc, plan, writer, ReaderNo::new(r))
+    })
 }
 
 /// The edges from all writers to readers, by writers in file order.
@@ -201,9 +155,7 @@ fn push_pairs(
 pub(crate) fn all_pair_edges(alloc: Global, plan: &Plan) -> Result<String, AllocError>
     ensures { IfOk result (λ text. string_bytes text ≡ all_pair_edges plan.now) }
 {
-    let mut text = String::new(alloc);
-    for w in 0..plan.lists().writers() {
-        push_pairs(alloc, &mut text, plan, WriterNo::new(w))?;
-    }
-    Ok(text)
+    text_below(alloc, plan.lists().writers(), |w| {
+        pair_edges(alloc, plan, WriterNo::new(w))
+    })
 }

@@ -1,5 +1,5 @@
 //! Endpoints and rules as nodes, with their labels. Names have no byte that DOT escapes; a label has `\n`, two bytes, where a new line begins.
-ghost use Rattle.std.specs.Prelude.{◌≡◌, ◌++◌, IfOk, flat_map, option_map, string_bytes};
+ghost use Rattle.std.specs.Prelude.{◌≡◌, IfOk, option_map, string_bytes};
 ghost use Rattle.dds_deploy.specs.Views.{reader_view, rule_view, writer_view};
 ghost use Rattle.dds_cert.specs.Views.{certificate_view};
 ghost use Rattle.dds_draw.specs.Nodes.{bound_line, certificate_lines, endpoint_label, history_line, limit_line, policies_lines, reader_node, reliability_line, rule_node, start_line, total_line, writer_node};
@@ -10,6 +10,7 @@ use dds_cert::{Bound, Certificate, Total};
 use dds_deploy::{Deployment, Reader, Rule, Writer};
 use dds_events::rule_text;
 use dds_qos::{History, HistoryKind, Policies, Reliability};
+use dds_show::texts::text_of_each;
 use std::alloc::{AllocError, Global};
 
 /// How many samples of an instance stay by KEEP_LAST; nothing of KEEP_ALL.
@@ -62,71 +63,32 @@ fn policies_lines(alloc: Global, p: &Policies) -> Result<String, AllocError>
     format!(in alloc; "{history}{samples}{instances}{of_one}{reliability}")
 }
 
-/// Adds a bound, if it is one of the reader.
-fn push_bound(
+/// A bound, if it is one of the reader.
+fn bound_line(
     alloc: Global,
-    text: &mut String,
     lists: &Deployment,
     reader: ReaderNo,
     bound: &Bound,
-) -> Result<(), AllocError>
-    ensures { IfOk result (λ _. string_bytes text.new ≡ string_bytes text.old ++ bound_line lists.now reader bound.now) }
+) -> Result<String, AllocError>
+    ensures { IfOk result (λ text. string_bytes text ≡ bound_line lists.now reader bound.now) }
 {
     if bound.reader != reader {
-        return Ok(());
+        return Ok(String::new(alloc));
     }
     let key = reader_key(lists, reader, bound.key);
     let number = bound.bound;
-    let line = format!(in alloc; "\\nbound {key} {number}")?;
-    text.push_str(line.as_str())
+    format!(in alloc; "\\nbound {key} {number}")
 }
 
-/// Adds the reader's bounds.
-fn push_bounds(
-    alloc: Global,
-    text: &mut String,
-    lists: &Deployment,
-    reader: ReaderNo,
-    bounds: &[Bound],
-) -> Result<(), AllocError>
-    ensures { IfOk result (λ _. string_bytes text.new ≡ string_bytes text.old ++ flat_map (bound_line lists.now reader) bounds.now) }
-{
-    for bound in bounds {
-        push_bound(alloc, text, lists, reader, bound)?;
-    }
-    Ok(())
-}
-
-/// Adds a total, if it is one of the reader.
-fn push_total(
-    alloc: Global,
-    text: &mut String,
-    reader: ReaderNo,
-    total: &Total,
-) -> Result<(), AllocError>
-    ensures { IfOk result (λ _. string_bytes text.new ≡ string_bytes text.old ++ total_line reader total.now) }
+/// A total, if it is one of the reader.
+fn total_line(alloc: Global, reader: ReaderNo, total: &Total) -> Result<String, AllocError>
+    ensures { IfOk result (λ text. string_bytes text ≡ total_line reader total.now) }
 {
     if total.reader != reader {
-        return Ok(());
+        return Ok(String::new(alloc));
     }
     let number = total.bound;
-    let line = format!(in alloc; "\\ntotal {number}")?;
-    text.push_str(line.as_str())
-}
-
-/// Adds the reader's totals.
-fn push_totals(
-    alloc: Global,
-    text: &mut String,
-    reader: ReaderNo,
-    totals: &[Total],
-) -> Result<(), AllocError>
-    ensures { IfOk result (λ _. string_bytes text.new ≡ string_bytes text.old ++ flat_map (total_line reader) totals.now) }
-{
-    for total in totals {
-        push_total(alloc, text, reader, total)?;
-    }
-    Ok(())
+    format!(in alloc; "\\ntotal {number}")
 }
 
 /// What a certificate shows of a reader: its bounds, then its totals.
@@ -138,18 +100,16 @@ fn certificate_lines(
 ) -> Result<String, AllocError>
     ensures { IfOk result (λ text. string_bytes text ≡ certificate_lines lists.now reader (option_map (λ c. certificate_view c.now) certificate.entry)) }
 {
-    let mut text = String::new(alloc);
-    if let Some(certificate) = certificate {
-        push_bounds(
-            alloc,
-            &mut text,
-            lists,
-            reader,
-            certificate.bounds.as_slice(),
-        )?;
-        push_totals(alloc, &mut text, reader, certificate.totals.as_slice())?;
-    }
-    Ok(text)
+    let Some(certificate) = certificate else {
+        return Ok(String::new(alloc));
+    };
+    let bounds = text_of_each(alloc, certificate.bounds.as_slice(), |bound| {
+        bound_line(alloc, lists, reader, bound)
+    })?;
+    let totals = text_of_each(alloc, certificate.totals.as_slice(), |total| {
+        total_line(alloc, reader, total)
+    })?;
+    format!(in alloc; "{bounds}{totals}")
 }
 
 /// The name of an endpoint, its topic and its limits.

@@ -17,6 +17,7 @@ use dds_base::{KeyNo, ReaderNo, WriterNo};
 use dds_cert::naming::{reader_key, writer_key};
 use dds_cert::{Bound, Certificate, Total};
 use dds_match::Plan;
+use dds_show::texts::text_below;
 use std::alloc::{AllocError, Global};
 
 /// How many keys can reach a reader.
@@ -50,12 +51,13 @@ fn reached_key(
 fn reached_keys(alloc: Global, plan: &Plan, reader: ReaderNo) -> Result<String, AllocError>
     ensures { IfOk result (λ text. string_bytes text ≡ each_below 64 (reached_key plan.now reader)) }
 {
-    let mut text = String::new(alloc);
-    for k in 0..KEYS {
-        let line = reached_key(alloc, plan, reader, KeyNo::new(k))?;
-        text.push_str(line.as_str())?;
-    }
-    Ok(text)
+    text_below(
+        alloc,
+        KEYS,
+        |k|
+            ensures { IfOk result (λ text. string_bytes text ≡ reached_key plan.entry.now reader k) }
+        { reached_key(alloc, plan, reader, KeyNo::new(k)) },
+    )
 }
 
 /// How many keys can reach a reader, and which.
@@ -106,12 +108,13 @@ fn written_key(
 fn written_keys(alloc: Global, plan: &Plan, writer: WriterNo) -> Result<String, AllocError>
     ensures { IfOk result (λ text. string_bytes text ≡ each_below 64 (written_key plan.now writer)) }
 {
-    let mut text = String::new(alloc);
-    for k in 0..KEYS {
-        let line = written_key(alloc, plan, writer, KeyNo::new(k))?;
-        text.push_str(line.as_str())?;
-    }
-    Ok(text)
+    text_below(
+        alloc,
+        KEYS,
+        |k|
+            ensures { IfOk result (λ text. string_bytes text ≡ written_key plan.entry.now writer k) }
+        { written_key(alloc, plan, writer, KeyNo::new(k)) },
+    )
 }
 
 /// How many keys rules write at a writer, and which.
@@ -207,12 +210,13 @@ fn unbounded_keys(
 ) -> Result<String, AllocError>
     ensures { IfOk result (λ text. string_bytes text ≡ each_below 64 (unbounded_key plan.now bounds.now reader)) }
 {
-    let mut text = String::new(alloc);
-    for k in 0..KEYS {
-        let line = unbounded_key(alloc, plan, bounds, reader, KeyNo::new(k))?;
-        text.push_str(line.as_str())?;
-    }
-    Ok(text)
+    text_below(
+        alloc,
+        KEYS,
+        |k|
+            ensures { IfOk result (λ text. string_bytes text ≡ unbounded_key plan.entry.now bounds.entry.now reader k) }
+        { unbounded_key(alloc, plan, bounds, reader, KeyNo::new(k)) },
+    )
 }
 
 /// The keys without a bound at a reader whose max_samples asks for a total, or a bound for each key.
@@ -310,12 +314,13 @@ fn reached_bound_lines(
 ) -> Result<String, AllocError>
     ensures { IfOk result (λ text. string_bytes text ≡ each_below 64 (reached_bound_line plan.now bounds.now reader)) }
 {
-    let mut text = String::new(alloc);
-    for k in 0..KEYS {
-        let line = reached_bound_line(alloc, plan, bounds, reader, KeyNo::new(k))?;
-        text.push_str(line.as_str())?;
-    }
-    Ok(text)
+    text_below(
+        alloc,
+        KEYS,
+        |k|
+            ensures { IfOk result (λ text. string_bytes text ≡ reached_bound_line plan.entry.now bounds.entry.now reader k) }
+        { reached_bound_line(alloc, plan, bounds, reader, KeyNo::new(k)) },
+    )
 }
 
 fn reached_bound(plan: &Plan, bounds: &[Bound], reader: ReaderNo, key: KeyNo) -> u64

@@ -1,5 +1,5 @@
 //! How tight the bounds and totals of a certificate are: each beside the limit that it keeps, and what its row weighs.
-ghost use Rattle.std.specs.Prelude.{◌≡◌, IfOk, flat_map, string_bytes};
+ghost use Rattle.std.specs.Prelude.{◌≡◌, IfOk, string_bytes};
 ghost use Rattle.dds_cert.specs.Views.{certificate_view, row_view};
 ghost use Rattle.dds_explain.specs.Margin.{bound_line, bound_margin, bound_words, margin_lines, margin_text, named_instance_limit, named_limit, total_line, total_margin, total_words};
 
@@ -10,6 +10,7 @@ use dds_base::ReaderNo;
 use dds_cert::naming::reader_key;
 use dds_cert::{Bound, Certificate, Row, Total};
 use dds_match::Plan;
+use dds_show::texts::text_of_each;
 use std::alloc::{AllocError, Global};
 
 /// A limit with the name of its policy, or that there is none.
@@ -82,22 +83,6 @@ fn bound_margin(
     }
 }
 
-/// The lines of all bounds.
-fn bound_margins(
-    alloc: Global,
-    plan: &Plan,
-    certificate: &Certificate,
-) -> Result<String, AllocError>
-    ensures { IfOk result (λ text. string_bytes text ≡ flat_map (bound_margin plan.now (certificate_view certificate.now)) (certificate_view certificate.now).bounds) }
-{
-    let mut text = String::new(alloc);
-    for bound in &certificate.bounds {
-        let line = bound_margin(alloc, plan, certificate, bound)?;
-        text.push_str(line.as_str())?;
-    }
-    Ok(text)
-}
-
 /// The reader and the number of a total.
 fn total_words(alloc: Global, plan: &Plan, total: &Total) -> Result<String, AllocError>
     ensures { IfOk result (λ text. string_bytes text ≡ total_words plan.now total.now) }
@@ -134,22 +119,6 @@ fn total_margin(
     }
 }
 
-/// The lines of all totals.
-fn total_margins(
-    alloc: Global,
-    plan: &Plan,
-    certificate: &Certificate,
-) -> Result<String, AllocError>
-    ensures { IfOk result (λ text. string_bytes text ≡ flat_map (total_margin plan.now (certificate_view certificate.now)) (certificate_view certificate.now).totals) }
-{
-    let mut text = String::new(alloc);
-    for total in &certificate.totals {
-        let line = total_margin(alloc, plan, certificate, total)?;
-        text.push_str(line.as_str())?;
-    }
-    Ok(text)
-}
-
 /// A line for each bound, then a line for each total.
 pub(crate) fn margin_lines(
     alloc: Global,
@@ -158,7 +127,11 @@ pub(crate) fn margin_lines(
 ) -> Result<String, AllocError>
     ensures { IfOk result (λ text. string_bytes text ≡ margin_lines plan.now (certificate_view certificate.now)) }
 {
-    let bounds = bound_margins(alloc, plan, certificate)?;
-    let totals = total_margins(alloc, plan, certificate)?;
+    let bounds = text_of_each(alloc, certificate.bounds.as_slice(), |bound| {
+        bound_margin(alloc, plan, certificate, bound)
+    })?;
+    let totals = text_of_each(alloc, certificate.totals.as_slice(), |total| {
+        total_margin(alloc, plan, certificate, total)
+    })?;
     format!(in alloc; "{bounds}{totals}")
 }

@@ -1,5 +1,5 @@
 //! Why numbers 30 to 32 refuse a row: what weighs more after a take, a firing or a write than before it.
-ghost use Rattle.std.specs.Prelude.{◌≡◌, ◌++◌, IfOk, flat_map, length, string_bytes};
+ghost use Rattle.std.specs.Prelude.{◌≡◌, IfOk, flat_map, length, string_bytes};
 ghost use Rattle.dds_deploy.specs.Views.{rule_view};
 ghost use Rattle.dds_cert.specs.Text.{each_below};
 ghost use Rattle.dds_cert.specs.Views.{certificate_view, row_view};
@@ -15,6 +15,7 @@ use dds_cert::{Certificate, Row};
 use dds_deploy::Rule;
 use dds_events::rule_text;
 use dds_match::Plan;
+use dds_show::texts::{text_below, text_of_each};
 use std::alloc::{AllocError, Global};
 
 /// What a take weighs, and a sample.
@@ -93,12 +94,13 @@ fn write_terms(
 ) -> Result<String, AllocError>
     ensures { IfOk result (λ text. string_bytes text ≡ flat_map (write_term plan.now (row_view row.now)) portions.now) }
 {
-    let mut text = String::new(alloc);
-    for x in portions {
-        let term = write_term(alloc, plan, row, x)?;
-        text.push_str(term.as_str())?;
-    }
-    Ok(text)
+    text_of_each(
+        alloc,
+        portions,
+        |x|
+            ensures { IfOk result (λ text. string_bytes text ≡ write_term plan.entry.now (row_view row.entry.now) x.now) }
+        { write_term(alloc, plan, row, x) },
+    )
 }
 
 /// What a rule takes.
@@ -110,12 +112,13 @@ fn take_terms(
 ) -> Result<String, AllocError>
     ensures { IfOk result (λ text. string_bytes text ≡ flat_map (take_term plan.now (row_view row.now)) portions.now) }
 {
-    let mut text = String::new(alloc);
-    for x in portions {
-        let term = take_term(alloc, plan, row, x)?;
-        text.push_str(term.as_str())?;
-    }
-    Ok(text)
+    text_of_each(
+        alloc,
+        portions,
+        |x|
+            ensures { IfOk result (λ text. string_bytes text ≡ take_term plan.entry.now (row_view row.entry.now) x.now) }
+        { take_term(alloc, plan, row, x) },
+    )
 }
 
 /// What a rule writes and takes, weighed.
@@ -204,12 +207,9 @@ fn heard_lines(
 ) -> Result<String, AllocError>
     ensures { IfOk result (λ text. string_bytes text ≡ each_below (length plan.now.readers.entries) (heard_line plan.now (row_view row.now) writer key)) }
 {
-    let mut text = String::new(alloc);
-    for r in 0..plan.lists().readers() {
-        let line = heard_line(alloc, plan, row, writer, key, ReaderNo::new(r))?;
-        text.push_str(line.as_str())?;
-    }
-    Ok(text)
+    text_below(alloc, plan.lists().readers(), |r| {
+        heard_line(alloc, plan, row, writer, key, ReaderNo::new(r))
+    })
 }
 
 /// What the samples of a write weigh, and its permit.

@@ -1,5 +1,5 @@
 //! Why number 33 refuses a bound or a total: what the permits at the opening weigh by its row, and what a sample does.
-ghost use Rattle.std.specs.Prelude.{◌≡◌, ◌&&◌, ◌||◌, ◌*◌, suc, not, nat_lt, IfOk, flat_map, string_bytes};
+ghost use Rattle.std.specs.Prelude.{◌≡◌, ◌&&◌, ◌||◌, ◌*◌, suc, not, nat_lt, IfOk, string_bytes};
 ghost use Rattle.dds_match.specs.Network.{reach};
 ghost use Rattle.dds_match.specs.Plan.{network_of};
 ghost use Rattle.dds_cert.specs.Text.{each_below};
@@ -14,6 +14,7 @@ use dds_base::{KeyNo, ReaderNo, WriterNo};
 use dds_cert::naming::{reader_key, writer_key};
 use dds_cert::{Bound, Certificate, Row, Total};
 use dds_match::Plan;
+use dds_show::texts::{text_below, text_of_each};
 use std::alloc::{AllocError, Global};
 
 /// The least bound that a row shows, by what the permits at the opening weigh and what a sample weighs.
@@ -74,24 +75,26 @@ fn writer_permit_lines(
 ) -> Result<String, AllocError>
     ensures { IfOk result (λ text. string_bytes text ≡ writer_permit_lines plan.now (row_view row.now) writer) }
 {
-    let mut text = String::new(alloc);
-    for k in 0..KEYS {
-        let line = permit_line(alloc, plan, row, writer, KeyNo::new(k))?;
-        text.push_str(line.as_str())?;
-    }
-    Ok(text)
+    text_below(
+        alloc,
+        KEYS,
+        |k|
+            ensures { IfOk result (λ text. string_bytes text ≡ permit_line plan.entry.now (row_view row.entry.now) writer k) }
+        { permit_line(alloc, plan, row, writer, KeyNo::new(k)) },
+    )
 }
 
 /// The permits at the opening at all writers.
 fn permit_lines(alloc: Global, plan: &Plan, row: &Row) -> Result<String, AllocError>
     ensures { IfOk result (λ text. string_bytes text ≡ permit_lines plan.now (row_view row.now)) }
 {
-    let mut text = String::new(alloc);
-    for w in 0..plan.lists().writers() {
-        let line = writer_permit_lines(alloc, plan, row, WriterNo::new(w))?;
-        text.push_str(line.as_str())?;
-    }
-    Ok(text)
+    text_below(
+        alloc,
+        plan.lists().writers(),
+        |w|
+            ensures { IfOk result (λ text. string_bytes text ≡ writer_permit_lines plan.entry.now (row_view row.entry.now) w) }
+        { writer_permit_lines(alloc, plan, row, WriterNo::new(w)) },
+    )
 }
 
 /// What a row doesn't show, and what the permits at the opening weigh by it.
@@ -193,12 +196,13 @@ pub(crate) fn bound_not_shown_lines(
 ) -> Result<String, AllocError>
     ensures { IfOk result (λ text. string_bytes text ≡ bound_not_shown_lines plan.now (certificate_view certificate.now) reader key) }
 {
-    let mut text = String::new(alloc);
-    for bound in &certificate.bounds {
-        let lines = unshown_bound(alloc, plan, certificate, reader, key, bound)?;
-        text.push_str(lines.as_str())?;
-    }
-    Ok(text)
+    text_of_each(
+        alloc,
+        certificate.bounds.as_slice(),
+        |bound|
+            ensures { IfOk result (λ text. string_bytes text ≡ unshown_bound plan.entry.now (certificate_view certificate.entry.now) reader key bound.now) }
+        { unshown_bound(alloc, plan, certificate, reader, key, bound) },
+    )
 }
 
 /// Whether a key can't reach the reader of a total, or the row shows the total for it.
@@ -260,12 +264,13 @@ fn reached_sample_lines(
 ) -> Result<String, AllocError>
     ensures { IfOk result (λ text. string_bytes text ≡ each_below 64 (reached_sample_line plan.now (row_view row.now) opening reader)) }
 {
-    let mut text = String::new(alloc);
-    for k in 0..KEYS {
-        let line = reached_sample_line(alloc, plan, row, opening, reader, KeyNo::new(k))?;
-        text.push_str(line.as_str())?;
-    }
-    Ok(text)
+    text_below(
+        alloc,
+        KEYS,
+        |k|
+            ensures { IfOk result (λ text. string_bytes text ≡ reached_sample_line plan.entry.now (row_view row.entry.now) opening reader k) }
+        { reached_sample_line(alloc, plan, row, opening, reader, KeyNo::new(k)) },
+    )
 }
 
 /// A total that its row doesn't show, with a sample of each key and the permits.
@@ -330,10 +335,11 @@ pub(crate) fn total_not_shown_lines(
 ) -> Result<String, AllocError>
     ensures { IfOk result (λ text. string_bytes text ≡ total_not_shown_lines plan.now (certificate_view certificate.now) reader) }
 {
-    let mut text = String::new(alloc);
-    for total in &certificate.totals {
-        let lines = unshown_total(alloc, plan, certificate, reader, total)?;
-        text.push_str(lines.as_str())?;
-    }
-    Ok(text)
+    text_of_each(
+        alloc,
+        certificate.totals.as_slice(),
+        |total|
+            ensures { IfOk result (λ text. string_bytes text ≡ unshown_total plan.entry.now (certificate_view certificate.entry.now) reader total.now) }
+        { unshown_total(alloc, plan, certificate, reader, total) },
+    )
 }

@@ -1,13 +1,11 @@
--- Items in a row, and the item at a place of a list.
-use Rattle.std.proofs.Common.{ℕ, ◌≡◌, ◌+◌, ◌<◌, List, [], ◌∷◌, ◌++◌, flat_map, get_or, length, slice_get, Some, refl, sym, ap, ◌∙◌, append-nil, append_assoc}
+-- Texts and other things of numbers in a row, and the item at a place of a list.
+use Rattle.std.proofs.Common.{ℕ, ◌≡◌, ◌+◌, List, [], ◌∷◌, ◌++◌, flat_map, slice_get, Some, refl, sym, ap, ◌∙◌, append-nil, append_assoc}
 use Rattle.std.specs.List.{range_with_len}
 use Rattle.std.specs.Option.{option_map_or}
 use Rattle.std.proofs.lemmas.Grind.{flat_map-append}
-use Rattle.std.proofs.lemmas.Option.{slice_get_read}
 use Rattle.dds_fields.proofs.Ranges.{range_push}
-use Rattle.dds_cert.specs.Naming.{name_at}
-use Rattle.dds_show.specs.Entries.{numbered_item}
-use Rattle.dds_show.specs.Pieces.{comma, quoted}
+use Rattle.dds_cert.specs.Text.{each_below}
+use Rattle.dds_cert.proofs.TextLaws.{and_next}
 
 those_more : {X : Type 0} (f : ℕ → List X) (n : ℕ) → flat_map f (range_with_len 0 (n + 1)) ≡ flat_map f (range_with_len 0 n) ++ f n
 those_more f n = ap (flat_map f) (range_push n) ∙ (flat_map-append f (range_with_len 0 n) (n ∷ []) ∙ ap (λ xs. flat_map f (range_with_len 0 n) ++ xs) (append-nil (f n)))
@@ -22,7 +20,6 @@ and_those f n old found new before after =
 pub item_here : {X : Type 0} (f : X → List ℕ) (xs : List X) (i : ℕ) (x : X) → slice_get xs i ≡ Some x → f x ≡ option_map_or f (slice_get xs i) []
 item_here f xs i x is = rw is refl
 
--- the name with the number at a place
-pub numbered_here : (names : List (List ℕ)) (numbers : List ℕ) (i n k : ℕ) → i < length numbers → k ≡ get_or numbers i k → n ≡ k → comma i ++ quoted (name_at names n) ≡ numbered_item names numbers i
-numbered_here names numbers i n k lt at is =
-    ap (λ m. comma i ++ quoted (name_at names m)) is ∙ ap (λ name. comma i ++ quoted name) (item_here (name_at names) numbers i k (slice_get_read numbers (length numbers) i k refl lt at))
+-- the text of the next number is added
+pub and_text : (f : ℕ → List ℕ) (n : ℕ) (text next bytes new : List ℕ) → text ≡ each_below n f → next ≡ f n → bytes ≡ next → new ≡ text ++ bytes → new ≡ each_below (n + 1) f
+and_text f n text next bytes new before is same after = and_next f n [] text new before (after ∙ ap (λ xs. text ++ xs) (same ∙ is))

@@ -1,66 +1,45 @@
 //! The entries of a deployment's sections in JSON.
-ghost use Rattle.std.specs.Prelude.{◌≡◌, ◌++◌, ◌<◌, IfOk, length, map, string_bytes};
+ghost use Rattle.std.specs.Prelude.{◌≡◌, ◌++◌, ◌<◌, [], IfOk, length, map, slice_get, string_bytes};
+ghost use Rattle.std.specs.Option.{option_map_or};
 ghost use Rattle.dds_deploy.specs.Lists.{keys_at};
 ghost use Rattle.dds_deploy.specs.Views.{application_view, participant_view, reader_view, rule_view, topic_view, writer_view};
 ghost use Rattle.dds_cert.specs.Naming.{name_at};
+ghost use Rattle.dds_cert.specs.Text.{each_below};
 ghost use Rattle.dds_show.specs.Pieces.{comma, quoted};
-ghost use Rattle.dds_show.specs.Entries.{application_entry, connection_entry, numbered_items, origin_fields, participant_entry, place_fields, portion_entry, qos_fields, reader_entry, rule_entry, take_entry, take_item, take_items, topic_entry, write_entry, write_item, write_items, writer_entry};
+ghost use Rattle.dds_show.specs.Entries.{application_entry, connection_entry, numbered_items, origin_fields, participant_entry, place_fields, portion_entry, qos_fields, reader_entry, rule_entry, take_entry, take_items, topic_entry, write_entry, write_items, writer_entry};
 
-use crate::pieces::{comma, name_items, text_items};
+use crate::pieces::{items_below, name_items, quoted, text_items};
 use crate::policies::policies_fields;
-use dds_base::{KeyNo, Names, ParticipantNo, Portion, ReaderNo, TopicNo, WriterNo};
+use dds_base::{Endpoint, KeyNo, Names, ParticipantNo, Portion, ReaderNo, TopicNo, WriterNo};
 use dds_cert::naming::{name_at, reader_key, writer_key};
 use dds_deploy::{Application, Deployment, Origin, Participant, Reader, Rule, Topic, Writer};
 use dds_qos::Policies;
 use std::alloc::{AllocError, Global};
 
-/// Adds in quotes the name with a number.
-fn push_numbered(
-    alloc: Global,
-    text: &mut String,
-    names: &Names,
-    number: usize,
-    i: usize,
-) -> Result<(), AllocError>
-    ensures { IfOk result (λ _. string_bytes text.new ≡ string_bytes text.old ++ (comma i ++ quoted (name_at names.now number))) }
-{
-    let comma = comma(i);
-    let name = name_at(names, number);
-    let item = format!(in alloc; "{comma}\"{name}\"")?;
-    text.push_str(item.as_str())
-}
-
 /// In quotes the names of these keys.
 fn key_items(alloc: Global, names: &Names, keys: &[KeyNo]) -> Result<String, AllocError>
     ensures { IfOk result (λ text. string_bytes text ≡ numbered_items names.now keys.now) }
 {
-    let mut text = String::new(alloc);
-    for i in 0..keys.len() {
-        push_numbered(alloc, &mut text, names, keys[i].number(), i)?;
-    }
-    Ok(text)
+    items_below(
+        alloc,
+        keys.len(),
+        |i| quoted(alloc, name_at(names, keys[i].number())),
+    )
 }
 
-/// In quotes the names of these writers.
-fn writer_items(alloc: Global, names: &Names, writers: &[WriterNo]) -> Result<String, AllocError>
-    ensures { IfOk result (λ text. string_bytes text ≡ numbered_items names.now writers.now) }
+/// In quotes the names of these writers or readers.
+fn endpoint_items<E: Endpoint>(
+    alloc: Global,
+    names: &Names,
+    endpoints: &[E],
+) -> Result<String, AllocError>
+    ensures { IfOk result (λ text. string_bytes text ≡ each_below (length endpoints.now) (λ i. comma i ++ quoted (option_map_or (λ e. name_at names.now (E.number_of e)) (slice_get endpoints.now i) []))) }
 {
-    let mut text = String::new(alloc);
-    for i in 0..writers.len() {
-        push_numbered(alloc, &mut text, names, writers[i].number(), i)?;
-    }
-    Ok(text)
-}
-
-/// In quotes the names of these readers.
-fn reader_items(alloc: Global, names: &Names, readers: &[ReaderNo]) -> Result<String, AllocError>
-    ensures { IfOk result (λ text. string_bytes text ≡ numbered_items names.now readers.now) }
-{
-    let mut text = String::new(alloc);
-    for i in 0..readers.len() {
-        push_numbered(alloc, &mut text, names, readers[i].number(), i)?;
-    }
-    Ok(text)
+    items_below(
+        alloc,
+        endpoints.len(),
+        |i| quoted(alloc, name_at(names, endpoints[i].place())),
+    )
 }
 
 pub(crate) fn participant_entry(
@@ -158,8 +137,8 @@ pub(crate) fn application_entry(
     ensures { IfOk result (λ text. string_bytes text ≡ application_entry lists.now name.now (application_view x.now)) }
 {
     let participant = name_at(lists.participant_names(), x.participant.number());
-    let writers = writer_items(alloc, lists.writer_names(), x.writers.as_slice())?;
-    let readers = reader_items(alloc, lists.reader_names(), x.readers.as_slice())?;
+    let writers = endpoint_items(alloc, lists.writer_names(), x.writers.as_slice())?;
+    let readers = endpoint_items(alloc, lists.reader_names(), x.readers.as_slice())?;
     format!(in alloc;
         "{{\"name\": \"{name}\", \"participant\": \"{participant}\", \"writers\": [{writers}], \"readers\": [{readers}]}}"
     )
@@ -202,23 +181,6 @@ fn write_entry(
     portion_entry(alloc, "writer", writer, key, x.count)
 }
 
-/// Adds what a rule takes, at a place of its list.
-fn push_take(
-    alloc: Global,
-    text: &mut String,
-    lists: &Deployment,
-    xs: &[Portion<ReaderNo>],
-    i: usize,
-) -> Result<(), AllocError>
-    requires { i < length xs.now }
-    ensures { IfOk result (λ _. string_bytes text.new ≡ string_bytes text.old ++ take_item lists.now xs.now i) }
-{
-    let entry = take_entry(alloc, lists, &xs[i])?;
-    let comma = comma(i);
-    let item = format!(in alloc; "{comma}{entry}")?;
-    text.push_str(item.as_str())
-}
-
 /// What a rule takes.
 fn take_items(
     alloc: Global,
@@ -227,28 +189,7 @@ fn take_items(
 ) -> Result<String, AllocError>
     ensures { IfOk result (λ text. string_bytes text ≡ take_items lists.now xs.now) }
 {
-    let mut text = String::new(alloc);
-    for i in 0..xs.len() {
-        push_take(alloc, &mut text, lists, xs, i)?;
-    }
-    Ok(text)
-}
-
-/// Adds what a rule writes, at a place of its list.
-fn push_write(
-    alloc: Global,
-    text: &mut String,
-    lists: &Deployment,
-    xs: &[Portion<WriterNo>],
-    i: usize,
-) -> Result<(), AllocError>
-    requires { i < length xs.now }
-    ensures { IfOk result (λ _. string_bytes text.new ≡ string_bytes text.old ++ write_item lists.now xs.now i) }
-{
-    let entry = write_entry(alloc, lists, &xs[i])?;
-    let comma = comma(i);
-    let item = format!(in alloc; "{comma}{entry}")?;
-    text.push_str(item.as_str())
+    items_below(alloc, xs.len(), |i| take_entry(alloc, lists, &xs[i]))
 }
 
 /// What a rule writes.
@@ -259,11 +200,7 @@ fn write_items(
 ) -> Result<String, AllocError>
     ensures { IfOk result (λ text. string_bytes text ≡ write_items lists.now xs.now) }
 {
-    let mut text = String::new(alloc);
-    for i in 0..xs.len() {
-        push_write(alloc, &mut text, lists, xs, i)?;
-    }
-    Ok(text)
+    items_below(alloc, xs.len(), |i| write_entry(alloc, lists, &xs[i]))
 }
 
 /// The name of a rule's entry, and the key where the rule stands for one.

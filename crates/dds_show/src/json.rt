@@ -1,25 +1,40 @@
 //! A deployment as it was read, in JSON: every section with its entries in file order, every field of an entry with its value.
-ghost use Rattle.std.specs.Prelude.{◌≡◌, ◌++◌, ◌<◌, IfOk, length, string_bytes};
+ghost use Rattle.std.specs.Prelude.{◌≡◌, ◌++◌, ◌<◌, ℕ, List, IfOk, length, string_bytes};
+ghost use Rattle.dds_cert.specs.Text.{each_below};
 ghost use Rattle.dds_show.specs.Pieces.{line_start};
-ghost use Rattle.dds_show.specs.Json.{application_item, applications_section, connection_item, connections_section, deployment_json, pair_at, pairs, pairs_of_writer, participant_item, participants_section, reader_item, readers_section, rule_item, rules_section, section, topic_item, topics_section, writer_item, writers_section};
+ghost use Rattle.dds_show.specs.Json.{application_item, applications_section, connections_section, deployment_json, pair_at, pairs, pairs_of_writer, participant_item, participants_section, reader_item, readers_section, rules_section, section, topic_item, topics_section, writer_item, writers_section};
 
 use crate::entries::{
     application_entry, connection_entry, participant_entry, reader_entry, rule_entry, topic_entry,
     writer_entry,
 };
 use crate::pieces::line_start;
+use crate::texts::text_below;
 use dds_base::{AppNo, ParticipantNo, ReaderNo, RuleNo, TopicNo, WriterNo};
 use dds_cert::naming::name_at;
 use dds_deploy::Deployment;
 use std::alloc::{AllocError, Global};
 
-/// Adds an entry of a section.
-fn push_entry(alloc: Global, text: &mut String, entry: &str, i: usize) -> Result<(), AllocError>
-    ensures { IfOk result (λ _. string_bytes text.new ≡ string_bytes text.old ++ (line_start i ++ entry.now)) }
+/// The entries below `n`, each in a line of its own.
+fn lines_below<F: Fn(usize) -> Result<String, AllocError>>(
+    alloc: Global,
+    n: usize,
+    entry: F,
+) -> Result<String, AllocError>
+    requires { (i : ℕ) → i < n → F.pre entry i }
+    ensures { (item_of : ℕ → List ℕ) → ((i : ℕ) (r : _) → i < n → F.post entry i r → IfOk r (λ text. line_start i ++ string_bytes text ≡ item_of i)) → IfOk result (λ text. string_bytes text ≡ each_below n item_of) }
 {
-    let start = line_start(i);
-    let item = format!(in alloc; "{start}{entry}")?;
-    text.push_str(item.as_str())
+    text_below(
+        alloc,
+        n,
+        |i|
+            requires { F.pre entry i }
+        {
+            let start = line_start(i);
+            let entry = entry(i)?;
+            format!(in alloc; "{start}{entry}")
+        },
+    )
 }
 
 /// A section with these entries.
@@ -29,149 +44,100 @@ fn section(alloc: Global, name: &str, items: &str) -> Result<String, AllocError>
     format!(in alloc; "  \"{name}\": [{items}\n  ]")
 }
 
-fn push_participant(
-    alloc: Global,
-    text: &mut String,
-    lists: &Deployment,
-    i: usize,
-) -> Result<(), AllocError>
-    requires { i < length lists.now.participants.entries }
-    ensures { IfOk result (λ _. string_bytes text.new ≡ string_bytes text.old ++ participant_item lists.now i) }
-{
-    let name = name_at(lists.participant_names(), i);
-    let entry = participant_entry(alloc, name, lists.participant(ParticipantNo::new(i)))?;
-    push_entry(alloc, text, entry.as_str(), i)
-}
-
 fn participants_section(alloc: Global, lists: &Deployment) -> Result<String, AllocError>
     ensures { IfOk result (λ text. string_bytes text ≡ participants_section lists.now) }
 {
-    let mut items = String::new(alloc);
-    for i in 0..lists.participants() {
-        push_participant(alloc, &mut items, lists, i)?;
-    }
+    let items = lines_below(
+        alloc,
+        lists.participants(),
+        |i|
+            requires { i < length lists.now.participants.entries }
+            ensures { IfOk result (λ text. line_start i ++ string_bytes text ≡ participant_item lists.entry.now i) }
+        {
+            let name = name_at(lists.participant_names(), i);
+            participant_entry(alloc, name, lists.participant(ParticipantNo::new(i)))
+        },
+    )?;
     section(alloc, "participants", items.as_str())
-}
-
-fn push_topic(
-    alloc: Global,
-    text: &mut String,
-    lists: &Deployment,
-    i: usize,
-) -> Result<(), AllocError>
-    requires { i < length lists.now.topics.entries }
-    ensures { IfOk result (λ _. string_bytes text.new ≡ string_bytes text.old ++ topic_item lists.now i) }
-{
-    let name = name_at(lists.topic_names(), i);
-    let entry = topic_entry(alloc, name, lists.topic(TopicNo::new(i)))?;
-    push_entry(alloc, text, entry.as_str(), i)
 }
 
 fn topics_section(alloc: Global, lists: &Deployment) -> Result<String, AllocError>
     ensures { IfOk result (λ text. string_bytes text ≡ topics_section lists.now) }
 {
-    let mut items = String::new(alloc);
-    for i in 0..lists.topics() {
-        push_topic(alloc, &mut items, lists, i)?;
-    }
+    let items = lines_below(
+        alloc,
+        lists.topics(),
+        |i|
+            requires { i < length lists.now.topics.entries }
+            ensures { IfOk result (λ text. line_start i ++ string_bytes text ≡ topic_item lists.entry.now i) }
+        {
+            let name = name_at(lists.topic_names(), i);
+            topic_entry(alloc, name, lists.topic(TopicNo::new(i)))
+        },
+    )?;
     section(alloc, "topics", items.as_str())
-}
-
-fn push_writer(
-    alloc: Global,
-    text: &mut String,
-    lists: &Deployment,
-    i: usize,
-) -> Result<(), AllocError>
-    requires { i < length lists.now.writers.entries }
-    ensures { IfOk result (λ _. string_bytes text.new ≡ string_bytes text.old ++ writer_item lists.now i) }
-{
-    let name = name_at(lists.writer_names(), i);
-    let entry = writer_entry(alloc, lists, name, lists.writer(WriterNo::new(i)))?;
-    push_entry(alloc, text, entry.as_str(), i)
 }
 
 fn writers_section(alloc: Global, lists: &Deployment) -> Result<String, AllocError>
     ensures { IfOk result (λ text. string_bytes text ≡ writers_section lists.now) }
 {
-    let mut items = String::new(alloc);
-    for i in 0..lists.writers() {
-        push_writer(alloc, &mut items, lists, i)?;
-    }
+    let items = lines_below(
+        alloc,
+        lists.writers(),
+        |i|
+            requires { i < length lists.now.writers.entries }
+            ensures { IfOk result (λ text. line_start i ++ string_bytes text ≡ writer_item lists.entry.now i) }
+        {
+            let name = name_at(lists.writer_names(), i);
+            writer_entry(alloc, lists, name, lists.writer(WriterNo::new(i)))
+        },
+    )?;
     section(alloc, "writers", items.as_str())
-}
-
-fn push_reader(
-    alloc: Global,
-    text: &mut String,
-    lists: &Deployment,
-    i: usize,
-) -> Result<(), AllocError>
-    requires { i < length lists.now.readers.entries }
-    ensures { IfOk result (λ _. string_bytes text.new ≡ string_bytes text.old ++ reader_item lists.now i) }
-{
-    // What is known of every deployment: the topic is there.
-    let _readers = lists.readers();
-    let name = name_at(lists.reader_names(), i);
-    let entry = reader_entry(alloc, lists, name, lists.reader(ReaderNo::new(i)))?;
-    push_entry(alloc, text, entry.as_str(), i)
 }
 
 fn readers_section(alloc: Global, lists: &Deployment) -> Result<String, AllocError>
     ensures { IfOk result (λ text. string_bytes text ≡ readers_section lists.now) }
 {
-    let mut items = String::new(alloc);
-    for i in 0..lists.readers() {
-        push_reader(alloc, &mut items, lists, i)?;
-    }
+    let items = lines_below(
+        alloc,
+        lists.readers(),
+        |i|
+            requires { i < length lists.now.readers.entries }
+            ensures { IfOk result (λ text. line_start i ++ string_bytes text ≡ reader_item lists.entry.now i) }
+        {
+            // What is known of every deployment: the topic is there.
+            let _readers = lists.readers();
+            let name = name_at(lists.reader_names(), i);
+            reader_entry(alloc, lists, name, lists.reader(ReaderNo::new(i)))
+        },
+    )?;
     section(alloc, "readers", items.as_str())
-}
-
-fn push_application(
-    alloc: Global,
-    text: &mut String,
-    lists: &Deployment,
-    i: usize,
-) -> Result<(), AllocError>
-    requires { i < length lists.now.applications.entries }
-    ensures { IfOk result (λ _. string_bytes text.new ≡ string_bytes text.old ++ application_item lists.now i) }
-{
-    let name = name_at(lists.application_names(), i);
-    let entry = application_entry(alloc, lists, name, lists.application(AppNo::new(i)))?;
-    push_entry(alloc, text, entry.as_str(), i)
 }
 
 fn applications_section(alloc: Global, lists: &Deployment) -> Result<String, AllocError>
     ensures { IfOk result (λ text. string_bytes text ≡ applications_section lists.now) }
 {
-    let mut items = String::new(alloc);
-    for i in 0..lists.applications() {
-        push_application(alloc, &mut items, lists, i)?;
-    }
+    let items = lines_below(
+        alloc,
+        lists.applications(),
+        |i|
+            requires { i < length lists.now.applications.entries }
+            ensures { IfOk result (λ text. line_start i ++ string_bytes text ≡ application_item lists.entry.now i) }
+        {
+            let name = name_at(lists.application_names(), i);
+            application_entry(alloc, lists, name, lists.application(AppNo::new(i)))
+        },
+    )?;
     section(alloc, "applications", items.as_str())
-}
-
-fn push_rule(
-    alloc: Global,
-    text: &mut String,
-    lists: &Deployment,
-    i: usize,
-) -> Result<(), AllocError>
-    requires { i < length lists.now.rules.entries }
-    ensures { IfOk result (λ _. string_bytes text.new ≡ string_bytes text.old ++ rule_item lists.now i) }
-{
-    let number = RuleNo::new(i);
-    let entry = rule_entry(alloc, lists, lists.rule_origin(number), lists.rule(number))?;
-    push_entry(alloc, text, entry.as_str(), i)
 }
 
 fn rules_section(alloc: Global, lists: &Deployment) -> Result<String, AllocError>
     ensures { IfOk result (λ text. string_bytes text ≡ rules_section lists.now) }
 {
-    let mut items = String::new(alloc);
-    for i in 0..lists.rules() {
-        push_rule(alloc, &mut items, lists, i)?;
-    }
+    let items = lines_below(alloc, lists.rules(), |i| {
+        let number = RuleNo::new(i);
+        rule_entry(alloc, lists, lists.rule_origin(number), lists.rule(number))
+    })?;
     section(alloc, "rules", items.as_str())
 }
 
@@ -215,29 +181,13 @@ fn pairs(alloc: Global, lists: &Deployment) -> Result<Vec<(usize, usize)>, Alloc
     Ok(found)
 }
 
-fn push_connection(
-    alloc: Global,
-    text: &mut String,
-    lists: &Deployment,
-    found: &[(usize, usize)],
-    i: usize,
-) -> Result<(), AllocError>
-    requires found { found.now ≡ pairs lists.now }
-    requires there { i < length found.now }
-    ensures { IfOk result (λ _. string_bytes text.new ≡ string_bytes text.old ++ connection_item lists.now i) }
-{
-    let entry = connection_entry(alloc, lists, found[i])?;
-    push_entry(alloc, text, entry.as_str(), i)
-}
-
 fn connections_section(alloc: Global, lists: &Deployment) -> Result<String, AllocError>
     ensures { IfOk result (λ text. string_bytes text ≡ connections_section lists.now) }
 {
     let found = pairs(alloc, lists)?;
-    let mut items = String::new(alloc);
-    for i in 0..found.len() {
-        push_connection(alloc, &mut items, lists, found.as_slice(), i)?;
-    }
+    let items = lines_below(alloc, found.len(), |i| {
+        connection_entry(alloc, lists, found[i])
+    })?;
     section(alloc, "connections", items.as_str())
 }
 

@@ -6,6 +6,7 @@ mod json;
 mod pieces;
 mod policies;
 pub mod reasons;
+pub mod texts;
 pub mod words;
 
 pub use json::deployment_json;

@@ -1,7 +1,9 @@
 //! Pieces of a deployment's JSON. Names and partitions have no byte that JSON escapes.
-ghost use Rattle.std.specs.Prelude.{◌≡◌, ◌++◌, ◌<◌, IfOk, length, map, string_bytes};
-ghost use Rattle.dds_show.specs.Pieces.{comma, duration_text, flag_word, limit_text, line_start, name_item, name_items};
+ghost use Rattle.std.specs.Prelude.{◌≡◌, ◌++◌, ◌<◌, ℕ, List, IfOk, map, string_bytes};
+ghost use Rattle.dds_cert.specs.Text.{each_below};
+ghost use Rattle.dds_show.specs.Pieces.{comma, duration_text, flag_word, limit_text, line_start, name_items, quoted};
 
+use crate::texts::text_below;
 use dds_base::Names;
 use dds_cert::naming::name_at;
 use dds_qos::Duration;
@@ -19,47 +21,47 @@ pub(crate) fn line_start(i: usize) -> &'static str
     if i == 0 { "\n    " } else { ",\n    " }
 }
 
-/// Adds a name of a list, in quotes.
-fn push_name(alloc: Global, text: &mut String, names: &Names, i: usize) -> Result<(), AllocError>
-    ensures { IfOk result (λ _. string_bytes text.new ≡ string_bytes text.old ++ name_item names.now i) }
+/// The items below `n` in one line, with commas between them.
+pub(crate) fn items_below<F: Fn(usize) -> Result<String, AllocError>>(
+    alloc: Global,
+    n: usize,
+    item: F,
+) -> Result<String, AllocError>
+    requires { (i : ℕ) → i < n → F.pre item i }
+    ensures { (item_of : ℕ → List ℕ) → ((i : ℕ) (r : _) → i < n → F.post item i r → IfOk r (λ text. comma i ++ string_bytes text ≡ item_of i)) → IfOk result (λ text. string_bytes text ≡ each_below n item_of) }
 {
-    let comma = comma(i);
-    let name = name_at(names, i);
-    let item = format!(in alloc; "{comma}\"{name}\"")?;
-    text.push_str(item.as_str())
+    text_below(
+        alloc,
+        n,
+        |i|
+            requires { F.pre item i }
+        {
+            let comma = comma(i);
+            let item = item(i)?;
+            format!(in alloc; "{comma}{item}")
+        },
+    )
+}
+
+/// A text in quotes.
+pub(crate) fn quoted(alloc: Global, text: &str) -> Result<String, AllocError>
+    ensures { IfOk result (λ quote. string_bytes quote ≡ quoted text.now) }
+{
+    format!(in alloc; "\"{text}\"")
 }
 
 /// The names of a list, in quotes.
 pub(crate) fn name_items(alloc: Global, names: &Names) -> Result<String, AllocError>
     ensures { IfOk result (λ text. string_bytes text ≡ name_items names.now) }
 {
-    let mut text = String::new(alloc);
-    for i in 0..names.len() {
-        push_name(alloc, &mut text, names, i)?;
-    }
-    Ok(text)
-}
-
-/// Adds a text of a list, in quotes.
-fn push_text(alloc: Global, text: &mut String, texts: &[String], i: usize) -> Result<(), AllocError>
-    requires { i < length texts.now }
-    ensures { IfOk result (λ _. string_bytes text.new ≡ string_bytes text.old ++ name_item (map string_bytes texts.now) i) }
-{
-    let comma = comma(i);
-    let name = texts[i].as_str();
-    let item = format!(in alloc; "{comma}\"{name}\"")?;
-    text.push_str(item.as_str())
+    items_below(alloc, names.len(), |i| quoted(alloc, name_at(names, i)))
 }
 
 /// The texts of a list, in quotes.
 pub(crate) fn text_items(alloc: Global, texts: &[String]) -> Result<String, AllocError>
     ensures { IfOk result (λ text. string_bytes text ≡ name_items (map string_bytes texts.now)) }
 {
-    let mut text = String::new(alloc);
-    for i in 0..texts.len() {
-        push_text(alloc, &mut text, texts, i)?;
-    }
-    Ok(text)
+    items_below(alloc, texts.len(), |i| quoted(alloc, texts[i].as_str()))
 }
 
 pub(crate) fn flag_word(flag: bool) -> &'static str

@@ -1,5 +1,5 @@
--- The text of what is at a place, under its name, and what is added of it.
-use Rattle.std.proofs.Common.{ℕ, ◌≡◌, ◌∙◌, ◌++◌, ◌==◌, List, [], Some, Result, Ok, Err, IfOk, ap, cond, eq-eqb, if◌then◌else◌, is_ok, refl, sym, slice_get}
+-- The text of what is at a place, under its name.
+use Rattle.std.proofs.Common.{ℕ, ◌≡◌, ◌∙◌, ◌==◌, List, [], Some, ap, eq-eqb, if◌then◌else◌, refl, sym, slice_get}
 use Rattle.std.specs.Option.{option_map_or}
 use Rattle.dds_cert.specs.Naming.{name_at}
 use Rattle.dds_show.proofs.ShowLaws.{item_here}
@@ -13,8 +13,3 @@ named_here f names given xs i n x name text same is at found shown =
 -- a text that stands only for one number stands for this one
 pub chosen : (n p : ℕ) (text : List ℕ) → n ≡ p → text ≡ (if n == p then text else [])
 chosen n p text same = rw (eq-eqb n p same) refl
-
--- a push that has memory adds the text
-pub pushed : {T E : Type 0} (result : Result T E) (old new element text : List ℕ) → new ≡ cond (is_ok result) (old ++ element) old → element ≡ text → IfOk result (λ _. new ≡ old ++ text)
-pushed (Ok x) old new element text after is = after ∙ ap (λ t. old ++ t) is
-pushed (Err e) old new element text after is = tt

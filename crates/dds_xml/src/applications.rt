@@ -1,56 +1,39 @@
 //! The applications in XML, each with the endpoints that it owns (OMG DDS-XML 1.0, building block Applications).
-ghost use Rattle.std.specs.Prelude.{◌≡◌, ◌++◌, ◌<◌, IfOk, codes, length, string_bytes};
+ghost use Rattle.std.specs.Prelude.{◌≡◌, ◌<◌, IfOk, flat_map, length, string_bytes};
 ghost use Rattle.dds_deploy.specs.Views.{application_view};
-ghost use Rattle.dds_xml.specs.Applications.{application_at, application_element, application_library, owned_element, owned_elements};
+ghost use Rattle.dds_xml.specs.Applications.{application_at, application_element, application_library, owned_element};
 
-use dds_base::{AppNo, Names, ReaderNo, WriterNo};
+use dds_base::{AppNo, Endpoint, Names};
 use dds_cert::naming::name_at;
 use dds_deploy::{Application, Deployment};
+use dds_show::texts::{text_below, text_of_each};
 use std::alloc::{AllocError, Global};
 
-/// Adds the publisher or the subscriber of an endpoint.
-fn push_owned(
+/// The publisher or the subscriber of an endpoint.
+fn owned_element(
     alloc: Global,
-    text: &mut String,
     group: &str,
     names: &Names,
     number: usize,
-) -> Result<(), AllocError>
-    ensures { IfOk result (λ _. string_bytes text.new ≡ string_bytes text.old ++ owned_element group.now names.now number) }
+) -> Result<String, AllocError>
+    ensures { IfOk result (λ text. string_bytes text ≡ owned_element group.now names.now number) }
 {
     let name = name_at(names, number);
-    let element = format!(in alloc; "        <{group} name=\"{name}\"/>\n")?;
-    text.push_str(element.as_str())
+    format!(in alloc; "        <{group} name=\"{name}\"/>\n")
 }
 
-/// The publishers of these writers.
-fn publisher_elements(
+/// The publishers of these writers, or the subscribers of these readers.
+fn owned_elements<E: Endpoint>(
     alloc: Global,
+    group: &str,
     names: &Names,
-    writers: &[WriterNo],
+    endpoints: &[E],
 ) -> Result<String, AllocError>
-    ensures { IfOk result (λ text. string_bytes text ≡ owned_elements (codes "publisher") names.now writers.now) }
+    ensures { IfOk result (λ text. string_bytes text ≡ flat_map (λ e. owned_element group.now names.now (E.number_of e)) endpoints.now) }
 {
-    let mut text = String::new(alloc);
-    for writer in writers {
-        push_owned(alloc, &mut text, "publisher", names, writer.number())?;
-    }
-    Ok(text)
-}
-
-/// The subscribers of these readers.
-fn subscriber_elements(
-    alloc: Global,
-    names: &Names,
-    readers: &[ReaderNo],
-) -> Result<String, AllocError>
-    ensures { IfOk result (λ text. string_bytes text ≡ owned_elements (codes "subscriber") names.now readers.now) }
-{
-    let mut text = String::new(alloc);
-    for reader in readers {
-        push_owned(alloc, &mut text, "subscriber", names, reader.number())?;
-    }
-    Ok(text)
+    text_of_each(alloc, endpoints, |endpoint| {
+        owned_element(alloc, group, names, endpoint.place())
+    })
 }
 
 /// An application at its participant.
@@ -63,8 +46,18 @@ fn application_element(
     ensures { IfOk result (λ text. string_bytes text ≡ application_element lists.now name.now (application_view x.now)) }
 {
     let participant = name_at(lists.participant_names(), x.participant.number());
-    let publishers = publisher_elements(alloc, lists.writer_names(), x.writers.as_slice())?;
-    let subscribers = subscriber_elements(alloc, lists.reader_names(), x.readers.as_slice())?;
+    let publishers = owned_elements(
+        alloc,
+        "publisher",
+        lists.writer_names(),
+        x.writers.as_slice(),
+    )?;
+    let subscribers = owned_elements(
+        alloc,
+        "subscriber",
+        lists.reader_names(),
+        x.readers.as_slice(),
+    )?;
     format!(in alloc;
         "    <application name=\"{name}\">\n      \
          <domain_participant name=\"{participant}\" base_name=\"participants::{participant}\">\n{publishers}{subscribers}      \
@@ -72,30 +65,22 @@ fn application_element(
     )
 }
 
-/// Adds the application with this number.
-fn push_application(
-    alloc: Global,
-    text: &mut String,
-    lists: &Deployment,
-    a: usize,
-) -> Result<(), AllocError>
-    requires { a < length lists.now.applications.entries }
-    ensures { IfOk result (λ _. string_bytes text.new ≡ string_bytes text.old ++ application_at lists.now a) }
-{
-    let name = name_at(lists.application_names(), a);
-    let element = application_element(alloc, lists, name, lists.application(AppNo::new(a)))?;
-    text.push_str(element.as_str())
-}
-
 /// All applications.
 #[tactic(auto, unfolding(crate::specs::Applications::application_library))]
 pub(crate) fn application_library(alloc: Global, lists: &Deployment) -> Result<String, AllocError>
     ensures { IfOk result (λ text. string_bytes text ≡ application_library lists.now) }
 {
-    let mut applications = String::new(alloc);
-    for a in 0..lists.applications() {
-        push_application(alloc, &mut applications, lists, a)?;
-    }
+    let applications = text_below(
+        alloc,
+        lists.applications(),
+        |a|
+            requires { a < length lists.now.applications.entries }
+            ensures { IfOk result (λ text. string_bytes text ≡ application_at lists.entry.now a) }
+        {
+            let name = name_at(lists.application_names(), a);
+            application_element(alloc, lists, name, lists.application(AppNo::new(a)))
+        },
+    )?;
     format!(in alloc;
         "  <application_library name=\"applications\">\n{applications}  </application_library>\n"
     )

@@ -1,11 +1,12 @@
 //! The participants in XML, each with its writers and then its readers, in file order (OMG DDS-XML 1.0, building block DomainParticipants).
-ghost use Rattle.std.specs.Prelude.{◌≡◌, ◌++◌, ◌<◌, IfOk, length, string_bytes};
+ghost use Rattle.std.specs.Prelude.{◌≡◌, ◌<◌, IfOk, length, string_bytes};
 ghost use Rattle.dds_deploy.specs.Views.{participant_view, reader_view, writer_view};
 ghost use Rattle.dds_xml.specs.Participants.{content_filter, data_reader, disjunction, filter_expression, filter_term, participant_at, participant_element, participant_library, publisher, publisher_at, publishers, subscriber, subscriber_at, subscribers};
 
 use dds_base::{KeyNo, Names, ParticipantNo, ReaderNo, WriterNo};
 use dds_cert::naming::name_at;
 use dds_deploy::{Deployment, Participant, Reader, Writer};
+use dds_show::texts::text_below;
 use std::alloc::{AllocError, Global};
 
 /// A writer, in a publisher of its name.
@@ -32,13 +33,12 @@ fn disjunction(i: usize) -> &'static str
     if i == 0 { "" } else { " OR " }
 }
 
-/// Adds a key of a filter, by its place there.
-fn push_filter_term(alloc: Global, text: &mut String, key: &str, i: usize) -> Result<(), AllocError>
-    ensures { IfOk result (λ _. string_bytes text.new ≡ string_bytes text.old ++ filter_term key.now i) }
+/// A key of a filter, by its place there.
+fn filter_term(alloc: Global, key: &str, i: usize) -> Result<String, AllocError>
+    ensures { IfOk result (λ text. string_bytes text ≡ filter_term key.now i) }
 {
     let disjunction = disjunction(i);
-    let term = format!(in alloc; "{disjunction}key = '{key}'")?;
-    text.push_str(term.as_str())
+    format!(in alloc; "{disjunction}key = '{key}'")
 }
 
 /// A filter as a condition on the key of a sample.
@@ -48,12 +48,9 @@ fn filter_expression(alloc: Global, keys: &Names, filter: &[KeyNo]) -> Result<St
     if filter.is_empty() {
         return String::from_str(alloc, "key = ''");
     }
-    let mut text = String::new(alloc);
-    for i in 0..filter.len() {
-        let key = name_at(keys, filter[i].number());
-        push_filter_term(alloc, &mut text, key, i)?;
-    }
-    Ok(text)
+    text_below(alloc, filter.len(), |i| {
+        filter_term(alloc, name_at(keys, filter[i].number()), i)
+    })
 }
 
 /// The filter of a reader, nothing where it has all keys.
@@ -107,68 +104,58 @@ fn subscriber(
     )
 }
 
-/// Adds the writer with this number, if it is at this participant.
-fn push_publisher(
+/// The writer with this number, if it is at this participant.
+fn publisher_at(
     alloc: Global,
-    text: &mut String,
     lists: &Deployment,
     p: ParticipantNo,
     w: usize,
-) -> Result<(), AllocError>
+) -> Result<String, AllocError>
     requires { w < length lists.now.writers.entries }
-    ensures { IfOk result (λ _. string_bytes text.new ≡ string_bytes text.old ++ publisher_at lists.now p w) }
+    ensures { IfOk result (λ text. string_bytes text ≡ publisher_at lists.now p w) }
 {
     let x = lists.writer(WriterNo::new(w));
     if x.participant.number() != p.number() {
-        return Ok(());
+        return Ok(String::new(alloc));
     }
-    let name = name_at(lists.writer_names(), w);
-    let element = publisher(alloc, lists, name, x)?;
-    text.push_str(element.as_str())
+    publisher(alloc, lists, name_at(lists.writer_names(), w), x)
 }
 
 /// The writers of a participant.
 fn publishers(alloc: Global, lists: &Deployment, p: ParticipantNo) -> Result<String, AllocError>
     ensures { IfOk result (λ text. string_bytes text ≡ publishers lists.now p) }
 {
-    let mut text = String::new(alloc);
-    for w in 0..lists.writers() {
-        push_publisher(alloc, &mut text, lists, p, w)?;
-    }
-    Ok(text)
+    text_below(alloc, lists.writers(), |w| publisher_at(alloc, lists, p, w))
 }
 
-/// Adds the reader with this number, if it is at this participant.
-fn push_subscriber(
+/// The reader with this number, if it is at this participant.
+fn subscriber_at(
     alloc: Global,
-    text: &mut String,
     lists: &Deployment,
     p: ParticipantNo,
     r: usize,
-) -> Result<(), AllocError>
+) -> Result<String, AllocError>
     requires { r < length lists.now.readers.entries }
-    ensures { IfOk result (λ _. string_bytes text.new ≡ string_bytes text.old ++ subscriber_at lists.now p r) }
+    ensures { IfOk result (λ text. string_bytes text ≡ subscriber_at lists.now p r) }
 {
     // What is known of every deployment: the topic is there.
     let _readers = lists.readers();
     let x = lists.reader(ReaderNo::new(r));
     if x.participant.number() != p.number() {
-        return Ok(());
+        return Ok(String::new(alloc));
     }
-    let name = name_at(lists.reader_names(), r);
-    let element = subscriber(alloc, lists, name, x)?;
-    text.push_str(element.as_str())
+    subscriber(alloc, lists, name_at(lists.reader_names(), r), x)
 }
 
 /// The readers of a participant.
 fn subscribers(alloc: Global, lists: &Deployment, p: ParticipantNo) -> Result<String, AllocError>
     ensures { IfOk result (λ text. string_bytes text ≡ subscribers lists.now p) }
 {
-    let mut text = String::new(alloc);
-    for r in 0..lists.readers() {
-        push_subscriber(alloc, &mut text, lists, p, r)?;
-    }
-    Ok(text)
+    text_below(
+        alloc,
+        lists.readers(),
+        |r| subscriber_at(alloc, lists, p, r),
+    )
 }
 
 /// A participant with its endpoints.
@@ -189,30 +176,22 @@ fn participant_element(
     )
 }
 
-/// Adds the participant with this number.
-fn push_participant(
-    alloc: Global,
-    text: &mut String,
-    lists: &Deployment,
-    p: usize,
-) -> Result<(), AllocError>
-    requires { p < length lists.now.participants.entries }
-    ensures { IfOk result (λ _. string_bytes text.new ≡ string_bytes text.old ++ participant_at lists.now p) }
-{
-    let number = ParticipantNo::new(p);
-    let element = participant_element(alloc, lists, number, lists.participant(number))?;
-    text.push_str(element.as_str())
-}
-
 /// All participants.
 #[tactic(auto, unfolding(crate::specs::Participants::participant_library))]
 pub(crate) fn participant_library(alloc: Global, lists: &Deployment) -> Result<String, AllocError>
     ensures { IfOk result (λ text. string_bytes text ≡ participant_library lists.now) }
 {
-    let mut participants = String::new(alloc);
-    for p in 0..lists.participants() {
-        push_participant(alloc, &mut participants, lists, p)?;
-    }
+    let participants = text_below(
+        alloc,
+        lists.participants(),
+        |p|
+            requires { p < length lists.now.participants.entries }
+            ensures { IfOk result (λ text. string_bytes text ≡ participant_at lists.entry.now p) }
+        {
+            let number = ParticipantNo::new(p);
+            participant_element(alloc, lists, number, lists.participant(number))
+        },
+    )?;
     format!(in alloc;
         "  <domain_participant_library name=\"participants\">\n{participants}  </domain_participant_library>\n"
     )

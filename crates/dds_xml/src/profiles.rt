@@ -1,5 +1,5 @@
 //! The QoS profiles of the endpoints in XML (OMG DDS-XML 1.0, building block QoS). Policies and their kinds have the names of the IDL (OMG DDS 1.4, clause 2.3.3).
-ghost use Rattle.std.specs.Prelude.{◌≡◌, ◌++◌, ◌<◌, IfOk, flat_map, length, map, string_bytes};
+ghost use Rattle.std.specs.Prelude.{◌≡◌, ◌<◌, IfOk, length, map, string_bytes};
 ghost use Rattle.dds_deploy.specs.Views.{reader_view, writer_view};
 ghost use Rattle.dds_xml.specs.Profiles.{delivery_elements, endpoint_elements, group_elements, history_element, kind_element, limits_element, liveliness_element, partition_element, partition_name, presentation_element, profile, qos_element, qos_library, reader_library, reader_profile, reader_profile_at, timing_elements, writer_library, writer_profile, writer_profile_at};
 
@@ -8,6 +8,7 @@ use dds_base::{ReaderNo, WriterNo};
 use dds_cert::naming::name_at;
 use dds_deploy::{Deployment, Reader, Writer};
 use dds_qos::{History, Liveliness, Policies, Presentation, ResourceLimits};
+use dds_show::texts::{text_below, text_of_each};
 use dds_show::words::{
     access_scope_word, destination_order_word, durability_word, history_word, liveliness_word,
     ownership_word, reliability_word,
@@ -120,21 +121,19 @@ fn presentation_element(alloc: Global, x: Presentation) -> Result<String, AllocE
     )
 }
 
-/// Adds the name of a partition.
-fn push_partition(alloc: Global, text: &mut String, name: &str) -> Result<(), AllocError>
-    ensures { IfOk result (λ _. string_bytes text.new ≡ string_bytes text.old ++ partition_name name.now) }
+/// The name of a partition.
+fn partition_name(alloc: Global, name: &str) -> Result<String, AllocError>
+    ensures { IfOk result (λ text. string_bytes text ≡ partition_name name.now) }
 {
-    let element = format!(in alloc; "            <element>{name}</element>\n")?;
-    text.push_str(element.as_str())
+    format!(in alloc; "            <element>{name}</element>\n")
 }
 
 fn partition_element(alloc: Global, partitions: &[String]) -> Result<String, AllocError>
     ensures { IfOk result (λ text. string_bytes text ≡ partition_element (map string_bytes partitions.now)) }
 {
-    let mut names = String::new(alloc);
-    for partition in partitions {
-        push_partition(alloc, &mut names, partition.as_str())?;
-    }
+    let names = text_of_each(alloc, partitions, |partition| {
+        partition_name(alloc, partition.as_str())
+    })?;
     format!(in alloc;
         "        <partition>\n          <name>\n{names}          </name>\n        </partition>\n"
     )
@@ -202,36 +201,6 @@ fn reader_profile(alloc: Global, name: &str, x: &Reader) -> Result<String, Alloc
     )
 }
 
-/// Adds the profile of the writer with this number.
-fn push_writer_profile(
-    alloc: Global,
-    text: &mut String,
-    lists: &Deployment,
-    w: usize,
-) -> Result<(), AllocError>
-    requires { w < length lists.now.writers.entries }
-    ensures { IfOk result (λ _. string_bytes text.new ≡ string_bytes text.old ++ writer_profile_at lists.now w) }
-{
-    let name = name_at(lists.writer_names(), w);
-    let element = writer_profile(alloc, name, lists.writer(WriterNo::new(w)))?;
-    text.push_str(element.as_str())
-}
-
-/// Adds the profile of the reader with this number.
-fn push_reader_profile(
-    alloc: Global,
-    text: &mut String,
-    lists: &Deployment,
-    r: usize,
-) -> Result<(), AllocError>
-    requires { r < length lists.now.readers.entries }
-    ensures { IfOk result (λ _. string_bytes text.new ≡ string_bytes text.old ++ reader_profile_at lists.now r) }
-{
-    let name = name_at(lists.reader_names(), r);
-    let element = reader_profile(alloc, name, lists.reader(ReaderNo::new(r)))?;
-    text.push_str(element.as_str())
-}
-
 /// Profiles under the name of their library.
 fn qos_library(alloc: Global, name: &str, profiles: &str) -> Result<String, AllocError>
     ensures { IfOk result (λ text. string_bytes text ≡ qos_library name.now profiles.now) }
@@ -244,10 +213,17 @@ fn qos_library(alloc: Global, name: &str, profiles: &str) -> Result<String, Allo
 pub(crate) fn writer_library(alloc: Global, lists: &Deployment) -> Result<String, AllocError>
     ensures { IfOk result (λ text. string_bytes text ≡ writer_library lists.now) }
 {
-    let mut profiles = String::new(alloc);
-    for w in 0..lists.writers() {
-        push_writer_profile(alloc, &mut profiles, lists, w)?;
-    }
+    let profiles = text_below(
+        alloc,
+        lists.writers(),
+        |w|
+            requires { w < length lists.now.writers.entries }
+            ensures { IfOk result (λ text. string_bytes text ≡ writer_profile_at lists.entry.now w) }
+        {
+            let name = name_at(lists.writer_names(), w);
+            writer_profile(alloc, name, lists.writer(WriterNo::new(w)))
+        },
+    )?;
     qos_library(alloc, "writers", profiles.as_str())
 }
 
@@ -256,9 +232,16 @@ pub(crate) fn writer_library(alloc: Global, lists: &Deployment) -> Result<String
 pub(crate) fn reader_library(alloc: Global, lists: &Deployment) -> Result<String, AllocError>
     ensures { IfOk result (λ text. string_bytes text ≡ reader_library lists.now) }
 {
-    let mut profiles = String::new(alloc);
-    for r in 0..lists.readers() {
-        push_reader_profile(alloc, &mut profiles, lists, r)?;
-    }
+    let profiles = text_below(
+        alloc,
+        lists.readers(),
+        |r|
+            requires { r < length lists.now.readers.entries }
+            ensures { IfOk result (λ text. string_bytes text ≡ reader_profile_at lists.entry.now r) }
+        {
+            let name = name_at(lists.reader_names(), r);
+            reader_profile(alloc, name, lists.reader(ReaderNo::new(r)))
+        },
+    )?;
     qos_library(alloc, "readers", profiles.as_str())
 }

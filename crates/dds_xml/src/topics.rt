@@ -1,11 +1,12 @@
 //! The domain library in XML: one domain, with the registered types and the topics (OMG DDS-XML 1.0, building block Domains).
-ghost use Rattle.std.specs.Prelude.{◌≡◌, ◌++◌, ◌<◌, IfOk, length, string_bytes};
+ghost use Rattle.std.specs.Prelude.{◌≡◌, ◌<◌, IfOk, length, string_bytes};
 ghost use Rattle.dds_deploy.specs.Views.{topic_view};
 ghost use Rattle.dds_xml.specs.Topics.{domain_library, register_type, register_type_at, register_types, topic_at, topic_element, topics, type_ref};
 
 use dds_base::TopicNo;
 use dds_cert::naming::name_at;
 use dds_deploy::{Deployment, Topic};
+use dds_show::texts::text_below;
 use std::alloc::{AllocError, Global};
 
 /// The type of a topic, by its module.
@@ -32,56 +33,38 @@ fn topic_element(alloc: Global, name: &str, x: &Topic) -> Result<String, AllocEr
     format!(in alloc; "      <topic name=\"{name}\" register_type_ref=\"{type_ref}\"/>\n")
 }
 
-/// Adds the registered type of the topic with this number.
-fn push_register_type(
-    alloc: Global,
-    text: &mut String,
-    lists: &Deployment,
-    t: usize,
-) -> Result<(), AllocError>
-    requires { t < length lists.now.topics.entries }
-    ensures { IfOk result (λ _. string_bytes text.new ≡ string_bytes text.old ++ register_type_at lists.now t) }
-{
-    let name = name_at(lists.topic_names(), t);
-    let element = register_type(alloc, name, lists.topic(TopicNo::new(t)))?;
-    text.push_str(element.as_str())
-}
-
 /// The registered types of all topics.
 fn register_types(alloc: Global, lists: &Deployment) -> Result<String, AllocError>
     ensures { IfOk result (λ text. string_bytes text ≡ register_types lists.now) }
 {
-    let mut text = String::new(alloc);
-    for t in 0..lists.topics() {
-        push_register_type(alloc, &mut text, lists, t)?;
-    }
-    Ok(text)
-}
-
-/// Adds the topic with this number.
-fn push_topic(
-    alloc: Global,
-    text: &mut String,
-    lists: &Deployment,
-    t: usize,
-) -> Result<(), AllocError>
-    requires { t < length lists.now.topics.entries }
-    ensures { IfOk result (λ _. string_bytes text.new ≡ string_bytes text.old ++ topic_at lists.now t) }
-{
-    let name = name_at(lists.topic_names(), t);
-    let element = topic_element(alloc, name, lists.topic(TopicNo::new(t)))?;
-    text.push_str(element.as_str())
+    text_below(
+        alloc,
+        lists.topics(),
+        |t|
+            requires { t < length lists.now.topics.entries }
+            ensures { IfOk result (λ text. string_bytes text ≡ register_type_at lists.entry.now t) }
+        {
+            let name = name_at(lists.topic_names(), t);
+            register_type(alloc, name, lists.topic(TopicNo::new(t)))
+        },
+    )
 }
 
 /// All topics.
 fn topics(alloc: Global, lists: &Deployment) -> Result<String, AllocError>
     ensures { IfOk result (λ text. string_bytes text ≡ topics lists.now) }
 {
-    let mut text = String::new(alloc);
-    for t in 0..lists.topics() {
-        push_topic(alloc, &mut text, lists, t)?;
-    }
-    Ok(text)
+    text_below(
+        alloc,
+        lists.topics(),
+        |t|
+            requires { t < length lists.now.topics.entries }
+            ensures { IfOk result (λ text. string_bytes text ≡ topic_at lists.entry.now t) }
+        {
+            let name = name_at(lists.topic_names(), t);
+            topic_element(alloc, name, lists.topic(TopicNo::new(t)))
+        },
+    )
 }
 
 /// The domain library: all types, then all topics.

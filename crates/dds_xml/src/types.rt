@@ -1,30 +1,26 @@
 //! The types of topics in XML. The type of a topic is a struct of a key and 32 bytes, in a module of the topic's name. The enum beside it has the topic's keys.
-ghost use Rattle.std.specs.Prelude.{◌≡◌, ◌++◌, ◌<◌, IfOk, length, string_bytes};
+ghost use Rattle.std.specs.Prelude.{◌≡◌, ◌<◌, IfOk, length, string_bytes};
 ghost use Rattle.dds_deploy.specs.Views.{topic_view};
 ghost use Rattle.dds_xml.specs.Types.{enumerator, enumerators, module_at, module_element, types_section};
 
 use dds_base::{Names, TopicNo};
 use dds_cert::naming::name_at;
 use dds_deploy::{Deployment, Topic};
+use dds_show::texts::text_below;
 use std::alloc::{AllocError, Global};
 
-/// Adds a key of a topic.
-fn push_enumerator(alloc: Global, text: &mut String, key: &str) -> Result<(), AllocError>
-    ensures { IfOk result (λ _. string_bytes text.new ≡ string_bytes text.old ++ enumerator key.now) }
+/// A key of a topic.
+fn enumerator(alloc: Global, key: &str) -> Result<String, AllocError>
+    ensures { IfOk result (λ text. string_bytes text ≡ enumerator key.now) }
 {
-    let element = format!(in alloc; "        <enumerator name=\"{key}\"/>\n")?;
-    text.push_str(element.as_str())
+    format!(in alloc; "        <enumerator name=\"{key}\"/>\n")
 }
 
 /// The keys of a topic.
 fn enumerators(alloc: Global, keys: &Names) -> Result<String, AllocError>
     ensures { IfOk result (λ text. string_bytes text ≡ enumerators keys.now) }
 {
-    let mut text = String::new(alloc);
-    for k in 0..keys.len() {
-        push_enumerator(alloc, &mut text, name_at(keys, k))?;
-    }
-    Ok(text)
+    text_below(alloc, keys.len(), |k| enumerator(alloc, name_at(keys, k)))
 }
 
 /// The module of a topic: its keys and its type.
@@ -40,29 +36,21 @@ fn module_element(alloc: Global, name: &str, x: &Topic) -> Result<String, AllocE
     )
 }
 
-/// Adds the module of the topic with this number.
-fn push_module(
-    alloc: Global,
-    text: &mut String,
-    lists: &Deployment,
-    t: usize,
-) -> Result<(), AllocError>
-    requires { t < length lists.now.topics.entries }
-    ensures { IfOk result (λ _. string_bytes text.new ≡ string_bytes text.old ++ module_at lists.now t) }
-{
-    let name = name_at(lists.topic_names(), t);
-    let element = module_element(alloc, name, lists.topic(TopicNo::new(t)))?;
-    text.push_str(element.as_str())
-}
-
 /// The modules of all topics (OMG DDS-XML 1.0, building block Types).
 #[tactic(auto, unfolding(crate::specs::Types::types_section))]
 pub(crate) fn types_section(alloc: Global, lists: &Deployment) -> Result<String, AllocError>
     ensures { IfOk result (λ text. string_bytes text ≡ types_section lists.now) }
 {
-    let mut modules = String::new(alloc);
-    for t in 0..lists.topics() {
-        push_module(alloc, &mut modules, lists, t)?;
-    }
+    let modules = text_below(
+        alloc,
+        lists.topics(),
+        |t|
+            requires { t < length lists.now.topics.entries }
+            ensures { IfOk result (λ text. string_bytes text ≡ module_at lists.entry.now t) }
+        {
+            let name = name_at(lists.topic_names(), t);
+            module_element(alloc, name, lists.topic(TopicNo::new(t)))
+        },
+    )?;
     format!(in alloc; "  <types>\n{modules}  </types>\n")
 }

@@ -1,9 +1,0 @@
-use Rattle.std.proofs.Common.{◌∙◌, ◌++◌, ap, string_bytes}
-use Rattle.dds_cert.proofs.TextLaws.{and_next}
-use Rattle.dds_draw.specs.Edges.{pair_edge}
-use Rattle.dds_draw.proofs.edges.push_pairs.Goals as goal
-
-pub loop-r-preserved : goal.loop-r-preserved
-loop-r-preserved c =
-    and_next (pair_edge c.args.plan.now c.args.writer) c.loop-r.r (string_bytes c.args.text.now) (string_bytes c.loop-r.text) (string_bytes c.push_str.new.self)
-    c.loop-r.invariant (c.in_ok-push_str.ensures.bytes ∙ ap (λ edge. string_bytes c.loop-r.text ++ edge) (c.as_str.ensures.value ∙ (rw c.new.ensures at c.in_ok-edge.ensures)))

@@ -1,8 +1,0 @@
-use Rattle.std.proofs.Common.{◌≡◌, string_bytes}
-use Rattle.dds_cert.specs.Text.{each_below}
-use Rattle.dds_explain.specs.Limits.{unbounded_key}
-use Rattle.dds_explain.proofs.limits.unbounded_keys.Given as goal
-
--- the lines of the keys so far
-abbrev pub invariant-loop-k : goal.invariant-loop-k
-invariant-loop-k l = string_bytes l.text ≡ each_below l.k (unbounded_key l.plan l.bounds l.reader)

@@ -1,9 +1,0 @@
-use Rattle.std.proofs.Common.{◌≡◌, string_bytes}
-use Rattle.dds_cert.specs.Text.{each_below}
-use Rattle.dds_cert.specs.Views.{row_view}
-use Rattle.dds_explain.specs.Shown.{permit_line}
-use Rattle.dds_explain.proofs.shown.writer_permit_lines.Given as goal
-
--- the lines of the keys so far
-abbrev pub invariant-loop-k : goal.invariant-loop-k
-invariant-loop-k l = string_bytes l.text ≡ each_below l.k (permit_line l.plan (row_view l.row) l.writer)

@@ -1,8 +1,0 @@
-use Rattle.std.proofs.Common.{◌≡◌, string_bytes}
-use Rattle.dds_cert.specs.Text.{each_below}
-use Rattle.dds_show.specs.Entries.{write_item}
-use Rattle.dds_show.proofs.entries.write_items.Given as goal
-
--- the elements so far
-abbrev pub invariant-loop-i : goal.invariant-loop-i
-invariant-loop-i l = string_bytes l.text ≡ each_below l.i (write_item l.lists l.xs)
