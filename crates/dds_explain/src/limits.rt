@@ -10,9 +10,10 @@ ghost use Rattle.dds_check.specs.Tables.{bound_of, total_of};
 ghost use Rattle.dds_explain.specs.Limits.{bound_line, bound_over_line, bound_text, no_bound_line, no_total_lines, reached_bound_line, reached_key, reader_instances_lines, samples_over_lines, total_line, unbounded_key, writer_instances_lines, written_key};
 
 use crate::pieces::{
-    KEYS, instance_limit, instance_limit_name, key_line, limit_text, reader_limits, reader_name,
+    instance_limit, instance_limit_name, key_line, limit_text, reader_limits, reader_name,
     writer_limits, writer_name,
 };
+use dds_base::grid::KEYS;
 use dds_base::{KeyNo, ReaderNo, WriterNo};
 use dds_cert::naming::{reader_key, writer_key};
 use dds_cert::{Bound, Certificate, Total};

@@ -13,9 +13,6 @@ use dds_match::Plan;
 use dds_qos::{ReaderLimits, WriterLimits};
 use std::alloc::{AllocError, Global};
 
-/// No topic has more keys.
-pub(crate) const KEYS: usize = 64;
-
 pub(crate) fn writer_name(plan: &Plan, writer: WriterNo) -> &str
     ensures { result.now ≡ writer_name plan.now writer }
 {

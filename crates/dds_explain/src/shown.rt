@@ -8,8 +8,9 @@ ghost use Rattle.dds_check.specs.Accepted.{budget, row_of};
 ghost use Rattle.dds_check.specs.Shown.{shows, shows_all};
 ghost use Rattle.dds_explain.specs.Shown.{bound_claim, bound_lines, bound_not_shown_lines, permit_line, permit_lines, reached_sample_line, sample_line, shown_text, total_claim, total_lines, total_not_shown_lines, unshown_bound, unshown_bound_by, unshown_line, unshown_total, unshown_total_by, writer_permit_lines};
 
-use crate::pieces::{KEYS, find_row, reader_name, weighed_term, writer_name};
+use crate::pieces::{find_row, reader_name, weighed_term, writer_name};
 use crate::weights::{budget, opening_permits, permit_weight, sample_weight};
+use dds_base::grid::KEYS;
 use dds_base::{KeyNo, ReaderNo, WriterNo};
 use dds_cert::naming::{reader_key, writer_key};
 use dds_cert::{Bound, Certificate, Row, Total};
