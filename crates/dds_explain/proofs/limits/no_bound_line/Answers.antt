@@ -1,4 +1,4 @@
-use Rattle.std.proofs.Common.{◌≡◌, ◌++◌, ◌∙◌, IfOk, codes, string_bytes, ap}
+use Rattle.std.proofs.Common.{◌≡◌, ◌∙◌, string_bytes, ap}
 use Rattle.dds_qos.specs.declared.limits.ReaderLimits.{ReaderLimits}
 use Rattle.dds_deploy.specs.Lists.{Lists}
 use Rattle.dds_match.specs.Plan.{network_of}
@@ -15,6 +15,4 @@ returns c =
     c.instance_limit_name-policy.ensures ∙ ap instance_limit_name c.reader_limits-limits.ensures in
     let limit : string_bytes c.in_ok-limit.limit ≡ limit_text (instance_limit ((network_of c.args.plan.now).reader_limits c.args.reader)) =
     c.in_ok-limit.ensures ∙ (ap limit_text c.instance_limit.ensures ∙ ap (λ (x : ReaderLimits). limit_text (instance_limit x)) c.reader_limits-limits.ensures) in
-    let h : IfOk c.format.result (λ text. string_bytes text ≡ codes "because " ++ (c.reader_key-key.result.now ++ (codes " can reach " ++ (c.reader_name-name.result.now ++ (codes ", whose " ++ (c.instance_limit_name-policy.result.now ++ (codes " is " ++ (string_bytes c.in_ok-limit.limit ++ (codes ", and no bound is given\n")))))))))
-    = c.format.ensures.ok in
-    rw (key, c.reader_name-name.ensures, policy, limit) at h
+    rw (key, c.reader_name-name.ensures, policy, limit) at c.format.ensures.ok

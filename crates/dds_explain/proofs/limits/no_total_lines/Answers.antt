@@ -1,4 +1,4 @@
-use Rattle.std.proofs.Common.{◌≡◌, ◌++◌, ◌∙◌, IfOk, codes, string_bytes, ap, List}
+use Rattle.std.proofs.Common.{◌≡◌, ◌∙◌, string_bytes, ap, List}
 use Rattle.dds_qos.specs.declared.limits.ReaderLimits.{ReaderLimits}
 use Rattle.dds_match.specs.Plan.{network_of}
 use Rattle.dds_cert.specs.Text.{each_below}
@@ -13,6 +13,4 @@ returns c =
     c.in_ok-limit.ensures ∙ ap (λ (x : ReaderLimits). limit_text x.max_samples) c.reader_limits.ensures in
     let keys : string_bytes c.in_ok-keys.keys ≡ each_below 64 (unbounded_key c.args.plan.now c.args.certificate.now.bounds.items c.args.reader) =
     c.in_ok-keys.ensures ∙ ap (λ (bs : List Bound). each_below 64 (unbounded_key c.args.plan.now bs c.args.reader)) c.as_slice.ensures.value in
-    let h : IfOk c.format.result (λ text. string_bytes text ≡ codes "because " ++ (c.reader_name-name.result.now ++ (codes " has max_samples " ++ (string_bytes c.in_ok-limit.limit ++ (codes ", no total, and no bound for each key\n" ++ (string_bytes c.in_ok-keys.keys))))))
-    = c.format.ensures.ok in
-    rw (c.reader_name-name.ensures, limit, keys) at h
+    rw (c.reader_name-name.ensures, limit, keys) at c.format.ensures.ok

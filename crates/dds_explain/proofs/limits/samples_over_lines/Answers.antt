@@ -1,5 +1,4 @@
-use Rattle.std.proofs.Common.{◌≡◌, ◌++◌, ◌∙◌, IfOk, codes, string_bytes, ap, List}
-use Rattle.std.specs.Fmt.{decimal}
+use Rattle.std.proofs.Common.{◌≡◌, ◌∙◌, string_bytes, ap, List}
 use Rattle.dds_base.specs.Sums as sums
 use Rattle.dds_qos.specs.declared.limits.ReaderLimits.{ReaderLimits}
 use Rattle.dds_match.specs.Plan.{network_of}
@@ -22,6 +21,4 @@ returns c =
     c.in_ok-bounds.ensures ∙ ap (λ (bs : List Bound). each_below 64 (reached_bound_line c.args.plan.now bs c.args.reader)) c.as_slice-2.ensures.value in
     let sum : c.sum_of_bounds-sum.result ≡ sums.total 64 (reached_bound (network_of c.args.plan.now) c.args.certificate.now.bounds.items c.args.reader) =
     c.sum_of_bounds-sum.ensures ∙ ap (λ (bs : List Bound). sums.total 64 (reached_bound (network_of c.args.plan.now) bs c.args.reader)) c.as_slice-3.ensures.value in
-    let h : IfOk c.format.result (λ text. string_bytes text ≡ codes "because " ++ (c.reader_name-name.result.now ++ (codes " has max_samples " ++ (string_bytes c.in_ok-limit.limit ++ (codes "\n" ++ (string_bytes c.in_ok-total.total ++ (string_bytes c.in_ok-bounds.bounds ++ (codes "  sum " ++ (decimal c.sum_of_bounds-sum.result ++ (codes "\n"))))))))))
-    = c.format.ensures.ok in
-    rw (c.reader_name-name.ensures, limit, total, bounds, sum) at h
+    rw (c.reader_name-name.ensures, limit, total, bounds, sum) at c.format.ensures.ok

@@ -1,5 +1,4 @@
-use Rattle.std.proofs.Common.{◌≡◌, ◌++◌, ◌∙◌, IfOk, codes, string_bytes, ap}
-use Rattle.std.specs.Fmt.{decimal}
+use Rattle.std.proofs.Common.{◌≡◌, ◌∙◌, string_bytes, ap}
 use Rattle.dds_qos.specs.declared.limits.WriterLimits.{WriterLimits}
 use Rattle.dds_match.specs.Plan.{network_of}
 use Rattle.dds_explain.specs.Pieces.{limit_text}
@@ -9,6 +8,4 @@ pub returns : goal.returns
 returns c =
     let limit : string_bytes c.in_ok-limit.limit ≡ limit_text ((network_of c.args.plan.now).writer_limits c.args.writer).max_instances =
     c.in_ok-limit.ensures ∙ ap (λ (x : WriterLimits). limit_text x.max_instances) c.writer_limits.ensures in
-    let h : IfOk c.format.result (λ text. string_bytes text ≡ codes "because rules write " ++ (decimal c.written-count.result ++ (codes " keys at " ++ (c.writer_name-name.result.now ++ (codes ", and its max_instances is " ++ (string_bytes c.in_ok-limit.limit ++ (codes "\n" ++ (string_bytes c.in_ok-keys.keys))))))))
-    = c.format.ensures.ok in
-    rw (c.written-count.ensures, c.writer_name-name.ensures, limit, c.in_ok-keys.ensures) at h
+    rw (c.written-count.ensures, c.writer_name-name.ensures, limit, c.in_ok-keys.ensures) at c.format.ensures.ok

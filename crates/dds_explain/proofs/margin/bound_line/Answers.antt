@@ -1,5 +1,4 @@
-use Rattle.std.proofs.Common.{◌≡◌, ◌++◌, ◌∙◌, IfOk, codes, string_bytes}
-use Rattle.std.specs.Fmt.{decimal}
+use Rattle.std.proofs.Common.{◌≡◌, ◌∙◌, string_bytes}
 use Rattle.dds_match.specs.Plan.{network_of}
 use Rattle.dds_cert.specs.Views.{row_view}
 use Rattle.dds_check.specs.Accepted.{budget, row_of}
@@ -17,6 +16,4 @@ returns c =
     rw (words, limit, c.budget-opening.ensures) at c.in_ok-margin.ensures in
     let shown : string_bytes c.in_ok-shown.shown ≡ shown_text (budget (network_of c.args.plan.now) (row_of (row_view c.args.row.now))) ((row_of (row_view c.args.row.now)).samples c.args.bound.now.reader c.args.bound.now.key) =
     rw (c.budget-opening.ensures, c.sample_weight-weight.ensures) at c.in_ok-shown.ensures in
-    let h : IfOk c.format.result (λ text. string_bytes text ≡ string_bytes c.in_ok-margin.margin ++ (codes " and a sample " ++ (decimal c.sample_weight-weight.result ++ (codes ", which shows " ++ (string_bytes c.in_ok-shown.shown ++ (codes "\n"))))))
-    = c.format.ensures.ok in
-    rw (margin, shown, c.sample_weight-weight.ensures) at h
+    rw (margin, shown, c.sample_weight-weight.ensures) at c.format.ensures.ok

@@ -1,4 +1,4 @@
-use Rattle.std.proofs.Common.{◌≡◌, ◌++◌, ◌∙◌, IfOk, codes, string_bytes, ap}
+use Rattle.std.proofs.Common.{◌≡◌, ◌∙◌, codes, string_bytes, ap}
 use Rattle.dds_qos.specs.declared.limits.ReaderLimits.{ReaderLimits}
 use Rattle.dds_match.specs.Plan.{network_of}
 use Rattle.dds_cert.specs.Views.{row_view}
@@ -14,6 +14,4 @@ returns c =
     c.as_str-2.ensures.value ∙ (c.in_ok-limit.ensures ∙ ap (λ (x : ReaderLimits). named_limit (codes "max_samples") x.max_samples) c.reader_limits-max_samples.ensures) in
     let margin : string_bytes c.in_ok-margin.margin ≡ margin_text (total_words c.args.plan.now c.args.total.now) (named_limit (codes "max_samples") ((network_of c.args.plan.now).reader_limits c.args.total.now.reader).max_samples) (row_view c.args.row.now) (budget (network_of c.args.plan.now) (row_of (row_view c.args.row.now))) =
     rw (words, limit, c.budget-opening.ensures) at c.in_ok-margin.ensures in
-    let h : IfOk c.format.result (λ text. string_bytes text ≡ string_bytes c.in_ok-margin.margin ++ (codes "\n"))
-    = c.format.ensures.ok in
-    rw (margin) at h
+    rw (margin) at c.format.ensures.ok

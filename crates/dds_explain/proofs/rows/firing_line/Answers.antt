@@ -1,5 +1,4 @@
-use Rattle.std.proofs.Common.{◌≡◌, ◌++◌, ◌∙◌, IfOk, codes, string_bytes, ap, List, ℕ}
-use Rattle.std.specs.Fmt.{decimal}
+use Rattle.std.proofs.Common.{◌≡◌, ◌∙◌, ap, List, ℕ}
 use Rattle.dds_base.specs.declared.portion.Portion.{Portion}
 use Rattle.dds_match.specs.Network.{weighed}
 use Rattle.dds_cert.specs.Views.{row_view}
@@ -12,6 +11,4 @@ returns c =
     c.permits_weighed-given.ensures.value ∙ ap (λ (xs : List (Portion ℕ)). weighed xs (row_of (row_view c.args.row.now)).permits) c.deref.ensures.value in
     let needed : c.takes_weighed-needed.result ≡ weighed c.args.rule.now.takes.items (row_of (row_view c.args.row.now)).takes =
     c.takes_weighed-needed.ensures ∙ ap (λ (xs : List (Portion ℕ)). weighed xs (row_of (row_view c.args.row.now)).takes) c.deref-2.ensures.value in
-    let h : IfOk c.format.result (λ text. string_bytes text ≡ codes "because by " ++ (c.as_str-row.result.now ++ (codes " what " ++ (c.args.name.now ++ (codes " writes weighs " ++ (decimal c.permits_weighed-given.result ++ (codes ", and what it takes " ++ (decimal c.takes_weighed-needed.result ++ (codes "\n")))))))))
-    = c.format.ensures.ok in
-    rw (c.as_str-row.ensures.value, given, needed) at h
+    rw (c.as_str-row.ensures.value, given, needed) at c.format.ensures.ok

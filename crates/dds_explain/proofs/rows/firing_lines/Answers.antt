@@ -1,4 +1,4 @@
-use Rattle.std.proofs.Common.{◌≡◌, ◌++◌, ◌∙◌, IfOk, string_bytes, ap, List, ℕ, flat_map}
+use Rattle.std.proofs.Common.{◌≡◌, ◌∙◌, string_bytes, ap, List, ℕ, flat_map}
 use Rattle.dds_base.specs.declared.portion.Portion.{Portion}
 use Rattle.dds_deploy.specs.Lists.{Lists}
 use Rattle.dds_deploy.specs.Views.{rule_view}
@@ -15,6 +15,4 @@ returns c =
     c.in_ok-writes.ensures ∙ ap (λ (xs : List (Portion ℕ)). flat_map (write_term c.args.plan.now (row_view c.args.row.now)) xs) c.as_slice.ensures.value in
     let takes : string_bytes c.in_ok-takes.takes ≡ flat_map (take_term c.args.plan.now (row_view c.args.row.now)) c.args.rule.now.takes.items =
     c.in_ok-takes.ensures ∙ ap (λ (xs : List (Portion ℕ)). flat_map (take_term c.args.plan.now (row_view c.args.row.now)) xs) c.as_slice-2.ensures.value in
-    let h : IfOk c.format.result (λ text. string_bytes text ≡ string_bytes c.in_ok-line.line ++ (string_bytes c.in_ok-writes.writes ++ (string_bytes c.in_ok-takes.takes)))
-    = c.format.ensures.ok in
-    rw (line, writes, takes) at h
+    rw (line, writes, takes) at c.format.ensures.ok

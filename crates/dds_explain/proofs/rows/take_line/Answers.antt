@@ -1,5 +1,4 @@
-use Rattle.std.proofs.Common.{◌≡◌, ◌++◌, ◌∙◌, IfOk, codes, string_bytes, ap}
-use Rattle.std.specs.Fmt.{decimal}
+use Rattle.std.proofs.Common.{◌≡◌, ◌∙◌, ap}
 use Rattle.dds_deploy.specs.Lists.{Lists}
 use Rattle.dds_cert.specs.Naming.{reader_key}
 use Rattle.dds_explain.proofs.rows.take_line.Goals as goal
@@ -8,6 +7,4 @@ pub returns : goal.returns
 returns c =
     let key : c.reader_key-key.result.now ≡ reader_key c.args.plan.now c.args.reader c.args.key =
     c.reader_key-key.ensures ∙ ap (λ (d : Lists). reader_key d (c.args.reader) (c.args.key)) c.lists.ensures.value in
-    let h : IfOk c.format.result (λ text. string_bytes text ≡ codes "because by " ++ (c.as_str-row.result.now ++ (codes " a take of " ++ (c.reader_key-key.result.now ++ (codes " at " ++ (c.reader_name-name.result.now ++ (codes " weighs " ++ (decimal c.take_weight-take.result ++ (codes ", and a sample " ++ (decimal c.sample_weight-sample.result ++ (codes "\n")))))))))))
-    = c.format.ensures.ok in
-    rw (c.as_str-row.ensures.value, key, c.reader_name-name.ensures, c.take_weight-take.ensures, c.sample_weight-sample.ensures) at h
+    rw (c.as_str-row.ensures.value, key, c.reader_name-name.ensures, c.take_weight-take.ensures, c.sample_weight-sample.ensures) at c.format.ensures.ok

@@ -1,5 +1,4 @@
-use Rattle.std.proofs.Common.{◌≡◌, ◌++◌, ◌∙◌, IfOk, codes, string_bytes, ap}
-use Rattle.std.specs.Fmt.{decimal}
+use Rattle.std.proofs.Common.{◌≡◌, ◌∙◌, string_bytes, ap}
 use Rattle.dds_deploy.specs.Lists.{Lists}
 use Rattle.dds_cert.specs.Naming.{reader_key}
 use Rattle.dds_cert.specs.Views.{row_view}
@@ -13,6 +12,4 @@ returns c =
     c.reader_key-key.ensures ∙ ap (λ (d : Lists). reader_key d (c.args.reader) (c.args.key)) c.lists.ensures.value in
     let shown : string_bytes c.in_ok-shown.shown ≡ shown_text c.args.opening ((row_of (row_view c.args.row.now)).samples c.args.reader c.args.key) =
     c.in_ok-shown.ensures ∙ ap (shown_text c.args.opening) c.sample_weight-weight.ensures in
-    let h : IfOk c.format.result (λ text. string_bytes text ≡ codes "  a sample of " ++ (c.reader_key-key.result.now ++ (codes " weighs " ++ (decimal c.sample_weight-weight.result ++ (codes ", which shows " ++ (string_bytes c.in_ok-shown.shown ++ (codes "\n")))))))
-    = c.format.ensures.ok in
-    rw (key, shown, c.sample_weight-weight.ensures) at h
+    rw (key, shown, c.sample_weight-weight.ensures) at c.format.ensures.ok

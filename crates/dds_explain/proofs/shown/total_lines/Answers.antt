@@ -1,4 +1,4 @@
-use Rattle.std.proofs.Common.{◌≡◌, ◌++◌, ◌∙◌, IfOk, string_bytes, ap, List, ℕ}
+use Rattle.std.proofs.Common.{◌≡◌, ◌∙◌, string_bytes, ap, List, ℕ}
 use Rattle.dds_cert.specs.Views.{row_view}
 use Rattle.dds_explain.specs.Shown.{total_claim, unshown_line}
 use Rattle.dds_explain.proofs.shown.total_lines.Goals as goal
@@ -7,6 +7,4 @@ pub returns : goal.returns
 returns c =
     let line : string_bytes c.in_ok-line.line ≡ unshown_line (row_view c.args.row.now) (total_claim c.args.plan.now c.args.total.now) c.args.opening =
     c.in_ok-line.ensures ∙ ap (λ (claim : List ℕ). unshown_line (row_view c.args.row.now) claim c.args.opening) (c.as_str.ensures.value ∙ c.in_ok-claim.ensures) in
-    let h : IfOk c.format.result (λ text. string_bytes text ≡ string_bytes c.in_ok-line.line ++ (string_bytes c.in_ok-samples.samples ++ (string_bytes c.in_ok-permits.permits)))
-    = c.format.ensures.ok in
-    rw (line, c.in_ok-samples.ensures, c.in_ok-permits.ensures) at h
+    rw (line, c.in_ok-samples.ensures, c.in_ok-permits.ensures) at c.format.ensures.ok
