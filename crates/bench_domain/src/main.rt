@@ -4,13 +4,13 @@
 #![tactic(auto)]
 
 use dds_base::{Arrival, Event, KeyNo, ReaderNo, Reply, RuleNo, WriterNo};
-use dds_cert::read_certificate;
+use dds_cert_file::read_certificate;
 use dds_check::{Checked, check};
-use dds_deploy::read_deployment;
+use dds_deploy_file::read_deployment;
 use dds_domain::Domain;
 use dds_match::planning::plan;
 use std::alloc::Global;
-use std::env::{self, Env};
+use std::env::{Env, self};
 use std::io;
 use std::process::ExitCode;
 use std::time::{Clock, Duration, Instant};

@@ -6,9 +6,9 @@ use Rattle.dds_fields.specs.declared.fault.ReadFault.{ReadFault}
 use Rattle.dds_fields.specs.declared.fault.ReadFault.TheVariants as unread
 use Rattle.dds_deploy.specs.Lists.{Lists}
 use Rattle.dds_cert.specs.Lists.{Certificate}
-use Rattle.dds_cert.specs.Faults.{cert_flaw, kind_of}
-use Rattle.dds_cert.specs.declared.fault.CertFault.{CertFault}
-use Rattle.dds_cert.specs.declared.fault.CertFault.TheVariants.{At, NoMemory}
+use Rattle.dds_cert_file.specs.Faults.{cert_flaw, kind_of}
+use Rattle.dds_cert_file.specs.declared.fault.CertFault.{CertFault}
+use Rattle.dds_cert_file.specs.declared.fault.CertFault.TheVariants.{At, NoMemory}
 use Rattle.dds_answers.specs.declared.fault.ToolFault.{ToolFault}
 use Rattle.dds_answers.specs.declared.fault.ToolFault.TheVariants as fault
 use Rattle.dds_answers.specs.declared.format.Format.{Format}

@@ -4,9 +4,9 @@ use Rattle.std.specs.Fmt.{decimal}
 use Rattle.dds_fields.specs.declared.fault.ReadFault.{ReadFault}
 use Rattle.dds_fields.specs.declared.fault.ReadFault.TheVariants as unread
 use Rattle.dds_deploy.specs.Lists.{Lists}
-use Rattle.dds_cert.specs.declared.fault.CertFault.{CertFault}
-use Rattle.dds_cert.specs.declared.fault.CertFault.TheVariants as uncertified
-use Rattle.dds_cert.specs.Faults.{kind_of}
+use Rattle.dds_cert_file.specs.declared.fault.CertFault.{CertFault}
+use Rattle.dds_cert_file.specs.declared.fault.CertFault.TheVariants as uncertified
+use Rattle.dds_cert_file.specs.Faults.{kind_of}
 use Rattle.dds_cert.specs.Lists.{Certificate}
 use Rattle.dds_cert.specs.Views.{certificate_view}
 use Rattle.dds_cert.specs.declared.certificate.Bound.{Bound}

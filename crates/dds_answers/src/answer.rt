@@ -8,7 +8,7 @@ ghost use Rattle.dds_answers.specs.Migrations.{MayMigrate};
 ghost use Rattle.dds_answers.specs.Proposals.{MayPropose};
 ghost use Rattle.dds_answers.specs.Report.{outcome_of, shown_text};
 ghost use Rattle.dds_answers.specs.Syntax.{IsFaultTold};
-ghost use Rattle.dds_deploy.specs.Sections.{read as deployment_read, read_up_to};
+ghost use Rattle.dds_deploy_file.specs.Sections.{read as deployment_read, read_up_to};
 
 use crate::exit::Exit;
 use crate::fault::ToolFault;
@@ -16,7 +16,8 @@ use crate::format::Format;
 use crate::matches::{is_as_intended, match_text};
 use crate::report::{Detail, Report, deployment_fault, detailed_check, detailed_text};
 use dds_cert::{Certificate, certificate_text};
-use dds_deploy::{Deployment, migrate, read_deployment};
+use dds_deploy::Deployment;
+use dds_deploy_file::{migrate, read_deployment};
 use dds_match::Plan;
 use dds_match::planning::plan;
 use dds_propose::propose;

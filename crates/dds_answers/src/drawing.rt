@@ -1,6 +1,6 @@
 //! What `draw` answers to the bytes of its files.
 ghost use Rattle.std.specs.Prelude.{◌≡◌, IfErr, Ok, option_map};
-ghost use Rattle.dds_cert.specs.Sections.{read as certificate_read};
+ghost use Rattle.dds_cert_file.specs.Sections.{read as certificate_read};
 ghost use Rattle.dds_cert.specs.Views.{certificate_view};
 ghost use Rattle.dds_answers.specs.Answers.{Gives};
 ghost use Rattle.dds_answers.specs.Fault.{IsAnswerFault};
@@ -9,8 +9,10 @@ ghost use Rattle.dds_answers.specs.Outcome.{draw_outcome, drawing, drawing_with,
 use crate::answer::{Answer, answered};
 use crate::fault::ToolFault;
 use crate::report::{certificate_fault, deployment_fault};
-use dds_cert::{Certificate, read_certificate};
-use dds_deploy::{Deployment, read_deployment};
+use dds_cert::Certificate;
+use dds_cert_file::read_certificate;
+use dds_deploy::Deployment;
+use dds_deploy_file::read_deployment;
 use dds_draw::drawing;
 use dds_match::Plan;
 use dds_match::planning::plan;

@@ -4,7 +4,7 @@ ghost use Rattle.dds_answers.specs.Answers.{Gives};
 ghost use Rattle.dds_answers.specs.Fault.{IsAnswerFault};
 ghost use Rattle.dds_answers.specs.Outcome.{Outcome, unproposed};
 ghost use Rattle.dds_answers.specs.Searches.{MayFind};
-ghost use Rattle.dds_deploy.specs.Sections.{read as deployment_read};
+ghost use Rattle.dds_deploy_file.specs.Sections.{read as deployment_read};
 
 use crate::answer::{Answer, certified};
 use crate::fault::ToolFault;
@@ -13,7 +13,8 @@ use crate::structure::structure_text;
 use dds_base::ReaderNo;
 use dds_cert::naming::{name_at, reader_key};
 use dds_check::No;
-use dds_deploy::{Deployment, read_deployment};
+use dds_deploy::Deployment;
+use dds_deploy_file::read_deployment;
 use dds_match::Plan;
 use dds_match::planning::plan;
 use dds_propose::propose;

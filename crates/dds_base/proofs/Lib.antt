@@ -4,3 +4,5 @@ pub mod CountLaws
 pub mod FlagLaws
 pub mod SetLaws
 pub mod NumberedLaws
+pub mod Ranges
+pub mod Lists

@@ -4,3 +4,5 @@ pub mod Counts
 pub mod Sets
 pub mod Messages
 pub mod Numbered
+pub mod Section
+pub mod Pairs

@@ -1,4 +1,4 @@
-//! The plain things that every layer speaks of: names with their numbers, the numbers of endpoints and keys, samples, messages,
+//! The plain things that every layer speaks of: names with their numbers, entries under names, the numbers of endpoints and keys, samples, messages,
 //! events and replies. A layer above sees `Names` as a list of distinct names, a number as the number itself, and a message as its
 //! plain content, which is in range.
 #![tactic(auto)]
@@ -9,8 +9,10 @@ pub mod messages;
 pub mod names;
 pub mod numbered;
 pub mod numbers;
+pub mod pairs;
 pub mod portion;
 pub mod sample;
+pub mod section;
 pub mod sets;
 
 pub use events::{Event, Fate, Refusal, Reply};
@@ -18,6 +20,8 @@ pub use messages::{AckNack, DataMsg, GapMsg, Heartbeat, Packet};
 pub use names::{NameFault, Names, is_name, is_name_byte};
 pub use numbered::{Numbered, are_rising, place_of};
 pub use numbers::{AppNo, Endpoint, KeyNo, ParticipantNo, ReaderNo, RuleNo, TopicNo, WriterNo};
+pub use pairs::Pairs;
 pub use portion::Portion;
 pub use sample::{Arrival, Data, Rejection, Sample};
+pub use section::Section;
 pub use sets::SnSet;

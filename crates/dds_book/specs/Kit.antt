@@ -1,7 +1,7 @@
 -- What a book is opened from: a domain that was just opened, and a pair of halves for each seat.
 use Rattle.std.specs.Prelude.{◌≡◌, ℕ, suc, List, [], ◌∷◌, map}
 use Rattle.atomic_table.specs.Seated.{TableId}
-use Rattle.dds_fields.specs.Lists.{nothing}
+use Rattle.dds_base.specs.Section.{nothing}
 use Rattle.dds_deploy.specs.Lists.{Lists, no_rules}
 use Rattle.dds_check.specs.Checked.{Judged}
 use Rattle.dds_book.specs.declared.entry.Entry.{Entry}

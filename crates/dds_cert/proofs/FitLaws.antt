@@ -17,8 +17,7 @@ use Rattle.dds_deploy.specs.WellFormed.{IsWellFormed, IsReaderOf, IsWriterOf}
 use Rattle.dds_match.specs.Plan.{hears, writes_key}
 use Rattle.dds_cert.specs.declared.certificate.Weight.{Weight}
 use Rattle.dds_cert.specs.declared.certificate.Bound.{Bound}
-use Rattle.dds_cert.specs.Named.{IsWithin}
-use Rattle.dds_cert.specs.Sections.{bound_place}
+use Rattle.dds_cert.specs.Named.{IsWithin, bound_place}
 
 pub first_of_both : (b c : Bool) → (b && c) ≡ true → b ≡ true
 first_of_both true c h = refl

@@ -5,7 +5,7 @@ use Rattle.std.proofs.Math.Seq.{take-suc}
 use Rattle.std.proofs.lemmas.Bool.{cases_eq, eq-eqb, ne_eqb}
 use Rattle.std.proofs.lemmas.List.{get_or-replicate, length-replicate, get_or_default, get_or-set_same, get_or-set_other, map_push}
 use Rattle.std.proofs.lemmas.List.Folds.{list_any-append}
-use Rattle.dds_fields.specs.Pairs.{stands}
+use Rattle.dds_base.specs.Pairs.{stands}
 use Rattle.dds_fields.proofs.Keys.{list_any-map}
 use Rattle.dds_cert.specs.Fits.{is_distinct}
 use Rattle.dds_cert.specs.Named.{IsWithin, same_place, ShowsNamed}

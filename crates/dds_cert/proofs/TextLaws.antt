@@ -5,7 +5,7 @@ use Rattle.std.proofs.Math.Seq.{take-suc}
 use Rattle.std.proofs.lemmas.Grind.{flat_map-append}
 use Rattle.std.proofs.lemmas.List.{flat_map_more}
 use Rattle.std.proofs.lemmas.List.Folds.{flat_map-map}
-use Rattle.dds_fields.proofs.Ranges.{range_push}
+use Rattle.dds_base.proofs.Ranges.{range_push}
 use Rattle.dds_deploy.specs.Lists.{Lists, Reader, Writer, keys_at}
 use Rattle.dds_deploy.specs.WellFormed.{IsWellFormed}
 use Rattle.dds_cert.specs.declared.certificate.Weight.{Weight}

@@ -1,8 +1,6 @@
 pub mod Lists
 pub mod Views
-pub mod Faults
 pub mod Naming
-pub mod Sections
 pub mod Fits
 pub mod Named
 pub mod Weighing

@@ -1,6 +1,9 @@
 -- A table with a place for each key of each endpoint, which says what a list names.
 use Rattle.std.specs.Prelude.{ℕ, ◌≡◌, ◌+◌, ◌*◌, ◌<◌, Bool, true, false, ◌==◌, ◌&&◌, List, length, map, slice_index_or}
-use Rattle.dds_fields.specs.Pairs.{stands}
+use Rattle.std.specs.List.{list_any}
+use Rattle.dds_base.specs.Pairs.{stands}
+use Rattle.dds_cert.specs.declared.certificate.Bound.{Bound}
+use Rattle.dds_cert.specs.declared.certificate.Total.{Total}
 use Rattle.dds_cert.specs.Fits.{is_distinct}
 
 -- a place of the table
@@ -16,3 +19,11 @@ pub record ShowsNamed {X : Type 0} (place : X → ℕ × ℕ) (cells : List Bool
   pub len : length cells ≡ 16384
   pub shown : (e k : ℕ) → e < 256 → k < 64 → slice_index_or cells (e * 64 + k) false ≡ stands (map place xs) e k
   pub distinct : is_distinct (same_place place) xs ≡ true
+
+-- the reader and the key of a bound
+abbrev pub bound_place : Bound → ℕ × ℕ
+bound_place x = (x.reader, x.key)
+
+-- one of these is of the reader
+abbrev pub has_total : List Total → ℕ → Bool
+has_total before r = list_any (λ t. r == t.reader) before

@@ -8,8 +8,7 @@ ghost use Rattle.dds_cert.specs.Fits.{is_distinct, weights_fit, row_fits, names_
 ghost use Rattle.dds_cert.specs.Views.{row_view, certificate_view};
 
 use crate::certificate::{Bound, Certificate, Row, Total, Weight};
-use crate::named::{bounds_name_nothing_twice, weights_name_nothing_twice};
-use crate::totals::has_total;
+use crate::named::{bounds_name_nothing_twice, has_total, weights_name_nothing_twice};
 use dds_base::{ReaderNo, WriterNo};
 use dds_match::Plan;
 

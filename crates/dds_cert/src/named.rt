@@ -1,12 +1,12 @@
-//! Whether a list names an endpoint and key twice, found in one pass by a table on the stack.
+//! What a list names: whether an endpoint and key stand twice in it, found in one pass by a table on the stack, and whether totals name
+//! a reader.
 ghost use Rattle.std.specs.Prelude.{◌≡◌, ◌==◌, ◌&&◌, All};
 ghost use Rattle.dds_cert.specs.Fits.{is_distinct, same_bound_place};
-ghost use Rattle.dds_cert.specs.Named.{IsWithin};
-ghost use Rattle.dds_cert.specs.Sections.{bound_place};
+ghost use Rattle.dds_cert.specs.Named.{IsWithin, bound_place, has_total};
 
-use crate::certificate::{Bound, Weight};
-use dds_base::Endpoint;
+use crate::certificate::{Bound, Total, Weight};
 use dds_base::grid::{KEYS, PLACES};
+use dds_base::{Endpoint, ReaderNo};
 
 /// Whether no two of the weights are of one endpoint and key.
 pub(crate) fn weights_name_nothing_twice<E: Endpoint>(weights: &[Weight<E>]) -> bool
@@ -38,4 +38,11 @@ pub(crate) fn bounds_name_nothing_twice(bounds: &[Bound]) -> bool
         seen[place] = true;
     }
     true
+}
+
+/// Whether one of the totals is of the reader.
+pub fn has_total(totals: &[Total], reader: ReaderNo) -> bool
+    ensures { result ≡ has_total totals.now reader }
+{
+    totals.iter().any(|t| reader == t.reader)
 }

@@ -1,12 +1,31 @@
 //! The names that stand for the numbers of endpoints, keys and rows. A number that names nothing has the empty name.
-ghost use Rattle.std.specs.Prelude.{◌≡◌};
-ghost use Rattle.dds_cert.specs.Naming.{name_at, writer_key, reader_key, row_name};
+ghost use Rattle.std.specs.Prelude.{◌≡◌, ◌<◌, length};
+ghost use Rattle.dds_cert.specs.Naming.{name_at, writer_keys, reader_keys, writer_key, reader_key, row_name};
 ghost use Rattle.dds_cert.specs.Views.{certificate_view};
 
 use crate::certificate::Certificate;
-use crate::keys::{keys_of_reader, keys_of_writer};
 use dds_base::{KeyNo, Names, ReaderNo, WriterNo};
 use dds_deploy::Deployment;
+
+/// The keys of the topic of a reader.
+pub fn keys_of_reader(lists: &Deployment, reader: ReaderNo) -> &Names
+    requires { reader < length lists.now.readers.entries }
+    ensures { result.now ≡ reader_keys lists.now reader }
+{
+    // What is known of every deployment: the topic is there.
+    let _readers = lists.readers();
+    lists.keys(lists.reader(reader).topic)
+}
+
+/// The keys of the topic of a writer.
+pub fn keys_of_writer(lists: &Deployment, writer: WriterNo) -> &Names
+    requires { writer < length lists.now.writers.entries }
+    ensures { result.now ≡ writer_keys lists.now writer }
+{
+    // What is known of every deployment: the topic is there.
+    let _writers = lists.writers();
+    lists.keys(lists.writer(writer).topic)
+}
 
 /// The name with this number.
 pub fn name_at(names: &Names, number: usize) -> &str

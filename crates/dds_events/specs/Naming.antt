@@ -1,9 +1,8 @@
 -- Names of a deployment side by side, and the names of its rules.
 use Rattle.std.specs.Prelude.{ℕ, List, [], ◌++◌, slice_get, codes}
 use Rattle.std.specs.Option.{option_map_or}
-use Rattle.dds_deploy.specs.Lists.{Lists}
-use Rattle.dds_deploy.specs.Sections.{key_name}
-use Rattle.dds_deploy.specs.declared.sections.Origin.{Origin}
+use Rattle.dds_deploy.specs.Lists.{Lists, key_name}
+use Rattle.dds_deploy.specs.declared.lists.Origin.{Origin}
 use Rattle.dds_cert.specs.Naming.{name_at}
 
 -- two words, with a blank between them

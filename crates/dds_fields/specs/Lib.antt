@@ -2,9 +2,7 @@ pub mod Paths
 pub mod Places
 pub mod Reading
 pub mod Gives
-pub mod Lists
-pub mod Views
-pub mod Pairs
+pub mod Document
 pub mod Words
 pub mod Kinds
 pub mod FaultTable

@@ -6,7 +6,7 @@ use Rattle.std.proofs.lemmas.Grind.{flat_map-append}
 use Rattle.serde_json.specs.Data.{Data}
 use Rattle.serde_json.specs.View.{items_of}
 use Rattle.serde_json.specs.Written.{has_float, items_have_float}
-use Rattle.dds_fields.proofs.Ranges.{range_push}
+use Rattle.dds_base.proofs.Ranges.{range_push}
 use Rattle.dds_deploy.specs.Lists.{Lists}
 use Rattle.dds_match.specs.Matching.{why_not}
 use Rattle.dds_match.specs.declared.matching.WhyNot.{WhyNot}

@@ -4,9 +4,9 @@ use Rattle.std.specs.List.{flat_map, list_any, range_with_len}
 use Rattle.std.proofs.lemmas.List.{append-nil, flat_map_more, map_push}
 use Rattle.std.proofs.lemmas.List.Folds.{list_any_at, list_any_more}
 use Rattle.std.proofs.lemmas.Option.{get_or_from_slice_get, slice_get_within}
-use Rattle.dds_deploy.specs.Lists.{Application, Lists, Reader}
-use Rattle.dds_deploy.specs.Sections.{filter_at, readers_at, writers_at}
-use Rattle.dds_deploy.proofs.Expansions.{kept_push}
+use Rattle.dds_deploy.specs.Lists.{Application, Lists, Reader, readers_at, writers_at}
+use Rattle.dds_deploy.specs.WellFormed.{filter_at}
+use Rattle.dds_base.proofs.Lists.{kept_push}
 
 -- the number passes
 kept : (test : ℕ → Bool) (n : ℕ) → test n ≡ true → filter test (range_with_len 0 (n + 1)) ≡ filter test (range_with_len 0 n) ++ n ∷ []

@@ -3,7 +3,7 @@ use Rattle.std.proofs.Common.{ℕ, ◌≡◌, ◌+◌, List, [], ◌∷◌, ◌+
 use Rattle.std.specs.List.{range_with_len}
 use Rattle.std.specs.Option.{option_map_or}
 use Rattle.std.proofs.lemmas.Grind.{flat_map-append}
-use Rattle.dds_fields.proofs.Ranges.{range_push}
+use Rattle.dds_base.proofs.Ranges.{range_push}
 use Rattle.dds_cert.specs.Text.{each_below}
 use Rattle.dds_cert.proofs.TextLaws.{and_next}
 

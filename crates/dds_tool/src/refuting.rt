@@ -2,13 +2,14 @@
 ghost use Rattle.std.specs.Prelude.{◌≡◌, Ok, IfErr, IfOk, string_bytes};
 ghost use Rattle.dds_answers.specs.Answers.{GivesOneOf};
 ghost use Rattle.dds_answers.specs.Fault.{IsAnswerFault};
-ghost use Rattle.dds_deploy.specs.Sections.{read as deployment_read};
+ghost use Rattle.dds_deploy_file.specs.Sections.{read as deployment_read};
 ghost use Rattle.dds_tool.specs.Refuting.{MayRefute, is_safe, known_text, loss_name, refuted_text, told_known, unknown_word, unsafe_line};
 
 use crate::refute_document::known_line;
 use dds_answers::{Answer, ToolFault, deployment_fault, structure_text};
 use dds_cert::naming::{name_at, reader_key};
-use dds_deploy::{Deployment, read_deployment};
+use dds_deploy::Deployment;
+use dds_deploy_file::read_deployment;
 use dds_events::{lines_text, rejection_name};
 use dds_json::Style;
 use dds_match::Plan;

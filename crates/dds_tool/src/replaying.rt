@@ -5,14 +5,15 @@ ghost use Rattle.dds_check.specs.Runs.{IsRun};
 ghost use Rattle.dds_domain.specs.Standing.{paired};
 ghost use Rattle.dds_answers.specs.Answers.{GivesOneOf};
 ghost use Rattle.dds_answers.specs.Fault.{IsAnswerFault};
-ghost use Rattle.dds_deploy.specs.Sections.{read as deployment_read};
+ghost use Rattle.dds_deploy_file.specs.Sections.{read as deployment_read};
 ghost use Rattle.serde_json.specs.View.{view};
 ghost use Rattle.dds_json.specs.Line.{line_of};
 ghost use Rattle.dds_tool.specs.Replaying.{IsEventsFault, IsReplayed, MayReplay, MayReplayLists, replay_document, told_replay};
 
 use dds_answers::{Answer, ToolFault, deployment_fault};
 use dds_base::{Event, Reply};
-use dds_deploy::{Deployment, read_deployment};
+use dds_deploy::Deployment;
+use dds_deploy_file::read_deployment;
 use dds_domain::Simulator;
 use dds_events::{EventsFault, lines_text, read_events};
 use dds_json::{Style, line_of};

@@ -3,7 +3,7 @@
 use dds_base::{Event, Fate, KeyNo, ReaderNo, Refusal};
 use dds_book::{BookFault, Kit};
 use dds_check::{Checked, check};
-use dds_deploy::read_deployment;
+use dds_deploy_file::read_deployment;
 use dds_match::Plan;
 use dds_match::planning::plan;
 use dds_propose::propose;

@@ -4,7 +4,7 @@ ghost use Rattle.std.specs.Prelude.{◌<◌};
 ghost use Rattle.dds_match.specs.Plan.{network_of};
 
 use dds_base::{KeyNo, ReaderNo, RuleNo, WriterNo};
-use dds_deploy::read_deployment;
+use dds_deploy_file::read_deployment;
 use dds_match::Plan;
 use dds_match::planning::plan;
 use std::alloc::{AllocError, Global};

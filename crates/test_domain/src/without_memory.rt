@@ -5,7 +5,7 @@ use crate::domains::{expect_replies, listed};
 use crate::worked::text_of;
 use dds_base::{Event, KeyNo, ReaderNo, Reply, WriterNo};
 use dds_check::{Checked, check};
-use dds_deploy::read_deployment;
+use dds_deploy_file::read_deployment;
 use dds_domain::Domain;
 use dds_match::planning::plan;
 use dds_match::{NoMemory, Plan};

@@ -1,8 +1,8 @@
 //! Checked deployments.
 
-use dds_cert::read_certificate;
+use dds_cert_file::read_certificate;
 use dds_check::{Checked, check};
-use dds_deploy::read_deployment;
+use dds_deploy_file::read_deployment;
 use dds_match::Plan;
 use dds_match::planning::plan;
 use std::alloc::Global;

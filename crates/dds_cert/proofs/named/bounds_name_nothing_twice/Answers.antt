@@ -1,5 +1,5 @@
 use Rattle.std.proofs.Common.{refl, sym}
-use Rattle.dds_cert.specs.Sections.{bound_place}
+use Rattle.dds_cert.specs.Named.{bound_place}
 use Rattle.dds_cert.proofs.NamedLaws.{none_shown, more_shown, twice_shown}
 use Rattle.dds_cert.proofs.named.bounds_name_nothing_twice.Goals as goal
 

@@ -1,6 +1,5 @@
 use Rattle.std.proofs.Common.{take}
-use Rattle.dds_cert.specs.Named.{ShowsNamed}
-use Rattle.dds_cert.specs.Sections.{bound_place}
+use Rattle.dds_cert.specs.Named.{ShowsNamed, bound_place}
 use Rattle.dds_cert.proofs.named.bounds_name_nothing_twice.Given as goal
 
 abbrev pub invariant-loop-bound : goal.invariant-loop-bound

@@ -1,0 +1,4 @@
+pub mod KindLaws
+pub mod KeyLaws
+pub mod ReadLaws
+pub mod WorkedFiles

@@ -1,0 +1,128 @@
+//! The entries of a deployment's lists.
+ghost use Rattle.std.specs.Prelude.{◌≡◌, ◌++◌, ◌∷◌, [], None, OnOk};
+ghost use Rattle.dds_base.specs.Names.{number_of};
+ghost use Rattle.dds_base.specs.Section.{listed};
+ghost use Rattle.dds_deploy.specs.Lists.{key_name};
+ghost use Rattle.dds_deploy.specs.Views.{topic_view};
+
+use dds_base::{AppNo, KeyNo, Names, ParticipantNo, Portion, ReaderNo, Section, TopicNo, WriterNo};
+use dds_qos::{ReaderQos, WriterQos};
+use std::alloc::{AllocError, Global};
+
+/// A domain participant. Endpoints talk where their participants are in one domain.
+#[derive(Drop)]
+pub struct Participant {
+    /// 0 to 2,147,483,647.
+    pub domain: u32,
+}
+
+/// A keyed topic: a name, the name of its type, and the names of its instances' keys, 1 to 64 of them.
+#[derive(Drop)]
+pub struct Topic {
+    pub type_name: String,
+    pub keys: Names,
+}
+
+/// A data writer.
+#[derive(Drop)]
+pub struct Writer {
+    pub participant: ParticipantNo,
+    pub topic: TopicNo,
+    pub qos: WriterQos,
+    /// Names of partitions, at most 16, with `*` and `?` in patterns.
+    pub partitions: Vec<String>,
+}
+
+/// A data reader.
+#[derive(Drop)]
+pub struct Reader {
+    pub participant: ParticipantNo,
+    pub topic: TopicNo,
+    /// The keys of its topic that it takes.
+    pub filter: Vec<KeyNo>,
+    pub qos: ReaderQos,
+    /// Names of partitions, at most 16, with `*` and `?` in patterns.
+    pub partitions: Vec<String>,
+}
+
+/// An application at a participant, with the endpoints that it owns.
+#[derive(Drop)]
+pub struct Application {
+    pub participant: ParticipantNo,
+    pub writers: Vec<WriterNo>,
+    pub readers: Vec<ReaderNo>,
+}
+
+/// After taking all of `takes`, the application may write all of `writes`. At the opening it may write `start` times these.
+#[derive(Drop)]
+pub struct Rule {
+    pub application: AppNo,
+    pub takes: Vec<Portion<ReaderNo>>,
+    pub writes: Vec<Portion<WriterNo>>,
+    /// 0 to 65,535.
+    pub start: u16,
+}
+
+/// Where a rule comes from: an entry of the file, and the key that the rule stands for where the entry has `each`.
+#[derive(Clone, Copy)]
+pub struct Origin {
+    /// The number of the entry's name.
+    pub name: usize,
+    /// A topic and one of its keys.
+    pub key: Option<(TopicNo, KeyNo)>,
+}
+
+/// The rules of a deployment with the names that the file gives them. An entry with `each` stands for several rules.
+#[derive(Drop)]
+pub struct Rules {
+    pub names: Names,
+    pub origins: Vec<Origin>,
+    pub entries: Vec<Rule>,
+}
+
+impl Rules {
+    /// No rules yet.
+    pub fn new(alloc: Global) -> Rules
+        ensures names { result.names ≡ [] }
+        ensures origins { result.origins.items ≡ [] }
+        ensures entries { result.entries.items ≡ [] }
+    {
+        Rules {
+            names: Names::new(alloc),
+            origins: Vec::new(alloc),
+            entries: Vec::new(alloc),
+        }
+    }
+
+    /// Adds the rules of an entry under a new name.
+    pub fn push(
+        &mut self,
+        alloc: Global,
+        name: &str,
+        mut origins: Vec<Origin>,
+        mut rules: Vec<Rule>,
+    ) -> Result<(), AllocError>
+        requires { number_of self.old.names name.now ≡ None }
+        ensures names { OnOk result (self.new.names ≡ self.old.names ++ name.now ∷ []) }
+        ensures origins { OnOk result (self.new.origins.items ≡ self.old.origins.items ++ origins.items) }
+        ensures entries { OnOk result (self.new.entries.items ≡ self.old.entries.items ++ rules.items) }
+    {
+        let name = String::from_str(alloc, name)?;
+        self.names.push(name)?;
+        self.origins.append(&mut origins)?;
+        self.entries.append(&mut rules)
+    }
+}
+
+/// The name of a key of a topic, empty where there is none.
+pub fn key_name<'a>(topics: &'a Section<Topic>, topic: usize, key: usize) -> &'a str
+    ensures { result.now ≡ key_name (listed topic_view topics.now) topic key }
+{
+    match topics.entries.get(topic) {
+        Some(topic) => match topic.keys.get(key) {
+            Some(name) => name,
+            None => "",
+        },
+        None => "",
+    }
+}

@@ -1,0 +1,14 @@
+pub mod Owners
+pub mod Pushes
+pub mod Distinct
+pub mod Readings
+pub mod ListsRead
+pub mod FitsEndpoints
+pub mod FitsRules
+pub mod FitsApplications
+pub mod Fits
+pub mod Migrated
+pub mod Versioned
+pub mod Ascending
+pub mod Plain
+pub mod PlainSections

@@ -1,0 +1,4 @@
+pub mod Each
+pub mod Policies
+pub mod Sections
+pub mod Migration

@@ -1,0 +1,13 @@
+//! What the entries of a file can name.
+
+use dds_base::Section;
+use dds_deploy::lists::{Application, Reader, Topic, Writer};
+
+/// What a rule can name.
+#[derive(Clone, Copy)]
+pub(crate) struct Known<'a> {
+    pub(crate) topics: &'a Section<Topic>,
+    pub(crate) writers: &'a Section<Writer>,
+    pub(crate) readers: &'a Section<Reader>,
+    pub(crate) applications: &'a Section<Application>,
+}

@@ -1,0 +1,208 @@
+//! The section `readers`: their names, participants, topics, filters and policies.
+ghost use Rattle.std.specs.Prelude.{◌≡◌, ◌<◌, List, ℕ, length, IfOk};
+ghost use Rattle.toml.specs.View.{view, table_view};
+ghost use Rattle.dds_fields.specs.Gives.{Gives};
+ghost use Rattle.dds_base.specs.Section.{Listed, listed};
+ghost use Rattle.dds_fields.specs.Places.{place_text};
+ghost use Rattle.dds_fields.specs.Reading.{optional};
+ghost use Rattle.dds_deploy.specs.Lists.{Reader as ReaderView, keys_at, has, all_keys};
+ghost use Rattle.dds_deploy_file.specs.Sections.{filter_key, filter, reader_fields, reader_entry, reader, readers};
+ghost use Rattle.dds_deploy.specs.Views.{participant_view, topic_view, reader_view};
+
+use crate::policies::{partitions, policies};
+use dds_base::{KeyNo, Names, ParticipantNo, Section, TopicNo};
+use dds_deploy::{Participant, Reader, Topic};
+use dds_fields::fault::{FaultKind, ReadFault, refuse};
+use dds_fields::field::{entry, known_name_field, known_name_of, new_name_field, value_at};
+use dds_fields::items::{Items, list_of, section_of};
+use dds_fields::place::Place;
+use dds_qos::{ReaderQos, Reliability, consistent_reader};
+use std::alloc::{AllocError, Global};
+use toml::{Table, Value};
+
+fn topic_keys(topics: &Section<Topic>, topic: usize) -> &Names
+    requires { topic < length topics.now.names }
+    ensures { result.now ≡ keys_at (listed topic_view topics.now) topic }
+{
+    &topics.entries[topic].keys
+}
+
+fn has_key(keys: &[KeyNo], key: KeyNo) -> bool
+    ensures { result ≡ has keys.now key }
+{
+    keys.contains(&key)
+}
+
+// What reads the filter of a reader: keys of its topic, which has these names.
+#[derive(Clone, Copy)]
+struct FilterKeys<'a> {
+    names: &'a Names,
+}
+
+impl Items for FilterKeys<'_> {
+    type Read = Vec<KeyNo>;
+
+    ghost State = { List ℕ };
+
+    ghost state = { λ keys. keys.items };
+
+    ghost step = { λ it. filter_key it.names.now };
+
+    #[tactic(auto, unfolding(crate::specs::Sections::filter_key))]
+    fn add(
+        &self,
+        alloc: Global,
+        all: &mut Vec<KeyNo>,
+        path: &Place,
+        value: &Value,
+    ) -> Result<(), ReadFault> {
+        let key = KeyNo::new(known_name_of(alloc, self.names, path, value)?);
+        if has_key(all, key) {
+            return Err(refuse(alloc, FaultKind::Duplicate, path));
+        }
+        all.push(key)?;
+        Ok(())
+    }
+}
+
+#[tactic(auto, using(dds_base::proofs::Ranges::range_push))]
+fn every_key(alloc: Global, names: &Names) -> Result<Vec<KeyNo>, AllocError>
+    ensures { IfOk result (λ v. v.items ≡ all_keys names.now) }
+{
+    let mut keys = Vec::new(alloc);
+    for n in 0..names.len() {
+        keys.push(KeyNo::new(n))?;
+    }
+    Ok(keys)
+}
+
+#[tactic(auto, unfolding(dds_fields::specs::Reading::optional))]
+fn filter_field(
+    alloc: Global,
+    names: &Names,
+    path: &Place,
+    table: &Table,
+    key: &str,
+) -> Result<Vec<KeyNo>, ReadFault>
+    ensures { Gives (λ v. v.items) result (optional key.now (all_keys names.now) (filter names.now) (place_text path.now) (table_view table.now)) }
+{
+    match value_at(table, key) {
+        Some(value) => {
+            let at = Place::Key { parent: path, key };
+            list_of(
+                alloc,
+                64,
+                &FilterKeys { names },
+                Vec::new(alloc),
+                &at,
+                value,
+            )
+        }
+        None => Ok(every_key(alloc, names)?),
+    }
+}
+
+#[tactic(auto, unfolding(crate::specs::Sections::reader_fields))]
+fn reader_fields(
+    alloc: Global,
+    participants: &Section<Participant>,
+    topics: &Section<Topic>,
+    path: &Place,
+    table: &Table,
+) -> Result<Reader, ReadFault>
+    ensures { Gives reader_view result (reader_fields (listed participant_view participants.now) (listed topic_view topics.now) (place_text path.now) (table_view table.now)) }
+{
+    let participant = known_name_field(alloc, &participants.names, path, table, "participant")?;
+    let topic = known_name_field(alloc, &topics.names, path, table, "topic")?;
+    let filter = filter_field(alloc, topic_keys(topics, topic), path, table, "filter")?;
+    let requested = policies(alloc, Reliability::BestEffort, path, table)?;
+    let partitions = partitions(alloc, path, table)?;
+    Ok(Reader {
+        participant: ParticipantNo::new(participant),
+        topic: TopicNo::new(topic),
+        filter,
+        qos: ReaderQos { requested },
+        partitions,
+    })
+}
+
+#[tactic(auto, unfolding(crate::specs::Sections::reader_entry))]
+fn reader_entry<'a>(alloc: Global, path: &Place, value: &'a Value) -> Result<&'a Table, ReadFault>
+    ensures { Gives (λ t. table_view t.now) result (reader_entry (place_text path.now) (view value.now)) }
+{
+    let keys = [
+        "name",
+        "participant",
+        "topic",
+        "filter",
+        "durability",
+        "access_scope",
+        "coherent",
+        "ordered",
+        "deadline",
+        "latency_budget",
+        "ownership",
+        "liveliness",
+        "lease",
+        "reliability",
+        "destination_order",
+        "history",
+        "depth",
+        "max_samples",
+        "max_instances",
+        "max_samples_per_instance",
+        "partitions",
+    ];
+    entry(alloc, &keys, path, value)
+}
+
+// What reads the readers of a file.
+#[derive(Clone, Copy)]
+struct ReaderEntries<'a> {
+    participants: &'a Section<Participant>,
+    topics: &'a Section<Topic>,
+}
+
+impl Items for ReaderEntries<'_> {
+    type Read = Section<Reader>;
+
+    ghost State = { Listed ReaderView };
+
+    ghost state = { λ all. listed reader_view all };
+
+    ghost step = { λ it. reader (listed participant_view it.participants.now) (listed topic_view it.topics.now) };
+
+    #[tactic(auto, unfolding(crate::specs::Sections::reader))]
+    fn add(
+        &self,
+        alloc: Global,
+        all: &mut Section<Reader>,
+        path: &Place,
+        value: &Value,
+    ) -> Result<(), ReadFault> {
+        let table = reader_entry(alloc, path, value)?;
+        let name = new_name_field(alloc, &all.names, path, table, "name")?;
+        let reader = reader_fields(alloc, self.participants, self.topics, path, table)?;
+        if consistent_reader(&reader.qos).is_err() {
+            return Err(refuse(alloc, FaultKind::Qos, path));
+        }
+        all.push(alloc, name, reader)?;
+        Ok(())
+    }
+}
+
+/// The section `readers`, at most 256 entries, or its first fault. An absent section has none.
+pub(crate) fn readers(
+    alloc: Global,
+    participants: &Section<Participant>,
+    topics: &Section<Topic>,
+    table: &Table,
+) -> Result<Section<Reader>, ReadFault>
+    ensures { Gives (listed reader_view) result (readers (listed participant_view participants.now) (listed topic_view topics.now) (table_view table.now)) }
+{
+    let entries = ReaderEntries {
+        participants,
+        topics,
+    };
+    section_of(alloc, 256, &entries, Section::new(alloc), table, "readers")
+}

@@ -1,0 +1,118 @@
+//! The section `topics`: their names, the names of their types, and the keys of each.
+ghost use Rattle.std.specs.Prelude.{◌≡◌, List, ℕ};
+ghost use Rattle.toml.specs.View.{view, table_view};
+ghost use Rattle.dds_fields.specs.Gives.{Gives};
+ghost use Rattle.dds_base.specs.Section.{Listed, listed};
+ghost use Rattle.dds_fields.specs.Places.{place_text};
+ghost use Rattle.dds_fields.specs.Reading.{field};
+ghost use Rattle.dds_deploy.specs.Lists.{Topic as TopicView};
+ghost use Rattle.dds_deploy_file.specs.Sections.{key, keys, topic_entry, topic, topics};
+ghost use Rattle.dds_deploy.specs.Views.{topic_view};
+
+use dds_base::{Names, Section};
+use dds_deploy::Topic;
+use dds_fields::fault::{FaultKind, ReadFault, refuse};
+use dds_fields::field::{array_of_limit, entry, name_field, new_name_field, new_name_of, required};
+use dds_fields::items::{Items, each, section_of};
+use dds_fields::place::Place;
+use std::alloc::Global;
+use toml::{Table, Value};
+
+// What reads the keys of a topic.
+#[derive(Clone, Copy)]
+struct TopicKeys;
+
+impl Items for TopicKeys {
+    type Read = Names;
+
+    ghost State = { List (List ℕ) };
+
+    ghost state = { λ keys. keys };
+
+    ghost step = { λ _. key };
+
+    #[tactic(auto, unfolding(crate::specs::Sections::key))]
+    fn add(
+        &self,
+        alloc: Global,
+        all: &mut Names,
+        path: &Place,
+        value: &Value,
+    ) -> Result<(), ReadFault> {
+        let name = new_name_of(alloc, all, path, value)?;
+        all.push(String::from_str(alloc, name)?)?;
+        Ok(())
+    }
+}
+
+#[tactic(auto, using(dds_fields::proofs::Each::count_view), unfolding(crate::specs::Sections::keys))]
+fn keys_of(alloc: Global, path: &Place, value: &Value) -> Result<Names, ReadFault>
+    ensures { Gives (λ n. n) result (keys (place_text path.now) (view value.now)) }
+{
+    let values = array_of_limit(alloc, 64, path, value)?;
+    if values.is_empty() {
+        return Err(refuse(alloc, FaultKind::OutOfRange, path));
+    }
+    each(alloc, &TopicKeys, Names::new(alloc), path, values)
+}
+
+#[tactic(auto, unfolding(dds_fields::specs::Reading::field))]
+fn keys_field(alloc: Global, path: &Place, table: &Table, key: &str) -> Result<Names, ReadFault>
+    ensures { Gives (λ n. n) result (field key.now keys (place_text path.now) (table_view table.now)) }
+{
+    let at = Place::Key { parent: path, key };
+    let value = required(alloc, &at, table, key)?;
+    keys_of(alloc, &at, value)
+}
+
+#[tactic(auto, unfolding(crate::specs::Sections::topic_entry))]
+fn topic_entry<'a>(alloc: Global, path: &Place, value: &'a Value) -> Result<&'a Table, ReadFault>
+    ensures { Gives (λ t. table_view t.now) result (topic_entry (place_text path.now) (view value.now)) }
+{
+    entry(alloc, &["name", "type", "keys"], path, value)
+}
+
+// What reads the topics of a file.
+#[derive(Clone, Copy)]
+struct TopicEntries;
+
+impl Items for TopicEntries {
+    type Read = Section<Topic>;
+
+    ghost State = { Listed TopicView };
+
+    ghost state = { λ all. listed topic_view all };
+
+    ghost step = { λ _. topic };
+
+    #[tactic(auto, unfolding(crate::specs::Sections::topic))]
+    fn add(
+        &self,
+        alloc: Global,
+        all: &mut Section<Topic>,
+        path: &Place,
+        value: &Value,
+    ) -> Result<(), ReadFault> {
+        let table = topic_entry(alloc, path, value)?;
+        let name = new_name_field(alloc, &all.names, path, table, "name")?;
+        let type_name = name_field(alloc, path, table, "type")?;
+        let keys = keys_field(alloc, path, table, "keys")?;
+        let type_name = String::from_str(alloc, type_name)?;
+        all.push(alloc, name, Topic { type_name, keys })?;
+        Ok(())
+    }
+}
+
+/// The section `topics`, at most 256 entries, or its first fault. An absent section has none.
+pub(crate) fn topics(alloc: Global, table: &Table) -> Result<Section<Topic>, ReadFault>
+    ensures { Gives (listed topic_view) result (topics (table_view table.now)) }
+{
+    section_of(
+        alloc,
+        256,
+        &TopicEntries,
+        Section::new(alloc),
+        table,
+        "topics",
+    )
+}
