@@ -1,3 +1,4 @@
+pub mod Bools
 pub mod Places
 pub mod SumLaws
 pub mod CountLaws

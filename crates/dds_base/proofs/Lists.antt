@@ -1,6 +1,6 @@
--- Lists that grow by one element, kept or mapped.
-use Rattle.std.proofs.Common.{◌≡◌, ℕ, ◌+◌, ◌<◌, Bool, List, [], ◌∷◌, ◌++◌, filter, get_or, length, map, take, ap, ◌∙◌, add-one}
-use Rattle.std.specs.List.{range_with_len}
+-- Lists that grow by one element, kept or mapped; and what of a mapped list passes a test.
+use Rattle.std.proofs.Common.{◌≡◌, ℕ, ◌+◌, ◌<◌, Bool, List, [], ◌∷◌, ◌++◌, refl, filter, get_or, length, map, take, ap, ◌∙◌, add-one}
+use Rattle.std.specs.List.{range_with_len, list_any}
 use Rattle.std.proofs.Math.Seq.{take-suc}
 use Rattle.std.proofs.lemmas.List.{map_push}
 use Rattle.std.proofs.lemmas.List.Elements.{filter-append}
@@ -16,3 +16,7 @@ map_next f xs i x lt = rw (add-one, take-suc xs i x lt) (map_push f (take i xs) 
 
 pub mapped_push : {X Y : Type 0} (f : X → Y) (xs : List X) (x : X) → map f (xs ++ x ∷ []) ≡ map f xs ++ f x ∷ []
 mapped_push f xs x = map_push f xs x
+
+pub list_any-map : {A B : Type 0} (p : B → Bool) (f : A → B) (xs : List A) → list_any p (map f xs) ≡ list_any (λ x. p (f x)) xs
+list_any-map p f [] = refl
+list_any-map p f (x ∷ xs) = rw (list_any-map p f xs)

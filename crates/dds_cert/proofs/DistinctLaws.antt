@@ -4,28 +4,9 @@ use Rattle.std.specs.List.{list_any}
 use Rattle.std.proofs.Math.Seq.{take-suc, drop-cons}
 use Rattle.std.proofs.lemmas.List.{take-append-drop, append-nil}
 use Rattle.std.proofs.lemmas.List.Folds.{list_any-append}
-use Rattle.dds_fields.proofs.Keys.{list_any-map}
+use Rattle.dds_base.proofs.Bools.{and_false, both_parts, is_not, neither, or_true}
+use Rattle.dds_base.proofs.Lists.{list_any-map}
 use Rattle.dds_cert.specs.Fits.{is_distinct}
-
-pub and_false : (b : Bool) → (b && false) ≡ false
-and_false true = refl
-and_false false = refl
-
-pub or_true : (b : Bool) → (b || true) ≡ true
-or_true true = refl
-or_true false = refl
-
-pub neither : (b c : Bool) → (b || c) ≡ false → (b ≡ false) × (c ≡ false)
-neither true c h = absurd cc
-neither false c h = (refl, h)
-
-pub both_parts : (b c : Bool) → (b && c) ≡ true → (b ≡ true) × (c ≡ true)
-both_parts true c h = (refl, h)
-both_parts false c h = absurd cc
-
-pub is_not : (b : Bool) → not b ≡ true → b ≡ false
-is_not true h = absurd cc
-is_not false h = refl
 
 module _ {X : Type 0} (same : X → X → Bool) where
   none_of_more : (xs : List X) (y : X) (ys : List X) → list_any (λ z. list_any (λ x. same x z) xs) ys ≡ false → list_any (same y) ys ≡ false → list_any (λ z. list_any (λ x. same x z) (xs ++ y ∷ [])) ys ≡ false

@@ -5,15 +5,12 @@ use Rattle.std.proofs.Math.Seq.{take-suc}
 use Rattle.std.proofs.lemmas.Bool.{cases_eq, eq-eqb, ne_eqb}
 use Rattle.std.proofs.lemmas.List.{get_or-replicate, length-replicate, get_or_default, get_or-set_same, get_or-set_other, map_push}
 use Rattle.std.proofs.lemmas.List.Folds.{list_any-append}
+use Rattle.dds_base.proofs.Bools.{and_false, or_false, or_true}
 use Rattle.dds_base.specs.Pairs.{stands}
-use Rattle.dds_fields.proofs.Keys.{list_any-map}
+use Rattle.dds_base.proofs.Lists.{list_any-map}
 use Rattle.dds_cert.specs.Fits.{is_distinct}
 use Rattle.dds_cert.specs.Named.{IsWithin, same_place, ShowsNamed}
-use Rattle.dds_cert.proofs.DistinctLaws.{and_false, or_true, distinct_more, distinct_twice}
-
-or_false : (b : Bool) → (b || false) ≡ b
-or_false true = refl
-or_false false = refl
+use Rattle.dds_cert.proofs.DistinctLaws.{distinct_more, distinct_twice}
 
 stands-push : (ps : List (ℕ × ℕ)) (p : ℕ × ℕ) (e k : ℕ) → stands (ps ++ p ∷ []) e k ≡ (stands ps e k || ((e == p.0 && k == p.1) || false))
 stands-push ps p e k = list_any-append (λ q. e == q.0 && k == q.1) ps (p ∷ [])

@@ -4,8 +4,7 @@ ghost use Rattle.dds_cert.specs.Text.{weight_line, endpoint_lines, reader_lines,
 ghost use Rattle.dds_cert.specs.Views.{row_view, certificate_view};
 
 use crate::certificate::{Bound, Certificate, Row, Total, Weight};
-use crate::keys::{keys_of_reader, keys_of_writer};
-use crate::naming::{name_at, reader_key, row_name};
+use crate::naming::{keys_of_reader, keys_of_writer, name_at, reader_key, row_name};
 use crate::weighing::weights_by_place;
 use dds_base::grid::{KEYS, PLACES};
 use dds_base::{Names, ReaderNo, WriterNo};

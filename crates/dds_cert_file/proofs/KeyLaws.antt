@@ -7,12 +7,13 @@ use Rattle.std.proofs.lemmas.Option.{slice_get_within, get_or_from_slice_get}
 use Rattle.std.proofs.lemmas.List.{map-append}
 use Rattle.std.proofs.lemmas.List.Folds.{list_any-append}
 use Rattle.toml.specs.Data.{Data, Members, get_member}
+use Rattle.dds_base.proofs.Bools.{both_parts, is_not, neither, or_true}
 use Rattle.dds_base.specs.Names.{number_of}
 use Rattle.dds_fields.specs.declared.fault.FaultKind.TheVariants.{UnknownName}
 use Rattle.dds_fields.specs.Paths.{key_path}
 use Rattle.dds_base.specs.Pairs.{stands}
 use Rattle.dds_fields.specs.Reading.{Read, ◌>>=◌, or_fault, a_name, a_known_name, field, optional, where_present}
-use Rattle.dds_fields.proofs.Keys.{list_any-map}
+use Rattle.dds_base.proofs.Lists.{list_any-map}
 use Rattle.dds_fields.proofs.Laws.{bind_ok, ok_is, found_is, known_within, field_is}
 use Rattle.dds_deploy.specs.Lists.{Writer, Reader, Lists, keys_at, all_keys}
 use Rattle.dds_deploy.specs.WellFormed.{filter_at, writer_key_count, AreDistinctBy, NamesOnce}
@@ -22,7 +23,7 @@ use Rattle.dds_cert.specs.Fits.{is_distinct, keys_differ}
 use Rattle.dds_cert.specs.Named.{same_place}
 use Rattle.dds_cert.specs.Naming.{writer_keys, reader_keys}
 use Rattle.dds_cert_file.specs.Sections.{passing, heard_key, a_heard_key, one_key, keys_of_entry, reader_and_keys, writer_and_keys, any_stands}
-use Rattle.dds_cert.proofs.DistinctLaws.{or_true, neither, both_parts, is_not, not_before, is_distinct-append}
+use Rattle.dds_cert.proofs.DistinctLaws.{not_before, is_distinct-append}
 
 -- the endpoint has each of the keys, and none stands twice
 pub record AreKeys (has_key : ℕ → Bool) (ks : List ℕ) : Type 0 where

@@ -6,6 +6,7 @@ use Rattle.std.proofs.lemmas.Bool.Decides.{nat_tests}
 use Rattle.std.proofs.lemmas.List.{map_push, length-map}
 use Rattle.std.proofs.lemmas.List.Folds.{list_all-append, list_all-map}
 use Rattle.toml.specs.Data.{Data, Items, no_items, item, Members, get_member}
+use Rattle.dds_base.proofs.Bools.{is_not}
 use Rattle.dds_base.specs.Names.{number_of}
 use Rattle.dds_base.proofs.Places.{absent}
 use Rattle.dds_fields.specs.declared.fault.FaultKind.{FaultKind}
@@ -24,7 +25,7 @@ use Rattle.dds_cert.specs.Lists.{Row, Certificate}
 use Rattle.dds_cert.specs.Fits.{is_distinct, weights_fit, row_fits, names_differ, rows_fit, bounds_fit, totals_fit, fits}
 use Rattle.dds_cert_file.specs.Sections.{reader_and_keys, writer_and_keys, any_stands, may_add, and_more, weight_number, weight_place, weights_of, and_weights, reader_weight_entry, reader_weight, reader_weights, writer_weight_entry, writer_weight, writer_weights, row_names, row_entry, row_lists, row, rows, bound_entry, row_and_bound, bound_number, bounds_of, bound, bounds, total_entry, total, totals, head, certificate, read}
 use Rattle.dds_cert.specs.Named.{bound_place, has_total}
-use Rattle.dds_cert.proofs.DistinctLaws.{is_not, is_distinct-push}
+use Rattle.dds_cert.proofs.DistinctLaws.{is_distinct-push}
 use Rattle.dds_cert.proofs.FitLaws.{first_of_both, second_of_both}
 use Rattle.dds_cert_file.proofs.KeyLaws.{AreKeys, lt_true, present, optional_keeps, reader_and_keys_are, writer_and_keys_are, made_distinct}
 

@@ -3,6 +3,7 @@ use Rattle.std.proofs.Common.{◌≡◌, ℕ, zero, suc, ◌+◌, ◌-◌, ◌<�
 use Rattle.std.specs.Prelude.{filter, slice_index_or}
 use Rattle.std.specs.List.{remove, position_or_len}
 use Rattle.std.proofs.lemmas.Bool.{cases_eq, eq-eqb, eqb-true, ne_eqb, and_left, and_right, and_parts, or_parts}
+use Rattle.dds_base.proofs.Bools.{or_false}
 use Rattle.dds_base.specs.Sums.{In, count_below, bit, total}
 use Rattle.dds_base.specs.Counts.{count_from, count_between}
 use Rattle.dds_qos.specs.Samples.{is_numbered, is_same, has_number, holds, without}
@@ -48,10 +49,6 @@ later_none : (hears : ℕ → Bool) (w from n : ℕ) (es : List (ℕ × List ℕ
 later_none hears w from n [] below = refl
 later_none hears w from n (e ∷ es) below = rw (ne_eqb from n (λ same. absurd (omega arith)), and_right (eqb w w) false refl) (later_none hears w (suc from) n es (omega arith))
 
-or_none : (b : Bool) → (b || false) ≡ b
-or_none true = refl
-or_none false = refl
-
 -- by number: the sample of an entry is found under its number
 pub relevant_from : (net : Network) (r w from k : ℕ) (es : List (ℕ × List ℕ)) → is_relevant_in (net.hears r) (samples_from w from es) w (from + k) ≡ hears_entry net r (entry_at es (suc k))
 relevant_from net r w from k [] = refl
@@ -60,7 +57,7 @@ relevant_from net r w from zero (e ∷ es) =
     subst (λ m. is_relevant_in (net.hears r) (samples_from w from (e ∷ es)) w m ≡ net.hears r e.0) (sym n)
     (ap (λ b. ((b && eqb from from) && net.hears r e.0) || is_relevant_in (net.hears r) (samples_from w (suc from) es) w from) (eq-eqb w w refl)
     ∙ ap (λ b. (b && net.hears r e.0) || is_relevant_in (net.hears r) (samples_from w (suc from) es) w from) (eq-eqb from from refl)
-    ∙ ap (λ b. net.hears r e.0 || b) (later_none (net.hears r) w (suc from) from es (omega arith)) ∙ or_none (net.hears r e.0))
+    ∙ ap (λ b. net.hears r e.0 || b) (later_none (net.hears r) w (suc from) from es (omega arith)) ∙ or_false (net.hears r e.0))
 relevant_from net r w from (suc k) (e ∷ es) =
     let n : from + suc k ≡ suc from + k = omega arith in
     rw (ne_eqb from (from + suc k) (λ same. absurd (omega arith)), and_right (eqb w w) false refl)

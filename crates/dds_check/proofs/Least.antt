@@ -3,6 +3,7 @@ use Rattle.std.proofs.Common.{ℕ, zero, suc, inl, inr, ◌≡◌, ◌≤◌, �
 use Rattle.std.specs.List.{list_any, list_all}
 use Rattle.std.proofs.lemmas.Bool.{eq-eqb, eqb-true, both_ways}
 use Rattle.std.proofs.lemmas.Option.{none-some, same_Some}
+use Rattle.dds_base.proofs.Bools.{or_true}
 use Rattle.dds_base.specs.Sums.{In}
 use Rattle.dds_match.specs.Network.{Network}
 use Rattle.dds_cert.specs.Lists as lists
@@ -15,10 +16,6 @@ use Rattle.dds_check.specs.Tables.{bound_of, total_of}
 use Rattle.dds_check.proofs.FirstLemmas.{both_first, both_second}
 use Rattle.dds_check.proofs.Holds.{bound_found, total_found}
 use Rattle.dds_check.proofs.Mapped.{mapped_from}
-
-or_true : (b : Bool) → (b || true) ≡ true
-or_true true = refl
-or_true false = refl
 
 any_by : {X : Type 0} (f : X → Bool) (xs : List X) (i : ℕ) (x : X) → slice_get xs i ≡ Some x → f x ≡ true → list_any f xs ≡ true
 any_by f [] i x h e = absurd (none-some x h)

@@ -9,6 +9,7 @@ use Rattle.std.proofs.lemmas.List.{length_push}
 use Rattle.std.proofs.lemmas.List.Elements.{All-from_recursion}
 use Rattle.std.proofs.lemmas.List.Sums.{position_or_len_is, fails_before_first}
 use Rattle.std.proofs.lemmas.Slice.Eq.{bytes_eq-Decides}
+use Rattle.dds_base.proofs.Bools.{neither}
 use Rattle.dds_base.specs.Names.{number_of}
 use Rattle.toml.specs.Data.{Data, Items}
 use Rattle.dds_fields.specs.Reading.{Read, each}
@@ -18,10 +19,6 @@ use Rattle.dds_deploy.specs.declared.lists.Origin.{Origin}
 use Rattle.dds_deploy.specs.Lists.{Rule, Rules, no_rules}
 use Rattle.dds_deploy.specs.WellFormed.{AreDistinctBy, AreNumbered}
 use Rattle.dds_deploy_file.proofs.Pushes.{Pushes, Adds, AddsRules}
-
-pub neither : (a b : Bool) → (a || b) ≡ false → (a ≡ false) × (b ≡ false)
-neither true b e = absurd cc
-neither false b e = (refl, e)
 
 none_pass_each : {A : Type 0} (p : A → Bool) (xs : List A) → list_any p xs ≡ false → AllByRecursion (λ x. p x ≡ false) xs
 none_pass_each p [] e = tt

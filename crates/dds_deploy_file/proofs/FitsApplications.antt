@@ -8,6 +8,7 @@ use Rattle.std.proofs.lemmas.List.Folds.{list_any_at, Any-from_list_any}
 use Rattle.std.proofs.lemmas.List.FromFn.{length-range_with_len, get_or-range_with_len}
 use Rattle.std.proofs.lemmas.Option.{slice_get_within, slice_get-get_or, get_or_from_slice_get}
 use Rattle.toml.specs.Data.{Members}
+use Rattle.dds_base.proofs.Bools.{is_not, neither}
 use Rattle.dds_fields.specs.declared.fault.FaultKind.{FaultKind}
 use Rattle.dds_fields.specs.declared.fault.FaultKind.TheVariants.{EndpointOwner}
 use Rattle.dds_fields.specs.Reading.{nothing_or, field, a_known_name, optional}
@@ -17,8 +18,8 @@ use Rattle.dds_fields.proofs.Laws.{bind_ok, ok_is}
 use Rattle.dds_deploy.specs.Lists.{Participant, Writer, Reader, Application, Lists, has}
 use Rattle.dds_deploy_file.specs.Sections.{may_own, writer_participant, reader_participant, own, own_writers, own_readers, application, application_fields, application_list, applications, without_owner, are_owned}
 use Rattle.dds_deploy.specs.WellFormed.{AreDistinctBy, IsApplicationOf, IsOwnedOnce}
-use Rattle.dds_deploy_file.proofs.Pushes.{is_not, optional_keeps, pushes_all}
-use Rattle.dds_deploy_file.proofs.Distinct.{neither, none_shows, pushes_distinct, distinct_nothing}
+use Rattle.dds_deploy_file.proofs.Pushes.{optional_keeps, pushes_all}
+use Rattle.dds_deploy_file.proofs.Distinct.{none_shows, pushes_distinct, distinct_nothing}
 use Rattle.dds_deploy_file.proofs.Readings.{both, number_field, IsReadEach, list_each, section_each, IsOwn, own_pushes, application_adds, IsApplicationRead}
 use Rattle.dds_deploy_file.proofs.ListsRead.{ListRead, list_read}
 use Rattle.dds_deploy_file.proofs.FitsRules.{contains_has}

@@ -2,6 +2,7 @@
 use Rattle.std.proofs.Common.{◌≡◌, ℕ, suc, ◌+◌, ◌<◌, ◌≤◌, Bool, true, false, List, [], ◌∷◌, ◌++◌, length, Option, Some, None, Ok, nat_le, is_some, not, refl, sym, ap, subst, ◌∙◌, arith, All, leb-true}
 use Rattle.std.proofs.lemmas.List.Elements.{All-nil, All-push, All-append, All-weaker}
 use Rattle.std.proofs.lemmas.List.{length_push, length-append}
+use Rattle.dds_base.proofs.Bools.{is_not}
 use Rattle.dds_base.specs.Names.{number_of}
 use Rattle.toml.specs.Data.{Data, Items, no_items, item, Members, get_member}
 use Rattle.dds_fields.specs.declared.fault.FaultKind.{FaultKind}
@@ -13,10 +14,6 @@ use Rattle.dds_fields.proofs.Laws.{bind_ok, ok_is, each-keeps}
 use Rattle.dds_deploy.specs.declared.lists.Origin.{Origin}
 use Rattle.dds_deploy.specs.Lists.{Rule, Rules, no_rules, and_rules}
 use Rattle.dds_deploy.specs.WellFormed.{IsListOf, AreRules}
-
-pub is_not : (b : Bool) → not b ≡ true → b ≡ false
-is_not true e = absurd cc
-is_not false e = refl
 
 -- where no fault is given, the test holds
 pub passed : {A : Type 0} (kind : FaultKind) (path : List ℕ) (b : Bool) (x y : A) → unless kind path b x ≡ Ok y → (b ≡ true) × (x ≡ y)

@@ -3,6 +3,7 @@ use Rattle.std.proofs.Common.{codes, ◌≡◌, ℕ, ◌+◌, ◌<◌, ◌≤◌
 use Rattle.std.specs.Prelude.{◌&&◌, ◌==◌, not, is_none, is_some, nat_le}
 use Rattle.std.specs.List.{list_any}
 use Rattle.std.proofs.lemmas.Option.{cond_some}
+use Rattle.dds_base.proofs.Bools.{is_not}
 use Rattle.dds_base.specs.Names.{number_of, is_between}
 use Rattle.dds_base.specs.declared.portion.Portion.{Portion}
 use Rattle.dds_qos.specs.Consistency.{consistency_fault}
@@ -17,7 +18,7 @@ use Rattle.dds_deploy.specs.declared.lists.Origin.{Origin}
 use Rattle.dds_deploy.specs.Lists.{Participant, Topic, Writer, Reader, Application, Rule, Rules, and_rules, has}
 use Rattle.dds_deploy_file.specs.Sections.{participant, participant_entry, key, keys, topic, topic_entry, writer, writer_fields, writer_entry, reader, reader_fields, reader_entry, filter_key, own, may_own, application, application_entry, application_fields, is_named, rule, rule_entry, rule_fields, may_share, connection, connection_entry, free_key, portion, share}
 use Rattle.dds_deploy.specs.WellFormed.{IsCounted}
-use Rattle.dds_deploy_file.proofs.Pushes.{is_not, passed, few_items, few_in_section, new_name, Pushes, Adds, AddsRules}
+use Rattle.dds_deploy_file.proofs.Pushes.{passed, few_items, few_in_section, new_name, Pushes, Adds, AddsRules}
 
 pub both : (a b : Bool) → (a && b) ≡ true → (a ≡ true) × (b ≡ true)
 both true b e = (refl, e)

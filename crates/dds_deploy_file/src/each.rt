@@ -9,10 +9,9 @@ ghost use Rattle.dds_deploy.specs.Views.{writer_view, reader_view, application_v
 ghost use Rattle.dds_deploy_file.specs.Each.{each_rule_view};
 
 use crate::applications::owned_at;
-use crate::each::EachRule;
 use crate::endpoints::Endpoints;
 use crate::known::Known;
-use dds_base::{AppNo, Section};
+use dds_base::{AppNo, ReaderNo, Section, WriterNo};
 use dds_deploy::{Reader, Writer};
 use dds_fields::fault::{FaultKind, ReadFault, refuse};
 use dds_fields::field::{entry, known_name_field, optional_short_number, short_number_field};

@@ -1,7 +1,7 @@
 //! What the entries of a file can name.
 
 use dds_base::Section;
-use dds_deploy::lists::{Application, Reader, Topic, Writer};
+use dds_deploy::{Application, Reader, Topic, Writer};
 
 /// What a rule can name.
 #[derive(Clone, Copy)]

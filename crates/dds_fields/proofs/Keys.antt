@@ -15,10 +15,6 @@ pub keys_of-view : (es : List (String Global × Value)) → keys_of (members_vie
 keys_of-view [] = refl
 keys_of-view (e ∷ es) = ap (λ ks. string_bytes e.0 ∷ ks) (keys_of-view es)
 
-pub list_any-map : {A B : Type 0} (p : B → Bool) (f : A → B) (xs : List A) → list_any p (map f xs) ≡ list_any (λ x. p (f x)) xs
-list_any-map p f [] = refl
-list_any-map p f (x ∷ xs) = rw (list_any-map p f xs)
-
 -- nothing is below k
 abbrev IsAbove : List ℕ → Option (List ℕ) → Type 0
 IsAbove k None = Unit {0}

@@ -3,6 +3,7 @@ use Rattle.std.proofs.Common.{add-one, ◌≡◌, ℕ, zero, suc, ltb, subst, ar
 use Rattle.std.specs.Prelude.{◌==◌, All, slice_get}
 use Rattle.std.specs.List.{list_any}
 use Rattle.std.proofs.lemmas.Option.{unwrap_or-slice_get, get_or_from_slice_get}
+use Rattle.dds_base.proofs.Bools.{and_false}
 use Rattle.dds_base.specs.Sums.{any_below}
 use Rattle.dds_base.specs.declared.portion.Portion.{Portion}
 use Rattle.dds_deploy.specs.Lists.{Rule, Lists}
@@ -48,10 +49,6 @@ or_comm false false = refl
 and_or : (x y z : Bool) → ((x && y) || (x && z)) ≡ (x && (z || y))
 and_or true y z = or_comm y z
 and_or false y z = refl
-
-and_false : (x : Bool) → (x && false) ≡ false
-and_false true = refl
-and_false false = refl
 
 -- what the rules below u write
 abbrev pub written_below : Lists → ℕ → ℕ → ℕ → Bool

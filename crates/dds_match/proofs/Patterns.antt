@@ -6,14 +6,11 @@ use Rattle.std.specs.Prelude.{◌==◌}
 use Rattle.std.specs.List.{list_all, list_any}
 use Rattle.std.proofs.lemmas.Bool.{and_parts, or_cases, or_left, or_right, both_ways, eq-eqb, ne_eqb, cases_eq, cases_Bool, or_parts, eqb-false, eqb-true}
 use Rattle.std.specs.Str.{bytes_eq}
+use Rattle.dds_base.proofs.Bools.{or_false}
 use Rattle.dds_match.specs.Partitions.{is_pattern, name_matches, names_match, partition_names}
 use Rattle.dds_match.specs.declared.partitions.Star.{Star}
 
 -- ── lists of bytes
-or_false : (x : Bool) → (x || false) ≡ x
-or_false true = refl
-or_false false = refl
-
 and_comm : (x y : Bool) → (x && y) ≡ (y && x)
 and_comm true true = refl
 and_comm true false = refl

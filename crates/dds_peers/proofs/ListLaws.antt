@@ -1,5 +1,5 @@
 -- Lists that loops fill and empty.
-use Rattle.std.proofs.Common.{◌≡◌, ℕ, Bool, true, false, zero, suc, ◌+◌, List, [], ◌∷◌, ◌++◌, length, map, All, refl, sym, ap, ◌∙◌, subst, arith, append-nil}
+use Rattle.std.proofs.Common.{◌≡◌, ℕ, Bool, true, false, zero, suc, ◌+◌, List, [], ◌∷◌, ◌++◌, length, map, All, refl, sym, ap, ◌∙◌, subst, arith, append-nil, append_assoc}
 use Rattle.std.specs.List.{range_with_len}
 use Rattle.std.specs.Prelude.{MatchBool}
 use Rattle.std.proofs.lemmas.List.{map-append}
@@ -74,3 +74,17 @@ yes false P Q m e = absurd (cc)
 pub no : (b : Bool) (P Q : Type 0) → MatchBool b P Q → b ≡ false → Q
 no true P Q m e = absurd (cc)
 no false P Q m e = m
+
+-- what a loop that walks a list has seen, and what is left to it
+pub record Walks {X : Type 0} (all came left : List X) (count : ℕ) : Type 0 where
+  pub whole : all ≡ came ++ left
+  pub counted : count ≡ length left
+
+-- one step further
+pub walked : {X : Type 0} (all came left now : List X) (x : X) (count less : ℕ) → Walks all came left count → left ≡ x ∷ now → less + 1 ≡ count → Walks all (came ++ x ∷ []) now less
+walked all came left now x count less w next step =
+    let counted = w.counted in
+    let shorter = ap length next in record {
+      whole = w.whole ∙ ap (λ l. came ++ l) next ∙ sym (append_assoc came (x ∷ []) now);
+      counted = omega arith;
+    }

@@ -1,15 +1,12 @@
 -- The marks and the count of a GAP.
 use Rattle.std.proofs.Common.{◌≡◌, ℕ, ◌+◌, ◌≤◌, ltb, leb, Bool, true, false, cond, not, ◌&&◌, ◌||◌, ◌==◌, refl, sym, arith, inl, inr}
 use Rattle.std.proofs.lemmas.Bool.{and_parts, leb-true, cases_Bool, cases_lt, cases_order, lt-leb, lt-ltb, le-ltb, le-leb, eq-eqb, ne_eqb}
+use Rattle.dds_base.proofs.Bools.{or_false}
 use Rattle.dds_base.specs.Counts.{count_between}
 use Rattle.dds_base.specs.Sets.{NumberSet, has}
 use Rattle.dds_base.proofs.CountLaws.{count_join, count_same, count_more_yes, count_more_no, count_empty}
 
 -- false adds nothing to an or
-pub or_none : (b : Bool) → (b || false) ≡ b
-or_none true = refl
-or_none false = refl
-
 -- a test that fails adds nothing
 fades : (a b : Bool) → (a || (b && false)) ≡ a
 fades true b = refl
@@ -57,7 +54,7 @@ from_base s n h = leb-true s.base n (and_parts (leb s.base n) _ h).0
 -- no element of a set is below its base
 pub none_before : (h : ℕ → Bool) (base m : ℕ) (a : Bool) → (leb base m ≡ false → h m ≡ false) → a ≡ (a || (h m && ltb m (base + 0)))
 none_before h base m a outside = elim (cases_lt m base) [
-  | inl below ↦ rw (outside (lt-leb base m below)) (sym (or_none a))
+  | inl below ↦ rw (outside (lt-leb base m below)) (sym (or_false a))
   | inr above ↦ rw (le-ltb m (base + 0) (omega arith)) (sym (fades a (h m)))
 ]
 

@@ -13,10 +13,10 @@ use Rattle.std.proofs.lemmas.Map.{lookup-none}
 use Rattle.std.proofs.lemmas.Map.Entries.{none_past_head, lookup_head, lookup_tail}
 use Rattle.std.proofs.lemmas.Map.Keys.{IsDistinct-from_sorted, sorted_tail}
 use Rattle.std.proofs.lemmas.Map.Made.{is_some-lookup}
+use Rattle.dds_base.proofs.Bools.{or_false}
 use Rattle.dds_reader.specs.declared.ranges.Ranges.{Ranges}
 use Rattle.dds_reader.specs.Ranges.{has, holds, is_between}
 use Rattle.dds_reader.specs.Marks.{Marked, AddsMarks, listed, listed_in, listed_of, in_marks, in_range, has_marks}
-use Rattle.dds_reader.proofs.GapLaws.{or_none}
 
 -- the number is marked where the writer has marks
 abbrev pub marked_at : Option Ranges → ℕ → Bool
@@ -60,7 +60,7 @@ in_listed (e ∷ es) w n sorted =
       | inl same ↦
           let test = test_same w e.0 same in
           let none = lookup-none (is_at (nat_cmp w)) es (none_past_head (eq_by_cmp_equiv nat_cmp_total) w e es (IsDistinct-from_sorted nat_cmp (keys_of (e ∷ es)) sorted) test) in
-          parts ∙ ap (λ b. (b && here) || later) (eq-eqb e.0 w (sym same)) ∙ ap (λ b. here || b) (rest ∙ ap (λ o. marked_at o n) none) ∙ or_none here
+          parts ∙ ap (λ b. (b && here) || later) (eq-eqb e.0 w (sym same)) ∙ ap (λ b. here || b) (rest ∙ ap (λ o. marked_at o n) none) ∙ or_false here
           ∙ sym (ap (λ o. marked_at o n) (lookup_head (is_at (nat_cmp w)) e es test))
       | inr other ↦
           parts ∙ ap (λ b. (b && here) || later) (ne_eqb e.0 w (λ same. other (sym same))) ∙ rest
@@ -108,7 +108,7 @@ adds_at m n w old new more om on there u grown v k = marked_is n v k on ∙ elim
       ∙ ap (λ b. has old.base old.above k || (b && more k)) (eq-eqb w v same))
   | inr other ↦
       ap (λ o. marked_at o k) (u.2 v (test_other w v other))
-      ∙ sym (ap (λ b. b || ((w == v) && more k)) (marked_is m v k om) ∙ ap (λ b. marked_at (get nat_cmp m v) k || (b && more k)) (ne_eqb w v other) ∙ or_none (marked_at (get nat_cmp m v) k))
+      ∙ sym (ap (λ b. b || ((w == v) && more k)) (marked_is m v k om) ∙ ap (λ b. marked_at (get nat_cmp m v) k || (b && more k)) (ne_eqb w v other) ∙ or_false (marked_at (get nat_cmp m v) k))
 ]
 
 -- marks without a number for one writer more leave no number marked
@@ -123,7 +123,7 @@ opened_unmarked m n k r om on u none before w x = marked_is n w x on ∙ elim (c
 pub opened_writers : (m n : BTreeMap ℕ Ranges) (k : ℕ) (r : Ranges) → UpdatesBy nat_cmp (nat_cmp k) m n (Some r) → (w : ℕ) → has_marks w (listed n) ≡ (has_marks w (listed m) || (k == w))
 opened_writers m n k r u w = has_marks_is n w ∙ elim (cases_eq k w) [
   | inl same ↦ ap (λ v. is_some (get nat_cmp n v)) (sym same) ∙ ap is_some u.1 ∙ sym (or_right (has_marks w (listed m)) (k == w) (eq-eqb k w same))
-  | inr other ↦ ap is_some (u.2 w (test_other k w other)) ∙ sym (has_marks_is m w) ∙ sym (ap (λ b. has_marks w (listed m) || b) (ne_eqb k w other) ∙ or_none (has_marks w (listed m)))
+  | inr other ↦ ap is_some (u.2 w (test_other k w other)) ∙ sym (has_marks_is m w) ∙ sym (ap (λ b. has_marks w (listed m) || b) (ne_eqb k w other) ∙ or_false (has_marks w (listed m)))
 ]
 
 -- a list of one writer goes by its base and its ranges

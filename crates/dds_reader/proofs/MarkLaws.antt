@@ -2,6 +2,7 @@
 use Rattle.std.proofs.Common.{◌≡◌, ℕ, suc, cond, ◌+◌, ◌-◌, ◌<◌, ◌≤◌, Bool, true, false, not, ◌&&◌, ◌||◌, ◌==◌, leb, ltb, List, refl, sym, subst, ap, ◌∙◌, arith, inl, inr}
 use Rattle.std.specs.List.{All}
 use Rattle.std.proofs.lemmas.Bool.{cases_lt, cases_order, false≢true, or_cases, or_left, or_right, and_left, and_from, and_parts, eq-eqb, ne_eqb, le-leb, lt-leb, leb-true, lt-ltb, le-ltb, ltb-true}
+use Rattle.dds_base.proofs.Bools.{or_false}
 use Rattle.dds_base.specs.declared.sample.Sample.{Sample}
 use Rattle.dds_base.specs.Sets.{last_number}
 use Rattle.dds_qos.specs.declared.admission.Admit.{Admit}
@@ -11,7 +12,6 @@ use Rattle.dds_qos.specs.Reading.{below_first, base_of, arrival_of, is_repeat, m
 use Rattle.dds_qos.proofs.BaseLaws.{base_is, repeat_is_marked}
 use Rattle.dds_reader.specs.Marks.{AreNumbers, AddsMarks, IsWhole}
 use Rattle.dds_reader.specs.Ranges.{is_between, IsLeastUnmarked, OnlyNumbers}
-use Rattle.dds_reader.proofs.GapLaws.{or_none}
 
 -- the least unmarked number goes by what is marked alone
 pub least_alike : (p q : ℕ → Bool) (b : ℕ) → ((n : ℕ) → q n ≡ p n) → IsLeastUnmarked q b → IsLeastUnmarked p b
@@ -104,7 +104,7 @@ module _ (m m' : ℕ → ℕ → Bool) (w : ℕ) (more : ℕ → Bool) where
 
   -- the marks of another writer stay
   pub adds_other : AddsMarks m m' w more → (v n : ℕ) → (w ≡ v → ⊥) → m' v n ≡ m v n
-  adds_other adds v n other = adds v n ∙ ap (λ b. m v n || b) (and_left (w == v) (more n) (ne_eqb w v other)) ∙ or_none (m v n)
+  adds_other adds v n other = adds v n ∙ ap (λ b. m v n || b) (and_left (w == v) (more n) (ne_eqb w v other)) ∙ or_false (m v n)
 
   -- what is added is marked
   pub adds_itself : AddsMarks m m' w more → (n : ℕ) → more n ≡ true → m' w n ≡ true

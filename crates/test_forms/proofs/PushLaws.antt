@@ -2,17 +2,17 @@
 use Rattle.std.proofs.Common.{◌≡◌, ℕ, ◌+◌, ◌-◌, ◌<◌, ◌≤◌, Bool, true, false, not, ◌&&◌, ◌||◌, ◌==◌, leb, ltb, List, [], ◌∷◌, ◌++◌, refl, sym, subst, ap, ◌∙◌, arith, inl, inr}
 use Rattle.std.proofs.lemmas.Bool.{cases_Bool, cases_lt, both_ways, and_parts, eqb-true, leb-true, lt-leb, ltb-true, le-ltb}
 use Rattle.std.proofs.lemmas.List.Folds.{list_any-append}
+use Rattle.dds_base.proofs.Bools.{or_false}
 use Rattle.dds_base.specs.Counts.{count_between}
 use Rattle.dds_base.specs.Sets.{last_number}
 use Rattle.dds_base.proofs.CountLaws.{count_join, count_all, count_empty}
 use Rattle.dds_reader.specs.Marks.{Marked, in_range, in_marks, AreNumbers, AddsMarks}
 use Rattle.dds_reader.specs.Ranges.{is_between}
-use Rattle.dds_reader.proofs.GapLaws.{or_none}
 use Rattle.dds_reader.proofs.MarkLaws.{adds_numbers, between_numbers}
 
 -- one range more marks its numbers
 pub adds_push : (ms : List Marked) (m : Marked) → AddsMarks (in_marks ms) (in_marks (ms ++ m ∷ [])) m.writer (is_between m.from m.until)
-adds_push ms m v n = list_any-append (in_range v n) ms (m ∷ []) ∙ ap (λ b. in_marks ms v n || b) (or_none (in_range v n m))
+adds_push ms m v n = list_any-append (in_range v n) ms (m ∷ []) ∙ ap (λ b. in_marks ms v n || b) (or_false (in_range v n m))
 
 -- numbers are marked after one range more of numbers
 pub push_numbers : (ms : List Marked) (m : Marked) → AreNumbers (in_marks ms) → 1 ≤ m.from → m.until ≤ last_number + 1 → AreNumbers (in_marks (ms ++ m ∷ []))

@@ -9,7 +9,8 @@ use Rattle.std.proofs.lemmas.Map.Iter.{rest_more, rest_all}
 use Rattle.dds_fields.specs.Reading.{only, keys_of, unlisted, least, shown}
 use Rattle.dds_fields.specs.Paths.{key_path}
 use Rattle.dds_fields.specs.Places.{place_text}
-use Rattle.dds_fields.proofs.Keys.{keys_of-view, list_any-map, least-first, unlisted-listed}
+use Rattle.dds_base.proofs.Lists.{list_any-map}
+use Rattle.dds_fields.proofs.Keys.{keys_of-view, least-first, unlisted-listed}
 use Rattle.dds_fields.proofs.Each.{fails_at}
 use Rattle.dds_fields.proofs.field.only.Goals as goal
 

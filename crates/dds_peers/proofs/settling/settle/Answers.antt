@@ -1,29 +1,29 @@
 use Rattle.std.proofs.Common.{rules, ◌≡◌, ◌+◌, ◌<◌, ◌++◌, ◌∷◌, [], length, map, sym, ap, ◌∙◌, refl, subst, arith, append_assoc, length-append, Some}
 use Rattle.std.specs.Vec.Iter.{into_iter_items}
 use Rattle.dds_peers.specs.Kept.{IsKept, done_by}
-use Rattle.dds_peers.proofs.ListLaws.{all_next, map_more, map_both, whole}
+use Rattle.dds_peers.proofs.ListLaws.{all_next, map_more, map_both, whole, walked}
 use Rattle.dds_peers.proofs.settling.settle.Goals as goal
 
 pub read-count-requires-clause-gauge : goal.read-count-requires-clause-gauge
 read-count-requires-clause-gauge g c =
     let i = c.loop-player.invariant in
-    (all_next (λ p. IsKept c.args.gauge.now c.args._fresh p.seat p.counter (g.A.App.notes p.app).entries) c.args.players.items c.loop-player.yielded (into_iter_items c.loop-player.player-iterator) (into_iter_items c.next.new.self) c.in-Some.player c.requires.players i.players c.in-Some.ensures.steps.0).counted.gauge
+    (all_next (λ p. IsKept c.args.gauge.now c.args._fresh p.seat p.counter (g.A.App.notes p.app).entries) c.args.players.items c.loop-player.yielded (into_iter_items c.loop-player.player-iterator) (into_iter_items c.next.new.self) c.in-Some.player c.requires.players i.walk.whole c.in-Some.ensures.steps.0).counted.gauge
 
 pub read-count-requires-clause-app : goal.read-count-requires-clause-app
 read-count-requires-clause-app g c =
     let i = c.loop-player.invariant in
-    let kept = all_next (λ p. IsKept c.args.gauge.now c.args._fresh p.seat p.counter (g.A.App.notes p.app).entries) c.args.players.items c.loop-player.yielded (into_iter_items c.loop-player.player-iterator) (into_iter_items c.next.new.self) c.in-Some.player c.requires.players i.players c.in-Some.ensures.steps.0 in
+    let kept = all_next (λ p. IsKept c.args.gauge.now c.args._fresh p.seat p.counter (g.A.App.notes p.app).entries) c.args.players.items c.loop-player.yielded (into_iter_items c.loop-player.player-iterator) (into_iter_items c.next.new.self) c.in-Some.player c.requires.players i.walk.whole c.in-Some.ensures.steps.0 in
     subst (λ n. n < c.args.gauge.now.apps) (sym (c.new.ensures ∙ c.number.ensures)) kept.app
 
 pub loop-player-preserved : goal.loop-player-preserved
 loop-player-preserved g c =
     let i = c.loop-player.invariant in
     let steps = c.in-Some.ensures.steps in
-    let counted = i.counted in
+    let counted = i.walk.counted in
     let less = steps.1 in
     let shorter = ap length steps.0 in
     let player = c.in-Some.player in
-    let kept = all_next (λ p. IsKept c.args.gauge.now c.args._fresh p.seat p.counter (g.A.App.notes p.app).entries) c.args.players.items c.loop-player.yielded (into_iter_items c.loop-player.player-iterator) (into_iter_items c.next.new.self) c.in-Some.player c.requires.players i.players steps.0 in
+    let kept = all_next (λ p. IsKept c.args.gauge.now c.args._fresh p.seat p.counter (g.A.App.notes p.app).entries) c.args.players.items c.loop-player.yielded (into_iter_items c.loop-player.player-iterator) (into_iter_items c.next.new.self) c.in-Some.player c.requires.players i.walk.whole steps.0 in
     let apps = c.push_reserved.ensures.items in
     let ends = c.push_reserved-in-loop-player.ensures.items in
     let counts = c.push_reserved-in-loop-player-2.ensures.items in
@@ -31,8 +31,7 @@ loop-player-preserved g c =
     let count : c.read-count.result ≡ length (done_by player.seat) = c.read-count.ensures.own (kept.counted.owner ∙ ap Some (sym (c.new.ensures ∙ c.number.ensures))) ∙ kept.counted.count in record {
       can_next = tt;
       is_finite = tt;
-      counted = omega arith;
-      players = i.players ∙ ap (λ l. c.loop-player.yielded ++ l) steps.0 ∙ sym (append_assoc c.loop-player.yielded (player ∷ []) (into_iter_items c.next.new.self));
+      walk = walked _ _ _ _ _ _ _ i.walk steps.0 less;
       apps_room = search rules;
       ends_room = search rules;
       counts_room = search rules;
@@ -46,7 +45,7 @@ loop-player-preserved g c =
 pub returns : goal.returns
 returns g c =
     let i = c.loop-player.invariant in
-    let all = whole c.args.players.items c.loop-player.yielded (into_iter_items c.loop-player.player-iterator) _ i.players i.counted c.in-None.ensures.steps.0 in record {
+    let all = whole c.args.players.items c.loop-player.yielded (into_iter_items c.loop-player.player-iterator) _ i.walk.whole i.walk.counted c.in-None.ensures.steps.0 in record {
       numbers = i.numbers ∙ ap (map (λ p. p.seat.number)) (sym all);
       diaries = i.diaries;
       counts = i.counts;

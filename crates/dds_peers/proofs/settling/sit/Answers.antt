@@ -4,7 +4,7 @@ use Rattle.std.specs.Vec.Iter.{into_iter_items, into_iter_len}
 use Rattle.dds_book.specs.Seat.{new_seat}
 use Rattle.dds_peers.specs.Kept.{IsKept, claim_of, new_claim}
 use Rattle.dds_peers.proofs.KeptLaws.{kept_new}
-use Rattle.dds_peers.proofs.ListLaws.{all_next, all_more, map_more, next_made, length_map, made_len, range_more}
+use Rattle.dds_peers.proofs.ListLaws.{all_next, all_more, map_more, next_made, length_map, made_len, range_more, walked}
 use Rattle.dds_peers.proofs.settling.sit.Goals as goal
 
 pub unreachable-requires : goal.unreachable-requires
@@ -29,7 +29,7 @@ pub loop-app-preserved : goal.loop-app-preserved
 loop-app-preserved g c =
     let i = c.loop-app.invariant in
     let steps = c.in-Some.ensures.steps in
-    let counted = i.counted in
+    let counted = i.walk.counted in
     let less = steps.1 in
     let shorter = ap length steps.0 in
     let n = c.loop-app.number in
@@ -42,7 +42,7 @@ loop-app-preserved g c =
     let made = c.new.ensures in
     let room = c.requires.gauge in
     let low : n < c.args._gauge.now.apps = omega arith in
-    let none : c.args._fresh ≡ true → (g.A.App.notes c.new.result.app).entries ≡ [] = λ f. ap (λ a. (g.A.App.notes a).entries) made.0 ∙ all_next (λ a. (g.A.App.notes a).entries ≡ []) c.args.apps.items c.loop-app.yielded (into_iter_items c.loop-app.app-iterator) (into_iter_items c.next.new.self) c.in-Some.app (c.requires.fresh f) i.apps steps.0 in
+    let none : c.args._fresh ≡ true → (g.A.App.notes c.new.result.app).entries ≡ [] = λ f. ap (λ a. (g.A.App.notes a).entries) made.0 ∙ all_next (λ a. (g.A.App.notes a).entries ≡ []) c.args.apps.items c.loop-app.yielded (into_iter_items c.loop-app.app-iterator) (into_iter_items c.next.new.self) c.in-Some.app (c.requires.fresh f) i.walk.whole steps.0 in
     let kept = kept_new c.args._gauge.now c.args._fresh c.in-Some-next.seat c.new.result.seat c.in-Some-next-2.counter c.new.result.counter n (g.A.App.notes c.new.result.app).entries seats.0 counters.0 made.1 made.2 low none in
     let seats_is = i.seats_len in
     let counters_is = i.counters_len in
@@ -52,8 +52,7 @@ loop-app-preserved g c =
     let counters_less = counter.1 in record {
       can_next = tt;
       is_finite = tt;
-      counted = omega arith;
-      apps = i.apps ∙ ap (λ l. c.loop-app.yielded ++ l) steps.0 ∙ sym (append_assoc c.loop-app.yielded (c.in-Some.app ∷ []) (into_iter_items c.next.new.self));
+      walk = walked _ _ _ _ _ _ _ i.walk steps.0 less;
       room = search rules;
       number = omega arith;
       seats = seats.1;

@@ -4,14 +4,14 @@ use Rattle.std.specs.Vec.{vec_len, vec_capacity}
 use Rattle.std.specs.Vec.Iter.{into_iter_items, into_iter_len}
 use Rattle.dds_book.specs.Seat.{new_seat}
 use Rattle.dds_peers.specs.Kept.{IsKept, claim_of, new_claim}
+use Rattle.dds_peers.proofs.ListLaws.{Walks}
 use Rattle.dds_peers.proofs.settling.sit.Given as goal
 
 abbrev pub invariant-loop-app : goal.invariant-loop-app
 invariant-loop-app g l = record {
   can_next : (goal.iterator-loop-app g).can_next l.app-iterator;
   is_finite : (goal.iterator-loop-app g).is_finite l.app-iterator;
-  counted : into_iter_len l.app-iterator ≡ length (into_iter_items l.app-iterator);
-  apps : l.fn.apps.items ≡ l.yielded ++ into_iter_items l.app-iterator;
+  walk : Walks l.fn.apps.items l.yielded (into_iter_items l.app-iterator) (into_iter_len l.app-iterator);
   room : vec_len l.players + into_iter_len l.app-iterator ≤ vec_capacity l.players;
   number : l.number + into_iter_len l.app-iterator ≡ length l.fn.apps.items;
   seats : into_iter_items l.seats ≡ map new_seat (range_with_len l.number (into_iter_len l.app-iterator));

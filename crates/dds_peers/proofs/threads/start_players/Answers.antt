@@ -2,14 +2,14 @@ use Rattle.std.proofs.Common.{rules, ◌≡◌, ◌++◌, ◌∷◌, [], length,
 use denote.Param.Send.{sendable}
 use Rattle.std.specs.Vec.Iter.{into_iter_items}
 use Rattle.dds_peers.specs.Kept.{IsKept}
-use Rattle.dds_peers.proofs.ListLaws.{all_next, all_more, map_both, whole}
+use Rattle.dds_peers.proofs.ListLaws.{all_next, all_more, map_both, whole, walked}
 use Rattle.dds_peers.proofs.threads.start_players.Goals as goal
 
 pub spawn_with-requires-clause-runs : goal.spawn_with-requires-clause-runs
 spawn_with-requires-clause-runs g c =
     let i = c.loop-player.invariant in
     let kept = all_next (λ p. IsKept c.args.gauge.now c.args.fresh p.seat p.counter (g.A.App.notes p.app).entries) c.args.players.items c.loop-player.yielded (into_iter_items c.loop-player.player-iterator) (into_iter_items c.next.new.self) c.in-Some.player
-    c.requires.players i.players c.in-Some.ensures.steps.0
+    c.requires.players i.walk.whole c.in-Some.ensures.steps.0
     in
     λ κs at. (kept, search sendable depth 20)
 
@@ -17,15 +17,14 @@ pub loop-player-preserved : goal.loop-player-preserved
 loop-player-preserved g c =
     let i = c.loop-player.invariant in
     let steps = c.in-Some.ensures.steps in
-    let counted = i.counted in
+    let counted = i.walk.counted in
     let less = steps.1 in
     let shorter = ap length steps.0 in
     let promise = c.in-Ok.ensures.ok in
     let more = c.push_reserved.ensures.items in record {
       can_next = tt;
       is_finite = tt;
-      counted = omega arith;
-      players = i.players ∙ ap (λ l. c.loop-player.yielded ++ l) steps.0 ∙ sym (append_assoc c.loop-player.yielded (c.in-Some.player ∷ []) (into_iter_items c.next.new.self));
+      walk = walked _ _ _ _ _ _ _ i.walk steps.0 less;
       room = search rules;
       len = search rules;
       apps = map_both (λ h. h.promise.app) (λ p. p.seat.number) c.loop-player.handles.items c.push_reserved.new.self.items c.in-Ok.handle c.loop-player.yielded c.in-Some.player i.apps more (ap (λ p. p.app) promise ∙ c.number.ensures);
@@ -36,5 +35,5 @@ loop-player-preserved g c =
 pub returns-clause-all : goal.returns-clause-all
 returns-clause-all g c _ =
     let i = c.loop-player.invariant in
-    let all = whole c.args.players.items c.loop-player.yielded (into_iter_items c.loop-player.player-iterator) _ i.players i.counted c.in-None.ensures.steps.0 in
+    let all = whole c.args.players.items c.loop-player.yielded (into_iter_items c.loop-player.player-iterator) _ i.walk.whole i.walk.counted c.in-None.ensures.steps.0 in
     i.apps ∙ ap (map (λ p. p.seat.number)) (sym all) ∙ c.requires.numbers
