@@ -9,7 +9,7 @@ use Rattle.dds_deploy.specs.Lists.{Lists}
 use Rattle.dds_answers.specs.declared.fault.ToolFault.{ToolFault}
 use Rattle.dds_answers.specs.declared.fault.ToolFault.TheVariants as fault
 use Rattle.dds_answers.specs.Answers.{Gives}
-use Rattle.dds_deploy_file.specs.Sections as deployment
+use Rattle.dds_deploy_file.specs.Document as deployment
 use Rattle.dds_answers.specs.Outcome.{Outcome, bad_deployment, too_large, unproposed}
 use Rattle.dds_answers.specs.Proposals.{MayPropose, MayProposeFor, MayProposeIf}
 use Rattle.dds_answers.specs.Reading.{IsReadingFault}

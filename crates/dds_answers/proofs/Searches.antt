@@ -4,7 +4,7 @@ use Rattle.dds_fields.specs.Reading.{Read}
 use Rattle.dds_fields.specs.Gives.{Fails}
 use Rattle.dds_fields.specs.declared.fault.ReadFault.{ReadFault}
 use Rattle.dds_deploy.specs.Lists.{Lists}
-use Rattle.dds_deploy_file.specs.Sections as deployment
+use Rattle.dds_deploy_file.specs.Document as deployment
 use Rattle.dds_answers.specs.declared.fault.ToolFault.{ToolFault}
 use Rattle.dds_answers.specs.declared.fault.ToolFault.TheVariants as fault
 use Rattle.dds_answers.specs.Answers.{Gives}

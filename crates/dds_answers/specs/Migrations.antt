@@ -3,7 +3,7 @@ use Rattle.std.specs.Prelude.{ℕ, Bool, List, length, nat_le, ◌≡◌, Ok, Er
 use Rattle.dds_fields.specs.Reading.{Read}
 use Rattle.dds_deploy.specs.Lists.{Lists}
 use Rattle.dds_deploy_file.specs.Migration.{IsMigrated}
-use Rattle.dds_deploy_file.specs.Sections.{read_up_to}
+use Rattle.dds_deploy_file.specs.Document.{read_up_to}
 use Rattle.dds_answers.specs.Outcome.{Outcome, bad_deployment, migrated, too_large}
 
 -- bytes that are read as a deployment of version 1 become a text of version 2 that stands for the same lists; else the flaw is told

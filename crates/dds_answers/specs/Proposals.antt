@@ -2,7 +2,7 @@
 use Rattle.std.specs.Prelude.{ℕ, Bool, List, length, nat_le, ◌≡◌, ◌⊎◌, None, Ok, Err, true, false}
 use Rattle.dds_fields.specs.Reading.{Read}
 use Rattle.dds_deploy.specs.Lists.{Lists}
-use Rattle.dds_deploy_file.specs.Sections as deployment
+use Rattle.dds_deploy_file.specs.Document as deployment
 use Rattle.dds_match.specs.Plan.{network_of}
 use Rattle.dds_cert.specs.Fits.{fits}
 use Rattle.dds_cert.specs.Lists.{Certificate}

@@ -8,7 +8,7 @@ ghost use Rattle.dds_answers.specs.Migrations.{MayMigrate};
 ghost use Rattle.dds_answers.specs.Proposals.{MayPropose};
 ghost use Rattle.dds_answers.specs.Report.{outcome_of, shown_text};
 ghost use Rattle.dds_answers.specs.Syntax.{IsFaultTold};
-ghost use Rattle.dds_deploy_file.specs.Sections.{read as deployment_read, read_up_to};
+ghost use Rattle.dds_deploy_file.specs.Document.{read as deployment_read, read_up_to};
 
 use crate::exit::Exit;
 use crate::fault::ToolFault;

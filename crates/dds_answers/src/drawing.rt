@@ -1,6 +1,6 @@
 //! What `draw` answers to the bytes of its files.
 ghost use Rattle.std.specs.Prelude.{◌≡◌, IfErr, Ok, option_map};
-ghost use Rattle.dds_cert_file.specs.Sections.{read as certificate_read};
+ghost use Rattle.dds_cert_file.specs.Document.{read as certificate_read};
 ghost use Rattle.dds_cert.specs.Views.{certificate_view};
 ghost use Rattle.dds_answers.specs.Answers.{Gives};
 ghost use Rattle.dds_answers.specs.Fault.{IsAnswerFault};

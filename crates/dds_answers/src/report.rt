@@ -5,7 +5,7 @@ ghost use Rattle.dds_cert.specs.Fits.{fits};
 ghost use Rattle.dds_cert.specs.Views.{certificate_view};
 ghost use Rattle.dds_check.specs.Accepts.{first_no};
 ghost use Rattle.dds_answers.specs.Outcome.{Outcome, judged, outcome, told, verdict};
-ghost use Rattle.dds_cert_file.specs.Sections.{read as certificate_read};
+ghost use Rattle.dds_cert_file.specs.Document.{read as certificate_read};
 ghost use Rattle.dds_answers.specs.Report.{IsCertificateFault, IsDeploymentFault, Tells, acceptance_lines, because_lines, bound_line, refusal_line, outcome_of, output_of, report_text_of, subject_text, total_line};
 ghost use Rattle.dds_answers.specs.Syntax.{IsFaultTold};
 

@@ -4,7 +4,7 @@ ghost use Rattle.dds_answers.specs.Answers.{Gives};
 ghost use Rattle.dds_answers.specs.Fault.{IsAnswerFault};
 ghost use Rattle.dds_answers.specs.Outcome.{Outcome, unproposed};
 ghost use Rattle.dds_answers.specs.Searches.{MayFind};
-ghost use Rattle.dds_deploy_file.specs.Sections.{read as deployment_read};
+ghost use Rattle.dds_deploy_file.specs.Document.{read as deployment_read};
 
 use crate::answer::{Answer, certified};
 use crate::fault::ToolFault;

@@ -15,14 +15,15 @@ use Rattle.dds_base.specs.Pairs.{stands}
 use Rattle.dds_fields.specs.Reading.{Read, ◌>>=◌, or_fault, a_name, a_known_name, field, optional, where_present}
 use Rattle.dds_base.proofs.Lists.{list_any-map}
 use Rattle.dds_fields.proofs.Laws.{bind_ok, ok_is, found_is, known_within, field_is}
+use Rattle.dds_fields.proofs.Passing.{none_pass}
 use Rattle.dds_deploy.specs.Lists.{Writer, Reader, Lists, keys_at, all_keys}
 use Rattle.dds_deploy.specs.WellFormed.{filter_at, writer_key_count, AreDistinctBy, NamesOnce}
-use Rattle.dds_deploy_file.proofs.Distinct.{none_pass}
 use Rattle.dds_match.specs.Plan.{hears, writes_key}
 use Rattle.dds_cert.specs.Fits.{is_distinct, keys_differ}
 use Rattle.dds_cert.specs.Named.{same_place}
 use Rattle.dds_cert.specs.Naming.{writer_keys, reader_keys}
-use Rattle.dds_cert_file.specs.Sections.{passing, heard_key, a_heard_key, one_key, keys_of_entry, reader_and_keys, writer_and_keys, any_stands}
+use Rattle.dds_cert_file.specs.Keys.{passing, heard_key, a_heard_key, one_key, keys_of_entry, reader_and_keys, writer_and_keys}
+use Rattle.dds_cert_file.specs.Adding.{any_stands}
 use Rattle.dds_cert.proofs.DistinctLaws.{not_before, is_distinct-append}
 
 -- the endpoint has each of the keys, and none stands twice

@@ -13,7 +13,13 @@ use Rattle.dds_cert.specs.declared.certificate.Bound.{Bound}
 use Rattle.dds_cert.specs.declared.certificate.Total.{Total}
 use Rattle.dds_cert.specs.Lists.{Row}
 use Rattle.dds_cert.specs.Naming.{writer_keys}
-use Rattle.dds_cert_file.specs.Sections.{heard_key, a_heard_key, one_key, keys_of_entry, reader_and_keys, writer_and_keys, any_stands, may_add, and_more, weight_number, bound_number, weight_place, weights_of, reader_weight_entry, reader_weight, reader_weights, writer_weight_entry, writer_weight, writer_weights, row_names, row_entry, row_lists, row, rows, bound_entry, row_and_bound, bounds_of, bound, bounds, total_entry, total, totals, head, certificate, read}
+use Rattle.dds_cert_file.specs.Keys.{heard_key, a_heard_key, one_key, keys_of_entry, reader_and_keys, writer_and_keys}
+use Rattle.dds_cert_file.specs.Adding.{any_stands, may_add, and_more}
+use Rattle.dds_cert_file.specs.Weights.{weight_number, weight_place, weights_of, reader_weight_entry, reader_weight, reader_weights, writer_weight_entry, writer_weight, writer_weights}
+use Rattle.dds_cert_file.specs.Rows.{row_names, row_entry, row_lists, row, rows}
+use Rattle.dds_cert_file.specs.Bounds.{bound_number, bound_entry, row_and_bound, bounds_of, bound, bounds}
+use Rattle.dds_cert_file.specs.Totals.{total_entry, total, totals}
+use Rattle.dds_cert_file.specs.Document.{head, certificate, read}
 use Rattle.dds_cert.specs.Named.{bound_place, has_total}
 
 heard_key_common : (d : Lists) (r : ℕ) (path : List ℕ) (x : Data) → FaultsAre is_common (a_heard_key d r path x)

@@ -23,7 +23,13 @@ use Rattle.dds_cert.specs.declared.certificate.Bound.{Bound}
 use Rattle.dds_cert.specs.declared.certificate.Total.{Total}
 use Rattle.dds_cert.specs.Lists.{Row, Certificate}
 use Rattle.dds_cert.specs.Fits.{is_distinct, weights_fit, row_fits, names_differ, rows_fit, bounds_fit, totals_fit, fits}
-use Rattle.dds_cert_file.specs.Sections.{reader_and_keys, writer_and_keys, any_stands, may_add, and_more, weight_number, weight_place, weights_of, and_weights, reader_weight_entry, reader_weight, reader_weights, writer_weight_entry, writer_weight, writer_weights, row_names, row_entry, row_lists, row, rows, bound_entry, row_and_bound, bound_number, bounds_of, bound, bounds, total_entry, total, totals, head, certificate, read}
+use Rattle.dds_cert_file.specs.Keys.{reader_and_keys, writer_and_keys}
+use Rattle.dds_cert_file.specs.Adding.{any_stands, may_add, and_more}
+use Rattle.dds_cert_file.specs.Weights.{weight_number, weight_place, weights_of, and_weights, reader_weight_entry, reader_weight, reader_weights, writer_weight_entry, writer_weight, writer_weights}
+use Rattle.dds_cert_file.specs.Rows.{row_names, row_entry, row_lists, row, rows}
+use Rattle.dds_cert_file.specs.Bounds.{bound_entry, row_and_bound, bound_number, bounds_of, bound, bounds}
+use Rattle.dds_cert_file.specs.Totals.{total_entry, total, totals}
+use Rattle.dds_cert_file.specs.Document.{head, certificate, read}
 use Rattle.dds_cert.specs.Named.{bound_place, has_total}
 use Rattle.dds_cert.proofs.DistinctLaws.{is_distinct-push}
 use Rattle.dds_cert.proofs.FitLaws.{first_of_both, second_of_both}

@@ -10,7 +10,13 @@ use Rattle.dds_fields.specs.Document.{version, document}
 use Rattle.dds_qos.specs.declared.policies.WriterQos.{WriterQos}
 use Rattle.dds_qos.specs.declared.policies.ReaderQos.{ReaderQos}
 use Rattle.dds_deploy.specs.Lists.{Lists}
-use Rattle.dds_cert_file.specs.Sections.{a_heard_key, one_key, keys_of_entry, reader_and_keys, writer_and_keys, may_add, and_more, weight_number, bound_number, reader_weight_entry, reader_weight, reader_weights, writer_weight_entry, writer_weight, writer_weights, row_entry, row_lists, row, rows, bound_entry, row_and_bound, bound, bounds, total_entry, total, totals, head, certificate, read}
+use Rattle.dds_cert_file.specs.Keys.{a_heard_key, one_key, keys_of_entry, reader_and_keys, writer_and_keys}
+use Rattle.dds_cert_file.specs.Adding.{may_add, and_more}
+use Rattle.dds_cert_file.specs.Weights.{weight_number, reader_weight_entry, reader_weight, reader_weights, writer_weight_entry, writer_weight, writer_weights}
+use Rattle.dds_cert_file.specs.Rows.{row_entry, row_lists, row, rows}
+use Rattle.dds_cert_file.specs.Bounds.{bound_number, bound_entry, row_and_bound, bound, bounds}
+use Rattle.dds_cert_file.specs.Totals.{total_entry, total, totals}
+use Rattle.dds_cert_file.specs.Document.{head, certificate, read}
 
 -- `unfolding certificates_on_literals` computes what a literal file reads as
 unfoldable pub certificates_on_literals : Unit {0}

@@ -3,7 +3,7 @@ ghost use Rattle.std.specs.Prelude.{◌≡◌, ◌+◌, ◌++◌, length, map, n
 ghost use Rattle.dds_fields.specs.Gives.{Gives};
 ghost use Rattle.dds_fields.specs.Places.{place_text};
 ghost use Rattle.dds_cert.specs.Fits.{keys_differ};
-ghost use Rattle.dds_cert_file.specs.Sections.{any_stands, may_add};
+ghost use Rattle.dds_cert_file.specs.Adding.{any_stands, may_add};
 
 use dds_base::{KeyNo, Pairs};
 use dds_fields::fault::{FaultKind, ReadFault, refuse};
@@ -26,7 +26,7 @@ fn has_room(before: usize, more: usize) -> bool
 
 /// Whether the endpoint may be named with these keys, in a list with so many before: Duplicate at the entry where one of the
 /// pairs stands already, then TooMany at the list.
-#[tactic(auto, unfolding(crate::specs::Sections::may_add))]
+#[tactic(auto, unfolding(crate::specs::Adding::may_add))]
 pub(crate) fn may_add(
     alloc: Global,
     list: &Place,

@@ -5,7 +5,7 @@ ghost use Rattle.dds_fields.specs.Reading.{each};
 ghost use Rattle.dds_fields.specs.Gives.{Gives};
 ghost use Rattle.dds_fields.specs.Places.{place_text};
 ghost use Rattle.dds_cert.specs.Named.{bound_place};
-ghost use Rattle.dds_cert_file.specs.Sections.{bound_number, row_and_bound, bound_entry, bounds_of, bound, bounds};
+ghost use Rattle.dds_cert_file.specs.Bounds.{bound_number, row_and_bound, bound_entry, bounds_of, bound, bounds};
 
 use crate::adding::{may_add, name_keys};
 use crate::keys::reader_and_keys;
@@ -19,7 +19,7 @@ use std::alloc::{AllocError, Global};
 use toml::{Table, Value};
 
 // 0 to 4,294,967,295.
-#[tactic(auto, unfolding(crate::specs::Sections::bound_number))]
+#[tactic(auto, unfolding(crate::specs::Bounds::bound_number))]
 fn bound_number(alloc: Global, path: &Place, table: &Table) -> Result<u32, ReadFault>
     ensures { Gives (λ n. n) result (bound_number (place_text path.now) (table_view table.now)) }
 {
@@ -27,7 +27,7 @@ fn bound_number(alloc: Global, path: &Place, table: &Table) -> Result<u32, ReadF
 }
 
 /// The row that an entry names, and the number that the row is to show.
-#[tactic(auto, unfolding(crate::specs::Sections::row_and_bound))]
+#[tactic(auto, unfolding(crate::specs::Bounds::row_and_bound))]
 pub(crate) fn row_and_bound(
     alloc: Global,
     rows: &Names,
@@ -41,7 +41,7 @@ pub(crate) fn row_and_bound(
     Ok((row, bound))
 }
 
-#[tactic(auto, unfolding(crate::specs::Sections::bound_entry))]
+#[tactic(auto, unfolding(crate::specs::Bounds::bound_entry))]
 fn bound_entry<'a>(alloc: Global, path: &Place, value: &'a Value) -> Result<&'a Table, ReadFault>
     ensures { Gives (λ t. table_view t.now) result (bound_entry (place_text path.now) (view value.now)) }
 {
@@ -71,7 +71,7 @@ fn push_bounds(
 }
 
 // `named` has the readers and keys of `all`.
-#[tactic(auto, unfolding(crate::specs::Sections::bound, crate::specs::Sections::and_more))]
+#[tactic(auto, unfolding(crate::specs::Bounds::bound, crate::specs::Adding::and_more))]
 fn add_bound(
     alloc: Global,
     version: u32,
@@ -121,7 +121,7 @@ fn each_bound(
 }
 
 /// The bounds of a document, whose rows have these names.
-#[tactic(auto, unfolding(crate::specs::Sections::bounds, dds_fields::specs::Paths::key_path))]
+#[tactic(auto, unfolding(crate::specs::Bounds::bounds, dds_fields::specs::Paths::key_path))]
 pub(crate) fn bounds(
     alloc: Global,
     version: u32,

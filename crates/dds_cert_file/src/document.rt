@@ -5,7 +5,7 @@ ghost use Rattle.dds_fields.specs.Gives.{Gives, Answers};
 ghost use Rattle.dds_match.specs.Plan.{network_of};
 ghost use Rattle.dds_cert_file.specs.Faults.{cert_flaw};
 ghost use Rattle.dds_cert.specs.Fits.{fits};
-ghost use Rattle.dds_cert_file.specs.Sections.{head, certificate, read};
+ghost use Rattle.dds_cert_file.specs.Document.{head, certificate, read};
 ghost use Rattle.dds_cert.specs.Views.{certificate_view};
 
 use crate::bounds::bounds;
@@ -22,7 +22,7 @@ use dds_match::Plan;
 use std::alloc::Global;
 use toml::Table;
 
-#[tactic(auto, unfolding(crate::specs::Sections::head))]
+#[tactic(auto, unfolding(crate::specs::Document::head))]
 fn head(alloc: Global, table: &Table) -> Result<u32, ReadFault>
     ensures { Gives (λ v. v) result (head (table_view table.now)) }
 {
@@ -36,7 +36,7 @@ fn head(alloc: Global, table: &Table) -> Result<u32, ReadFault>
     Ok(version)
 }
 
-#[tactic(auto, unfolding(crate::specs::Sections::certificate))]
+#[tactic(auto, unfolding(crate::specs::Document::certificate))]
 fn certificate_of(
     alloc: Global,
     lists: &Deployment,
@@ -55,7 +55,7 @@ fn certificate_of(
     })
 }
 
-#[tactic(auto, unfolding(crate::specs::Sections::read))]
+#[tactic(auto, unfolding(crate::specs::Document::read))]
 fn read_lists(alloc: Global, lists: &Deployment, bytes: &[u8]) -> Result<Certificate, ReadFault>
     ensures { Gives certificate_view result (read lists.now bytes.now) }
 {

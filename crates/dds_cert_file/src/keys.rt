@@ -9,7 +9,7 @@ ghost use Rattle.dds_deploy.specs.Lists.{all_keys};
 ghost use Rattle.dds_deploy.specs.WellFormed.{filter_at};
 ghost use Rattle.dds_cert.specs.Fits.{keys_differ};
 ghost use Rattle.dds_cert.specs.Naming.{reader_keys, writer_keys};
-ghost use Rattle.dds_cert_file.specs.Sections.{heard_key, a_heard_key, one_key, keys_of_entry, reader_and_keys, writer_and_keys};
+ghost use Rattle.dds_cert_file.specs.Keys.{heard_key, a_heard_key, one_key, keys_of_entry, reader_and_keys, writer_and_keys};
 
 use dds_base::{KeyNo, Names, ReaderNo, WriterNo};
 use dds_cert::naming::{keys_of_reader, keys_of_writer};
@@ -39,7 +39,7 @@ fn heard_key(lists: &Deployment, reader: ReaderNo, name: &str) -> Option<KeyNo>
     }
 }
 
-#[tactic(auto, unfolding(crate::specs::Sections::a_heard_key))]
+#[tactic(auto, unfolding(crate::specs::Keys::a_heard_key))]
 fn heard_key_of(
     alloc: Global,
     lists: &Deployment,
@@ -57,7 +57,7 @@ fn heard_key_of(
     }
 }
 
-#[tactic(auto, unfolding(crate::specs::Sections::one_key))]
+#[tactic(auto, unfolding(crate::specs::Keys::one_key))]
 fn one_heard_key(
     alloc: Global,
     lists: &Deployment,
@@ -80,7 +80,7 @@ fn filter_of(alloc: Global, lists: &Deployment, reader: ReaderNo) -> Result<Vec<
 }
 
 // The keys of the reader's filter that an entry stands for.
-#[tactic(auto, unfolding(crate::specs::Sections::keys_of_entry, dds_fields::specs::Reading::field, dds_fields::specs::Reading::optional))]
+#[tactic(auto, unfolding(crate::specs::Keys::keys_of_entry, dds_fields::specs::Reading::field, dds_fields::specs::Reading::optional))]
 fn heard_keys(
     alloc: Global,
     version: u32,
@@ -106,7 +106,7 @@ fn heard_keys(
     }
 }
 
-#[tactic(auto, unfolding(crate::specs::Sections::one_key))]
+#[tactic(auto, unfolding(crate::specs::Keys::one_key))]
 fn one_known_key(
     alloc: Global,
     names: &Names,
@@ -131,7 +131,7 @@ fn every_key(alloc: Global, names: &Names) -> Result<Vec<KeyNo>, AllocError>
 }
 
 // The keys with these names that an entry stands for.
-#[tactic(auto, unfolding(crate::specs::Sections::keys_of_entry, dds_fields::specs::Reading::field, dds_fields::specs::Reading::optional))]
+#[tactic(auto, unfolding(crate::specs::Keys::keys_of_entry, dds_fields::specs::Reading::field, dds_fields::specs::Reading::optional))]
 fn known_keys(
     alloc: Global,
     version: u32,
@@ -188,7 +188,7 @@ fn writer_field(
 
 /// The reader that an entry names, and the keys of its filter that the entry stands for: the one that it names, and from version 2
 /// on, where it names none, the whole filter in its order.
-#[tactic(auto, unfolding(crate::specs::Sections::reader_and_keys))]
+#[tactic(auto, unfolding(crate::specs::Keys::reader_and_keys))]
 pub(crate) fn reader_and_keys(
     alloc: Global,
     version: u32,
@@ -208,7 +208,7 @@ pub(crate) fn reader_and_keys(
 
 /// The writer that an entry names, and the keys of its topic that the entry stands for: the one that it names, and from version 2
 /// on, where it names none, all of them in the topic's order.
-#[tactic(auto, unfolding(crate::specs::Sections::writer_and_keys))]
+#[tactic(auto, unfolding(crate::specs::Keys::writer_and_keys))]
 pub(crate) fn writer_and_keys(
     alloc: Global,
     version: u32,

@@ -4,7 +4,7 @@ ghost use Rattle.toml.specs.View.{view, items_view, table_view};
 ghost use Rattle.dds_fields.specs.Reading.{each};
 ghost use Rattle.dds_fields.specs.Gives.{Gives};
 ghost use Rattle.dds_fields.specs.Places.{place_text};
-ghost use Rattle.dds_cert_file.specs.Sections.{row_names, row_entry, row_lists, row, rows};
+ghost use Rattle.dds_cert_file.specs.Rows.{row_names, row_entry, row_lists, row, rows};
 ghost use Rattle.dds_cert.specs.Views.{row_view};
 
 use crate::weights::{reader_weights, writer_weights};
@@ -24,14 +24,14 @@ pub(crate) struct NamedRows {
     pub(crate) rows: Vec<Row>,
 }
 
-#[tactic(auto, unfolding(crate::specs::Sections::row_entry))]
+#[tactic(auto, unfolding(crate::specs::Rows::row_entry))]
 fn row_entry<'a>(alloc: Global, path: &Place, value: &'a Value) -> Result<&'a Table, ReadFault>
     ensures { Gives (λ t. table_view t.now) result (row_entry (place_text path.now) (view value.now)) }
 {
     entry(alloc, &["name", "samples", "takes", "permits"], path, value)
 }
 
-#[tactic(auto, unfolding(crate::specs::Sections::row_lists))]
+#[tactic(auto, unfolding(crate::specs::Rows::row_lists))]
 fn row_lists(
     alloc: Global,
     version: u32,
@@ -56,7 +56,7 @@ fn row_lists(
 }
 
 // `names` has the names of `all`.
-#[tactic(auto, unfolding(crate::specs::Sections::row))]
+#[tactic(auto, unfolding(crate::specs::Rows::row))]
 fn add_row(
     alloc: Global,
     version: u32,
@@ -101,7 +101,7 @@ fn each_row(
 }
 
 /// The rows of a document, with their names.
-#[tactic(auto, unfolding(crate::specs::Sections::rows, dds_fields::specs::Paths::key_path))]
+#[tactic(auto, unfolding(crate::specs::Rows::rows, dds_fields::specs::Paths::key_path))]
 pub(crate) fn rows(
     alloc: Global,
     version: u32,

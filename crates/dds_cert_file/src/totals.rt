@@ -5,12 +5,13 @@ ghost use Rattle.dds_fields.specs.Reading.{each};
 ghost use Rattle.dds_fields.specs.Gives.{Gives};
 ghost use Rattle.dds_fields.specs.Places.{place_text};
 ghost use Rattle.dds_cert.specs.Named.{has_total};
-ghost use Rattle.dds_cert_file.specs.Sections.{total_entry, total, totals};
+ghost use Rattle.dds_cert_file.specs.Totals.{total_entry, total, totals};
 
 use crate::bounds::row_and_bound;
 use crate::keys::reader_field;
 use dds_base::{Names, ReaderNo};
 use dds_cert::Total;
+use dds_cert::named::has_total;
 use dds_deploy::Deployment;
 use dds_fields::fault::{FaultKind, ReadFault, refuse};
 use dds_fields::field::{entry, section};
@@ -18,7 +19,7 @@ use dds_fields::place::Place;
 use std::alloc::Global;
 use toml::{Table, Value};
 
-#[tactic(auto, unfolding(crate::specs::Sections::total_entry))]
+#[tactic(auto, unfolding(crate::specs::Totals::total_entry))]
 fn total_entry<'a>(alloc: Global, path: &Place, value: &'a Value) -> Result<&'a Table, ReadFault>
     ensures { Gives (λ t. table_view t.now) result (total_entry (place_text path.now) (view value.now)) }
 {
@@ -26,7 +27,7 @@ fn total_entry<'a>(alloc: Global, path: &Place, value: &'a Value) -> Result<&'a 
 }
 
 // There are at most 256 totals, so those before are looked through.
-#[tactic(auto, unfolding(crate::specs::Sections::total))]
+#[tactic(auto, unfolding(crate::specs::Totals::total))]
 fn add_total(
     alloc: Global,
     lists: &Deployment,
@@ -68,7 +69,7 @@ fn each_total(
 }
 
 /// The totals of a document, whose rows have these names.
-#[tactic(auto, unfolding(crate::specs::Sections::totals, dds_fields::specs::Paths::key_path))]
+#[tactic(auto, unfolding(crate::specs::Totals::totals, dds_fields::specs::Paths::key_path))]
 pub(crate) fn totals(
     alloc: Global,
     lists: &Deployment,

@@ -5,7 +5,8 @@ ghost use Rattle.dds_fields.specs.Reading.{each, optional};
 ghost use Rattle.dds_fields.specs.Gives.{Gives};
 ghost use Rattle.dds_fields.specs.Places.{place_text};
 ghost use Rattle.dds_cert.specs.Fits.{keys_differ};
-ghost use Rattle.dds_cert_file.specs.Sections.{any_stands, and_more, weight_place, weight_number, reader_weight_entry, reader_weight, reader_weights, writer_weight_entry, writer_weight, writer_weights};
+ghost use Rattle.dds_cert_file.specs.Adding.{any_stands, and_more};
+ghost use Rattle.dds_cert_file.specs.Weights.{weight_place, weight_number, reader_weight_entry, reader_weight, reader_weights, writer_weight_entry, writer_weight, writer_weights};
 
 use crate::adding::{may_add, name_keys};
 use crate::keys::{reader_and_keys, writer_and_keys};
@@ -19,7 +20,7 @@ use std::alloc::{AllocError, Global};
 use toml::{Table, Value};
 
 // 0 to 4,294,967,295.
-#[tactic(auto, unfolding(crate::specs::Sections::weight_number))]
+#[tactic(auto, unfolding(crate::specs::Weights::weight_number))]
 fn weight_number(alloc: Global, path: &Place, table: &Table) -> Result<u32, ReadFault>
     ensures { Gives (λ n. n) result (weight_number (place_text path.now) (table_view table.now)) }
 {
@@ -46,7 +47,7 @@ fn push_weights<E: Endpoint>(
 }
 
 // The same weight for each of the keys. `named` has the endpoints and keys of `all`.
-#[tactic(auto, unfolding(crate::specs::Sections::and_more))]
+#[tactic(auto, unfolding(crate::specs::Adding::and_more))]
 fn add_weights<E: Endpoint>(
     alloc: Global,
     list: &Place,
@@ -68,7 +69,7 @@ fn add_weights<E: Endpoint>(
     Ok(())
 }
 
-#[tactic(auto, unfolding(crate::specs::Sections::reader_weight_entry))]
+#[tactic(auto, unfolding(crate::specs::Weights::reader_weight_entry))]
 fn reader_weight_entry<'a>(
     alloc: Global,
     path: &Place,
@@ -80,7 +81,7 @@ fn reader_weight_entry<'a>(
 }
 
 // `named` has the readers and keys of `all`.
-#[tactic(auto, unfolding(crate::specs::Sections::reader_weight))]
+#[tactic(auto, unfolding(crate::specs::Weights::reader_weight))]
 fn add_reader_weight(
     alloc: Global,
     version: u32,
@@ -124,7 +125,7 @@ fn each_reader_weight(
     Ok(all)
 }
 
-#[tactic(auto, unfolding(crate::specs::Sections::reader_weights))]
+#[tactic(auto, unfolding(crate::specs::Weights::reader_weights))]
 fn reader_weights_of(
     alloc: Global,
     version: u32,
@@ -159,7 +160,7 @@ pub(crate) fn reader_weights(
     }
 }
 
-#[tactic(auto, unfolding(crate::specs::Sections::writer_weight_entry))]
+#[tactic(auto, unfolding(crate::specs::Weights::writer_weight_entry))]
 fn writer_weight_entry<'a>(
     alloc: Global,
     path: &Place,
@@ -171,7 +172,7 @@ fn writer_weight_entry<'a>(
 }
 
 // `named` has the writers and keys of `all`.
-#[tactic(auto, unfolding(crate::specs::Sections::writer_weight))]
+#[tactic(auto, unfolding(crate::specs::Weights::writer_weight))]
 fn add_writer_weight(
     alloc: Global,
     version: u32,
@@ -215,7 +216,7 @@ fn each_writer_weight(
     Ok(all)
 }
 
-#[tactic(auto, unfolding(crate::specs::Sections::writer_weights))]
+#[tactic(auto, unfolding(crate::specs::Weights::writer_weights))]
 fn writer_weights_of(
     alloc: Global,
     version: u32,

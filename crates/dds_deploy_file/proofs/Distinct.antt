@@ -15,17 +15,11 @@ use Rattle.toml.specs.Data.{Data, Items}
 use Rattle.dds_fields.specs.Reading.{Read, each}
 use Rattle.dds_base.specs.Section.{Listed, nothing}
 use Rattle.dds_fields.proofs.Laws.{each-keeps}
+use Rattle.dds_fields.proofs.Passing.{none_pass}
 use Rattle.dds_deploy.specs.declared.lists.Origin.{Origin}
 use Rattle.dds_deploy.specs.Lists.{Rule, Rules, no_rules}
 use Rattle.dds_deploy.specs.WellFormed.{AreDistinctBy, AreNumbered}
 use Rattle.dds_deploy_file.proofs.Pushes.{Pushes, Adds, AddsRules}
-
-none_pass_each : {A : Type 0} (p : A → Bool) (xs : List A) → list_any p xs ≡ false → AllByRecursion (λ x. p x ≡ false) xs
-none_pass_each p [] e = tt
-none_pass_each p (x ∷ xs) e = let two = neither (p x) (list_any p xs) e in (two.0, none_pass_each p xs two.1)
-
-pub none_pass : {A : Type 0} (p : A → Bool) (xs : List A) → list_any p xs ≡ false → All (λ x. p x ≡ false) xs
-none_pass p xs e = All-from_recursion (λ x. p x ≡ false) xs (none_pass_each p xs e)
 
 -- an element that shows the same would pass
 pub none_shows : {A B : Type 0} (shown : A → B) (p : A → Bool) (xs : List A) (x : A) → ((y : A) → shown y ≡ shown x → p y ≡ true) → list_any p xs ≡ false → All (λ y. shown y ≡ shown x → ⊥) xs

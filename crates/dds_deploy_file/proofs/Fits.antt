@@ -3,7 +3,7 @@ use Rattle.std.proofs.Common.{◌≡◌, ℕ, ◌≤◌, Ok, None, length, All}
 use Rattle.dds_qos.specs.Consistency.{consistency_fault}
 use Rattle.toml.specs.Data.{Members}
 use Rattle.dds_deploy.specs.Lists.{Participant, Topic, Writer, Reader, Rule, Lists}
-use Rattle.dds_deploy_file.specs.Sections.{lists}
+use Rattle.dds_deploy_file.specs.Document.{lists}
 use Rattle.dds_deploy.specs.WellFormed.{IsDeployment, IsWellFormed, IsWriterOf, IsReaderOf, IsRuleOf, NamesOnce, AreNumbered, AreDistinctBy, endpoint_and_key, IsConsistent, IsCounted, IsOwned, IsApplicationOf, KeepsToItsOwn}
 use Rattle.dds_deploy_file.proofs.ListsRead.{lists_read, read_all, rules_named_once}
 use Rattle.dds_deploy_file.proofs.FitsEndpoints.{none_is, few_keys, some_keys, keys_numbered, writer_fits, reader_fits, filter_distinct}

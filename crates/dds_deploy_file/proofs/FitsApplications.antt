@@ -16,7 +16,7 @@ use Rattle.dds_base.specs.Section.{Listed}
 use Rattle.dds_fields.specs.Paths.{index_path}
 use Rattle.dds_fields.proofs.Laws.{bind_ok, ok_is}
 use Rattle.dds_deploy.specs.Lists.{Participant, Writer, Reader, Application, Lists, has}
-use Rattle.dds_deploy_file.specs.Sections.{may_own, writer_participant, reader_participant, own, own_writers, own_readers, application, application_fields, application_list, applications, without_owner, are_owned}
+use Rattle.dds_deploy_file.specs.Applications.{may_own, writer_participant, reader_participant, own, own_writers, own_readers, application, application_fields, application_list, applications, without_owner, are_owned}
 use Rattle.dds_deploy.specs.WellFormed.{AreDistinctBy, IsApplicationOf, IsOwnedOnce}
 use Rattle.dds_deploy_file.proofs.Pushes.{optional_keeps, pushes_all}
 use Rattle.dds_deploy_file.proofs.Distinct.{none_shows, pushes_distinct, distinct_nothing}

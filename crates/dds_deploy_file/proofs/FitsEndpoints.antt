@@ -17,7 +17,9 @@ use Rattle.dds_base.specs.Section.{Listed}
 use Rattle.dds_fields.proofs.Laws.{bind_ok, ok_is}
 use Rattle.dds_deploy.specs.Lists.{Topic, Writer, Reader, Lists, keys_at, all_keys}
 use Rattle.dds_deploy_file.specs.Policies.{policies, partitions, timing, delivery, history_kind, depth, history, resource_limits}
-use Rattle.dds_deploy_file.specs.Sections.{key, writer_fields, reader_fields, filter, filter_key}
+use Rattle.dds_deploy_file.specs.Topics.{key}
+use Rattle.dds_deploy_file.specs.Writers.{writer_fields}
+use Rattle.dds_deploy_file.specs.Readers.{reader_fields, filter, filter_key}
 use Rattle.dds_deploy.specs.WellFormed.{IsWriterOf, IsReaderOf, KeepsWithin, AreNumbered, AreDistinctBy}
 use Rattle.dds_deploy_file.proofs.Pushes.{optional_keeps, each_counts, push_size, pushes_few, pushes_all}
 use Rattle.dds_deploy_file.proofs.Distinct.{pushes_distinct, pushes_numbered, none_shows}

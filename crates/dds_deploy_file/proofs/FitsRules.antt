@@ -17,9 +17,12 @@ use Rattle.dds_base.specs.Section.{Listed}
 use Rattle.dds_fields.proofs.Laws.{bind_ok, ok_is, found_is, within}
 use Rattle.dds_deploy.specs.declared.lists.Origin.{Origin}
 use Rattle.dds_deploy.specs.Lists.{Topic, Writer, Reader, Application, Rule, Lists, keys_at, writers_at, readers_at, has, reader_topic, writer_topic, all_keys, key_name}
-use Rattle.dds_deploy_file.specs.Each.{EachRule}
+use Rattle.dds_deploy_file.specs.Each.{EachRule, share, each_takes, each_writes, each_rule}
 use Rattle.dds_deploy.specs.WellFormed.{filter_at, AreRules, IsTakeOf, IsWriteOf, IsRuleOf, IsConnectionOf, IsCounted, KeepsToItsOwn, AreDistinctBy, endpoint_and_key}
-use Rattle.dds_deploy_file.specs.Sections.{is_named, portion, takes, writes, share, each_takes, each_writes, each_rule, key_to_take, key_to_write, is_common, first_topic, common_keys, portion_at, rule_for, rules_for, origins_for, keys_to_expand, expanded, plain_rule, single, rule_fields, rules, connection, connections}
+use Rattle.dds_deploy_file.specs.Endpoints.{key_to_take, key_to_write}
+use Rattle.dds_deploy_file.specs.Expansion.{is_common, first_topic, common_keys, portion_at, rule_for, rules_for, origins_for, keys_to_expand, expanded}
+use Rattle.dds_deploy_file.specs.Rules.{is_named, portion, takes, writes, plain_rule, single, rule_fields, rules}
+use Rattle.dds_deploy_file.specs.Connections.{connection, connections}
 use Rattle.dds_deploy_file.proofs.Pushes.{optional_keeps, pushes_few, pushes_all, AreOf}
 use Rattle.dds_deploy_file.proofs.ListsRead.{rules_hold, rules_are_listed}
 use Rattle.dds_deploy_file.proofs.Distinct.{pushes_distinct, distinct_nothing, none_shows}

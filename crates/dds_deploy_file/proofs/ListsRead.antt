@@ -10,7 +10,14 @@ use Rattle.dds_base.specs.Section.{Listed, nothing}
 use Rattle.dds_fields.proofs.Laws.{bind_ok, ok_is, each-keeps}
 use Rattle.dds_deploy.specs.declared.lists.Origin.{Origin}
 use Rattle.dds_deploy.specs.Lists.{Participant, Topic, Writer, Reader, Application, Rule, Rules, Lists}
-use Rattle.dds_deploy_file.specs.Sections.{lists, endpoints, participant, participants, topic, topics, writer, writers, reader, readers, applications, rule, rules, connections}
+use Rattle.dds_deploy_file.specs.Participants.{participant, participants}
+use Rattle.dds_deploy_file.specs.Topics.{topic, topics}
+use Rattle.dds_deploy_file.specs.Writers.{writer, writers}
+use Rattle.dds_deploy_file.specs.Readers.{reader, readers}
+use Rattle.dds_deploy_file.specs.Applications.{applications}
+use Rattle.dds_deploy_file.specs.Rules.{rule, rules}
+use Rattle.dds_deploy_file.specs.Connections.{connections}
+use Rattle.dds_deploy_file.specs.Document.{lists, endpoints}
 use Rattle.dds_deploy.specs.WellFormed.{IsListOf, AreRules, AreNumbered}
 use Rattle.dds_deploy_file.proofs.Pushes.{Adds, adds_listed, AreOf, rules_listed, rules_all}
 use Rattle.dds_deploy_file.proofs.Distinct.{adds_numbered, rules_numbered}

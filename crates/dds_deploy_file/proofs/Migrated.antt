@@ -16,7 +16,14 @@ use Rattle.dds_deploy_file.proofs.Pushes.{passed}
 use Rattle.dds_deploy_file.proofs.Readings.{both}
 use Rattle.dds_deploy.specs.Lists.{Participant, Topic, Writer, Reader, Application, Rules, no_rules, Lists}
 use Rattle.dds_deploy_file.specs.Migration.{AgreeElsewhere, IsMigrated, version_of}
-use Rattle.dds_deploy_file.specs.Sections.{participant, participants, topic, topics, writer, writers, reader, readers, application, connection, endpoints, application_list, applications, rule_entry, rule, rules, connections, head, lists, deployment, read_up_to}
+use Rattle.dds_deploy_file.specs.Participants.{participant, participants}
+use Rattle.dds_deploy_file.specs.Topics.{topic, topics}
+use Rattle.dds_deploy_file.specs.Writers.{writer, writers}
+use Rattle.dds_deploy_file.specs.Readers.{reader, readers}
+use Rattle.dds_deploy_file.specs.Applications.{application, application_list, applications}
+use Rattle.dds_deploy_file.specs.Rules.{rule_entry, rule, rules}
+use Rattle.dds_deploy_file.specs.Connections.{connection, connections}
+use Rattle.dds_deploy_file.specs.Document.{endpoints, head, lists, deployment, read_up_to}
 
 -- what only the names of the longer list allow is allowed too
 more_listed : (one more : List (List ℕ)) → ((k : List ℕ) → list_any (bytes_eq k) one ≡ true → list_any (bytes_eq k) more ≡ true) → (keys : List (List ℕ)) → unlisted one keys ≡ [] → unlisted more keys ≡ []

@@ -23,9 +23,17 @@ use Rattle.dds_fields.proofs.Laws.{bind_ok, found_is}
 use Rattle.dds_base.specs.declared.portion.Portion.{Portion}
 use Rattle.dds_deploy.specs.declared.lists.Origin.{Origin}
 use Rattle.dds_deploy.specs.Lists.{Participant, Topic, Writer, Reader, Application, Rule, Rules, no_rules, Lists}
-use Rattle.dds_deploy_file.specs.Each.{EachRule}
+use Rattle.dds_deploy_file.specs.Each.{EachRule, share, each_takes, each_writes, each_rule}
 use Rattle.dds_deploy_file.specs.Policies.{policies, timing, presentation, durability, access_scope, coherent, ordered, duration, deadline, latency_budget, delivery, ownership, liveliness, liveliness_kind, lease, reliability, destination_order, history, history_kind, depth, resource_limits, max_samples, max_instances, max_samples_per_instance, partition, partition_list, partitions, policy_keys}
-use Rattle.dds_deploy_file.specs.Sections.{participant, participant_entry, participants, key, keys, topic, topic_entry, topics, writer, writer_entry, writer_fields, writers, filter_key, filter, reader, reader_entry, reader_fields, readers, own, own_writers, own_readers, application, application_entry, application_fields, application_list, applications, portion, share, takes, writes, each_takes, each_writes, each_rule, expanded, plain_rule, single, rule, rule_entry, rule_fields, rules, connection, connection_entry, connections, head, endpoints, lists, deployment}
+use Rattle.dds_deploy_file.specs.Participants.{participant, participant_entry, participants}
+use Rattle.dds_deploy_file.specs.Topics.{key, keys, topic, topic_entry, topics}
+use Rattle.dds_deploy_file.specs.Writers.{writer, writer_entry, writer_fields, writers}
+use Rattle.dds_deploy_file.specs.Readers.{filter_key, filter, reader, reader_entry, reader_fields, readers}
+use Rattle.dds_deploy_file.specs.Applications.{own, own_writers, own_readers, application, application_entry, application_fields, application_list, applications}
+use Rattle.dds_deploy_file.specs.Expansion.{expanded}
+use Rattle.dds_deploy_file.specs.Rules.{portion, takes, writes, plain_rule, single, rule, rule_entry, rule_fields, rules}
+use Rattle.dds_deploy_file.specs.Connections.{connection, connection_entry, connections}
+use Rattle.dds_deploy_file.specs.Document.{head, endpoints, lists, deployment}
 use Rattle.dds_deploy_file.proofs.Ascending.{document_in_order}
 use Rattle.dds_deploy_file.proofs.Pushes.{passed}
 use Rattle.dds_deploy_file.proofs.Migrated.{only_is}

@@ -16,7 +16,14 @@ use Rattle.dds_fields.specs.Paths.{key_path}
 use Rattle.dds_fields.proofs.Laws.{bind_ok, ok_is, field_is, found_is, known_within}
 use Rattle.dds_deploy.specs.declared.lists.Origin.{Origin}
 use Rattle.dds_deploy.specs.Lists.{Participant, Topic, Writer, Reader, Application, Rule, Rules, and_rules, has}
-use Rattle.dds_deploy_file.specs.Sections.{participant, participant_entry, key, keys, topic, topic_entry, writer, writer_fields, writer_entry, reader, reader_fields, reader_entry, filter_key, own, may_own, application, application_entry, application_fields, is_named, rule, rule_entry, rule_fields, may_share, connection, connection_entry, free_key, portion, share}
+use Rattle.dds_deploy_file.specs.Participants.{participant, participant_entry}
+use Rattle.dds_deploy_file.specs.Topics.{key, keys, topic, topic_entry}
+use Rattle.dds_deploy_file.specs.Writers.{writer, writer_fields, writer_entry}
+use Rattle.dds_deploy_file.specs.Readers.{reader, reader_fields, reader_entry, filter_key}
+use Rattle.dds_deploy_file.specs.Applications.{own, may_own, application, application_entry, application_fields}
+use Rattle.dds_deploy_file.specs.Each.{may_share, share}
+use Rattle.dds_deploy_file.specs.Rules.{is_named, rule, rule_entry, rule_fields, free_key, portion}
+use Rattle.dds_deploy_file.specs.Connections.{connection, connection_entry}
 use Rattle.dds_deploy.specs.WellFormed.{IsCounted}
 use Rattle.dds_deploy_file.proofs.Pushes.{passed, few_items, few_in_section, new_name, Pushes, Adds, AddsRules}
 

@@ -1,4 +1,13 @@
+pub mod Participants
+pub mod Topics
+pub mod Writers
+pub mod Readers
+pub mod Applications
+pub mod Endpoints
 pub mod Each
+pub mod Expansion
+pub mod Rules
+pub mod Connections
+pub mod Document
 pub mod Policies
-pub mod Sections
 pub mod Migration

@@ -7,7 +7,7 @@ use Rattle.dds_fields.specs.declared.fault.FaultKind.TheVariants.{NotToml}
 use Rattle.dds_fields.specs.Reading.{Read, ◌>>=◌, or_fault, field}
 use Rattle.dds_fields.specs.Document.{version, document}
 use Rattle.dds_deploy.specs.Lists.{Lists}
-use Rattle.dds_deploy_file.specs.Sections.{read_up_to, read}
+use Rattle.dds_deploy_file.specs.Document.{read_up_to, read}
 
 -- the version that a file names
 unfoldable pub version_of : List ℕ → Read ℕ

@@ -7,7 +7,7 @@ ghost use Rattle.dds_fields.specs.Gives.{Gives};
 ghost use Rattle.dds_base.specs.Section.{Listed, listed};
 ghost use Rattle.dds_fields.specs.Places.{place_text};
 ghost use Rattle.dds_deploy.specs.Lists.{Application as ApplicationView, has};
-ghost use Rattle.dds_deploy_file.specs.Sections.{may_own, own, application_entry, application_fields, application, application_list, without_owner, are_owned, applications};
+ghost use Rattle.dds_deploy_file.specs.Applications.{may_own, own, application_entry, application_fields, application, application_list, without_owner, are_owned, applications};
 ghost use Rattle.dds_deploy.specs.Views.{participant_view, writer_view, reader_view, application_view};
 
 use crate::endpoints::Endpoints;
@@ -70,7 +70,7 @@ impl<E: Endpoints> Items for Own<'_, E> {
 
     ghost step = { λ it. own (E.names it.endpoints.now) E.owned_by (E.participant_of it.endpoints.now) (listed application_view it.others.now) it.participant };
 
-    #[tactic(auto, unfolding(crate::specs::Sections::own))]
+    #[tactic(auto, unfolding(crate::specs::Applications::own))]
     fn add(
         &self,
         alloc: Global,
@@ -87,7 +87,7 @@ impl<E: Endpoints> Items for Own<'_, E> {
     }
 }
 
-#[tactic(auto, unfolding(crate::specs::Sections::application_fields))]
+#[tactic(auto, unfolding(crate::specs::Applications::application_fields))]
 fn application_fields(
     alloc: Global,
     participants: &Section<Participant>,
@@ -122,7 +122,7 @@ fn application_fields(
     })
 }
 
-#[tactic(auto, unfolding(crate::specs::Sections::application_entry))]
+#[tactic(auto, unfolding(crate::specs::Applications::application_entry))]
 fn application_entry<'a>(
     alloc: Global,
     path: &Place,
@@ -155,7 +155,7 @@ impl Items for ApplicationEntries<'_> {
 
     ghost step = { λ it. application (listed participant_view it.participants.now) (listed writer_view it.writers.now) (listed reader_view it.readers.now) };
 
-    #[tactic(auto, unfolding(crate::specs::Sections::application))]
+    #[tactic(auto, unfolding(crate::specs::Applications::application))]
     fn add(
         &self,
         alloc: Global,
@@ -217,7 +217,7 @@ fn without_owner<E: Endpoints>(applications: &Section<Application>, count: usize
 
 // Whether each endpoint of the section at this key has an application. The fault is told at its entry there, not at an
 // application.
-#[tactic(auto, unfolding(crate::specs::Sections::are_owned, dds_fields::specs::Paths::key_path))]
+#[tactic(auto, unfolding(crate::specs::Applications::are_owned, dds_fields::specs::Paths::key_path))]
 fn are_owned<E: Endpoints>(
     alloc: Global,
     key: &str,
@@ -244,7 +244,7 @@ fn are_owned<E: Endpoints>(
 
 /// The section `applications`, at most 64 entries, which own each of the writers and readers once, or its first fault. An
 /// absent section has none.
-#[tactic(auto, unfolding(crate::specs::Sections::applications))]
+#[tactic(auto, unfolding(crate::specs::Applications::applications))]
 pub(crate) fn applications(
     alloc: Global,
     participants: &Section<Participant>,

@@ -4,7 +4,7 @@ ghost use Rattle.toml.specs.View.{view, table_view};
 ghost use Rattle.dds_fields.specs.Gives.{Gives};
 ghost use Rattle.dds_fields.specs.Places.{place_text};
 ghost use Rattle.dds_base.specs.Section.{listed};
-ghost use Rattle.dds_deploy_file.specs.Sections.{connection_entry, connection, connections};
+ghost use Rattle.dds_deploy_file.specs.Connections.{connection_entry, connection, connections};
 ghost use Rattle.dds_deploy.specs.Views.{writer_view, reader_view};
 
 use dds_base::{Pairs, Section};
@@ -16,7 +16,7 @@ use dds_fields::place::Place;
 use std::alloc::Global;
 use toml::{Table, Value};
 
-#[tactic(auto, unfolding(crate::specs::Sections::connection_entry))]
+#[tactic(auto, unfolding(crate::specs::Connections::connection_entry))]
 fn connection_entry<'a>(
     alloc: Global,
     path: &Place,
@@ -43,7 +43,7 @@ impl Items for ConnectionEntries<'_> {
 
     ghost step = { λ it. connection (listed writer_view it.writers.now) (listed reader_view it.readers.now) };
 
-    #[tactic(auto, unfolding(crate::specs::Sections::connection))]
+    #[tactic(auto, unfolding(crate::specs::Connections::connection))]
     fn add(
         &self,
         alloc: Global,

@@ -3,7 +3,7 @@ ghost use Rattle.std.specs.Prelude.{◌≡◌};
 ghost use Rattle.toml.specs.View.{table_view};
 ghost use Rattle.dds_fields.specs.Gives.{Gives};
 ghost use Rattle.dds_base.specs.Section.{listed};
-ghost use Rattle.dds_deploy_file.specs.Sections.{head, endpoints, lists, deployment, read};
+ghost use Rattle.dds_deploy_file.specs.Document.{head, endpoints, lists, deployment, read};
 ghost use Rattle.dds_deploy.specs.Views.{participant_view, topic_view, writer_view, reader_view};
 
 use crate::applications::applications;
@@ -23,7 +23,7 @@ use dds_fields::place::Place;
 use std::alloc::Global;
 use toml::Table;
 
-#[tactic(auto, unfolding(crate::specs::Sections::head))]
+#[tactic(auto, unfolding(crate::specs::Document::head))]
 fn head(alloc: Global, newest: u32, table: &Table) -> Result<u32, DeployFault>
     ensures { Gives (λ v. v) result (head newest (table_view table.now)) }
 {
@@ -42,7 +42,7 @@ fn head(alloc: Global, newest: u32, table: &Table) -> Result<u32, DeployFault>
     Ok(version)
 }
 
-#[tactic(auto, unfolding(crate::specs::Sections::endpoints))]
+#[tactic(auto, unfolding(crate::specs::Document::endpoints))]
 fn endpoints(
     alloc: Global,
     table: &Table,
@@ -64,7 +64,7 @@ fn endpoints(
     Ok((participants, topics, writers, readers))
 }
 
-#[tactic(auto, unfolding(crate::specs::Sections::lists))]
+#[tactic(auto, unfolding(crate::specs::Document::lists))]
 fn lists(alloc: Global, version: u32, table: &Table) -> Result<Deployment, DeployFault>
     ensures { Gives (λ d. d) result (lists version (table_view table.now)) }
 {
@@ -89,7 +89,7 @@ fn lists(alloc: Global, version: u32, table: &Table) -> Result<Deployment, Deplo
     ))
 }
 
-#[tactic(auto, unfolding(crate::specs::Sections::deployment))]
+#[tactic(auto, unfolding(crate::specs::Document::deployment))]
 pub(crate) fn deployment_of(
     alloc: Global,
     newest: u32,
@@ -132,7 +132,7 @@ pub(crate) fn deployment_of(
 /// missing, then that its kind is wrong, then what is wrong with its value; of a name BadName before Duplicate and
 /// UnknownName; of a list TooMany before its elements. Endpoints without an owner are told after all applications, writers
 /// before readers.
-#[tactic(auto, unfolding(crate::specs::Sections::read_up_to))]
+#[tactic(auto, unfolding(crate::specs::Document::read_up_to))]
 pub fn read_deployment(alloc: Global, bytes: &[u8]) -> Result<Deployment, DeployFault>
     ensures { Gives (λ d. d) result (read bytes.now) }
 {

@@ -4,9 +4,8 @@ ghost use Rattle.toml.specs.View.{table_view};
 ghost use Rattle.dds_fields.specs.Gives.{Gives};
 ghost use Rattle.dds_fields.specs.Places.{place_text};
 ghost use Rattle.dds_base.specs.Section.{listed};
-ghost use Rattle.dds_deploy_file.specs.Sections.{may_share, share, each_rule};
+ghost use Rattle.dds_deploy_file.specs.Each.{may_share, share, each_rule, each_rule_view};
 ghost use Rattle.dds_deploy.specs.Views.{writer_view, reader_view, application_view};
-ghost use Rattle.dds_deploy_file.specs.Each.{each_rule_view};
 
 use crate::applications::owned_at;
 use crate::endpoints::Endpoints;
@@ -54,7 +53,7 @@ impl<E: Endpoints> Items for ShareEntries<'_, E> {
 
     ghost step = { λ it. share E.word (E.names it.endpoints.now) (E.numbers it.own.now) };
 
-    #[tactic(auto, unfolding(crate::specs::Sections::share))]
+    #[tactic(auto, unfolding(crate::specs::Each::share))]
     fn add(
         &self,
         alloc: Global,
@@ -74,7 +73,7 @@ impl<E: Endpoints> Items for ShareEntries<'_, E> {
 }
 
 /// The fields of a rule of the application with `each`.
-#[tactic(auto, unfolding(crate::specs::Sections::each_rule))]
+#[tactic(auto, unfolding(crate::specs::Each::each_rule))]
 pub(crate) fn each_rule(
     alloc: Global,
     known: &Known,

@@ -5,7 +5,9 @@ ghost use Rattle.dds_base.specs.Names.{number_of};
 ghost use Rattle.dds_base.specs.declared.portion.Portion.{Portion as PortionView};
 ghost use Rattle.dds_base.specs.Section.{Listed, listed};
 ghost use Rattle.dds_deploy.specs.Lists.{Application as ApplicationView, Topic as TopicView, keys_at, has, writer_topic, reader_topic};
-ghost use Rattle.dds_deploy_file.specs.Sections.{writer_participant, reader_participant, key_to_write, key_to_take, is_named};
+ghost use Rattle.dds_deploy_file.specs.Applications.{writer_participant, reader_participant};
+ghost use Rattle.dds_deploy_file.specs.Endpoints.{key_to_write, key_to_take};
+ghost use Rattle.dds_deploy_file.specs.Rules.{is_named};
 ghost use Rattle.dds_deploy.specs.Views.{topic_view, writer_view, reader_view, application_view};
 
 use dds_base::{Endpoint, KeyNo, Names, ParticipantNo, Portion, ReaderNo, Section, WriterNo};

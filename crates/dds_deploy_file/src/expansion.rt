@@ -6,7 +6,7 @@ ghost use Rattle.dds_fields.specs.Gives.{Gives};
 ghost use Rattle.dds_fields.specs.Places.{place_text};
 ghost use Rattle.dds_base.specs.Section.{listed};
 ghost use Rattle.dds_deploy.specs.Lists.{keys_at, key_name};
-ghost use Rattle.dds_deploy_file.specs.Sections.{is_common, first_topic, common_keys, portion_at, rule_for, rules_for, origins_for, keys_to_expand, expanded, within_room};
+ghost use Rattle.dds_deploy_file.specs.Expansion.{is_common, first_topic, common_keys, portion_at, rule_for, rules_for, origins_for, keys_to_expand, expanded, within_room};
 ghost use Rattle.dds_deploy.specs.Views.{topic_view, writer_view, reader_view, application_view, rule_view};
 ghost use Rattle.dds_deploy_file.specs.Each.{each_rule_view};
 
@@ -220,7 +220,7 @@ pub(crate) fn has_room(before: usize, more: usize) -> bool
 
 /// The rules of an entry with `each` and where they come from, or the first fault of its fields; RuleEntry at the entry where
 /// its endpoints have no key in common. None where they would be more than 256 with those before; no memory is taken for them then.
-#[tactic(auto, unfolding(crate::specs::Sections::expanded))]
+#[tactic(auto, unfolding(crate::specs::Expansion::expanded))]
 pub(crate) fn expanded(
     alloc: Global,
     known: &Known,

@@ -5,7 +5,7 @@ ghost use Rattle.toml.specs.View.{table_view};
 ghost use Rattle.dds_fields.specs.Gives.{Fails};
 ghost use Rattle.dds_fields.specs.Reading.{keys_of};
 ghost use Rattle.dds_deploy_file.specs.Migration.{AgreeElsewhere, IsMigrated};
-ghost use Rattle.dds_deploy_file.specs.Sections.{read_up_to};
+ghost use Rattle.dds_deploy_file.specs.Document.{read_up_to};
 
 use crate::document::deployment_of;
 use dds_fields::document::document_of;
@@ -33,7 +33,7 @@ fn set_version(alloc: Global, table: &mut Table) -> Result<(), AllocError>
 ///
 /// An `Err` is the file's first fault as a file of version 1, with the numbers and paths of `read_deployment`, so that a file of
 /// version 2 is refused as 2 WrongVersion at `version`; or it is 14 NoMemory.
-#[tactic(auto, unfolding(crate::specs::Sections::read_up_to))]
+#[tactic(auto, unfolding(crate::specs::Document::read_up_to))]
 pub fn migrate(alloc: Global, bytes: &[u8]) -> Result<String, DeployFault>
     ensures text { IfOk result (λ s. IsMigrated bytes.now (string_bytes s)) }
     ensures fault { IfErr result (λ e. Fails e (read_up_to 1 bytes.now)) }

@@ -5,7 +5,7 @@ ghost use Rattle.dds_fields.specs.Gives.{Gives};
 ghost use Rattle.dds_base.specs.Section.{Listed, listed};
 ghost use Rattle.dds_fields.specs.Places.{place_text};
 ghost use Rattle.dds_deploy.specs.Lists.{Participant as ParticipantView};
-ghost use Rattle.dds_deploy_file.specs.Sections.{participant_entry, participant, participants};
+ghost use Rattle.dds_deploy_file.specs.Participants.{participant_entry, participant, participants};
 ghost use Rattle.dds_deploy.specs.Views.{participant_view};
 
 use dds_base::Section;
@@ -17,7 +17,7 @@ use dds_fields::place::Place;
 use std::alloc::Global;
 use toml::{Table, Value};
 
-#[tactic(auto, unfolding(crate::specs::Sections::participant_entry))]
+#[tactic(auto, unfolding(crate::specs::Participants::participant_entry))]
 fn participant_entry<'a>(
     alloc: Global,
     path: &Place,
@@ -41,7 +41,7 @@ impl Items for ParticipantEntries {
 
     ghost step = { λ _. participant };
 
-    #[tactic(auto, unfolding(crate::specs::Sections::participant))]
+    #[tactic(auto, unfolding(crate::specs::Participants::participant))]
     fn add(
         &self,
         alloc: Global,

@@ -6,7 +6,7 @@ ghost use Rattle.dds_base.specs.Section.{Listed, listed};
 ghost use Rattle.dds_fields.specs.Places.{place_text};
 ghost use Rattle.dds_fields.specs.Reading.{optional};
 ghost use Rattle.dds_deploy.specs.Lists.{Reader as ReaderView, keys_at, has, all_keys};
-ghost use Rattle.dds_deploy_file.specs.Sections.{filter_key, filter, reader_fields, reader_entry, reader, readers};
+ghost use Rattle.dds_deploy_file.specs.Readers.{filter_key, filter, reader_fields, reader_entry, reader, readers};
 ghost use Rattle.dds_deploy.specs.Views.{participant_view, topic_view, reader_view};
 
 use crate::policies::{partitions, policies};
@@ -48,7 +48,7 @@ impl Items for FilterKeys<'_> {
 
     ghost step = { λ it. filter_key it.names.now };
 
-    #[tactic(auto, unfolding(crate::specs::Sections::filter_key))]
+    #[tactic(auto, unfolding(crate::specs::Readers::filter_key))]
     fn add(
         &self,
         alloc: Global,
@@ -102,7 +102,7 @@ fn filter_field(
     }
 }
 
-#[tactic(auto, unfolding(crate::specs::Sections::reader_fields))]
+#[tactic(auto, unfolding(crate::specs::Readers::reader_fields))]
 fn reader_fields(
     alloc: Global,
     participants: &Section<Participant>,
@@ -126,7 +126,7 @@ fn reader_fields(
     })
 }
 
-#[tactic(auto, unfolding(crate::specs::Sections::reader_entry))]
+#[tactic(auto, unfolding(crate::specs::Readers::reader_entry))]
 fn reader_entry<'a>(alloc: Global, path: &Place, value: &'a Value) -> Result<&'a Table, ReadFault>
     ensures { Gives (λ t. table_view t.now) result (reader_entry (place_text path.now) (view value.now)) }
 {
@@ -172,7 +172,7 @@ impl Items for ReaderEntries<'_> {
 
     ghost step = { λ it. reader (listed participant_view it.participants.now) (listed topic_view it.topics.now) };
 
-    #[tactic(auto, unfolding(crate::specs::Sections::reader))]
+    #[tactic(auto, unfolding(crate::specs::Readers::reader))]
     fn add(
         &self,
         alloc: Global,

@@ -6,7 +6,8 @@ ghost use Rattle.dds_fields.specs.Gives.{Gives};
 ghost use Rattle.dds_fields.specs.Places.{place_text};
 ghost use Rattle.dds_base.specs.Section.{listed};
 ghost use Rattle.dds_deploy.specs.Lists.{Rules as RulesView, has};
-ghost use Rattle.dds_deploy_file.specs.Sections.{free_key, portion, plain_rule, single, within_room, rule_entry, rule_fields, rule, rules};
+ghost use Rattle.dds_deploy_file.specs.Expansion.{within_room};
+ghost use Rattle.dds_deploy_file.specs.Rules.{free_key, portion, plain_rule, single, rule_entry, rule_fields, rule, rules};
 ghost use Rattle.dds_deploy.specs.Views.{topic_view, writer_view, reader_view, application_view, rule_view, rules_view};
 
 use crate::applications::owned_at;
@@ -56,7 +57,7 @@ impl<E: Endpoints> Items for PortionEntries<'_, E> {
 
     ghost step = { λ it. portion E.word (E.names it.endpoints.now) (E.numbers it.own.now) (E.key_at it.endpoints.now (listed topic_view it.topics.now)) };
 
-    #[tactic(auto, unfolding(crate::specs::Sections::portion))]
+    #[tactic(auto, unfolding(crate::specs::Rules::portion))]
     fn add(
         &self,
         alloc: Global,
@@ -79,7 +80,7 @@ impl<E: Endpoints> Items for PortionEntries<'_, E> {
 }
 
 // The one rule of an entry without `each`.
-#[tactic(auto, unfolding(crate::specs::Sections::plain_rule))]
+#[tactic(auto, unfolding(crate::specs::Rules::plain_rule))]
 fn plain_rule(
     alloc: Global,
     known: &Known,
@@ -127,7 +128,7 @@ fn plain_rule(
     })
 }
 
-#[tactic(auto, unfolding(crate::specs::Sections::single))]
+#[tactic(auto, unfolding(crate::specs::Rules::single))]
 fn single(
     alloc: Global,
     known: &Known,
@@ -151,7 +152,7 @@ fn single(
     Ok(Some((origins, rules)))
 }
 
-#[tactic(auto, unfolding(crate::specs::Sections::rule_fields))]
+#[tactic(auto, unfolding(crate::specs::Rules::rule_fields))]
 fn rule_fields(
     alloc: Global,
     known: &Known,
@@ -172,7 +173,7 @@ fn rule_fields(
     }
 }
 
-#[tactic(auto, unfolding(crate::specs::Sections::rule_entry))]
+#[tactic(auto, unfolding(crate::specs::Rules::rule_entry))]
 fn rule_entry<'a>(
     alloc: Global,
     version: u32,
@@ -214,7 +215,7 @@ impl Items for RuleEntries<'_> {
 
     ghost step = { λ it. rule it.version (listed topic_view it.known.topics.now) (listed writer_view it.known.writers.now) (listed reader_view it.known.readers.now) (listed application_view it.known.applications.now) };
 
-    #[tactic(auto, unfolding(crate::specs::Sections::rule))]
+    #[tactic(auto, unfolding(crate::specs::Rules::rule))]
     fn add(
         &self,
         alloc: Global,

@@ -6,7 +6,7 @@ ghost use Rattle.dds_base.specs.Section.{Listed, listed};
 ghost use Rattle.dds_fields.specs.Places.{place_text};
 ghost use Rattle.dds_fields.specs.Reading.{field};
 ghost use Rattle.dds_deploy.specs.Lists.{Topic as TopicView};
-ghost use Rattle.dds_deploy_file.specs.Sections.{key, keys, topic_entry, topic, topics};
+ghost use Rattle.dds_deploy_file.specs.Topics.{key, keys, topic_entry, topic, topics};
 ghost use Rattle.dds_deploy.specs.Views.{topic_view};
 
 use dds_base::{Names, Section};
@@ -31,7 +31,7 @@ impl Items for TopicKeys {
 
     ghost step = { λ _. key };
 
-    #[tactic(auto, unfolding(crate::specs::Sections::key))]
+    #[tactic(auto, unfolding(crate::specs::Topics::key))]
     fn add(
         &self,
         alloc: Global,
@@ -45,7 +45,7 @@ impl Items for TopicKeys {
     }
 }
 
-#[tactic(auto, using(dds_fields::proofs::Each::count_view), unfolding(crate::specs::Sections::keys))]
+#[tactic(auto, using(dds_fields::proofs::Each::count_view), unfolding(crate::specs::Topics::keys))]
 fn keys_of(alloc: Global, path: &Place, value: &Value) -> Result<Names, ReadFault>
     ensures { Gives (λ n. n) result (keys (place_text path.now) (view value.now)) }
 {
@@ -65,7 +65,7 @@ fn keys_field(alloc: Global, path: &Place, table: &Table, key: &str) -> Result<N
     keys_of(alloc, &at, value)
 }
 
-#[tactic(auto, unfolding(crate::specs::Sections::topic_entry))]
+#[tactic(auto, unfolding(crate::specs::Topics::topic_entry))]
 fn topic_entry<'a>(alloc: Global, path: &Place, value: &'a Value) -> Result<&'a Table, ReadFault>
     ensures { Gives (λ t. table_view t.now) result (topic_entry (place_text path.now) (view value.now)) }
 {
@@ -85,7 +85,7 @@ impl Items for TopicEntries {
 
     ghost step = { λ _. topic };
 
-    #[tactic(auto, unfolding(crate::specs::Sections::topic))]
+    #[tactic(auto, unfolding(crate::specs::Topics::topic))]
     fn add(
         &self,
         alloc: Global,

@@ -5,7 +5,7 @@ ghost use Rattle.dds_fields.specs.Gives.{Gives};
 ghost use Rattle.dds_base.specs.Section.{Listed, listed};
 ghost use Rattle.dds_fields.specs.Places.{place_text};
 ghost use Rattle.dds_deploy.specs.Lists.{Writer as WriterView};
-ghost use Rattle.dds_deploy_file.specs.Sections.{writer_fields, writer_entry, writer, writers};
+ghost use Rattle.dds_deploy_file.specs.Writers.{writer_fields, writer_entry, writer, writers};
 ghost use Rattle.dds_deploy.specs.Views.{participant_view, topic_view, writer_view};
 
 use crate::policies::{partitions, policies};
@@ -19,7 +19,7 @@ use dds_qos::{Reliability, WriterQos, consistent_writer};
 use std::alloc::Global;
 use toml::{Table, Value};
 
-#[tactic(auto, unfolding(crate::specs::Sections::writer_fields))]
+#[tactic(auto, unfolding(crate::specs::Writers::writer_fields))]
 fn writer_fields(
     alloc: Global,
     participants: &Section<Participant>,
@@ -41,7 +41,7 @@ fn writer_fields(
     })
 }
 
-#[tactic(auto, unfolding(crate::specs::Sections::writer_entry))]
+#[tactic(auto, unfolding(crate::specs::Writers::writer_entry))]
 fn writer_entry<'a>(alloc: Global, path: &Place, value: &'a Value) -> Result<&'a Table, ReadFault>
     ensures { Gives (λ t. table_view t.now) result (writer_entry (place_text path.now) (view value.now)) }
 {
@@ -86,7 +86,7 @@ impl Items for WriterEntries<'_> {
 
     ghost step = { λ it. writer (listed participant_view it.participants.now) (listed topic_view it.topics.now) };
 
-    #[tactic(auto, unfolding(crate::specs::Sections::writer))]
+    #[tactic(auto, unfolding(crate::specs::Writers::writer))]
     fn add(
         &self,
         alloc: Global,

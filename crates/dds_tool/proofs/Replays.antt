@@ -8,7 +8,7 @@ use Rattle.dds_fields.specs.Gives.{Fails}
 use Rattle.dds_fields.specs.declared.fault.ReadFault.{ReadFault}
 use Rattle.dds_fields.specs.declared.fault.ReadFault.TheVariants as unread
 use Rattle.dds_deploy.specs.Lists.{Lists}
-use Rattle.dds_deploy_file.specs.Sections.{read}
+use Rattle.dds_deploy_file.specs.Document.{read}
 use Rattle.dds_match.specs.Plan.{network_of}
 use Rattle.dds_check.specs.Steps.{Event, Reply}
 use Rattle.dds_check.specs.Runs.{IsRun}

@@ -3,7 +3,7 @@ use Rattle.std.specs.Prelude.{ℕ, ◌≡◌, ◌≢◌, ◌⊎◌, Bool, true, 
 use Rattle.std.specs.Fmt.{decimal}
 use Rattle.dds_fields.specs.Reading.{Read}
 use Rattle.dds_deploy.specs.Lists.{Lists}
-use Rattle.dds_deploy_file.specs.Sections as deployment
+use Rattle.dds_deploy_file.specs.Document as deployment
 use Rattle.dds_match.specs.Plan.{network_of}
 use Rattle.dds_cert.specs.Lists.{Certificate}
 use Rattle.dds_cert.specs.Naming.{name_at, reader_key}

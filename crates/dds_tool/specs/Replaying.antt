@@ -2,7 +2,7 @@
 use Rattle.std.specs.Prelude.{codes, ℕ, ◌≡◌, ◌⊎◌, Bool, true, false, List, length, map, nat_le, ◌&&◌, Ok, Err, string_bytes}
 use Rattle.dds_fields.specs.Reading.{Read}
 use Rattle.dds_deploy.specs.Lists.{Lists}
-use Rattle.dds_deploy_file.specs.Sections as deployment
+use Rattle.dds_deploy_file.specs.Document as deployment
 use Rattle.dds_match.specs.Plan.{network_of}
 use Rattle.dds_check.specs.Steps.{Event, Reply}
 use Rattle.dds_check.specs.Runs.{IsRun}

@@ -2,7 +2,7 @@
 ghost use Rattle.std.specs.Prelude.{◌≡◌, Ok, IfErr, IfOk, string_bytes};
 ghost use Rattle.dds_answers.specs.Answers.{GivesOneOf};
 ghost use Rattle.dds_answers.specs.Fault.{IsAnswerFault};
-ghost use Rattle.dds_deploy_file.specs.Sections.{read as deployment_read};
+ghost use Rattle.dds_deploy_file.specs.Document.{read as deployment_read};
 ghost use Rattle.dds_tool.specs.Refuting.{MayRefute, is_safe, known_text, loss_name, refuted_text, told_known, unknown_word, unsafe_line};
 
 use crate::refute_document::known_line;

@@ -5,7 +5,7 @@ ghost use Rattle.dds_check.specs.Runs.{IsRun};
 ghost use Rattle.dds_domain.specs.Standing.{paired};
 ghost use Rattle.dds_answers.specs.Answers.{GivesOneOf};
 ghost use Rattle.dds_answers.specs.Fault.{IsAnswerFault};
-ghost use Rattle.dds_deploy_file.specs.Sections.{read as deployment_read};
+ghost use Rattle.dds_deploy_file.specs.Document.{read as deployment_read};
 ghost use Rattle.serde_json.specs.View.{view};
 ghost use Rattle.dds_json.specs.Line.{line_of};
 ghost use Rattle.dds_tool.specs.Replaying.{IsEventsFault, IsReplayed, MayReplay, MayReplayLists, replay_document, told_replay};

@@ -1,5 +1,5 @@
 use Rattle.std.proofs.Common.{true, None, refl, string_bytes}
-use Rattle.dds_deploy_file.specs.Sections.{read_up_to}
+use Rattle.dds_deploy_file.specs.Document.{read_up_to}
 use Rattle.dds_answers.proofs.Migrations.{migrated_ends, unmigrated_ends}
 use Rattle.dds_answers.proofs.answer.migrate_answer.Goals as goal
 

@@ -1,4 +1,4 @@
-use Rattle.dds_deploy_file.specs.Sections.{read}
+use Rattle.dds_deploy_file.specs.Document.{read}
 use Rattle.dds_answers.proofs.Proposals.{unread_ends}
 use Rattle.dds_answers.proofs.answer.propose_answer.Goals as goal
 

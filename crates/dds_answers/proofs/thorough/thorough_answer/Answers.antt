@@ -1,4 +1,4 @@
-use Rattle.dds_deploy_file.specs.Sections.{read}
+use Rattle.dds_deploy_file.specs.Document.{read}
 use Rattle.dds_answers.proofs.Searches.{unread_finds}
 use Rattle.dds_answers.proofs.thorough.thorough_answer.Goals as goal
 

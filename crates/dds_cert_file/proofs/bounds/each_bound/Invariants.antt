@@ -2,7 +2,7 @@ use Rattle.std.proofs.Common.{◌≡◌, [], drop, map}
 use Rattle.toml.specs.View.{items_view}
 use Rattle.dds_fields.specs.Places.{place_text}
 use Rattle.dds_fields.specs.Reading.{each}
-use Rattle.dds_cert_file.specs.Sections.{bound}
+use Rattle.dds_cert_file.specs.Bounds.{bound}
 use Rattle.dds_cert.specs.Named.{bound_place}
 use Rattle.dds_cert_file.proofs.bounds.each_bound.Given as goal
 

@@ -1,5 +1,5 @@
 use Rattle.std.proofs.Common.{◌≡◌, ◌++◌, take}
-use Rattle.dds_cert_file.specs.Sections.{bounds_of}
+use Rattle.dds_cert_file.specs.Bounds.{bounds_of}
 use Rattle.dds_cert_file.proofs.bounds.push_bounds.Given as goal
 
 abbrev pub invariant-loop-key : goal.invariant-loop-key

@@ -6,7 +6,7 @@ use Rattle.dds_deploy.specs.WellFormed.{IsWellFormed}
 use Rattle.dds_match.specs.Plan.{network_of}
 use Rattle.dds_cert_file.specs.Faults.{cert_flaw}
 use Rattle.dds_cert.specs.Fits.{fits}
-use Rattle.dds_cert_file.specs.Sections.{read}
+use Rattle.dds_cert_file.specs.Document.{read}
 use Rattle.dds_cert.specs.Views.{certificate_view}
 use Rattle.dds_cert_file.proofs.KindLaws.{read_common}
 use Rattle.dds_cert_file.proofs.ReadLaws.{read_fits}

@@ -1,7 +1,7 @@
 use Rattle.std.proofs.Common.{refl}
 use Rattle.toml.specs.View.{table_view}
 use Rattle.dds_fields.specs.Places.{place_text}
-use Rattle.dds_cert_file.specs.Sections.{reader_and_keys}
+use Rattle.dds_cert_file.specs.Keys.{reader_and_keys}
 use Rattle.dds_cert_file.proofs.KeyLaws.{reader_and_keys_are}
 use Rattle.dds_cert_file.proofs.keys.reader_and_keys.Goals as goal
 

@@ -1,7 +1,7 @@
 use Rattle.std.proofs.Common.{refl}
 use Rattle.toml.specs.View.{table_view}
 use Rattle.dds_fields.specs.Places.{place_text}
-use Rattle.dds_cert_file.specs.Sections.{writer_and_keys}
+use Rattle.dds_cert_file.specs.Keys.{writer_and_keys}
 use Rattle.dds_cert_file.proofs.KeyLaws.{writer_and_keys_are}
 use Rattle.dds_cert_file.proofs.keys.writer_and_keys.Goals as goal
 

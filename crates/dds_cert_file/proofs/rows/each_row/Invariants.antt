@@ -2,7 +2,7 @@ use Rattle.std.proofs.Common.{◌≡◌, [], drop, map}
 use Rattle.toml.specs.View.{items_view}
 use Rattle.dds_fields.specs.Places.{place_text}
 use Rattle.dds_fields.specs.Reading.{each}
-use Rattle.dds_cert_file.specs.Sections.{row, row_names}
+use Rattle.dds_cert_file.specs.Rows.{row, row_names}
 use Rattle.dds_cert.specs.Views.{row_view}
 use Rattle.dds_cert_file.proofs.rows.each_row.Given as goal
 

@@ -2,7 +2,7 @@ use Rattle.std.proofs.Common.{◌≡◌, [], drop}
 use Rattle.toml.specs.View.{items_view}
 use Rattle.dds_fields.specs.Places.{place_text}
 use Rattle.dds_fields.specs.Reading.{each}
-use Rattle.dds_cert_file.specs.Sections.{total}
+use Rattle.dds_cert_file.specs.Totals.{total}
 use Rattle.dds_cert_file.proofs.totals.each_total.Given as goal
 
 abbrev pub invariant-loop-i : goal.invariant-loop-i

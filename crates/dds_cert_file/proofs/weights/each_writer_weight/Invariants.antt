@@ -2,7 +2,7 @@ use Rattle.std.proofs.Common.{◌≡◌, [], drop, map}
 use Rattle.toml.specs.View.{items_view}
 use Rattle.dds_fields.specs.Places.{place_text}
 use Rattle.dds_fields.specs.Reading.{each}
-use Rattle.dds_cert_file.specs.Sections.{writer_weight, weight_place}
+use Rattle.dds_cert_file.specs.Weights.{writer_weight, weight_place}
 use Rattle.dds_cert_file.proofs.weights.each_writer_weight.Given as goal
 
 abbrev pub invariant-loop-i : goal.invariant-loop-i

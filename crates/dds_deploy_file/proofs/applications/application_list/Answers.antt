@@ -3,7 +3,7 @@ use Rattle.toml.specs.View.{table_view}
 use Rattle.dds_fields.specs.Gives.{Gives}
 use Rattle.dds_base.specs.Section.{nothing, listed}
 use Rattle.dds_fields.specs.Reading.{a_section}
-use Rattle.dds_deploy_file.specs.Sections.{application}
+use Rattle.dds_deploy_file.specs.Applications.{application}
 use Rattle.dds_deploy.specs.Views.{participant_view, writer_view, reader_view, application_view}
 use Rattle.dds_deploy_file.proofs.applications.application_list.Goals as goal
 

@@ -2,7 +2,7 @@ use Rattle.std.proofs.Common.{◌≡◌, ◌-◌, not}
 use Rattle.std.specs.List.{find, list_any, range_with_len}
 use Rattle.dds_base.specs.Section.{listed}
 use Rattle.dds_deploy.specs.Lists.{has}
-use Rattle.dds_deploy_file.specs.Sections.{without_owner}
+use Rattle.dds_deploy_file.specs.Applications.{without_owner}
 use Rattle.dds_deploy.specs.Views.{application_view}
 use Rattle.dds_deploy_file.proofs.applications.without_owner.Given as goal
 

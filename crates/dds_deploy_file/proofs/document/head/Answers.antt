@@ -1,6 +1,6 @@
 use Rattle.std.proofs.lemmas.Result.{err_from_is_err_and}
 use Rattle.dds_fields.proofs.Each.{fails_then}
-use Rattle.dds_deploy_file.specs.Sections.{head}
+use Rattle.dds_deploy_file.specs.Document.{head}
 use Rattle.dds_deploy_file.proofs.document.head.Goals as goal
 
 pub returns-in_err-only : goal.returns-in_err-only

@@ -2,7 +2,7 @@ use Rattle.std.proofs.Common.{refl}
 use Rattle.std.proofs.lemmas.Result.{err_from_is_err_and}
 use Rattle.toml.specs.View.{table_view}
 use Rattle.dds_fields.proofs.Each.{fails_then}
-use Rattle.dds_deploy_file.specs.Sections.{lists}
+use Rattle.dds_deploy_file.specs.Document.{lists}
 use Rattle.dds_deploy_file.proofs.Fits.{lists_keep}
 use Rattle.dds_deploy_file.proofs.document.lists.Goals as goal
 
@@ -24,7 +24,7 @@ returns-in_err-connections c =
     let p = err_from_is_err_and c.from_residual-in_err-connections.result c.from_residual-in_err-connections.ensures.1 in
     rw (p.1, p.2, c.in_ok-participants.ensures, c.in_ok-applications.ensures, c.in_ok-rules.ensures) (fails_then c.in_err-connections.field-0.0 _ _ c.in_err-connections.ensures)
 
-pub invariant_of-result : goal.invariant_of-result
+pub new-requires : goal.new-requires
 unfolding lists
-invariant_of-result c =
+new-requires c =
     lists_keep c.args.version (table_view c.args.table.now) _ (rw (c.in_ok-participants.ensures, c.in_ok-applications.ensures, c.in_ok-rules.ensures, c.in_ok-connections.ensures) refl)

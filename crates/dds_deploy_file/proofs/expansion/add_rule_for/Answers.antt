@@ -1,7 +1,7 @@
 use Rattle.std.proofs.Common.{◌++◌, ◌∷◌, [], map, ap, ◌∙◌}
 use Rattle.dds_base.specs.Section.{listed}
 use Rattle.dds_deploy.specs.Lists.{key_name}
-use Rattle.dds_deploy_file.specs.Sections.{rule_for}
+use Rattle.dds_deploy_file.specs.Expansion.{rule_for}
 use Rattle.dds_deploy.specs.Views.{topic_view, writer_view, reader_view, rule_view}
 use Rattle.dds_deploy_file.specs.Each.{each_rule_view}
 use Rattle.dds_base.proofs.Lists.{mapped_push}

@@ -1,7 +1,7 @@
 use Rattle.std.proofs.Common.{◌≡◌, filter}
 use Rattle.std.specs.List.{range_with_len}
 use Rattle.dds_base.specs.Section.{listed}
-use Rattle.dds_deploy_file.specs.Sections.{is_common}
+use Rattle.dds_deploy_file.specs.Expansion.{is_common}
 use Rattle.dds_deploy.specs.Lists.{key_name}
 use Rattle.dds_deploy.specs.Views.{topic_view, writer_view, reader_view}
 use Rattle.dds_deploy_file.specs.Each.{each_rule_view}

@@ -1,6 +1,6 @@
 use Rattle.std.proofs.Common.{◌≡◌, map, take}
 use Rattle.dds_base.specs.Section.{listed}
-use Rattle.dds_deploy_file.specs.Sections.{portion_at}
+use Rattle.dds_deploy_file.specs.Expansion.{portion_at}
 use Rattle.dds_deploy.specs.Views.{topic_view}
 use Rattle.dds_deploy_file.proofs.expansion.portions_for.Given as goal
 

@@ -1,6 +1,6 @@
 use Rattle.std.proofs.Common.{◌≡◌, map, take}
 use Rattle.dds_base.specs.Section.{listed}
-use Rattle.dds_deploy_file.specs.Sections.{rules_for}
+use Rattle.dds_deploy_file.specs.Expansion.{rules_for}
 use Rattle.dds_deploy.specs.Views.{topic_view, writer_view, reader_view, rule_view}
 use Rattle.dds_deploy_file.specs.Each.{each_rule_view}
 use Rattle.dds_deploy_file.proofs.expansion.rules_for.Given as goal

@@ -1,5 +1,5 @@
 use Rattle.std.proofs.Common.{ap, subst, sym}
-use Rattle.dds_deploy_file.specs.Sections.{read}
+use Rattle.dds_deploy_file.specs.Document.{read}
 use Rattle.dds_answers.specs.Answers.{Gives}
 use Rattle.dds_answers.specs.Outcome.{Outcome, comparison, match_outcome}
 use Rattle.dds_answers.proofs.Telling.{uncompared_ends}

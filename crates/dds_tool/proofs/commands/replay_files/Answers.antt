@@ -1,5 +1,5 @@
 use Rattle.std.proofs.Common.{◌≡◌, ◌<◌, ◌≤◌, ◌∙◌, ℕ, List, Option, ap, Err, IfSome, inl, inr, length, subst}
-use Rattle.dds_deploy_file.specs.Sections.{read}
+use Rattle.dds_deploy_file.specs.Document.{read}
 use Rattle.dds_answers.specs.Answers.{GivesOneOf}
 use Rattle.dds_answers.proofs.Opened.{both_open}
 use Rattle.dds_tool.specs.Replaying.{MayReplay}

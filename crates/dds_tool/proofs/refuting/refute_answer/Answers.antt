@@ -1,4 +1,4 @@
-use Rattle.dds_deploy_file.specs.Sections.{read}
+use Rattle.dds_deploy_file.specs.Document.{read}
 use Rattle.dds_tool.proofs.Refutes.{unrefuted_ends}
 use Rattle.dds_tool.proofs.refuting.refute_answer.Goals as goal
 

@@ -1,4 +1,4 @@
-use Rattle.dds_deploy_file.specs.Sections.{read}
+use Rattle.dds_deploy_file.specs.Document.{read}
 use Rattle.dds_tool.proofs.Replays.{read_replayed, unreplayed_ends}
 use Rattle.dds_tool.proofs.replaying.replay_answer.Goals as goal
 
