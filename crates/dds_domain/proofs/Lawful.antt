@@ -22,7 +22,7 @@ use Rattle.dds_check.specs.First.{◌orElse◌, first_below}
 use Rattle.dds_check.specs.World.{World, is_kept, is_at_hand, is_relevant, opening}
 use Rattle.dds_check.specs.Steps.{after, refusal}
 use Rattle.dds_domain.specs.Noted.{Noted, noted_after, noted_by, noted_changed, noted_packet, opening_notes, put_notes, put_owes}
-use Rattle.dds_domain.specs.Schedule.{acknack_due, as_data, as_gap, due_to, first_by_reader, first_by_writer, first_of_reader, first_of_writer, heartbeat_due, is_reader_of, is_writer_of, send_due, writer_due}
+use Rattle.dds_domain.specs.Schedule.{acknack_due, as_data, as_gap, due_to, first_by_reader, first_by_writer, heartbeat_due, is_reader_of, is_writer_of, send_due, writer_due}
 use Rattle.dds_domain.specs.Standing.{AreReached}
 use Rattle.dds_domain.specs.declared.schedule.Sending.{Sending}
 use Rattle.dds_domain.specs.declared.schedule.Sending.TheVariants.{Data, Gap, Heartbeat, AckNack}
@@ -41,21 +41,22 @@ passing_gives : {A : Type 0} (P : A → Type 0) (b : Bool) (o : Option A) → (b
 passing_gives P true o each e h = each refl e h
 passing_gives P false o each e h = absurd (none-some e h)
 
+-- of pairs, first by the one and then by the other
+pairs_give : (P : Event → Type 0) (own : ℕ → Bool) (pair : ℕ → ℕ → Bool) (f : ℕ → ℕ → Option Event) (n m : ℕ) → ((i j : ℕ) → pair i j ≡ true → (e : Event) → f i j ≡ Some e → P e) →
+    (e : Event) → first_below n (λ i. cond (own i) (first_below m (λ j. cond (pair i j) (f i j) None)) None) ≡ Some e → P e
+pairs_give P own pair f n m each =
+    first_gives P (λ i. cond (own i) (first_below m (λ j. cond (pair i j) (f i j) None)) None) n (λ i.
+    passing_gives P (own i) (first_below m (λ j. cond (pair i j) (f i j) None)) (λ mine.
+    first_gives P (λ j. cond (pair i j) (f i j) None) m (λ j.
+    passing_gives P (pair i j) (f i j) (each i j))))
+
 -- of the matched pairs of a participant's writers
 by_writer_gives : (P : Event → Type 0) (d : Lists) (p : ℕ) (f : ℕ → ℕ → Option Event) → ((w r : ℕ) → matched d w r ≡ true → (e : Event) → f w r ≡ Some e → P e) → (e : Event) → first_by_writer d p f ≡ Some e → P e
-by_writer_gives P d p f each =
-    first_gives P (λ w. cond (is_writer_of d p w) (first_of_writer d w f) None) (length d.writers.entries) (λ w.
-    passing_gives P (is_writer_of d p w) (first_of_writer d w f) (λ own.
-    first_gives P (λ r. cond (matched d w r) (f w r) None) (length d.readers.entries) (λ r.
-    passing_gives P (matched d w r) (f w r) (each w r))))
+by_writer_gives P d p f = pairs_give P (is_writer_of d p) (matched d) f (length d.writers.entries) (length d.readers.entries)
 
 -- and of its readers
 by_reader_gives : (P : Event → Type 0) (d : Lists) (p : ℕ) (f : ℕ → ℕ → Option Event) → ((r w : ℕ) → matched d w r ≡ true → (e : Event) → f r w ≡ Some e → P e) → (e : Event) → first_by_reader d p f ≡ Some e → P e
-by_reader_gives P d p f each =
-    first_gives P (λ r. cond (is_reader_of d p r) (first_of_reader d r f) None) (length d.readers.entries) (λ r.
-    passing_gives P (is_reader_of d p r) (first_of_reader d r f) (λ own.
-    first_gives P (λ w. cond (matched d w r) (f r w) None) (length d.writers.entries) (λ w.
-    passing_gives P (matched d w r) (f r w) (each r w))))
+by_reader_gives P d p f = pairs_give P (is_reader_of d p) (λ r w. matched d w r) f (length d.readers.entries) (length d.writers.entries)
 
 -- ── what a writer's due tells
 -- what is due to a watcher is the DATA of a number that is offered to it

@@ -23,7 +23,9 @@ pub mod StepDeliver
 pub mod StepLose
 pub mod NotesKept
 pub mod NotesSent
+pub mod Sendings
 pub mod NotesReceived
+pub mod Arrivals
 pub mod SchedulePairs
 pub mod ScheduleDue
 pub mod Lawful

@@ -1,4 +1,4 @@
--- Events that leave all notes as they were: refusals, writes, firings, takes, HEARTBEATs that are sent, and losses.
+-- Events that leave all notes as they were, besides refusals: writes, firings, takes, HEARTBEATs that are sent, and losses.
 use Rattle.std.proofs.Common.{◌≡◌, inl, inr, ℕ, ◌<◌, Bool, true, not, ◌&&◌, List, Option, length, get_or, set, refl, sym, ap, subst, ◌∙◌}
 use Rattle.std.proofs.lemmas.Bool.{cases_eq}
 use Rattle.dds_base.specs.Sums.{put}
@@ -6,10 +6,9 @@ use Rattle.dds_base.proofs.SumLaws.{put_at, put_other}
 use Rattle.dds_base.specs.declared.sample.Sample.{Sample}
 use Rattle.dds_base.specs.declared.messages.Packet.{Packet}
 use Rattle.dds_base.specs.declared.events.Event.TheVariants.{Write, Fire, Take, SendHeartbeat, Lose}
-use Rattle.dds_base.specs.declared.events.Reply.TheVariants.{Refused, Written, Fired, Took, Sent, Dropped}
+use Rattle.dds_base.specs.declared.events.Reply.TheVariants.{Written, Fired, Took, Sent, Dropped}
 use Rattle.dds_qos.specs.Notes.{Notes}
 use Rattle.dds_match.specs.Network.{Network}
-use Rattle.dds_check.specs.Steps.{Event, Reply, Refusal}
 use Rattle.dds_rules.specs.Ledger.{LedgerState}
 use Rattle.dds_writer.specs.Proxies.{proxy_of}
 use Rattle.dds_writer.specs.Writer.{WriterState}
@@ -48,16 +47,6 @@ reader_kept net owes xs r x y all b at kind same = set_all (OwesOf net) owes owe
     (λ w t. (λ i. not (kind i) && owes_in w (same i)) ∙ subst (OwesOf net r (owes r)) (sym at) (all r x b) w t)
 
 -- ── steps
--- a step of the notes, where its domains and its reply go by other names
-pub notes_as : (e : Event) (old old' : PartsState) (reply reply' : Reply) (new new' : PartsState) → old ≡ old' → reply' ≡ reply → new' ≡ new → StepsNotes old e reply new → StepsNotes old' e reply' new'
-notes_as e old old' reply reply' new new' olds replies news step =
-    subst (λ z. StepsNotes z e reply' new') olds (subst (λ q. StepsNotes old e q new') (sym replies) (subst (StepsNotes old e reply) (sym news) step))
-
--- a refusal
-pub refused_kept : (d : PartsState) (e : Event) (why : Refusal) → StepsNotes d e (Refused why) d
-unfolding StepsNotes
-refused_kept d e why net v noted known reached s h = h
-
 -- a write
 pub write_kept : (d : PartsState) (w k n : ℕ) (payload : List ℕ) (x y : WriterState) (l : LedgerState) → w < length d.writers → x ≡ get_or d.writers w x → y.proxies ≡ x.proxies → StepsNotes d (Write w k payload) (Written n) (record d { writers = set d.writers w y; ledger = l })
 unfolding StepsNotes

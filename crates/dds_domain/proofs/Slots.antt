@@ -20,6 +20,14 @@ set_back [] i x b e = refl
 set_back (y ∷ ys) zero x b e = ap (λ z. z ∷ ys) e
 set_back (y ∷ ys) (suc i) x b e = ap (λ zs. y ∷ zs) (set_back ys i x (omega arith) e)
 
+-- the element of a number, where the number goes by another name
+pub lent_at : {X : Type 0} (xs : List X) (i j : ℕ) (x : X) → j ≡ i → x ≡ get_or xs j x → x ≡ get_or xs i x
+lent_at xs i j x number item = subst (λ k. x ≡ get_or xs k x) number item
+
+-- it is put back as it was
+pub lent_back : {X : Type 0} (xs : List X) (i j : ℕ) (x y : X) → j ≡ i → x ≡ get_or xs j x → i < length xs → y ≡ x → set xs j y ≡ xs
+lent_back xs i j x y number item b same = (λ k. set xs (number k) (same k)) ∙ set_back xs i x b (lent_at xs i j x number item)
+
 -- what stands at one place is one
 pub same_at : {X : Type 0} (xs : List X) (i : ℕ) (x y : X) → i < length xs → x ≡ get_or xs i x → y ≡ get_or xs i y → x ≡ y
 same_at xs i x y b e f = e ∙ (defaults xs i x y b ∙ sym f)

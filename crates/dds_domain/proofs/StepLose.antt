@@ -1,5 +1,6 @@
 -- A packet is lost.
 use Rattle.std.proofs.Common.{◌≡◌, ℕ, false, None, set, refl, sym, ap, ◌∙◌}
+use Rattle.dds_base.specs.Sums.{put}
 use Rattle.dds_base.specs.declared.events.Event.TheVariants.{Lose}
 use Rattle.dds_base.specs.declared.events.Reply.TheVariants.{Refused, Dropped}
 use Rattle.dds_base.specs.declared.events.Refusal.TheVariants.{NoPacket}
@@ -9,19 +10,11 @@ use Rattle.dds_check.specs.Steps.{is_none_of, take_away}
 use Rattle.dds_domain.specs.Bus.{at_place}
 use Rattle.dds_domain.specs.Standing.{PartsState, Stands, StepsWorld}
 use Rattle.dds_domain.proofs.Buses.{clear_stands}
-use Rattle.dds_domain.proofs.Worlds.{refused, may}
+use Rattle.dds_domain.proofs.Worlds.{bus_changes, may, refused}
 
 -- a place that is freed
 pub taken_away : (net : Network) (v : World) (d : PartsState) (i : ℕ) → Stands net v d → Stands net (take_away v i) (record d { bus = set d.bus i None })
-taken_away net v d i s = record {
-  plan = s.plan;
-  writer_count = s.writer_count;
-  reader_count = s.reader_count;
-  writers = s.writers;
-  readers = s.readers;
-  ledger = record { of = s.ledger.of; permits = s.ledger.permits; spare = s.ledger.spare };
-  bus = clear_stands v.bus d.bus i s.bus;
-}
+taken_away net v d i s = bus_changes net v d v.sent (put v.bus i None) (set d.bus i None) s (clear_stands v.bus d.bus i s.bus)
 
 module _ (d : PartsState) (i : ℕ) where
   pub lose_none : at_place d.bus i ≡ None → StepsWorld d (Lose i) (Refused NoPacket) d

@@ -13,7 +13,7 @@ use Rattle.dds_qos.specs.declared.admission.Admit.{Admit}
 use Rattle.dds_qos.specs.declared.admission.Admit.TheVariants.{Stored, Overwrote, Rejected}
 use Rattle.dds_qos.specs.Reading.{arrival_of, below_first, marked_by}
 use Rattle.dds_qos.specs.Admission.{admission}
-use Rattle.dds_match.specs.Network.{Network, IsNetwork}
+use Rattle.dds_match.specs.Network.{Network, IsNetwork, follows}
 use Rattle.dds_check.specs.World.{World, marked, stored, known_keys}
 use Rattle.dds_check.specs.Steps.{after_data, after_watched, give_up, after_gap, after_heartbeat, store, arrival_of_data}
 use Rattle.dds_check.specs.Facts.{IsWrittenFor}
@@ -120,32 +120,38 @@ receive_data d m x y a at answer marks samples notes rest idle net v known reach
   data_stands d m x y a net v known reached s fact at answer marks samples notes rest idle (net.watcher m.reader) refl,
 )
 
--- ── a GAP
+-- ── what only a reliable reader heeds
+-- the reader of a pair that follows stands for its part of the world
+follower_at : (net : Network) (v : World) (d : PartsState) (w r : ℕ) (x : ReaderState) → IsNetwork net → Stands net v d → follows net w r ≡ true → x ≡ get_or d.readers r x → ReaderStands net r (part_of v r) x
+follower_at net v d w r x known s both at = reader_at net v d r x s (at_reader net v d w r known s (and_parts (net.matched w r) (not (net.watcher r)) both).0) at
+
+-- it marks numbers and hears of others
+heeded : (net : Network) (v : World) (d : PartsState) (w r : ℕ) (y : ReaderState) (irrelevant lost : ℕ → ℕ → ℕ → Bool) (heard : ℕ → ℕ → ℕ) → Stands net v d → follows net w r ≡ true →
+    ((j : ℕ) → r ≢ j → irrelevant j ≡ v.irrelevant j) → ((j : ℕ) → r ≢ j → lost j ≡ v.lost j) → ((j : ℕ) → r ≢ j → heard j ≡ v.heard j) →
+    ReaderStands net r (part_of (arrived v v.received v.overwritten irrelevant lost heard) r) y → Stands net (cond (follows net w r) (arrived v v.received v.overwritten irrelevant lost heard) v) (record d { readers = set d.readers r y })
+heeded net v d w r y irrelevant lost heard s both same same' same'' stands =
+    subst (λ b. Stands net (cond b (arrived v v.received v.overwritten irrelevant lost heard) v) (record d { readers = set d.readers r y })) (sym both)
+    (reader_world net v d r y v.received v.overwritten irrelevant lost heard s (λ j ne. refl) (λ j ne. refl) same same' same'' stands)
+
+-- a GAP
 pub receive_gap : (d : PartsState) (m : GapFor) (x y : ReaderState) (a : Arrival) → x ≡ get_or d.readers m.reader x → a ≡ gap_arrives x m →
     MarksMore x y m.writer (λ n. heeds x m.writer && covers m n) → y.proxies ≡ x.proxies → SameSamples x y → SameReader x y →
     Receives d (Gap m) (Arrived a) (record d { readers = set d.readers m.reader y })
 unfolding Receives
 receive_gap d m x y a at answer marks notes samples rest net v known reached s fact =
-    let within = at_reader net v d m.writer m.reader known s (and_parts (net.matched m.writer m.reader) (not (net.watcher m.reader)) fact.0).0 in
-    let stands = reader_at net v d m.reader x s within at in
-    let reader = gap_stands net v m x y stands rest fact.0 marks notes samples in
-    let new : World = after_gap v m in (
+    let stands = follower_at net v d m.writer m.reader x known s fact.0 at in (
       ap Arrived (answer ∙ gap_is net v m x stands),
-      subst (λ b. Stands net (cond b new v) (record d { readers = set d.readers m.reader y })) (sym fact.0)
-          (reader_world net v d m.reader y v.received v.overwritten new.irrelevant v.lost v.heard s (λ j ne. refl) (λ j ne. refl) (λ j ne. put_other v.irrelevant m.reader j _ ne) (λ j ne. refl) (λ j ne. refl) reader),
+      heeded net v d m.writer m.reader y (after_gap v m).irrelevant v.lost v.heard s fact.0 (λ j ne. put_other v.irrelevant m.reader j _ ne) (λ j ne. refl) (λ j ne. refl) (gap_stands net v m x y stands rest fact.0 marks notes samples),
     )
 
--- ── a HEARTBEAT
+-- a HEARTBEAT
 pub receive_heartbeat : (d : PartsState) (m : HeartbeatFor) (x y : ReaderState) (a : Arrival) → x ≡ get_or d.readers m.reader x → a ≡ heartbeat_arrives x m →
     MarksMore x y m.writer (λ n. heeds x m.writer && below_first m.first n) → y.proxies ≡ cond x.watching x.proxies (hears m.writer m.last x.proxies) → SameSamples x y → SameReader x y →
     Receives d (Heartbeat m) (Arrived a) (record d { readers = set d.readers m.reader y })
 unfolding Receives
 receive_heartbeat d m x y a at answer marks notes samples rest net v known reached s fact =
-    let within = at_reader net v d m.writer m.reader known s (and_parts (net.matched m.writer m.reader) (not (net.watcher m.reader)) fact.0).0 in
-    let stands = reader_at net v d m.reader x s within at in
-    let reader = heartbeat_stands net v m x y stands rest fact.0 marks notes samples in
+    let stands = follower_at net v d m.writer m.reader x known s fact.0 at in
     let new : World = after_heartbeat v m in (
       ap Arrived (answer ∙ heartbeat_is net v m x stands),
-      subst (λ b. Stands net (cond b new v) (record d { readers = set d.readers m.reader y })) (sym fact.0)
-          (reader_world net v d m.reader y v.received v.overwritten v.irrelevant new.lost new.heard s (λ j ne. refl) (λ j ne. refl) (λ j ne. refl) (λ j ne. put_other v.lost m.reader j _ ne) (λ j ne. put_other v.heard m.reader j _ ne) reader),
+      heeded net v d m.writer m.reader y v.irrelevant new.lost new.heard s fact.0 (λ j ne. refl) (λ j ne. put_other v.lost m.reader j _ ne) (λ j ne. put_other v.heard m.reader j _ ne) (heartbeat_stands net v m x y stands rest fact.0 marks notes samples),
     )

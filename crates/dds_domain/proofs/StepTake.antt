@@ -13,7 +13,7 @@ use Rattle.dds_match.specs.Network.{Network, IsNetwork}
 use Rattle.dds_match.specs.Plan.{network_of}
 use Rattle.dds_check.specs.CountRuns.CountMove.{Takes}
 use Rattle.dds_check.specs.World.{World, spare, stored}
-use Rattle.dds_check.specs.Steps.{refusal, May, is_empty, is_available, available as available_at}
+use Rattle.dds_check.specs.Steps.{refusal, is_empty, is_available, available as available_at}
 use Rattle.dds_check.proofs.Moves.{Healthy}
 use Rattle.dds_check.proofs.StoredPlaces.{filter_in}
 use Rattle.dds_check.proofs.CountsWeights.{after_take}
@@ -22,7 +22,9 @@ use Rattle.dds_rules.specs.Ledger.{LedgerState}
 use Rattle.dds_rules.specs.Standing.{Makes}
 use Rattle.dds_reader.specs.Reader.{ReaderState, available, SameMarks, SameReader}
 use Rattle.dds_domain.specs.Standing.{PartsState, HasWorld, ReaderStands, Stands, StepsWorld, part_of}
-use Rattle.dds_domain.proofs.Slots.{set_all, set_back}
+use Rattle.dds_domain.proofs.NotesKept.{take_kept}
+use Rattle.dds_domain.proofs.Slots.{lent_at, lent_back, set_all}
+use Rattle.dds_domain.proofs.Steps.{Steps, refused_as, steps_as}
 use Rattle.dds_domain.proofs.Worlds.{healthy, may, reader_at, refused}
 use Rattle.dds_domain.proofs.Readers.{available_is, take_stands}
 
@@ -70,13 +72,11 @@ module _ (d : PartsState) (r k : ℕ) where
       stands net v known s = reader_at net v d r x s (within net v d r k known s hears) at
 
       -- nothing is available
-      pub take_empty : available x k ≡ [] → y ≡ x → StepsWorld d (Take r k) (Refused Empty) (record d { readers = set d.readers r y })
+      pub take_empty : available x k ≡ [] → StepsWorld d (Take r k) (Refused Empty) d
       unfolding StepsWorld
-      take_empty none same net v known reached s =
+      take_empty none net v known reached s =
           let empty : is_empty (available_at v r k) ≡ true = ap is_empty (sym (available_is net v r x (stands net v known s) k) ∙ none) in
-          let back : set d.readers r y ≡ d.readers = ap (set d.readers r) same ∙ set_back d.readers r x (within net v d r k known s hears) at in
-          subst (λ xs. May net v (Take r k) (Refused Empty) × Stands net v (record d { readers = xs })) (sym back)
-          (refused net v d (Take r k) Empty (passed net v s true empty) s)
+          refused net v d (Take r k) Empty (passed net v s true empty) s
 
       -- a sample is taken
       pub take_done : (t : Sample) (l : LedgerState) → IsLeastOfWriter t (available x k) → y.stored ≡ without t x.stored → y.keys ≡ x.keys → SameMarks x y → y.proxies ≡ x.proxies → SameReader x y →
@@ -115,3 +115,20 @@ module _ (d : PartsState) (r k : ℕ) where
               go : (ss : List Sample) → In t ss → is_empty ss ≡ false
               go [] i = absurd i
               go (u ∷ us) i = refl
+
+-- ── as code takes: the reader is borrowed by its number, and the parts go by other names
+module _ (d old : PartsState) (r k i : ℕ) (x y : ReaderState) (olds : d ≡ old) (stood : HasWorld old) (hears : (network_of d.plan).hears r k ≡ true) (room : count_at d.ledger.spare r k < 2 ^ 64 - 1) (number : i ≡ r) (item : x ≡ get_or d.readers i x) where
+  borrowed : x ≡ get_or d.readers r x
+  borrowed = lent_at d.readers r i x number item
+
+  below : r < length d.readers
+  below = take_reader d r k hears (subst HasWorld (sym olds) stood)
+
+  pub takes_none : available x k ≡ [] → y ≡ x → Steps (Take r k) old (Refused Empty) (record d { readers = set d.readers i y })
+  takes_none none same = refused_as (Take r k) Empty d old _ olds (λ j. record d { readers = lent_back d.readers r i x y number item below same j }) (take_empty d r k hears room x y borrowed none)
+
+  pub takes_one : (t : Sample) (l : LedgerState) → IsLeastOfWriter t (available x k) → y.stored ≡ without t x.stored → y.keys ≡ x.keys → SameMarks x y → y.proxies ≡ x.proxies → SameReader x y →
+      ((u : Sample) → u.key ≡ k → Makes (Takes r u) d.ledger l) → Steps (Take r k) old (Took t) (record d { readers = set d.readers i y; ledger = l })
+  takes_one t l least fewer keys marks notes rest makes =
+      steps_as (Take r k) d old (Took t) (Took t) _ _ olds refl (λ j. record d { readers = set d.readers (number j) y; ledger = l })
+      (take_done d r k hears room x y borrowed t l least fewer keys marks notes rest makes, take_kept d r k t x y l below borrowed rest.watching notes)

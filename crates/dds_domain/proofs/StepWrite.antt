@@ -17,8 +17,11 @@ use Rattle.dds_rules.specs.Standing.{Makes}
 use Rattle.dds_writer.specs.declared.refused.WriteRefused.{WriteRefused}
 use Rattle.dds_writer.specs.declared.refused.WriteRefused.TheVariants.{SequenceEnd, InstanceLimit, Full, InstanceFull, NoMemory}
 use Rattle.dds_writer.specs.Writer.{WriterState, Tells}
-use Rattle.dds_domain.specs.Standing.{PartsState, Stands, StepsWorld, WriterStands}
-use Rattle.dds_domain.proofs.Slots.{set_all, set_back}
+use Rattle.dds_domain.specs.Standing.{HasWorld, PartsState, Stands, StepsWorld, WriterStands}
+use Rattle.dds_domain.proofs.Endpoints.{writes_within}
+use Rattle.dds_domain.proofs.NotesKept.{write_kept}
+use Rattle.dds_domain.proofs.Slots.{lent_at, lent_back, set_all}
+use Rattle.dds_domain.proofs.Steps.{Steps, refused_as, steps_as}
 use Rattle.dds_domain.proofs.Worlds.{healthy, refused, may, writer_at}
 use Rattle.dds_domain.proofs.Writers.{wrote, write_stands}
 
@@ -76,6 +79,19 @@ module _ (d : PartsState) (w k : ℕ) (payload : List ℕ) where
           },
         )
 
--- a writer that is as it was leaves the domain as it was
-pub same_writers : (d : PartsState) (w : ℕ) (x y : WriterState) → w < length d.writers → x ≡ get_or d.writers w x → y ≡ x → record d { writers = set d.writers w y } ≡ d
-same_writers d w x y b at same = ap (λ z. record d { writers = set d.writers w z }) same ∙ ap (λ zs. record d { writers = zs }) (set_back d.writers w x b at)
+-- ── as code writes: the writer is borrowed by its number, and the parts go by other names
+module _ (d old : PartsState) (w k i : ℕ) (payload : List ℕ) (x y : WriterState) (olds : d ≡ old) (stood : HasWorld old) (own : (network_of d.plan).writes_key w k ≡ true) (some : count_at d.ledger.permits w k ≢ 0) (number : i ≡ w) (item : x ≡ get_or d.writers i x) where
+  below : w < length d.writers
+  below = writes_within d w k (subst HasWorld (sym olds) stood) own
+
+  borrowed : x ≡ get_or d.writers w x
+  borrowed = lent_at d.writers w i x number item
+
+  pub writes_not : (why : WriteRefused) (refusal : Refusal) → Tells why (write_refusal x.limits x.written x.keys x.kept k) → Tells why (Some refusal) → y ≡ x → Steps (Write w k payload) old (Refused refusal) (record d { writers = set d.writers i y })
+  writes_not why refusal told tells same =
+      refused_as (Write w k payload) refusal d old _ olds (λ j. record d { writers = lent_back d.writers w i x y number item below same j }) (write_refused d w k payload x own some below borrowed why refusal told tells)
+
+  pub writes_one : (n : ℕ) (l : LedgerState) → write_refusal x.limits x.written x.keys x.kept k ≡ None → n ≡ x.written + 1 → y ≡ wrote x k payload n → Makes (Writes w k payload) d.ledger l → Steps (Write w k payload) old (Written n) (record d { writers = set d.writers i y; ledger = l })
+  writes_one n l free count same makes =
+      steps_as (Write w k payload) d old (Written n) (Written n) _ _ olds refl (λ j. record d { writers = set d.writers (number j) (same j); ledger = l })
+      (write_done d w k payload x own some below borrowed n l free count makes, write_kept d w k n payload x (wrote x k payload n) l below borrowed refl)

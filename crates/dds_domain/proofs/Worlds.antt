@@ -1,5 +1,5 @@
 -- A refusal changes nothing; what every world of a run has; and the parts of a domain that stands for one.
-use Rattle.std.proofs.Common.{◌≡◌, ℕ, ◌<◌, Some, None, refl, sym, subst, ◌∙◌, length, get_or}
+use Rattle.std.proofs.Common.{◌≡◌, ℕ, ◌<◌, List, Option, Some, None, refl, sym, subst, ◌∙◌, length, get_or}
 use Rattle.dds_base.specs.declared.messages.Packet.{Packet}
 use Rattle.dds_base.specs.declared.events.Reply.TheVariants.{Refused}
 use Rattle.dds_match.specs.Network.{Network, IsNetwork}
@@ -14,7 +14,7 @@ use Rattle.dds_check.proofs.Opening.{world_healthy, world_guarded}
 use Rattle.dds_writer.specs.Writer.{WriterState}
 use Rattle.dds_reader.specs.Reader.{ReaderState}
 use Rattle.dds_domain.specs.Bus.{at_place}
-use Rattle.dds_domain.specs.Standing.{PartsState, Stands, IsReached, WriterStands, ReaderStands, part_of}
+use Rattle.dds_domain.specs.Standing.{BusStands, PartsState, Stands, IsReached, WriterStands, ReaderStands, part_of}
 
 pub healthy : (net : Network) (v : World) → IsNetwork net → IsReached net v → Healthy net v
 healthy net v known (ms, run, e) = subst (Healthy net) (sym e) (world_healthy net known (as_moves ms) run)
@@ -39,3 +39,15 @@ reader_at net v d r x s b e = subst (ReaderStands net r (part_of v r)) (sym e) (
 -- a packet on the bus has its fact
 pub fact_at : (net : Network) (v : World) (d : PartsState) (i : ℕ) (p : Packet) → IsNetwork net → IsReached net v → Stands net v d → at_place d.bus i ≡ Some p → FactOf net v p
 fact_at net v d i p known reached s e = (healthy net v known reached).sound.bus i p (sym (s.bus.same i) ∙ e)
+
+-- only the bus changes
+pub bus_changes : (net : Network) (v : World) (d : PartsState) (sent : List Packet) (bus : ℕ → Option Packet) (held : List (Option Packet)) → Stands net v d → BusStands bus held → Stands net (record v { sent = sent; bus = bus }) (record d { bus = held })
+bus_changes net v d sent bus held s h = record {
+  plan = s.plan;
+  writer_count = s.writer_count;
+  reader_count = s.reader_count;
+  writers = s.writers;
+  readers = s.readers;
+  ledger = record { of = s.ledger.of; permits = s.ledger.permits; spare = s.ledger.spare };
+  bus = h;
+}

@@ -4,3 +4,4 @@ pub mod Schedule
 pub mod Standing
 pub mod View
 pub mod Opening
+pub mod Sendings

@@ -37,6 +37,30 @@ impl Sending {
     }
 }
 
+// The sending of what is due, if that is a DATA.
+fn data_event(writer: WriterNo, reader: ReaderNo, due: Due) -> Option<Event>
+    ensures { result ≡ as_data writer reader (Some due) }
+{
+    match due {
+        Due::Data(sn) => Some(Event::SendData { writer, reader, sn }),
+        Due::Gap(_) => None,
+    }
+}
+
+// The sending of what is due, if that is a GAP.
+fn gap_event(writer: WriterNo, reader: ReaderNo, due: Due) -> Option<Event>
+    ensures { result ≡ as_gap writer reader (Some due) }
+{
+    match due {
+        Due::Gap(start) => Some(Event::SendGap {
+            writer,
+            reader,
+            start,
+        }),
+        Due::Data(_) => None,
+    }
+}
+
 impl Parts {
     /// What a participant is to do in its turn, if anything.
     pub(crate) fn due(&self, participant: ParticipantNo, turn: u64, fate: Fate) -> Option<Event>
@@ -127,39 +151,20 @@ impl Parts {
         ensures { (v : World) (noted : Noted) → PartsAt v noted self.now → result ≡ due_to (network_of self.now.plan) v noted sending writer reader }
     {
         match sending {
-            Sending::Data => self.data_due(writer, reader),
-            Sending::Gap => self.gap_due(writer, reader),
+            Sending::Data => data_event(writer, reader, self.message_due(writer, reader)?),
+            Sending::Gap => gap_event(writer, reader, self.message_due(writer, reader)?),
             Sending::Heartbeat => self.heartbeat_due(writer, reader),
             Sending::AckNack => None,
         }
     }
 
-    // The DATA that its writer is to send next, if that is a DATA.
-    fn data_due(&self, writer: WriterNo, reader: ReaderNo) -> Option<Event>
+    // What its writer is to send next, a DATA or a GAP.
+    fn message_due(&self, writer: WriterNo, reader: ReaderNo) -> Option<Due>
         requires standing { IsRunning self.now }
         requires pair { matched self.now.plan writer reader ≡ true }
-        ensures { (v : World) (noted : Noted) → PartsAt v noted self.now → result ≡ as_data writer reader (writer_due (network_of self.now.plan) v noted writer reader) }
+        ensures { (v : World) (noted : Noted) → PartsAt v noted self.now → result ≡ writer_due (network_of self.now.plan) v noted writer reader }
     {
-        match self.writers[writer.number()].due(reader)? {
-            Due::Data(sn) => Some(Event::SendData { writer, reader, sn }),
-            Due::Gap(_) => None,
-        }
-    }
-
-    // The GAP that its writer is to send next, if that is a GAP.
-    fn gap_due(&self, writer: WriterNo, reader: ReaderNo) -> Option<Event>
-        requires standing { IsRunning self.now }
-        requires pair { matched self.now.plan writer reader ≡ true }
-        ensures { (v : World) (noted : Noted) → PartsAt v noted self.now → result ≡ as_gap writer reader (writer_due (network_of self.now.plan) v noted writer reader) }
-    {
-        match self.writers[writer.number()].due(reader)? {
-            Due::Gap(start) => Some(Event::SendGap {
-                writer,
-                reader,
-                start,
-            }),
-            Due::Data(_) => None,
-        }
+        self.writers[writer.number()].due(reader)
     }
 
     // A HEARTBEAT is due to a reliable reader that has not acknowledged all that is written.

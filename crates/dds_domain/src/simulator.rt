@@ -5,7 +5,7 @@ ghost use Rattle.dds_domain.specs.Standing.{GoesOn, OnRefused, StandsAfter, pair
 
 use crate::opening::open;
 use crate::parts::Parts;
-use dds_base::{Arrival, Event, Packet, Reply};
+use dds_base::{Event, Packet, Reply};
 use dds_match::{NoMemory, Plan};
 use std::alloc::Global;
 use std::marker::Model;
@@ -67,21 +67,7 @@ impl Simulator {
         ensures runs { MatchResult result (λ replies. GoesOn self.old (paired events.now replies.items) self.new) (λ e. GoesOn self.old (paired events.now e.1.items) self.new) }
         ensures plan { self.new.plan ≡ self.old.plan }
     {
-        // What is known of the parts: they stand for a world of a run of their plan.
-        let _parts = &self.parts;
-        // The borrow checker finds the type inside `Reply` where the code names it.
-        let _arrival: Option<Arrival> = None;
-        let mut replies = Vec::new(self.alloc);
-        if replies.reserve(events.len()).is_err() {
-            return Err((NoMemory, replies));
-        }
-        for event in events {
-            match self.step(*event) {
-                Ok(reply) => replies.push_reserved(reply),
-                Err(_) => return Err((NoMemory, replies)),
-            }
-        }
-        Ok(replies)
+        self.parts.run(self.alloc, events)
     }
 
     /// The plan that the simulator runs.

@@ -9,8 +9,12 @@ use Rattle.dds_cert.specs.Text.{each_below}
 use Rattle.dds_draw.specs.Nodes.{reader_node, rule_node, writer_node}
 
 -- the name of the node of an endpoint: its side, writer or reader, and its own name
-abbrev pub endpoint_name : List ℕ → List (List ℕ) → ℕ → List ℕ
-endpoint_name side names n = codes "      \"" ++ (side ++ (codes " " ++ (name_at names n ++ codes "\";\n")))
+abbrev pub endpoint_name : List ℕ → List ℕ → List ℕ
+endpoint_name side name = codes "      \"" ++ (side ++ (codes " " ++ (name ++ codes "\";\n")))
+
+-- the names of the nodes of endpoints
+abbrev pub endpoint_names : List ℕ → List (List ℕ) → List ℕ → List ℕ
+endpoint_names side names numbers = flat_map (λ n. endpoint_name side (name_at names n)) numbers
 
 -- the rule with this number, if it is one of the application
 abbrev pub rule_at : Lists → ℕ → ℕ → List ℕ
@@ -19,8 +23,8 @@ rule_at d a u = option_map_or (λ (x : Rule). if x.application == a then rule_no
 -- the names of an application's writers and readers, in its order, and its rules
 unfoldable pub application_members : Lists → ℕ → Application → List ℕ
 application_members d a x =
-    flat_map (endpoint_name (codes "writer") d.writers.names) x.writers
-    ++ (flat_map (endpoint_name (codes "reader") d.readers.names) x.readers ++ each_below (length d.rules.entries) (rule_at d a))
+    endpoint_names (codes "writer") d.writers.names x.writers
+    ++ (endpoint_names (codes "reader") d.readers.names x.readers ++ each_below (length d.rules.entries) (rule_at d a))
 
 -- the cluster of the application with this number
 unfoldable pub application_cluster : Lists → ℕ → Application → List ℕ

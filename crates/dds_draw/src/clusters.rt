@@ -1,52 +1,27 @@
 //! Participants and applications as clusters.
-ghost use Rattle.std.specs.Prelude.{◌≡◌, ◌<◌, IfOk, flat_map, length, option_map, string_bytes};
+ghost use Rattle.std.specs.Prelude.{◌≡◌, ◌<◌, IfOk, length, option_map, string_bytes};
 ghost use Rattle.dds_deploy.specs.Views.{application_view, participant_view};
 ghost use Rattle.dds_cert.specs.Text.{each_below};
 ghost use Rattle.dds_cert.specs.Views.{certificate_view};
-ghost use Rattle.dds_draw.specs.Clusters.{application_at, application_cluster, application_members, endpoint_name, participant_at, participant_cluster, participant_clusters, participant_members, reader_at, rule_at, writer_at};
+ghost use Rattle.dds_draw.specs.Clusters.{application_at, application_cluster, application_members, endpoint_name, participant_cluster, participant_clusters, participant_members, reader_at, rule_at, writer_at};
 
 use crate::nodes::{reader_node, rule_node, writer_node};
-use dds_base::{AppNo, Endpoint, Names, ParticipantNo, ReaderNo, RuleNo, WriterNo};
+use dds_base::{AppNo, ParticipantNo, ReaderNo, RuleNo, WriterNo};
 use dds_cert::Certificate;
 use dds_cert::naming::name_at;
 use dds_deploy::{Application, Deployment, Participant};
-use dds_show::texts::{text_below, text_of_each};
-use std::alloc::{AllocError, Global};
+use dds_show::texts::{TextResult, text_below, text_of_endpoints};
+use std::alloc::Global;
 
-/// The name of an endpoint's node. `side` is `writer` or `reader`.
-fn endpoint_name(
-    alloc: Global,
-    side: &str,
-    names: &Names,
-    number: usize,
-) -> Result<String, AllocError>
-    ensures { IfOk result (λ text. string_bytes text ≡ endpoint_name side.now names.now number) }
+/// The name of the node of an endpoint: its side, `writer` or `reader`, and its own name.
+fn endpoint_name(alloc: Global, side: &str, name: &str) -> TextResult
+    ensures { IfOk result (λ text. string_bytes text ≡ endpoint_name side.now name.now) }
 {
-    let name = name_at(names, number);
     format!(in alloc; "      \"{side} {name}\";\n")
 }
 
-/// The names of the nodes of endpoints.
-fn endpoint_names<E: Endpoint>(
-    alloc: Global,
-    side: &str,
-    names: &Names,
-    endpoints: &[E],
-) -> Result<String, AllocError>
-    ensures { IfOk result (λ text. string_bytes text ≡ flat_map (λ e. endpoint_name side.now names.now (E.number_of e)) endpoints.now) }
-{
-    text_of_each(alloc, endpoints, |endpoint| {
-        endpoint_name(alloc, side, names, endpoint.place())
-    })
-}
-
 /// A rule, if it is one of the application.
-fn rule_at(
-    alloc: Global,
-    lists: &Deployment,
-    application: AppNo,
-    u: usize,
-) -> Result<String, AllocError>
+fn rule_at(alloc: Global, lists: &Deployment, application: AppNo, u: usize) -> TextResult
     requires { u < length lists.now.rules.entries }
     ensures { IfOk result (λ text. string_bytes text ≡ rule_at lists.now application u) }
 {
@@ -59,7 +34,7 @@ fn rule_at(
 }
 
 /// The nodes of the application's rules.
-fn rules_of(alloc: Global, lists: &Deployment, application: AppNo) -> Result<String, AllocError>
+fn rules_of(alloc: Global, lists: &Deployment, application: AppNo) -> TextResult
     ensures { IfOk result (λ text. string_bytes text ≡ each_below (length lists.now.rules.entries) (rule_at lists.now application)) }
 {
     text_below(
@@ -75,11 +50,17 @@ fn application_members(
     lists: &Deployment,
     number: AppNo,
     x: &Application,
-) -> Result<String, AllocError>
+) -> TextResult
     ensures { IfOk result (λ text. string_bytes text ≡ application_members lists.now number (application_view x.now)) }
 {
-    let writers = endpoint_names(alloc, "writer", lists.writer_names(), x.writers.as_slice())?;
-    let readers = endpoint_names(alloc, "reader", lists.reader_names(), x.readers.as_slice())?;
+    let writers = x.writers.as_slice();
+    let writers = text_of_endpoints(alloc, lists.writer_names(), writers, |name| {
+        endpoint_name(alloc, "writer", name)
+    })?;
+    let readers = x.readers.as_slice();
+    let readers = text_of_endpoints(alloc, lists.reader_names(), readers, |name| {
+        endpoint_name(alloc, "reader", name)
+    })?;
     let rules = rules_of(alloc, lists, number)?;
     format!(in alloc; "{writers}{readers}{rules}")
 }
@@ -90,7 +71,7 @@ fn application_cluster(
     lists: &Deployment,
     number: AppNo,
     x: &Application,
-) -> Result<String, AllocError>
+) -> TextResult
     ensures { IfOk result (λ text. string_bytes text ≡ application_cluster lists.now number (application_view x.now)) }
 {
     let name = name_at(lists.application_names(), number.number());
@@ -106,7 +87,7 @@ fn application_at(
     lists: &Deployment,
     participant: ParticipantNo,
     a: usize,
-) -> Result<String, AllocError>
+) -> TextResult
     requires { a < length lists.now.applications.entries }
     ensures { IfOk result (λ text. string_bytes text ≡ application_at lists.now participant a) }
 {
@@ -119,11 +100,7 @@ fn application_at(
 }
 
 /// The clusters of the participant's applications.
-fn applications_of(
-    alloc: Global,
-    lists: &Deployment,
-    participant: ParticipantNo,
-) -> Result<String, AllocError>
+fn applications_of(alloc: Global, lists: &Deployment, participant: ParticipantNo) -> TextResult
     ensures { IfOk result (λ text. string_bytes text ≡ each_below (length lists.now.applications.entries) (application_at lists.now participant)) }
 {
     text_below(
@@ -134,12 +111,7 @@ fn applications_of(
 }
 
 /// A writer, if it is at the participant.
-fn writer_at(
-    alloc: Global,
-    lists: &Deployment,
-    participant: ParticipantNo,
-    w: usize,
-) -> Result<String, AllocError>
+fn writer_at(alloc: Global, lists: &Deployment, participant: ParticipantNo, w: usize) -> TextResult
     requires { w < length lists.now.writers.entries }
     ensures { IfOk result (λ text. string_bytes text ≡ writer_at lists.now participant w) }
 {
@@ -152,11 +124,7 @@ fn writer_at(
 }
 
 /// The nodes of the participant's writers.
-fn writers_of(
-    alloc: Global,
-    lists: &Deployment,
-    participant: ParticipantNo,
-) -> Result<String, AllocError>
+fn writers_of(alloc: Global, lists: &Deployment, participant: ParticipantNo) -> TextResult
     ensures { IfOk result (λ text. string_bytes text ≡ each_below (length lists.now.writers.entries) (writer_at lists.now participant)) }
 {
     text_below(
@@ -173,7 +141,7 @@ fn reader_at(
     certificate: Option<&Certificate>,
     participant: ParticipantNo,
     r: usize,
-) -> Result<String, AllocError>
+) -> TextResult
     requires { r < length lists.now.readers.entries }
     ensures { IfOk result (λ text. string_bytes text ≡ reader_at lists.now (option_map (λ c. certificate_view c.now) certificate.entry) participant r) }
 {
@@ -191,7 +159,7 @@ fn readers_of(
     lists: &Deployment,
     certificate: Option<&Certificate>,
     participant: ParticipantNo,
-) -> Result<String, AllocError>
+) -> TextResult
     ensures { IfOk result (λ text. string_bytes text ≡ each_below (length lists.now.readers.entries) (reader_at lists.now (option_map (λ c. certificate_view c.now) certificate.entry) participant)) }
 {
     text_below(
@@ -207,7 +175,7 @@ fn participant_members(
     lists: &Deployment,
     certificate: Option<&Certificate>,
     participant: ParticipantNo,
-) -> Result<String, AllocError>
+) -> TextResult
     ensures { IfOk result (λ text. string_bytes text ≡ participant_members lists.now (option_map (λ c. certificate_view c.now) certificate.entry) participant) }
 {
     let applications = applications_of(alloc, lists, participant)?;
@@ -223,7 +191,7 @@ fn participant_cluster(
     certificate: Option<&Certificate>,
     number: ParticipantNo,
     x: &Participant,
-) -> Result<String, AllocError>
+) -> TextResult
     ensures { IfOk result (λ text. string_bytes text ≡ participant_cluster lists.now (option_map (λ c. certificate_view c.now) certificate.entry) number (participant_view x.now)) }
 {
     let name = name_at(lists.participant_names(), number.number());
@@ -240,18 +208,11 @@ pub(crate) fn participant_clusters(
     alloc: Global,
     lists: &Deployment,
     certificate: Option<&Certificate>,
-) -> Result<String, AllocError>
+) -> TextResult
     ensures { IfOk result (λ text. string_bytes text ≡ participant_clusters lists.now (option_map (λ c. certificate_view c.now) certificate.entry)) }
 {
-    text_below(
-        alloc,
-        lists.participants(),
-        |p|
-            requires { p < length lists.now.participants.entries }
-            ensures { IfOk result (λ text. string_bytes text ≡ participant_at lists.entry.now (option_map (λ c. certificate_view c.now) certificate.entry) p) }
-        {
-            let number = ParticipantNo::new(p);
-            participant_cluster(alloc, lists, certificate, number, lists.participant(number))
-        },
-    )
+    text_below(alloc, lists.participants(), |p| {
+        let number = ParticipantNo::new(p);
+        participant_cluster(alloc, lists, certificate, number, lists.participant(number))
+    })
 }

@@ -1,23 +1,18 @@
 //! What rules take and write, and which endpoints match, as edges.
-ghost use Rattle.std.specs.Prelude.{◌≡◌, ◌<◌, IfOk, length, string_bytes};
+ghost use Rattle.std.specs.Prelude.{◌≡◌, IfOk, string_bytes};
 ghost use Rattle.dds_deploy.specs.Views.{rule_view};
-ghost use Rattle.dds_draw.specs.Edges.{all_pair_edges, all_rule_edges, connection_edge, edge_of, pair_edge, pair_edges, rule_at, rule_edges, take_edge, write_edge};
+ghost use Rattle.dds_draw.specs.Edges.{all_pair_edges, all_rule_edges, connection_edge, edge_of, pair_edge, pair_edges, rule_edges, take_edge, write_edge};
 
 use dds_base::{Portion, ReaderNo, RuleNo, WriterNo};
 use dds_cert::naming::{name_at, reader_key, writer_key};
 use dds_deploy::{Deployment, Rule};
 use dds_match::{Plan, WhyNot};
 use dds_show::reasons::reason_text;
-use dds_show::texts::{text_below, text_of_each};
-use std::alloc::{AllocError, Global};
+use dds_show::texts::{TextResult, text_below, text_of_each};
+use std::alloc::Global;
 
 /// What a rule takes of a key at a reader.
-fn take_edge(
-    alloc: Global,
-    lists: &Deployment,
-    rule: RuleNo,
-    x: &Portion<ReaderNo>,
-) -> Result<String, AllocError>
+fn take_edge(alloc: Global, lists: &Deployment, rule: RuleNo, x: &Portion<ReaderNo>) -> TextResult
     ensures { IfOk result (λ text. string_bytes text ≡ take_edge lists.now rule x.now) }
 {
     let reader = name_at(lists.reader_names(), x.endpoint.number());
@@ -28,12 +23,7 @@ fn take_edge(
 }
 
 /// What a rule writes of a key at a writer.
-fn write_edge(
-    alloc: Global,
-    lists: &Deployment,
-    rule: RuleNo,
-    x: &Portion<WriterNo>,
-) -> Result<String, AllocError>
+fn write_edge(alloc: Global, lists: &Deployment, rule: RuleNo, x: &Portion<WriterNo>) -> TextResult
     ensures { IfOk result (λ text. string_bytes text ≡ write_edge lists.now rule x.now) }
 {
     let writer = name_at(lists.writer_names(), x.endpoint.number());
@@ -44,12 +34,7 @@ fn write_edge(
 }
 
 /// What a rule takes, then what it writes.
-fn rule_edges(
-    alloc: Global,
-    lists: &Deployment,
-    number: RuleNo,
-    x: &Rule,
-) -> Result<String, AllocError>
+fn rule_edges(alloc: Global, lists: &Deployment, number: RuleNo, x: &Rule) -> TextResult
     ensures { IfOk result (λ text. string_bytes text ≡ rule_edges lists.now number (rule_view x.now)) }
 {
     let takes = text_of_each(alloc, x.takes.as_slice(), |take| {
@@ -63,29 +48,17 @@ fn rule_edges(
 
 /// The edges of all rules, in their order.
 #[tactic(auto, unfolding(crate::specs::Edges::all_rule_edges))]
-pub(crate) fn all_rule_edges(alloc: Global, lists: &Deployment) -> Result<String, AllocError>
+pub(crate) fn all_rule_edges(alloc: Global, lists: &Deployment) -> TextResult
     ensures { IfOk result (λ text. string_bytes text ≡ all_rule_edges lists.now) }
 {
-    text_below(
-        alloc,
-        lists.rules(),
-        |u|
-            requires { u < length lists.now.rules.entries }
-            ensures { IfOk result (λ text. string_bytes text ≡ rule_at lists.entry.now u) }
-        {
-            let number = RuleNo::new(u);
-            rule_edges(alloc, lists, number, lists.rule(number))
-        },
-    )
+    text_below(alloc, lists.rules(), |u| {
+        let number = RuleNo::new(u);
+        rule_edges(alloc, lists, number, lists.rule(number))
+    })
 }
 
 /// The edge from a writer to a reader, with these attributes.
-fn connection_edge(
-    alloc: Global,
-    writer: &str,
-    reader: &str,
-    attributes: &str,
-) -> Result<String, AllocError>
+fn connection_edge(alloc: Global, writer: &str, reader: &str, attributes: &str) -> TextResult
     ensures { IfOk result (λ text. string_bytes text ≡ connection_edge writer.now reader.now attributes.now) }
 {
     format!(in alloc; "  \"writer {writer}\" -> \"reader {reader}\"{attributes};\n")
@@ -99,7 +72,7 @@ fn edge_of(
     reader: &str,
     named: bool,
     reason: Option<WhyNot>,
-) -> Result<String, AllocError>
+) -> TextResult
     ensures { IfOk result (λ text. string_bytes text ≡ edge_of writer.now reader.now named reason) }
 {
     match reason {
@@ -120,12 +93,7 @@ fn edge_of(
 }
 
 /// The edge of the writer and the reader with these numbers.
-fn pair_edge(
-    alloc: Global,
-    plan: &Plan,
-    writer: WriterNo,
-    reader: ReaderNo,
-) -> Result<String, AllocError>
+fn pair_edge(alloc: Global, plan: &Plan, writer: WriterNo, reader: ReaderNo) -> TextResult
     ensures { IfOk result (λ text. string_bytes text ≡ pair_edge plan.now writer reader) }
 {
     let lists = plan.lists();
@@ -142,7 +110,7 @@ fn pair_edge(
 }
 
 /// The edges of a writer, by readers in file order.
-fn pair_edges(alloc: Global, plan: &Plan, writer: WriterNo) -> Result<String, AllocError>
+fn pair_edges(alloc: Global, plan: &Plan, writer: WriterNo) -> TextResult
     ensures { IfOk result (λ text. string_bytes text ≡ pair_edges plan.now writer) }
 {
     text_below(alloc, plan.lists().readers(), |r| {
@@ -152,7 +120,7 @@ fn pair_edges(alloc: Global, plan: &Plan, writer: WriterNo) -> Result<String, Al
 
 /// The edges from all writers to readers, by writers in file order.
 #[tactic(auto, unfolding(crate::specs::Edges::all_pair_edges))]
-pub(crate) fn all_pair_edges(alloc: Global, plan: &Plan) -> Result<String, AllocError>
+pub(crate) fn all_pair_edges(alloc: Global, plan: &Plan) -> TextResult
     ensures { IfOk result (λ text. string_bytes text ≡ all_pair_edges plan.now) }
 {
     text_below(alloc, plan.lists().writers(), |w| {

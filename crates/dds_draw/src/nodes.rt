@@ -10,11 +10,11 @@ use dds_cert::{Bound, Certificate, Total};
 use dds_deploy::{Deployment, Reader, Rule, Writer};
 use dds_events::rule_text;
 use dds_qos::{History, HistoryKind, Policies, Reliability};
-use dds_show::texts::text_of_each;
-use std::alloc::{AllocError, Global};
+use dds_show::texts::{TextResult, text_of_each};
+use std::alloc::Global;
 
 /// How many samples of an instance stay by KEEP_LAST; nothing of KEEP_ALL.
-fn history_line(alloc: Global, history: History) -> Result<String, AllocError>
+fn history_line(alloc: Global, history: History) -> TextResult
     ensures { IfOk result (λ text. string_bytes text ≡ history_line history.kind history.depth) }
 {
     match history.kind {
@@ -27,7 +27,7 @@ fn history_line(alloc: Global, history: History) -> Result<String, AllocError>
 }
 
 /// A limit with its name, nothing where it is unlimited.
-fn limit_line(alloc: Global, name: &str, limit: Option<u32>) -> Result<String, AllocError>
+fn limit_line(alloc: Global, name: &str, limit: Option<u32>) -> TextResult
     ensures { IfOk result (λ text. string_bytes text ≡ limit_line name.now limit) }
 {
     match limit {
@@ -47,7 +47,7 @@ fn reliability_line(reliability: Reliability) -> &'static str
 }
 
 /// What an endpoint keeps, each limit in a line of its own, and whether it is best-effort.
-fn policies_lines(alloc: Global, p: &Policies) -> Result<String, AllocError>
+fn policies_lines(alloc: Global, p: &Policies) -> TextResult
     ensures { IfOk result (λ text. string_bytes text ≡ policies_lines p.now) }
 {
     let limits = p.resource_limits;
@@ -64,12 +64,7 @@ fn policies_lines(alloc: Global, p: &Policies) -> Result<String, AllocError>
 }
 
 /// A bound, if it is one of the reader.
-fn bound_line(
-    alloc: Global,
-    lists: &Deployment,
-    reader: ReaderNo,
-    bound: &Bound,
-) -> Result<String, AllocError>
+fn bound_line(alloc: Global, lists: &Deployment, reader: ReaderNo, bound: &Bound) -> TextResult
     ensures { IfOk result (λ text. string_bytes text ≡ bound_line lists.now reader bound.now) }
 {
     if bound.reader != reader {
@@ -81,7 +76,7 @@ fn bound_line(
 }
 
 /// A total, if it is one of the reader.
-fn total_line(alloc: Global, reader: ReaderNo, total: &Total) -> Result<String, AllocError>
+fn total_line(alloc: Global, reader: ReaderNo, total: &Total) -> TextResult
     ensures { IfOk result (λ text. string_bytes text ≡ total_line reader total.now) }
 {
     if total.reader != reader {
@@ -97,7 +92,7 @@ fn certificate_lines(
     lists: &Deployment,
     certificate: Option<&Certificate>,
     reader: ReaderNo,
-) -> Result<String, AllocError>
+) -> TextResult
     ensures { IfOk result (λ text. string_bytes text ≡ certificate_lines lists.now reader (option_map (λ c. certificate_view c.now) certificate.entry)) }
 {
     let Some(certificate) = certificate else {
@@ -113,12 +108,7 @@ fn certificate_lines(
 }
 
 /// The name of an endpoint, its topic and its limits.
-fn endpoint_label(
-    alloc: Global,
-    name: &str,
-    topic: &str,
-    p: &Policies,
-) -> Result<String, AllocError>
+fn endpoint_label(alloc: Global, name: &str, topic: &str, p: &Policies) -> TextResult
     ensures { IfOk result (λ text. string_bytes text ≡ endpoint_label name.now topic.now p.now) }
 {
     let policies = policies_lines(alloc, p)?;
@@ -131,7 +121,7 @@ pub(crate) fn writer_node(
     lists: &Deployment,
     writer: WriterNo,
     x: &Writer,
-) -> Result<String, AllocError>
+) -> TextResult
     ensures { IfOk result (λ text. string_bytes text ≡ writer_node lists.now writer (writer_view x.now)) }
 {
     let name = name_at(lists.writer_names(), writer.number());
@@ -147,7 +137,7 @@ pub(crate) fn reader_node(
     certificate: Option<&Certificate>,
     reader: ReaderNo,
     x: &Reader,
-) -> Result<String, AllocError>
+) -> TextResult
     ensures { IfOk result (λ text. string_bytes text ≡ reader_node lists.now (option_map (λ c. certificate_view c.now) certificate.entry) reader (reader_view x.now)) }
 {
     let name = name_at(lists.reader_names(), reader.number());
@@ -160,7 +150,7 @@ pub(crate) fn reader_node(
 }
 
 /// How often a rule may write at the opening, nothing where it may not.
-fn start_line(alloc: Global, start: u16) -> Result<String, AllocError>
+fn start_line(alloc: Global, start: u16) -> TextResult
     ensures { IfOk result (λ text. string_bytes text ≡ start_line start) }
 {
     if start == 0 {
@@ -170,12 +160,7 @@ fn start_line(alloc: Global, start: u16) -> Result<String, AllocError>
 }
 
 /// The node of a rule.
-pub(crate) fn rule_node(
-    alloc: Global,
-    lists: &Deployment,
-    rule: RuleNo,
-    x: &Rule,
-) -> Result<String, AllocError>
+pub(crate) fn rule_node(alloc: Global, lists: &Deployment, rule: RuleNo, x: &Rule) -> TextResult
     ensures { IfOk result (λ text. string_bytes text ≡ rule_node lists.now rule (rule_view x.now)) }
 {
     let number = rule.number();

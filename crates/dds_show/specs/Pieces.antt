@@ -35,7 +35,11 @@ abbrev pub duration_text : Duration → List ℕ
 duration_text (Nanoseconds n) = decimal n
 duration_text Infinite = codes "\"infinite\""
 
+-- a number, or this text where there is none
+abbrev pub number_or : Option ℕ → List ℕ → List ℕ
+number_or (Some n) none = decimal n
+number_or None none = none
+
 -- a limit: a number, or "unlimited"
 abbrev pub limit_text : Option ℕ → List ℕ
-limit_text (Some n) = decimal n
-limit_text None = codes "\"unlimited\""
+limit_text limit = number_or limit (codes "\"unlimited\"")

@@ -10,14 +10,15 @@ ghost use Rattle.dds_show.specs.Entries.{application_entry, connection_entry, nu
 
 use crate::pieces::{items_below, name_items, quoted, text_items};
 use crate::policies::policies_fields;
+use crate::texts::TextResult;
 use dds_base::{Endpoint, KeyNo, Names, ParticipantNo, Portion, ReaderNo, TopicNo, WriterNo};
 use dds_cert::naming::{name_at, reader_key, writer_key};
 use dds_deploy::{Application, Deployment, Origin, Participant, Reader, Rule, Topic, Writer};
 use dds_qos::Policies;
-use std::alloc::{AllocError, Global};
+use std::alloc::Global;
 
 /// In quotes the names of these keys.
-fn key_items(alloc: Global, names: &Names, keys: &[KeyNo]) -> Result<String, AllocError>
+fn key_items(alloc: Global, names: &Names, keys: &[KeyNo]) -> TextResult
     ensures { IfOk result (λ text. string_bytes text ≡ numbered_items names.now keys.now) }
 {
     items_below(
@@ -28,11 +29,7 @@ fn key_items(alloc: Global, names: &Names, keys: &[KeyNo]) -> Result<String, All
 }
 
 /// In quotes the names of these writers or readers.
-fn endpoint_items<E: Endpoint>(
-    alloc: Global,
-    names: &Names,
-    endpoints: &[E],
-) -> Result<String, AllocError>
+fn endpoint_items<E: Endpoint>(alloc: Global, names: &Names, endpoints: &[E]) -> TextResult
     ensures { IfOk result (λ text. string_bytes text ≡ each_below (length endpoints.now) (λ i. comma i ++ quoted (option_map_or (λ e. name_at names.now (E.number_of e)) (slice_get endpoints.now i) []))) }
 {
     items_below(
@@ -42,18 +39,14 @@ fn endpoint_items<E: Endpoint>(
     )
 }
 
-pub(crate) fn participant_entry(
-    alloc: Global,
-    name: &str,
-    x: &Participant,
-) -> Result<String, AllocError>
+pub(crate) fn participant_entry(alloc: Global, name: &str, x: &Participant) -> TextResult
     ensures { IfOk result (λ text. string_bytes text ≡ participant_entry name.now (participant_view x.now)) }
 {
     let domain = x.domain;
     format!(in alloc; "{{\"name\": \"{name}\", \"domain\": {domain}}}")
 }
 
-pub(crate) fn topic_entry(alloc: Global, name: &str, x: &Topic) -> Result<String, AllocError>
+pub(crate) fn topic_entry(alloc: Global, name: &str, x: &Topic) -> TextResult
     ensures { IfOk result (λ text. string_bytes text ≡ topic_entry name.now (topic_view x.now)) }
 {
     let type_name = x.type_name.as_str();
@@ -68,7 +61,7 @@ fn place_fields(
     name: &str,
     participant: ParticipantNo,
     topic: TopicNo,
-) -> Result<String, AllocError>
+) -> TextResult
     ensures { IfOk result (λ text. string_bytes text ≡ place_fields lists.now name.now participant topic) }
 {
     let participant = name_at(lists.participant_names(), participant.number());
@@ -79,7 +72,7 @@ fn place_fields(
 }
 
 /// The policies of a writer or a reader.
-fn qos_fields(alloc: Global, p: &Policies, partitions: &[String]) -> Result<String, AllocError>
+fn qos_fields(alloc: Global, p: &Policies, partitions: &[String]) -> TextResult
     ensures { IfOk result (λ text. string_bytes text ≡ qos_fields p.now (map string_bytes partitions.now)) }
 {
     let policies = policies_fields(alloc, p)?;
@@ -87,12 +80,7 @@ fn qos_fields(alloc: Global, p: &Policies, partitions: &[String]) -> Result<Stri
     format!(in alloc; "{policies}, \"partitions\": [{partitions}]")
 }
 
-pub(crate) fn writer_entry(
-    alloc: Global,
-    lists: &Deployment,
-    name: &str,
-    x: &Writer,
-) -> Result<String, AllocError>
+pub(crate) fn writer_entry(alloc: Global, lists: &Deployment, name: &str, x: &Writer) -> TextResult
     ensures { IfOk result (λ text. string_bytes text ≡ writer_entry lists.now name.now (writer_view x.now)) }
 {
     let place = place_fields(alloc, lists, name, x.participant, x.topic)?;
@@ -101,24 +89,14 @@ pub(crate) fn writer_entry(
 }
 
 /// The keys of a topic, in the order of the file: none where there is no such topic.
-fn filter_items(
-    alloc: Global,
-    lists: &Deployment,
-    topic: TopicNo,
-    filter: &[KeyNo],
-) -> Result<String, AllocError>
+fn filter_items(alloc: Global, lists: &Deployment, topic: TopicNo, filter: &[KeyNo]) -> TextResult
     requires { topic < length lists.now.topics.entries }
     ensures { IfOk result (λ text. string_bytes text ≡ numbered_items (keys_at lists.now.topics topic) filter.now) }
 {
     key_items(alloc, lists.keys(topic), filter)
 }
 
-pub(crate) fn reader_entry(
-    alloc: Global,
-    lists: &Deployment,
-    name: &str,
-    x: &Reader,
-) -> Result<String, AllocError>
+pub(crate) fn reader_entry(alloc: Global, lists: &Deployment, name: &str, x: &Reader) -> TextResult
     requires { x.now.topic < length lists.now.topics.entries }
     ensures { IfOk result (λ text. string_bytes text ≡ reader_entry lists.now name.now (reader_view x.now)) }
 {
@@ -133,7 +111,7 @@ pub(crate) fn application_entry(
     lists: &Deployment,
     name: &str,
     x: &Application,
-) -> Result<String, AllocError>
+) -> TextResult
     ensures { IfOk result (λ text. string_bytes text ≡ application_entry lists.now name.now (application_view x.now)) }
 {
     let participant = name_at(lists.participant_names(), x.participant.number());
@@ -145,23 +123,13 @@ pub(crate) fn application_entry(
 }
 
 /// So many samples of a key at an endpoint of this side.
-fn portion_entry(
-    alloc: Global,
-    side: &str,
-    endpoint: &str,
-    key: &str,
-    count: u16,
-) -> Result<String, AllocError>
+fn portion_entry(alloc: Global, side: &str, endpoint: &str, key: &str, count: u16) -> TextResult
     ensures { IfOk result (λ text. string_bytes text ≡ portion_entry side.now endpoint.now key.now count) }
 {
     format!(in alloc; "{{\"{side}\": \"{endpoint}\", \"key\": \"{key}\", \"count\": {count}}}")
 }
 
-fn take_entry(
-    alloc: Global,
-    lists: &Deployment,
-    x: &Portion<ReaderNo>,
-) -> Result<String, AllocError>
+fn take_entry(alloc: Global, lists: &Deployment, x: &Portion<ReaderNo>) -> TextResult
     ensures { IfOk result (λ text. string_bytes text ≡ take_entry lists.now x.now) }
 {
     let reader = name_at(lists.reader_names(), x.endpoint.number());
@@ -169,11 +137,7 @@ fn take_entry(
     portion_entry(alloc, "reader", reader, key, x.count)
 }
 
-fn write_entry(
-    alloc: Global,
-    lists: &Deployment,
-    x: &Portion<WriterNo>,
-) -> Result<String, AllocError>
+fn write_entry(alloc: Global, lists: &Deployment, x: &Portion<WriterNo>) -> TextResult
     ensures { IfOk result (λ text. string_bytes text ≡ write_entry lists.now x.now) }
 {
     let writer = name_at(lists.writer_names(), x.endpoint.number());
@@ -182,33 +146,21 @@ fn write_entry(
 }
 
 /// What a rule takes.
-fn take_items(
-    alloc: Global,
-    lists: &Deployment,
-    xs: &[Portion<ReaderNo>],
-) -> Result<String, AllocError>
+fn take_items(alloc: Global, lists: &Deployment, xs: &[Portion<ReaderNo>]) -> TextResult
     ensures { IfOk result (λ text. string_bytes text ≡ take_items lists.now xs.now) }
 {
     items_below(alloc, xs.len(), |i| take_entry(alloc, lists, &xs[i]))
 }
 
 /// What a rule writes.
-fn write_items(
-    alloc: Global,
-    lists: &Deployment,
-    xs: &[Portion<WriterNo>],
-) -> Result<String, AllocError>
+fn write_items(alloc: Global, lists: &Deployment, xs: &[Portion<WriterNo>]) -> TextResult
     ensures { IfOk result (λ text. string_bytes text ≡ write_items lists.now xs.now) }
 {
     items_below(alloc, xs.len(), |i| write_entry(alloc, lists, &xs[i]))
 }
 
 /// The name of a rule's entry, and the key where the rule stands for one.
-fn origin_fields(
-    alloc: Global,
-    lists: &Deployment,
-    origin: Option<Origin>,
-) -> Result<String, AllocError>
+fn origin_fields(alloc: Global, lists: &Deployment, origin: Option<Origin>) -> TextResult
     ensures { IfOk result (λ text. string_bytes text ≡ origin_fields lists.now origin) }
 {
     match origin {
@@ -231,7 +183,7 @@ pub(crate) fn rule_entry(
     lists: &Deployment,
     origin: Option<Origin>,
     x: &Rule,
-) -> Result<String, AllocError>
+) -> TextResult
     ensures { IfOk result (λ text. string_bytes text ≡ rule_entry lists.now origin (rule_view x.now)) }
 {
     let origin = origin_fields(alloc, lists, origin)?;
@@ -248,7 +200,7 @@ pub(crate) fn connection_entry(
     alloc: Global,
     lists: &Deployment,
     pair: (usize, usize),
-) -> Result<String, AllocError>
+) -> TextResult
     ensures { IfOk result (λ text. string_bytes text ≡ connection_entry lists.now pair) }
 {
     let writer = name_at(lists.writer_names(), pair.0);

@@ -9,18 +9,14 @@ use crate::entries::{
     writer_entry,
 };
 use crate::pieces::line_start;
-use crate::texts::text_below;
+use crate::texts::{TextResult, text_below};
 use dds_base::{AppNo, ParticipantNo, ReaderNo, RuleNo, TopicNo, WriterNo};
 use dds_cert::naming::name_at;
 use dds_deploy::Deployment;
 use std::alloc::{AllocError, Global};
 
 /// The entries below `n`, each in a line of its own.
-fn lines_below<F: Fn(usize) -> Result<String, AllocError>>(
-    alloc: Global,
-    n: usize,
-    entry: F,
-) -> Result<String, AllocError>
+fn lines_below<F: Fn(usize) -> TextResult>(alloc: Global, n: usize, entry: F) -> TextResult
     requires { (i : ℕ) → i < n → F.pre entry i }
     ensures { (item_of : ℕ → List ℕ) → ((i : ℕ) (r : _) → i < n → F.post entry i r → IfOk r (λ text. line_start i ++ string_bytes text ≡ item_of i)) → IfOk result (λ text. string_bytes text ≡ each_below n item_of) }
 {
@@ -38,13 +34,13 @@ fn lines_below<F: Fn(usize) -> Result<String, AllocError>>(
 }
 
 /// A section with these entries.
-fn section(alloc: Global, name: &str, items: &str) -> Result<String, AllocError>
+fn section(alloc: Global, name: &str, items: &str) -> TextResult
     ensures { IfOk result (λ text. string_bytes text ≡ section name.now items.now) }
 {
     format!(in alloc; "  \"{name}\": [{items}\n  ]")
 }
 
-fn participants_section(alloc: Global, lists: &Deployment) -> Result<String, AllocError>
+fn participants_section(alloc: Global, lists: &Deployment) -> TextResult
     ensures { IfOk result (λ text. string_bytes text ≡ participants_section lists.now) }
 {
     let items = lines_below(
@@ -61,7 +57,7 @@ fn participants_section(alloc: Global, lists: &Deployment) -> Result<String, All
     section(alloc, "participants", items.as_str())
 }
 
-fn topics_section(alloc: Global, lists: &Deployment) -> Result<String, AllocError>
+fn topics_section(alloc: Global, lists: &Deployment) -> TextResult
     ensures { IfOk result (λ text. string_bytes text ≡ topics_section lists.now) }
 {
     let items = lines_below(
@@ -78,7 +74,7 @@ fn topics_section(alloc: Global, lists: &Deployment) -> Result<String, AllocErro
     section(alloc, "topics", items.as_str())
 }
 
-fn writers_section(alloc: Global, lists: &Deployment) -> Result<String, AllocError>
+fn writers_section(alloc: Global, lists: &Deployment) -> TextResult
     ensures { IfOk result (λ text. string_bytes text ≡ writers_section lists.now) }
 {
     let items = lines_below(
@@ -95,7 +91,7 @@ fn writers_section(alloc: Global, lists: &Deployment) -> Result<String, AllocErr
     section(alloc, "writers", items.as_str())
 }
 
-fn readers_section(alloc: Global, lists: &Deployment) -> Result<String, AllocError>
+fn readers_section(alloc: Global, lists: &Deployment) -> TextResult
     ensures { IfOk result (λ text. string_bytes text ≡ readers_section lists.now) }
 {
     let items = lines_below(
@@ -114,7 +110,7 @@ fn readers_section(alloc: Global, lists: &Deployment) -> Result<String, AllocErr
     section(alloc, "readers", items.as_str())
 }
 
-fn applications_section(alloc: Global, lists: &Deployment) -> Result<String, AllocError>
+fn applications_section(alloc: Global, lists: &Deployment) -> TextResult
     ensures { IfOk result (λ text. string_bytes text ≡ applications_section lists.now) }
 {
     let items = lines_below(
@@ -131,7 +127,7 @@ fn applications_section(alloc: Global, lists: &Deployment) -> Result<String, All
     section(alloc, "applications", items.as_str())
 }
 
-fn rules_section(alloc: Global, lists: &Deployment) -> Result<String, AllocError>
+fn rules_section(alloc: Global, lists: &Deployment) -> TextResult
     ensures { IfOk result (λ text. string_bytes text ≡ rules_section lists.now) }
 {
     let items = lines_below(alloc, lists.rules(), |i| {
@@ -181,7 +177,7 @@ fn pairs(alloc: Global, lists: &Deployment) -> Result<Vec<(usize, usize)>, Alloc
     Ok(found)
 }
 
-fn connections_section(alloc: Global, lists: &Deployment) -> Result<String, AllocError>
+fn connections_section(alloc: Global, lists: &Deployment) -> TextResult
     ensures { IfOk result (λ text. string_bytes text ≡ connections_section lists.now) }
 {
     let found = pairs(alloc, lists)?;
@@ -194,7 +190,7 @@ fn connections_section(alloc: Global, lists: &Deployment) -> Result<String, Allo
 /// A deployment in JSON: `participants`, `topics`, `writers`, `readers`, `applications`, `rules` and `connections`, each a list with its entries in file
 /// order, connections by writer and then by reader. An entry has every field of the file's format, with the default where the file has none; a rule that stands for one key
 /// of an entry with `each` has that `key` besides. Only want of memory is an error.
-pub fn deployment_json(alloc: Global, lists: &Deployment) -> Result<String, AllocError>
+pub fn deployment_json(alloc: Global, lists: &Deployment) -> TextResult
     ensures { IfOk result (λ text. string_bytes text ≡ deployment_json lists.now) }
 {
     let participants = participants_section(alloc, lists)?;

@@ -3,11 +3,11 @@ ghost use Rattle.std.specs.Prelude.{◌≡◌, ◌++◌, ◌<◌, ℕ, List, IfO
 ghost use Rattle.dds_cert.specs.Text.{each_below};
 ghost use Rattle.dds_show.specs.Pieces.{comma, duration_text, flag_word, limit_text, line_start, name_items, quoted};
 
-use crate::texts::text_below;
+use crate::texts::{TextResult, number_or, text_below};
 use dds_base::Names;
 use dds_cert::naming::name_at;
 use dds_qos::Duration;
-use std::alloc::{AllocError, Global};
+use std::alloc::Global;
 
 pub(crate) fn comma(i: usize) -> &'static str
     ensures { result.now ≡ comma i }
@@ -22,11 +22,11 @@ pub(crate) fn line_start(i: usize) -> &'static str
 }
 
 /// The items below `n` in one line, with commas between them.
-pub(crate) fn items_below<F: Fn(usize) -> Result<String, AllocError>>(
+pub(crate) fn items_below<F: Fn(usize) -> TextResult>(
     alloc: Global,
     n: usize,
     item: F,
-) -> Result<String, AllocError>
+) -> TextResult
     requires { (i : ℕ) → i < n → F.pre item i }
     ensures { (item_of : ℕ → List ℕ) → ((i : ℕ) (r : _) → i < n → F.post item i r → IfOk r (λ text. comma i ++ string_bytes text ≡ item_of i)) → IfOk result (λ text. string_bytes text ≡ each_below n item_of) }
 {
@@ -44,21 +44,21 @@ pub(crate) fn items_below<F: Fn(usize) -> Result<String, AllocError>>(
 }
 
 /// A text in quotes.
-pub(crate) fn quoted(alloc: Global, text: &str) -> Result<String, AllocError>
+pub(crate) fn quoted(alloc: Global, text: &str) -> TextResult
     ensures { IfOk result (λ quote. string_bytes quote ≡ quoted text.now) }
 {
     format!(in alloc; "\"{text}\"")
 }
 
 /// The names of a list, in quotes.
-pub(crate) fn name_items(alloc: Global, names: &Names) -> Result<String, AllocError>
+pub(crate) fn name_items(alloc: Global, names: &Names) -> TextResult
     ensures { IfOk result (λ text. string_bytes text ≡ name_items names.now) }
 {
     items_below(alloc, names.len(), |i| quoted(alloc, name_at(names, i)))
 }
 
 /// The texts of a list, in quotes.
-pub(crate) fn text_items(alloc: Global, texts: &[String]) -> Result<String, AllocError>
+pub(crate) fn text_items(alloc: Global, texts: &[String]) -> TextResult
     ensures { IfOk result (λ text. string_bytes text ≡ name_items (map string_bytes texts.now)) }
 {
     items_below(alloc, texts.len(), |i| quoted(alloc, texts[i].as_str()))
@@ -71,7 +71,7 @@ pub(crate) fn flag_word(flag: bool) -> &'static str
 }
 
 /// A length of time: nanoseconds, or "infinite".
-pub(crate) fn duration_text(alloc: Global, duration: Duration) -> Result<String, AllocError>
+pub(crate) fn duration_text(alloc: Global, duration: Duration) -> TextResult
     ensures { IfOk result (λ text. string_bytes text ≡ duration_text duration) }
 {
     match duration {
@@ -81,11 +81,8 @@ pub(crate) fn duration_text(alloc: Global, duration: Duration) -> Result<String,
 }
 
 /// A limit: a number, or "unlimited".
-pub(crate) fn limit_text(alloc: Global, limit: Option<u32>) -> Result<String, AllocError>
+pub(crate) fn limit_text(alloc: Global, limit: Option<u32>) -> TextResult
     ensures { IfOk result (λ text. string_bytes text ≡ limit_text limit) }
 {
-    match limit {
-        Some(n) => format!(in alloc; "{n}"),
-        None => String::from_str(alloc, "\"unlimited\""),
-    }
+    number_or(alloc, limit, "\"unlimited\"")
 }

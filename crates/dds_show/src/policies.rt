@@ -3,14 +3,15 @@ ghost use Rattle.std.specs.Prelude.{◌≡◌, IfOk, string_bytes};
 ghost use Rattle.dds_show.specs.Policies.{delivery_fields, history_fields, limits_fields, liveliness_fields, policies_fields, presentation_fields, timing_fields};
 
 use crate::pieces::{duration_text, flag_word, limit_text};
+use crate::texts::TextResult;
 use crate::words::{
     access_scope_word, destination_order_word, durability_word, history_word, liveliness_word,
     ownership_word, reliability_word,
 };
 use dds_qos::{History, Liveliness, Policies, Presentation, ResourceLimits};
-use std::alloc::{AllocError, Global};
+use std::alloc::Global;
 
-fn presentation_fields(alloc: Global, x: Presentation) -> Result<String, AllocError>
+fn presentation_fields(alloc: Global, x: Presentation) -> TextResult
     ensures { IfOk result (λ text. string_bytes text ≡ presentation_fields x) }
 {
     let scope = access_scope_word(x.access_scope);
@@ -22,7 +23,7 @@ fn presentation_fields(alloc: Global, x: Presentation) -> Result<String, AllocEr
 }
 
 // What is said of the past and of time.
-fn timing_fields(alloc: Global, p: &Policies) -> Result<String, AllocError>
+fn timing_fields(alloc: Global, p: &Policies) -> TextResult
     ensures { IfOk result (λ text. string_bytes text ≡ timing_fields p.now) }
 {
     let durability = durability_word(p.durability);
@@ -34,7 +35,7 @@ fn timing_fields(alloc: Global, p: &Policies) -> Result<String, AllocError>
     )
 }
 
-fn liveliness_fields(alloc: Global, x: Liveliness) -> Result<String, AllocError>
+fn liveliness_fields(alloc: Global, x: Liveliness) -> TextResult
     ensures { IfOk result (λ text. string_bytes text ≡ liveliness_fields x) }
 {
     let kind = liveliness_word(x.kind);
@@ -43,7 +44,7 @@ fn liveliness_fields(alloc: Global, x: Liveliness) -> Result<String, AllocError>
 }
 
 // What is said of who writes and how samples come.
-fn delivery_fields(alloc: Global, p: &Policies) -> Result<String, AllocError>
+fn delivery_fields(alloc: Global, p: &Policies) -> TextResult
     ensures { IfOk result (λ text. string_bytes text ≡ delivery_fields p.now) }
 {
     let ownership = ownership_word(p.ownership);
@@ -55,7 +56,7 @@ fn delivery_fields(alloc: Global, p: &Policies) -> Result<String, AllocError>
     )
 }
 
-fn history_fields(alloc: Global, x: History) -> Result<String, AllocError>
+fn history_fields(alloc: Global, x: History) -> TextResult
     ensures { IfOk result (λ text. string_bytes text ≡ history_fields x) }
 {
     let kind = history_word(x.kind);
@@ -63,7 +64,7 @@ fn history_fields(alloc: Global, x: History) -> Result<String, AllocError>
     format!(in alloc; "\"history\": \"{kind}\", \"depth\": {depth}")
 }
 
-fn limits_fields(alloc: Global, x: ResourceLimits) -> Result<String, AllocError>
+fn limits_fields(alloc: Global, x: ResourceLimits) -> TextResult
     ensures { IfOk result (λ text. string_bytes text ≡ limits_fields x) }
 {
     let samples = limit_text(alloc, x.max_samples)?;
@@ -75,7 +76,7 @@ fn limits_fields(alloc: Global, x: ResourceLimits) -> Result<String, AllocError>
 }
 
 /// All policies but the partitions.
-pub(crate) fn policies_fields(alloc: Global, p: &Policies) -> Result<String, AllocError>
+pub(crate) fn policies_fields(alloc: Global, p: &Policies) -> TextResult
     ensures { IfOk result (λ text. string_bytes text ≡ policies_fields p.now) }
 {
     let timing = timing_fields(alloc, p)?;

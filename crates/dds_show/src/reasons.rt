@@ -4,6 +4,7 @@ ghost use Rattle.std.specs.List.{join_by};
 ghost use Rattle.dds_qos.specs.Compatibility.{contains, name_of, policies};
 ghost use Rattle.dds_show.specs.Reasons.{reason_words};
 
+use crate::texts::TextResult;
 use dds_match::WhyNot;
 use dds_qos::{Policy, PolicySet};
 use std::alloc::{AllocError, Global};
@@ -23,7 +24,7 @@ fn push_name(
 }
 
 /// The names of the policies of a set, with commas between them.
-fn policies_text(alloc: Global, set: PolicySet) -> Result<String, AllocError>
+fn policies_text(alloc: Global, set: PolicySet) -> TextResult
     ensures { IfOk result (λ text. string_bytes text ≡ join_by name_of (codes ",") (filter (contains set) policies)) }
 {
     let mut names = Vec::new(alloc);
@@ -35,7 +36,7 @@ fn policies_text(alloc: Global, set: PolicySet) -> Result<String, AllocError>
 
 /// Why a writer and a reader don't match, in words: `domain`, `topic`, `partition`, or `policies` and the names of the incompatible ones, with commas between them
 /// (OMG DDS 1.4, clause 2.2.3). Only want of memory is an error.
-pub fn reason_text(alloc: Global, reason: WhyNot) -> Result<String, AllocError>
+pub fn reason_text(alloc: Global, reason: WhyNot) -> TextResult
     ensures { IfOk result (λ text. string_bytes text ≡ reason_words reason) }
 {
     match reason {

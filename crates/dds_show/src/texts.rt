@@ -1,15 +1,28 @@
-//! Texts made of a text for each number below a bound, or for each element of a list.
+//! Texts of a number that may be missing, and texts made of a text for each number below a bound, or for each element of a list.
 ghost use Rattle.std.specs.Prelude.{◌≡◌, ◌<◌, ℕ, List, IfOk, flat_map, string_bytes};
+ghost use Rattle.dds_cert.specs.Naming.{name_at};
 ghost use Rattle.dds_cert.specs.Text.{each_below};
+ghost use Rattle.dds_show.specs.Pieces.{number_or};
 
+use dds_base::{Endpoint, Names};
+use dds_cert::naming::name_at;
 use std::alloc::{AllocError, Global};
 
+/// A text, unless memory runs out.
+pub type TextResult = Result<String, AllocError>;
+
+/// A number, or this text where there is none. Only want of memory is an error.
+pub fn number_or(alloc: Global, number: Option<u32>, none: &str) -> TextResult
+    ensures { IfOk result (λ text. string_bytes text ≡ number_or number none.now) }
+{
+    match number {
+        Some(n) => format!(in alloc; "{n}"),
+        None => String::from_str(alloc, none),
+    }
+}
+
 /// The texts of the numbers below `n`, one after another. Only want of memory is an error, and what `piece` gives.
-pub fn text_below<F: Fn(usize) -> Result<String, AllocError>>(
-    alloc: Global,
-    n: usize,
-    piece: F,
-) -> Result<String, AllocError>
+pub fn text_below<F: Fn(usize) -> TextResult>(alloc: Global, n: usize, piece: F) -> TextResult
     requires { (i : ℕ) → i < n → F.pre piece i }
     ensures { (text_of : ℕ → List ℕ) → ((i : ℕ) (r : _) → i < n → F.post piece i r → IfOk r (λ text. string_bytes text ≡ text_of i)) → IfOk result (λ text. string_bytes text ≡ each_below n text_of) }
 {
@@ -22,11 +35,7 @@ pub fn text_below<F: Fn(usize) -> Result<String, AllocError>>(
 }
 
 /// The texts of these elements, one after another. Only want of memory is an error, and what `piece` gives.
-pub fn text_of_each<T, F: Fn(&T) -> Result<String, AllocError>>(
-    alloc: Global,
-    xs: &[T],
-    piece: F,
-) -> Result<String, AllocError>
+pub fn text_of_each<T, F: Fn(&T) -> TextResult>(alloc: Global, xs: &[T], piece: F) -> TextResult
     requires { F.IsAlwaysCallable piece }
     ensures { (text_of : T → List ℕ) → ((x : _) (r : _) → F.post piece x r → IfOk r (λ text. string_bytes text ≡ text_of x.now)) → IfOk result (λ text. string_bytes text ≡ flat_map text_of xs.now) }
 {
@@ -36,4 +45,21 @@ pub fn text_of_each<T, F: Fn(&T) -> Result<String, AllocError>>(
         text.push_str(next.as_str())?;
     }
     Ok(text)
+}
+
+/// The texts of the names of these writers or readers, one after another. Only want of memory is an error, and what `piece` gives.
+pub fn text_of_endpoints<E: Endpoint, F: Fn(&str) -> TextResult>(
+    alloc: Global,
+    names: &Names,
+    endpoints: &[E],
+    piece: F,
+) -> TextResult
+    requires { F.IsAlwaysCallable piece }
+    ensures { (text_of : List ℕ → List ℕ) → ((name : _) (r : _) → F.post piece name r → IfOk r (λ text. string_bytes text ≡ text_of name.now)) → IfOk result (λ text. string_bytes text ≡ flat_map (λ e. text_of (name_at names.now (E.number_of e))) endpoints.now) }
+{
+    text_of_each(
+        alloc,
+        endpoints,
+        |endpoint| piece(name_at(names, endpoint.place())),
+    )
 }

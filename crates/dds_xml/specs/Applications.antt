@@ -5,13 +5,13 @@ use Rattle.dds_deploy.specs.Lists.{Application, Lists}
 use Rattle.dds_cert.specs.Naming.{name_at}
 use Rattle.dds_cert.specs.Text.{each_below}
 
--- the publisher or the subscriber of an endpoint
-abbrev pub owned_element : List ℕ → List (List ℕ) → ℕ → List ℕ
-owned_element group names number = codes "        <" ++ (group ++ (codes " name=\"" ++ (name_at names number ++ codes "\"/>\n")))
+-- the publisher or the subscriber of the endpoint with this name
+abbrev pub owned_element : List ℕ → List ℕ → List ℕ
+owned_element group name = codes "        <" ++ (group ++ (codes " name=\"" ++ (name ++ codes "\"/>\n")))
 
 -- the publishers or the subscribers of these endpoints
 abbrev pub owned_elements : List ℕ → List (List ℕ) → List ℕ → List ℕ
-owned_elements group names numbers = flat_map (owned_element group names) numbers
+owned_elements group names numbers = flat_map (λ n. owned_element group (name_at names n)) numbers
 
 -- an application at its participant
 abbrev pub application_element : Lists → List ℕ → Application → List ℕ

@@ -1,8 +1,9 @@
 -- Pieces of a deployment's XML: lengths of time and limits. Their words are those of the IDL (OMG DDS 1.4, clause 2.3.3).
-use Rattle.std.specs.Prelude.{codes, ℕ, List, ◌++◌, ◌/◌, ◌%◌, Option, Some, None}
+use Rattle.std.specs.Prelude.{codes, ℕ, List, ◌++◌, ◌/◌, ◌%◌, Option}
 use Rattle.std.specs.Fmt.{decimal}
 use Rattle.dds_qos.specs.declared.policies.Duration.{Duration}
 use Rattle.dds_qos.specs.declared.policies.Duration.TheVariants.{Nanoseconds, Infinite}
+use Rattle.dds_show.specs.Pieces.{number_or}
 
 -- the whole seconds of a length of time
 abbrev pub seconds_text : Duration → List ℕ
@@ -22,8 +23,7 @@ duration_element name x =
 
 -- a limit: a number, or that there is none
 abbrev pub limit_text : Option ℕ → List ℕ
-limit_text (Some n) = decimal n
-limit_text None = codes "LENGTH_UNLIMITED"
+limit_text limit = number_or limit (codes "LENGTH_UNLIMITED")
 
 -- a limit of what is kept
 abbrev pub limit_element : List ℕ → Option ℕ → List ℕ

@@ -8,12 +8,13 @@ use crate::profiles::{reader_library, writer_library};
 use crate::topics::domain_library;
 use crate::types::types_section;
 use dds_deploy::Deployment;
-use std::alloc::{AllocError, Global};
+use dds_show::texts::TextResult;
+use std::alloc::Global;
 
 /// A deployment for other DDS tools, in DDS-XML (OMG DDS-XML 1.0): types, a QoS profile for each endpoint, topics, participants with their endpoints, and
 /// applications, each in file order. Rules and connections have no place there and are left out. Lengths of time are in seconds and nanoseconds. The type of a topic
 /// is a struct of a key and 32 bytes, in a module of the topic's name; the enum beside it has the topic's keys. Only want of memory is an error.
-pub fn deployment_xml(alloc: Global, lists: &Deployment) -> Result<String, AllocError>
+pub fn deployment_xml(alloc: Global, lists: &Deployment) -> TextResult
     ensures { IfOk result (λ text. string_bytes text ≡ deployment_xml lists.now) }
 {
     let types = types_section(alloc, lists)?;

@@ -1,21 +1,16 @@
 //! The participants in XML, each with its writers and then its readers, in file order (OMG DDS-XML 1.0, building block DomainParticipants).
 ghost use Rattle.std.specs.Prelude.{◌≡◌, ◌<◌, IfOk, length, string_bytes};
 ghost use Rattle.dds_deploy.specs.Views.{participant_view, reader_view, writer_view};
-ghost use Rattle.dds_xml.specs.Participants.{content_filter, data_reader, disjunction, filter_expression, filter_term, participant_at, participant_element, participant_library, publisher, publisher_at, publishers, subscriber, subscriber_at, subscribers};
+ghost use Rattle.dds_xml.specs.Participants.{content_filter, data_reader, disjunction, filter_expression, filter_term, participant_element, participant_library, publisher, publisher_at, publishers, subscriber, subscriber_at, subscribers};
 
 use dds_base::{KeyNo, Names, ParticipantNo, ReaderNo, WriterNo};
 use dds_cert::naming::name_at;
 use dds_deploy::{Deployment, Participant, Reader, Writer};
-use dds_show::texts::text_below;
-use std::alloc::{AllocError, Global};
+use dds_show::texts::{TextResult, text_below};
+use std::alloc::Global;
 
 /// A writer, in a publisher of its name.
-fn publisher(
-    alloc: Global,
-    lists: &Deployment,
-    name: &str,
-    x: &Writer,
-) -> Result<String, AllocError>
+fn publisher(alloc: Global, lists: &Deployment, name: &str, x: &Writer) -> TextResult
     ensures { IfOk result (λ text. string_bytes text ≡ publisher lists.now name.now (writer_view x.now)) }
 {
     let topic = name_at(lists.topic_names(), x.topic.number());
@@ -34,7 +29,7 @@ fn disjunction(i: usize) -> &'static str
 }
 
 /// A key of a filter, by its place there.
-fn filter_term(alloc: Global, key: &str, i: usize) -> Result<String, AllocError>
+fn filter_term(alloc: Global, key: &str, i: usize) -> TextResult
     ensures { IfOk result (λ text. string_bytes text ≡ filter_term key.now i) }
 {
     let disjunction = disjunction(i);
@@ -42,7 +37,7 @@ fn filter_term(alloc: Global, key: &str, i: usize) -> Result<String, AllocError>
 }
 
 /// A filter as a condition on the key of a sample.
-fn filter_expression(alloc: Global, keys: &Names, filter: &[KeyNo]) -> Result<String, AllocError>
+fn filter_expression(alloc: Global, keys: &Names, filter: &[KeyNo]) -> TextResult
     ensures { IfOk result (λ text. string_bytes text ≡ filter_expression keys.now filter.now) }
 {
     if filter.is_empty() {
@@ -54,12 +49,7 @@ fn filter_expression(alloc: Global, keys: &Names, filter: &[KeyNo]) -> Result<St
 }
 
 /// The filter of a reader, nothing where it has all keys.
-fn content_filter(
-    alloc: Global,
-    name: &str,
-    keys: &Names,
-    filter: &[KeyNo],
-) -> Result<String, AllocError>
+fn content_filter(alloc: Global, name: &str, keys: &Names, filter: &[KeyNo]) -> TextResult
     ensures { IfOk result (λ text. string_bytes text ≡ content_filter name.now keys.now filter.now) }
 {
     if keys.len() <= filter.len() {
@@ -71,12 +61,7 @@ fn content_filter(
     )
 }
 
-fn data_reader(
-    alloc: Global,
-    lists: &Deployment,
-    name: &str,
-    x: &Reader,
-) -> Result<String, AllocError>
+fn data_reader(alloc: Global, lists: &Deployment, name: &str, x: &Reader) -> TextResult
     requires { x.now.topic < length lists.now.topics.entries }
     ensures { IfOk result (λ text. string_bytes text ≡ data_reader lists.now name.now (reader_view x.now)) }
 {
@@ -89,12 +74,7 @@ fn data_reader(
 }
 
 /// A reader, in a subscriber of its name.
-fn subscriber(
-    alloc: Global,
-    lists: &Deployment,
-    name: &str,
-    x: &Reader,
-) -> Result<String, AllocError>
+fn subscriber(alloc: Global, lists: &Deployment, name: &str, x: &Reader) -> TextResult
     requires { x.now.topic < length lists.now.topics.entries }
     ensures { IfOk result (λ text. string_bytes text ≡ subscriber lists.now name.now (reader_view x.now)) }
 {
@@ -105,12 +85,7 @@ fn subscriber(
 }
 
 /// The writer with this number, if it is at this participant.
-fn publisher_at(
-    alloc: Global,
-    lists: &Deployment,
-    p: ParticipantNo,
-    w: usize,
-) -> Result<String, AllocError>
+fn publisher_at(alloc: Global, lists: &Deployment, p: ParticipantNo, w: usize) -> TextResult
     requires { w < length lists.now.writers.entries }
     ensures { IfOk result (λ text. string_bytes text ≡ publisher_at lists.now p w) }
 {
@@ -122,19 +97,14 @@ fn publisher_at(
 }
 
 /// The writers of a participant.
-fn publishers(alloc: Global, lists: &Deployment, p: ParticipantNo) -> Result<String, AllocError>
+fn publishers(alloc: Global, lists: &Deployment, p: ParticipantNo) -> TextResult
     ensures { IfOk result (λ text. string_bytes text ≡ publishers lists.now p) }
 {
     text_below(alloc, lists.writers(), |w| publisher_at(alloc, lists, p, w))
 }
 
 /// The reader with this number, if it is at this participant.
-fn subscriber_at(
-    alloc: Global,
-    lists: &Deployment,
-    p: ParticipantNo,
-    r: usize,
-) -> Result<String, AllocError>
+fn subscriber_at(alloc: Global, lists: &Deployment, p: ParticipantNo, r: usize) -> TextResult
     requires { r < length lists.now.readers.entries }
     ensures { IfOk result (λ text. string_bytes text ≡ subscriber_at lists.now p r) }
 {
@@ -148,7 +118,7 @@ fn subscriber_at(
 }
 
 /// The readers of a participant.
-fn subscribers(alloc: Global, lists: &Deployment, p: ParticipantNo) -> Result<String, AllocError>
+fn subscribers(alloc: Global, lists: &Deployment, p: ParticipantNo) -> TextResult
     ensures { IfOk result (λ text. string_bytes text ≡ subscribers lists.now p) }
 {
     text_below(
@@ -164,7 +134,7 @@ fn participant_element(
     lists: &Deployment,
     p: ParticipantNo,
     x: &Participant,
-) -> Result<String, AllocError>
+) -> TextResult
     ensures { IfOk result (λ text. string_bytes text ≡ participant_element lists.now p (participant_view x.now)) }
 {
     let name = name_at(lists.participant_names(), p.number());
@@ -177,21 +147,13 @@ fn participant_element(
 }
 
 /// All participants.
-#[tactic(auto, unfolding(crate::specs::Participants::participant_library))]
-pub(crate) fn participant_library(alloc: Global, lists: &Deployment) -> Result<String, AllocError>
+pub(crate) fn participant_library(alloc: Global, lists: &Deployment) -> TextResult
     ensures { IfOk result (λ text. string_bytes text ≡ participant_library lists.now) }
 {
-    let participants = text_below(
-        alloc,
-        lists.participants(),
-        |p|
-            requires { p < length lists.now.participants.entries }
-            ensures { IfOk result (λ text. string_bytes text ≡ participant_at lists.entry.now p) }
-        {
-            let number = ParticipantNo::new(p);
-            participant_element(alloc, lists, number, lists.participant(number))
-        },
-    )?;
+    let participants = text_below(alloc, lists.participants(), |p| {
+        let number = ParticipantNo::new(p);
+        participant_element(alloc, lists, number, lists.participant(number))
+    })?;
     format!(in alloc;
         "  <domain_participant_library name=\"participants\">\n{participants}  </domain_participant_library>\n"
     )

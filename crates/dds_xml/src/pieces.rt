@@ -3,13 +3,14 @@ ghost use Rattle.std.specs.Prelude.{◌≡◌, IfOk, string_bytes};
 ghost use Rattle.dds_xml.specs.Pieces.{duration_element, limit_element, limit_text, nanoseconds_text, seconds_text};
 
 use dds_qos::Duration;
-use std::alloc::{AllocError, Global};
+use dds_show::texts::{TextResult, number_or};
+use std::alloc::Global;
 
 /// So many nanoseconds are a second.
 const SECOND: u64 = 1_000_000_000;
 
 /// The whole seconds of a length of time.
-fn seconds_text(alloc: Global, duration: Duration) -> Result<String, AllocError>
+fn seconds_text(alloc: Global, duration: Duration) -> TextResult
     ensures { IfOk result (λ text. string_bytes text ≡ seconds_text duration) }
 {
     match duration {
@@ -22,7 +23,7 @@ fn seconds_text(alloc: Global, duration: Duration) -> Result<String, AllocError>
 }
 
 /// The nanoseconds of a length of time beyond its whole seconds.
-fn nanoseconds_text(alloc: Global, duration: Duration) -> Result<String, AllocError>
+fn nanoseconds_text(alloc: Global, duration: Duration) -> TextResult
     ensures { IfOk result (λ text. string_bytes text ≡ nanoseconds_text duration) }
 {
     match duration {
@@ -35,11 +36,7 @@ fn nanoseconds_text(alloc: Global, duration: Duration) -> Result<String, AllocEr
 }
 
 /// A length of time.
-pub(crate) fn duration_element(
-    alloc: Global,
-    name: &str,
-    duration: Duration,
-) -> Result<String, AllocError>
+pub(crate) fn duration_element(alloc: Global, name: &str, duration: Duration) -> TextResult
     ensures { IfOk result (λ text. string_bytes text ≡ duration_element name.now duration) }
 {
     let seconds = seconds_text(alloc, duration)?;
@@ -50,21 +47,14 @@ pub(crate) fn duration_element(
 }
 
 /// A limit: a number, or that there is none.
-fn limit_text(alloc: Global, limit: Option<u32>) -> Result<String, AllocError>
+fn limit_text(alloc: Global, limit: Option<u32>) -> TextResult
     ensures { IfOk result (λ text. string_bytes text ≡ limit_text limit) }
 {
-    match limit {
-        Some(n) => format!(in alloc; "{n}"),
-        None => String::from_str(alloc, "LENGTH_UNLIMITED"),
-    }
+    number_or(alloc, limit, "LENGTH_UNLIMITED")
 }
 
 /// A limit of what is kept.
-pub(crate) fn limit_element(
-    alloc: Global,
-    name: &str,
-    limit: Option<u32>,
-) -> Result<String, AllocError>
+pub(crate) fn limit_element(alloc: Global, name: &str, limit: Option<u32>) -> TextResult
     ensures { IfOk result (λ text. string_bytes text ≡ limit_element name.now limit) }
 {
     let limit = limit_text(alloc, limit)?;

@@ -1,22 +1,22 @@
 //! The QoS profiles of the endpoints in XML (OMG DDS-XML 1.0, building block QoS). Policies and their kinds have the names of the IDL (OMG DDS 1.4, clause 2.3.3).
-ghost use Rattle.std.specs.Prelude.{◌≡◌, ◌<◌, IfOk, length, map, string_bytes};
+ghost use Rattle.std.specs.Prelude.{◌≡◌, IfOk, map, string_bytes};
 ghost use Rattle.dds_deploy.specs.Views.{reader_view, writer_view};
-ghost use Rattle.dds_xml.specs.Profiles.{delivery_elements, endpoint_elements, group_elements, history_element, kind_element, limits_element, liveliness_element, partition_element, partition_name, presentation_element, profile, qos_element, qos_library, reader_library, reader_profile, reader_profile_at, timing_elements, writer_library, writer_profile, writer_profile_at};
+ghost use Rattle.dds_xml.specs.Profiles.{delivery_elements, endpoint_elements, group_elements, history_element, kind_element, limits_element, liveliness_element, partition_element, partition_name, presentation_element, profile, qos_element, qos_library, reader_library, reader_profile, timing_elements, writer_library, writer_profile};
 
 use crate::pieces::{duration_element, limit_element};
 use dds_base::{ReaderNo, WriterNo};
 use dds_cert::naming::name_at;
 use dds_deploy::{Deployment, Reader, Writer};
 use dds_qos::{History, Liveliness, Policies, Presentation, ResourceLimits};
-use dds_show::texts::{text_below, text_of_each};
+use dds_show::texts::{TextResult, text_below, text_of_each};
 use dds_show::words::{
     access_scope_word, destination_order_word, durability_word, history_word, liveliness_word,
     ownership_word, reliability_word,
 };
-use std::alloc::{AllocError, Global};
+use std::alloc::Global;
 
 /// A policy that is a kind and nothing else. `suffix` is the policy's word in the name of the kind.
-fn kind_element(alloc: Global, policy: &str, kind: &str, suffix: &str) -> Result<String, AllocError>
+fn kind_element(alloc: Global, policy: &str, kind: &str, suffix: &str) -> TextResult
     ensures { IfOk result (λ text. string_bytes text ≡ kind_element policy.now kind.now suffix.now) }
 {
     format!(in alloc;
@@ -25,7 +25,7 @@ fn kind_element(alloc: Global, policy: &str, kind: &str, suffix: &str) -> Result
 }
 
 /// What is said of the past and of time.
-fn timing_elements(alloc: Global, p: &Policies) -> Result<String, AllocError>
+fn timing_elements(alloc: Global, p: &Policies) -> TextResult
     ensures { IfOk result (λ text. string_bytes text ≡ timing_elements p.now) }
 {
     let durability = kind_element(
@@ -41,7 +41,7 @@ fn timing_elements(alloc: Global, p: &Policies) -> Result<String, AllocError>
     )
 }
 
-fn liveliness_element(alloc: Global, x: Liveliness) -> Result<String, AllocError>
+fn liveliness_element(alloc: Global, x: Liveliness) -> TextResult
     ensures { IfOk result (λ text. string_bytes text ≡ liveliness_element x) }
 {
     let kind = liveliness_word(x.kind);
@@ -52,7 +52,7 @@ fn liveliness_element(alloc: Global, x: Liveliness) -> Result<String, AllocError
 }
 
 /// What is said of who writes and how samples come.
-fn delivery_elements(alloc: Global, p: &Policies) -> Result<String, AllocError>
+fn delivery_elements(alloc: Global, p: &Policies) -> TextResult
     ensures { IfOk result (λ text. string_bytes text ≡ delivery_elements p.now) }
 {
     let ownership = kind_element(alloc, "ownership", ownership_word(p.ownership), "OWNERSHIP")?;
@@ -72,7 +72,7 @@ fn delivery_elements(alloc: Global, p: &Policies) -> Result<String, AllocError>
     format!(in alloc; "{ownership}{liveliness}{reliability}{order}")
 }
 
-fn history_element(alloc: Global, x: History) -> Result<String, AllocError>
+fn history_element(alloc: Global, x: History) -> TextResult
     ensures { IfOk result (λ text. string_bytes text ≡ history_element x) }
 {
     let kind = history_word(x.kind);
@@ -82,7 +82,7 @@ fn history_element(alloc: Global, x: History) -> Result<String, AllocError>
     )
 }
 
-fn limits_element(alloc: Global, x: ResourceLimits) -> Result<String, AllocError>
+fn limits_element(alloc: Global, x: ResourceLimits) -> TextResult
     ensures { IfOk result (λ text. string_bytes text ≡ limits_element x) }
 {
     let samples = limit_element(alloc, "max_samples", x.max_samples)?;
@@ -98,7 +98,7 @@ fn limits_element(alloc: Global, x: ResourceLimits) -> Result<String, AllocError
 }
 
 /// The policies of a writer or a reader.
-fn endpoint_elements(alloc: Global, p: &Policies) -> Result<String, AllocError>
+fn endpoint_elements(alloc: Global, p: &Policies) -> TextResult
     ensures { IfOk result (λ text. string_bytes text ≡ endpoint_elements p.now) }
 {
     let timing = timing_elements(alloc, p)?;
@@ -108,7 +108,7 @@ fn endpoint_elements(alloc: Global, p: &Policies) -> Result<String, AllocError>
     format!(in alloc; "{timing}{delivery}{history}{limits}")
 }
 
-fn presentation_element(alloc: Global, x: Presentation) -> Result<String, AllocError>
+fn presentation_element(alloc: Global, x: Presentation) -> TextResult
     ensures { IfOk result (λ text. string_bytes text ≡ presentation_element x) }
 {
     let scope = access_scope_word(x.access_scope);
@@ -122,13 +122,13 @@ fn presentation_element(alloc: Global, x: Presentation) -> Result<String, AllocE
 }
 
 /// The name of a partition.
-fn partition_name(alloc: Global, name: &str) -> Result<String, AllocError>
+fn partition_name(alloc: Global, name: &str) -> TextResult
     ensures { IfOk result (λ text. string_bytes text ≡ partition_name name.now) }
 {
     format!(in alloc; "            <element>{name}</element>\n")
 }
 
-fn partition_element(alloc: Global, partitions: &[String]) -> Result<String, AllocError>
+fn partition_element(alloc: Global, partitions: &[String]) -> TextResult
     ensures { IfOk result (λ text. string_bytes text ≡ partition_element (map string_bytes partitions.now)) }
 {
     let names = text_of_each(alloc, partitions, |partition| {
@@ -140,7 +140,7 @@ fn partition_element(alloc: Global, partitions: &[String]) -> Result<String, All
 }
 
 /// The policies of a publisher or a subscriber.
-fn group_elements(alloc: Global, p: &Policies, partitions: &[String]) -> Result<String, AllocError>
+fn group_elements(alloc: Global, p: &Policies, partitions: &[String]) -> TextResult
     ensures { IfOk result (λ text. string_bytes text ≡ group_elements p.now (map string_bytes partitions.now)) }
 {
     let presentation = presentation_element(alloc, p.presentation)?;
@@ -149,7 +149,7 @@ fn group_elements(alloc: Global, p: &Policies, partitions: &[String]) -> Result<
 }
 
 /// Policies under the name of what they are of.
-fn qos_element(alloc: Global, name: &str, policies: &str) -> Result<String, AllocError>
+fn qos_element(alloc: Global, name: &str, policies: &str) -> TextResult
     ensures { IfOk result (λ text. string_bytes text ≡ qos_element name.now policies.now) }
 {
     format!(in alloc; "      <{name}>\n{policies}      </{name}>\n")
@@ -163,7 +163,7 @@ fn profile(
     name: &str,
     p: &Policies,
     partitions: &[String],
-) -> Result<String, AllocError>
+) -> TextResult
     ensures { IfOk result (λ text. string_bytes text ≡ profile entity.now group.now name.now p.now (map string_bytes partitions.now)) }
 {
     let own = endpoint_elements(alloc, p)?;
@@ -173,7 +173,7 @@ fn profile(
     format!(in alloc; "    <qos_profile name=\"{name}\">\n{own}{shared}    </qos_profile>\n")
 }
 
-fn writer_profile(alloc: Global, name: &str, x: &Writer) -> Result<String, AllocError>
+fn writer_profile(alloc: Global, name: &str, x: &Writer) -> TextResult
     ensures { IfOk result (λ text. string_bytes text ≡ writer_profile name.now (writer_view x.now)) }
 {
     let partitions = x.partitions.as_slice();
@@ -187,7 +187,7 @@ fn writer_profile(alloc: Global, name: &str, x: &Writer) -> Result<String, Alloc
     )
 }
 
-fn reader_profile(alloc: Global, name: &str, x: &Reader) -> Result<String, AllocError>
+fn reader_profile(alloc: Global, name: &str, x: &Reader) -> TextResult
     ensures { IfOk result (λ text. string_bytes text ≡ reader_profile name.now (reader_view x.now)) }
 {
     let partitions = x.partitions.as_slice();
@@ -202,46 +202,30 @@ fn reader_profile(alloc: Global, name: &str, x: &Reader) -> Result<String, Alloc
 }
 
 /// Profiles under the name of their library.
-fn qos_library(alloc: Global, name: &str, profiles: &str) -> Result<String, AllocError>
+fn qos_library(alloc: Global, name: &str, profiles: &str) -> TextResult
     ensures { IfOk result (λ text. string_bytes text ≡ qos_library name.now profiles.now) }
 {
     format!(in alloc; "  <qos_library name=\"{name}\">\n{profiles}  </qos_library>\n")
 }
 
 /// The profiles of all writers.
-#[tactic(auto, unfolding(crate::specs::Profiles::writer_library))]
-pub(crate) fn writer_library(alloc: Global, lists: &Deployment) -> Result<String, AllocError>
+pub(crate) fn writer_library(alloc: Global, lists: &Deployment) -> TextResult
     ensures { IfOk result (λ text. string_bytes text ≡ writer_library lists.now) }
 {
-    let profiles = text_below(
-        alloc,
-        lists.writers(),
-        |w|
-            requires { w < length lists.now.writers.entries }
-            ensures { IfOk result (λ text. string_bytes text ≡ writer_profile_at lists.entry.now w) }
-        {
-            let name = name_at(lists.writer_names(), w);
-            writer_profile(alloc, name, lists.writer(WriterNo::new(w)))
-        },
-    )?;
+    let profiles = text_below(alloc, lists.writers(), |w| {
+        let name = name_at(lists.writer_names(), w);
+        writer_profile(alloc, name, lists.writer(WriterNo::new(w)))
+    })?;
     qos_library(alloc, "writers", profiles.as_str())
 }
 
 /// The profiles of all readers.
-#[tactic(auto, unfolding(crate::specs::Profiles::reader_library))]
-pub(crate) fn reader_library(alloc: Global, lists: &Deployment) -> Result<String, AllocError>
+pub(crate) fn reader_library(alloc: Global, lists: &Deployment) -> TextResult
     ensures { IfOk result (λ text. string_bytes text ≡ reader_library lists.now) }
 {
-    let profiles = text_below(
-        alloc,
-        lists.readers(),
-        |r|
-            requires { r < length lists.now.readers.entries }
-            ensures { IfOk result (λ text. string_bytes text ≡ reader_profile_at lists.entry.now r) }
-        {
-            let name = name_at(lists.reader_names(), r);
-            reader_profile(alloc, name, lists.reader(ReaderNo::new(r)))
-        },
-    )?;
+    let profiles = text_below(alloc, lists.readers(), |r| {
+        let name = name_at(lists.reader_names(), r);
+        reader_profile(alloc, name, lists.reader(ReaderNo::new(r)))
+    })?;
     qos_library(alloc, "readers", profiles.as_str())
 }

@@ -1,16 +1,17 @@
 //! The domain library in XML: one domain, with the registered types and the topics (OMG DDS-XML 1.0, building block Domains).
-ghost use Rattle.std.specs.Prelude.{◌≡◌, ◌<◌, IfOk, length, string_bytes};
+ghost use Rattle.std.specs.Prelude.{◌≡◌, IfOk, string_bytes};
 ghost use Rattle.dds_deploy.specs.Views.{topic_view};
-ghost use Rattle.dds_xml.specs.Topics.{domain_library, register_type, register_type_at, register_types, topic_at, topic_element, topics, type_ref};
+ghost use Rattle.dds_cert.specs.Naming.{name_at};
+ghost use Rattle.dds_xml.specs.Topics.{domain_library, register_type, register_types, topic_element, topics, type_ref};
 
 use dds_base::TopicNo;
 use dds_cert::naming::name_at;
 use dds_deploy::{Deployment, Topic};
-use dds_show::texts::text_below;
-use std::alloc::{AllocError, Global};
+use dds_show::texts::{TextResult, text_below};
+use std::alloc::Global;
 
 /// The type of a topic, by its module.
-fn type_ref(alloc: Global, name: &str, x: &Topic) -> Result<String, AllocError>
+fn type_ref(alloc: Global, name: &str, x: &Topic) -> TextResult
     ensures { IfOk result (λ text. string_bytes text ≡ type_ref name.now (topic_view x.now)) }
 {
     let type_name = x.type_name.as_str();
@@ -18,7 +19,7 @@ fn type_ref(alloc: Global, name: &str, x: &Topic) -> Result<String, AllocError>
 }
 
 /// The type of a topic, registered under that same name.
-fn register_type(alloc: Global, name: &str, x: &Topic) -> Result<String, AllocError>
+fn register_type(alloc: Global, name: &str, x: &Topic) -> TextResult
     ensures { IfOk result (λ text. string_bytes text ≡ register_type name.now (topic_view x.now)) }
 {
     let type_ref = type_ref(alloc, name, x)?;
@@ -26,50 +27,41 @@ fn register_type(alloc: Global, name: &str, x: &Topic) -> Result<String, AllocEr
 }
 
 /// A topic with its registered type.
-fn topic_element(alloc: Global, name: &str, x: &Topic) -> Result<String, AllocError>
+fn topic_element(alloc: Global, name: &str, x: &Topic) -> TextResult
     ensures { IfOk result (λ text. string_bytes text ≡ topic_element name.now (topic_view x.now)) }
 {
     let type_ref = type_ref(alloc, name, x)?;
     format!(in alloc; "      <topic name=\"{name}\" register_type_ref=\"{type_ref}\"/>\n")
 }
 
+/// The name of the topic with this number.
+fn topic_name(lists: &Deployment, t: usize) -> &str
+    ensures { result.now ≡ name_at lists.now.topics.names t }
+{
+    name_at(lists.topic_names(), t)
+}
+
 /// The registered types of all topics.
-fn register_types(alloc: Global, lists: &Deployment) -> Result<String, AllocError>
+fn register_types(alloc: Global, lists: &Deployment) -> TextResult
     ensures { IfOk result (λ text. string_bytes text ≡ register_types lists.now) }
 {
-    text_below(
-        alloc,
-        lists.topics(),
-        |t|
-            requires { t < length lists.now.topics.entries }
-            ensures { IfOk result (λ text. string_bytes text ≡ register_type_at lists.entry.now t) }
-        {
-            let name = name_at(lists.topic_names(), t);
-            register_type(alloc, name, lists.topic(TopicNo::new(t)))
-        },
-    )
+    text_below(alloc, lists.topics(), |t| {
+        register_type(alloc, topic_name(lists, t), lists.topic(TopicNo::new(t)))
+    })
 }
 
 /// All topics.
-fn topics(alloc: Global, lists: &Deployment) -> Result<String, AllocError>
+fn topics(alloc: Global, lists: &Deployment) -> TextResult
     ensures { IfOk result (λ text. string_bytes text ≡ topics lists.now) }
 {
-    text_below(
-        alloc,
-        lists.topics(),
-        |t|
-            requires { t < length lists.now.topics.entries }
-            ensures { IfOk result (λ text. string_bytes text ≡ topic_at lists.entry.now t) }
-        {
-            let name = name_at(lists.topic_names(), t);
-            topic_element(alloc, name, lists.topic(TopicNo::new(t)))
-        },
-    )
+    text_below(alloc, lists.topics(), |t| {
+        topic_element(alloc, topic_name(lists, t), lists.topic(TopicNo::new(t)))
+    })
 }
 
 /// The domain library: all types, then all topics.
 #[tactic(auto, unfolding(crate::specs::Topics::domain_library))]
-pub(crate) fn domain_library(alloc: Global, lists: &Deployment) -> Result<String, AllocError>
+pub(crate) fn domain_library(alloc: Global, lists: &Deployment) -> TextResult
     ensures { IfOk result (λ text. string_bytes text ≡ domain_library lists.now) }
 {
     let types = register_types(alloc, lists)?;

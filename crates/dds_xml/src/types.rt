@@ -1,30 +1,30 @@
 //! The types of topics in XML. The type of a topic is a struct of a key and 32 bytes, in a module of the topic's name. The enum beside it has the topic's keys.
-ghost use Rattle.std.specs.Prelude.{◌≡◌, ◌<◌, IfOk, length, string_bytes};
+ghost use Rattle.std.specs.Prelude.{◌≡◌, IfOk, string_bytes};
 ghost use Rattle.dds_deploy.specs.Views.{topic_view};
-ghost use Rattle.dds_xml.specs.Types.{enumerator, enumerators, module_at, module_element, types_section};
+ghost use Rattle.dds_xml.specs.Types.{enumerator, enumerators, module_element, types_section};
 
 use dds_base::{Names, TopicNo};
 use dds_cert::naming::name_at;
 use dds_deploy::{Deployment, Topic};
-use dds_show::texts::text_below;
-use std::alloc::{AllocError, Global};
+use dds_show::texts::{TextResult, text_below};
+use std::alloc::Global;
 
 /// A key of a topic.
-fn enumerator(alloc: Global, key: &str) -> Result<String, AllocError>
+fn enumerator(alloc: Global, key: &str) -> TextResult
     ensures { IfOk result (λ text. string_bytes text ≡ enumerator key.now) }
 {
     format!(in alloc; "        <enumerator name=\"{key}\"/>\n")
 }
 
 /// The keys of a topic.
-fn enumerators(alloc: Global, keys: &Names) -> Result<String, AllocError>
+fn enumerators(alloc: Global, keys: &Names) -> TextResult
     ensures { IfOk result (λ text. string_bytes text ≡ enumerators keys.now) }
 {
     text_below(alloc, keys.len(), |k| enumerator(alloc, name_at(keys, k)))
 }
 
 /// The module of a topic: its keys and its type.
-fn module_element(alloc: Global, name: &str, x: &Topic) -> Result<String, AllocError>
+fn module_element(alloc: Global, name: &str, x: &Topic) -> TextResult
     ensures { IfOk result (λ text. string_bytes text ≡ module_element name.now (topic_view x.now)) }
 {
     let keys = enumerators(alloc, &x.keys)?;
@@ -37,20 +37,12 @@ fn module_element(alloc: Global, name: &str, x: &Topic) -> Result<String, AllocE
 }
 
 /// The modules of all topics (OMG DDS-XML 1.0, building block Types).
-#[tactic(auto, unfolding(crate::specs::Types::types_section))]
-pub(crate) fn types_section(alloc: Global, lists: &Deployment) -> Result<String, AllocError>
+pub(crate) fn types_section(alloc: Global, lists: &Deployment) -> TextResult
     ensures { IfOk result (λ text. string_bytes text ≡ types_section lists.now) }
 {
-    let modules = text_below(
-        alloc,
-        lists.topics(),
-        |t|
-            requires { t < length lists.now.topics.entries }
-            ensures { IfOk result (λ text. string_bytes text ≡ module_at lists.entry.now t) }
-        {
-            let name = name_at(lists.topic_names(), t);
-            module_element(alloc, name, lists.topic(TopicNo::new(t)))
-        },
-    )?;
+    let modules = text_below(alloc, lists.topics(), |t| {
+        let name = name_at(lists.topic_names(), t);
+        module_element(alloc, name, lists.topic(TopicNo::new(t)))
+    })?;
     format!(in alloc; "  <types>\n{modules}  </types>\n")
 }

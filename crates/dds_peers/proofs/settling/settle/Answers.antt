@@ -19,9 +19,7 @@ pub loop-player-preserved : goal.loop-player-preserved
 loop-player-preserved g c =
     let i = c.loop-player.invariant in
     let steps = c.in-Some.ensures.steps in
-    let counted = i.walk.counted in
     let less = steps.1 in
-    let shorter = ap length steps.0 in
     let player = c.in-Some.player in
     let kept = all_next (λ p. IsKept c.args.gauge.now c.args._fresh p.seat p.counter (g.A.App.notes p.app).entries) c.args.players.items c.loop-player.yielded (into_iter_items c.loop-player.player-iterator) (into_iter_items c.next.new.self) c.in-Some.player c.requires.players i.walk.whole steps.0 in
     let apps = c.push_reserved.ensures.items in

@@ -29,9 +29,7 @@ pub loop-app-preserved : goal.loop-app-preserved
 loop-app-preserved g c =
     let i = c.loop-app.invariant in
     let steps = c.in-Some.ensures.steps in
-    let counted = i.walk.counted in
     let less = steps.1 in
-    let shorter = ap length steps.0 in
     let n = c.loop-app.number in
     let number = i.number in
     let seat = c.in-Some-next.ensures.cases in

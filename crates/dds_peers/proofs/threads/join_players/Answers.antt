@@ -8,9 +8,7 @@ pub loop-handle-preserved : goal.loop-handle-preserved
 loop-handle-preserved g c =
     let i = c.loop-handle.invariant in
     let steps = c.in-Some.ensures.steps in
-    let counted = i.walk.counted in
     let less = steps.1 in
-    let shorter = ap length steps.0 in
     let more = c.push_reserved.ensures.items in
     let kept = c.join.ensures in
     let promise = all_next (λ h. (h.promise.gauge.value ≡ c.args._gauge.now) × (h.promise.fresh ≡ c.args._fresh)) c.args.handles.items c.loop-handle.yielded (into_iter_items c.loop-handle.handle-iterator) (into_iter_items c.next.new.self) c.in-Some.handle

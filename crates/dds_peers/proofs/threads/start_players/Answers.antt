@@ -17,9 +17,7 @@ pub loop-player-preserved : goal.loop-player-preserved
 loop-player-preserved g c =
     let i = c.loop-player.invariant in
     let steps = c.in-Some.ensures.steps in
-    let counted = i.walk.counted in
     let less = steps.1 in
-    let shorter = ap length steps.0 in
     let promise = c.in-Ok.ensures.ok in
     let more = c.push_reserved.ensures.items in record {
       can_next = tt;

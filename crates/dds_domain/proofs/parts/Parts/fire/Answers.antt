@@ -6,10 +6,11 @@ use Rattle.dds_check.specs.CountRuns.CountMove.{Fires}
 use Rattle.dds_rules.specs.declared.refused.FireRefused.TheVariants.{NotEnough as TooFew, CountLimit as TooMany}
 use Rattle.dds_rules.specs.Ledger.{fire_refusal}
 use Rattle.dds_rules.specs.Standing.{Makes}
-use Rattle.dds_domain.specs.Standing.{PartsState, StepsWorld}
+use Rattle.dds_domain.specs.Standing.{PartsState, StepsNotes, StepsWorld}
 use Rattle.dds_domain.specs.View.{view_of}
 use Rattle.dds_domain.proofs.StepFire.{fire_foreign, fire_refused, fire_done}
-use Rattle.dds_domain.proofs.NotesKept.{fire_kept, notes_as, refused_kept}
+use Rattle.dds_domain.proofs.NotesKept.{fire_kept}
+use Rattle.dds_domain.proofs.Steps.{refused_kept, refused_now, renamed}
 use Rattle.dds_domain.proofs.parts.Parts.fire.Goals as goal
 use Rattle.dds_domain.proofs.parts.Parts.fire.Goals.{in-Ok, in-Err-NotEnough, in-Err-CountLimit}
 
@@ -17,7 +18,7 @@ pub returns-then-number-rules-clause-steps : goal.returns-then-number-rules-clau
 returns-then-number-rules-clause-steps c =
     let d : PartsState = view_of c.self.inside in
     let past : length d.plan.rules.entries ≤ c.args.rule = search rules in
-    subst (λ (z : PartsState). StepsWorld z (Fire c.args.rule) (Refused Foreign) z) c.self.view_is (fire_foreign d c.args.rule past)
+    (refused_now (Fire c.args.rule) Foreign d _ c.self.view_is (fire_foreign d c.args.rule past)).0
 
 pub returns-clause-steps : goal.returns-clause-steps
 returns-clause-steps c =
@@ -51,11 +52,11 @@ returns-clause-notes c =
     let new : PartsState = record d { ledger = c.fire.new.self } in
     let left : c.fire.new.self ≡ d.ledger → new ≡ d = λ e i. record d { ledger = e i } in
     elim c.match-fire.branch [
-      | in-Ok w ↦ notes_as (Fire c.args.rule) d _ _ _ new _ c.self.view_is w.result-is refl (fire_kept d c.args.rule c.fire.new.self)
+      | in-Ok w ↦ renamed (λ old reply new. StepsNotes old (Fire c.args.rule) reply new) d _ _ _ new _ c.self.view_is w.result-is refl (fire_kept d c.args.rule c.fire.new.self)
       | in-Err-NotEnough w ↦ (
           let same : c.fire.new.self ≡ d.ledger = search rules in
-          notes_as (Fire c.args.rule) d _ _ _ d _ c.self.view_is w.result-is (left same) (refused_kept d (Fire c.args.rule) NotEnough))
+          renamed (λ old reply new. StepsNotes old (Fire c.args.rule) reply new) d _ _ _ d _ c.self.view_is w.result-is (left same) (refused_kept d (Fire c.args.rule) NotEnough))
       | in-Err-CountLimit w ↦ (
           let same : c.fire.new.self ≡ d.ledger = search rules in
-          notes_as (Fire c.args.rule) d _ _ _ d _ c.self.view_is w.result-is (left same) (refused_kept d (Fire c.args.rule) CountLimit))
+          renamed (λ old reply new. StepsNotes old (Fire c.args.rule) reply new) d _ _ _ d _ c.self.view_is w.result-is (left same) (refused_kept d (Fire c.args.rule) CountLimit))
     ]
