@@ -10,7 +10,7 @@ use dds_deploy_file::read_deployment;
 use dds_domain::Domain;
 use dds_match::planning::plan;
 use std::alloc::Global;
-use std::env::{Env, self};
+use std::env::{self, Env};
 use std::io;
 use std::process::ExitCode;
 use std::time::{Clock, Duration, Instant};

@@ -18,7 +18,7 @@ use dds_match::NoMemory;
 use dds_match::planning::plan;
 use dds_peers::{App, AppEnd, Fates, Limits, Outcome, RunFault, Steady, run_peers};
 use std::alloc::Global;
-use std::env::{Env, self};
+use std::env::{self, Env};
 use std::io;
 use std::process::ExitCode;
 use std::sync::{Arc, Wait};

@@ -1,15 +1,13 @@
 -- Lists in which nothing stands twice, since each new element was compared with those before it.
 use Rattle.std.proofs.Common.{◌≡◌, ℕ, ◌<◌, ◌≤◌, ◌⊎◌, inl, inr, Bool, true, false, cond, List, [], ◌∷◌, ◌++◌, length, get_or, Some, None, Ok, refl, sym, ap, subst, ◌∙◌, arith, All, true≢false, lt-ltb, ltb-false}
-use Rattle.std.specs.Prelude.{◌||◌, is_some, nat_lt}
-use Rattle.std.specs.List.{list_any, AllByRecursion, position_or_len}
+use Rattle.std.specs.Prelude.{is_some, nat_lt}
+use Rattle.std.specs.List.{list_any, position_or_len}
 use Rattle.std.specs.Str.{bytes_eq}
 use Rattle.std.proofs.Math.ListN.{get_or-append}
 use Rattle.std.proofs.Math.Seq.{get_or-append_seam}
 use Rattle.std.proofs.lemmas.List.{length_push}
-use Rattle.std.proofs.lemmas.List.Elements.{All-from_recursion}
 use Rattle.std.proofs.lemmas.List.Sums.{position_or_len_is, fails_before_first}
 use Rattle.std.proofs.lemmas.Slice.Eq.{bytes_eq-Decides}
-use Rattle.dds_base.proofs.Bools.{neither}
 use Rattle.dds_base.specs.Names.{number_of}
 use Rattle.toml.specs.Data.{Data, Items}
 use Rattle.dds_fields.specs.Reading.{Read, each}

@@ -5,7 +5,7 @@ use Rattle.std.specs.List.{list_all, filter as only_those}
 use Rattle.toml.specs.Data.{Members}
 use Rattle.dds_base.specs.declared.portion.Portion.{Portion}
 use Rattle.dds_fields.specs.declared.fault.FaultKind.TheVariants.{RuleEntry}
-use Rattle.dds_fields.specs.Reading.{◌>>=◌, Read, or_fault, count}
+use Rattle.dds_fields.specs.Reading.{◌>>=◌, Read, or_fault}
 use Rattle.dds_base.specs.Section.{Listed}
 use Rattle.dds_deploy.specs.declared.lists.Origin.{Origin}
 use Rattle.dds_deploy.specs.Lists.{Topic, Writer, Reader, Application, Rule, keys_at, all_keys, writer_topic, reader_topic, key_name}

@@ -4,7 +4,7 @@ use Rattle.std.specs.List.{list_any}
 use Rattle.toml.specs.Data.{Data, Members}
 use Rattle.dds_base.specs.declared.portion.Portion.{Portion}
 use Rattle.dds_fields.specs.declared.fault.FaultKind.TheVariants.{RuleEntry, TooMany}
-use Rattle.dds_fields.specs.Reading.{◌>>=◌, Read, unless, or_fault, a_text, a_number, a_new_name, a_known_name, field, optional, count, entry, a_list_of, a_section}
+use Rattle.dds_fields.specs.Reading.{◌>>=◌, Read, unless, or_fault, a_text, a_number, a_new_name, a_known_name, field, optional, entry, a_list_of, a_section}
 use Rattle.dds_base.specs.Section.{Listed}
 use Rattle.dds_fields.specs.Words.{a_flag}
 use Rattle.dds_deploy.specs.declared.lists.Origin.{Origin}

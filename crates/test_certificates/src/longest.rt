@@ -2,8 +2,8 @@
 //! since one more names an endpoint and key again. So TooMany is told of arrays alone.
 
 use crate::plans::{certificate_of, plan_of};
-use dds_cert_file::CertFault;
 use dds_cert::Certificate;
+use dds_cert_file::CertFault;
 use dds_match::Plan;
 use std::alloc::{AllocError, Global};
 use std::process::Abort;

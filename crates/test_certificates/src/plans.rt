@@ -1,10 +1,10 @@
 //! Plans of deployment files, and certificates that are read for them. The functions have no clauses: what they give is compared when the
 //! tests run, and nothing of it is to be proved.
 
-use dds_cert_file::{CertFault, read_certificate};
 use dds_cert::Certificate;
-use dds_deploy_file::{DeployFault, read_deployment};
+use dds_cert_file::{CertFault, read_certificate};
 use dds_deploy::Deployment;
+use dds_deploy_file::{DeployFault, read_deployment};
 use dds_match::Plan;
 use dds_match::planning::plan;
 use std::alloc::Global;

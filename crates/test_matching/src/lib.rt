@@ -1,9 +1,11 @@
-//! Tests by tables, worked by hand and as another implementation answers: which policies of one endpoint go together, patterns of partitions, and
-//! the ranges of messages.
+//! Tests by tables, worked by hand and as another implementation answers: which policies of one endpoint go together, patterns of partitions, the
+//! ranges of messages, and names that are added under a limit.
 #![tactic(auto)]
 
 #[cfg(test)]
 mod consistency;
+#[cfg(test)]
+mod names;
 #[cfg(test)]
 mod patterns;
 #[cfg(test)]
