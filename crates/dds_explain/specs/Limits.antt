@@ -13,6 +13,7 @@ use Rattle.dds_check.specs.Accepted.{instance_limit}
 use Rattle.dds_check.specs.Limits.{is_bounded, reached_bound}
 use Rattle.dds_check.specs.Tables.{bound_of, total_of}
 use Rattle.dds_events.specs.Naming.{writer_name, reader_name}
+use Rattle.dds_show.specs.Pieces.{number_or}
 use Rattle.dds_explain.specs.Pieces.{limit_text, instance_limit_name, key_line}
 
 -- ── 20
@@ -57,8 +58,7 @@ no_total_lines d c r =
 -- ── 22
 -- a bound in words
 abbrev pub bound_text : Option ℕ → List ℕ
-bound_text (Some n) = decimal n
-bound_text None = codes "none"
+bound_text bound = number_or bound (codes "none")
 
 -- the bound of a key, and the limit of an instance
 abbrev pub bound_over_line : Lists → Certificate → ℕ → ℕ → List ℕ

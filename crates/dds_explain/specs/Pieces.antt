@@ -1,13 +1,13 @@
 -- Pieces of a reason: names, limits, and terms of sums.
-use Rattle.std.specs.Prelude.{codes, ℕ, List, ◌++◌, Option, Some, None}
+use Rattle.std.specs.Prelude.{codes, ℕ, List, ◌++◌, Option}
 use Rattle.std.specs.Fmt.{decimal}
 use Rattle.std.specs.Option.{option_map_or}
 use Rattle.dds_qos.specs.declared.limits.ReaderLimits.{ReaderLimits}
+use Rattle.dds_show.specs.Pieces.{number_or}
 
 -- a limit: a number, or "unlimited"
 abbrev pub limit_text : Option ℕ → List ℕ
-limit_text (Some n) = decimal n
-limit_text None = codes "unlimited"
+limit_text limit = number_or limit (codes "unlimited")
 
 -- the policy that limits the samples of one instance: the depth of KEEP_LAST, else max_samples_per_instance (DDS 1.4, clause 2.2.3)
 abbrev pub instance_limit_name : ReaderLimits → List ℕ

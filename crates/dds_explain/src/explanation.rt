@@ -19,7 +19,8 @@ use dds_base::{KeyNo, ReaderNo, RuleNo, WriterNo};
 use dds_cert::Certificate;
 use dds_check::{No, Number, Subject};
 use dds_match::Plan;
-use std::alloc::{AllocError, Global};
+use dds_show::texts::TextResult;
+use std::alloc::Global;
 
 /// Why a pair is refused.
 fn pair_reason(
@@ -28,7 +29,7 @@ fn pair_reason(
     number: Number,
     writer: WriterNo,
     reader: ReaderNo,
-) -> Result<String, AllocError>
+) -> TextResult
     ensures { IfOk result (λ text. string_bytes text ≡ pair_reason plan.now number writer reader) }
 {
     match number {
@@ -46,7 +47,7 @@ fn instance_reason(
     number: Number,
     reader: ReaderNo,
     key: KeyNo,
-) -> Result<String, AllocError>
+) -> TextResult
     ensures { IfOk result (λ text. string_bytes text ≡ instance_reason plan.now (certificate_view certificate.now) number reader key) }
 {
     match number {
@@ -64,7 +65,7 @@ fn reader_reason(
     certificate: &Certificate,
     number: Number,
     reader: ReaderNo,
-) -> Result<String, AllocError>
+) -> TextResult
     ensures { IfOk result (λ text. string_bytes text ≡ reader_reason plan.now (certificate_view certificate.now) number reader) }
 {
     match number {
@@ -80,12 +81,7 @@ fn reader_reason(
 }
 
 /// Why a writer is refused.
-fn writer_reason(
-    alloc: Global,
-    plan: &Plan,
-    number: Number,
-    writer: WriterNo,
-) -> Result<String, AllocError>
+fn writer_reason(alloc: Global, plan: &Plan, number: Number, writer: WriterNo) -> TextResult
     ensures { IfOk result (λ text. string_bytes text ≡ writer_reason plan.now number writer) }
 {
     match number {
@@ -106,7 +102,7 @@ fn take_reason(
     row: usize,
     reader: ReaderNo,
     key: KeyNo,
-) -> Result<String, AllocError>
+) -> TextResult
     ensures { IfOk result (λ text. string_bytes text ≡ take_reason plan.now (certificate_view certificate.now) number row reader key) }
 {
     match number {
@@ -123,7 +119,7 @@ fn rule_reason(
     number: Number,
     row: usize,
     rule: RuleNo,
-) -> Result<String, AllocError>
+) -> TextResult
     ensures { IfOk result (λ text. string_bytes text ≡ rule_reason plan.now (certificate_view certificate.now) number row rule) }
 {
     match number {
@@ -141,7 +137,7 @@ fn write_reason(
     row: usize,
     writer: WriterNo,
     key: KeyNo,
-) -> Result<String, AllocError>
+) -> TextResult
     ensures { IfOk result (λ text. string_bytes text ≡ write_reason plan.now (certificate_view certificate.now) number row writer key) }
 {
     match number {
@@ -157,7 +153,7 @@ fn reason_of(
     certificate: &Certificate,
     number: Number,
     subject: Subject,
-) -> Result<String, AllocError>
+) -> TextResult
     ensures { IfOk result (λ text. string_bytes text ≡ reason_of plan.now (certificate_view certificate.now) number subject) }
 {
     match subject {
@@ -184,12 +180,7 @@ fn reason_of(
 /// two blanks and has a key or a term of one of these numbers. There is no line where the subject isn't one of the number, or names
 /// a row or a rule that isn't there. Only want of memory is an error.
 #[tactic(auto, unfolding(crate::specs::Explanation::reason))]
-pub fn reason(
-    alloc: Global,
-    plan: &Plan,
-    certificate: &Certificate,
-    no: No,
-) -> Result<String, AllocError>
+pub fn reason(alloc: Global, plan: &Plan, certificate: &Certificate, no: No) -> TextResult
     ensures { IfOk result (λ text. string_bytes text ≡ reason plan.now (certificate_view certificate.now) no) }
 {
     reason_of(alloc, plan, certificate, no.number, no.subject)
@@ -200,7 +191,7 @@ pub fn reason(
 /// permits at the opening weigh by its row and, of a bound, what a sample weighs and the least bound that the row shows. Only
 /// want of memory is an error.
 #[tactic(auto, unfolding(crate::specs::Explanation::margins))]
-pub fn margins(alloc: Global, plan: &Plan, certificate: &Certificate) -> Result<String, AllocError>
+pub fn margins(alloc: Global, plan: &Plan, certificate: &Certificate) -> TextResult
     ensures { IfOk result (λ text. string_bytes text ≡ margins plan.now (certificate_view certificate.now)) }
 {
     margin_lines(alloc, plan, certificate)

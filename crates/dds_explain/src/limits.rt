@@ -18,8 +18,8 @@ use dds_base::{KeyNo, ReaderNo, WriterNo};
 use dds_cert::naming::{reader_key, writer_key};
 use dds_cert::{Bound, Certificate, Total};
 use dds_match::Plan;
-use dds_show::texts::text_below;
-use std::alloc::{AllocError, Global};
+use dds_show::texts::{TextResult, number_or, text_below};
+use std::alloc::Global;
 
 /// How many keys can reach a reader.
 fn reached(plan: &Plan, reader: ReaderNo) -> u64
@@ -33,12 +33,7 @@ fn reached(plan: &Plan, reader: ReaderNo) -> u64
 }
 
 /// A key in a line of its own, if it can reach the reader.
-fn reached_key(
-    alloc: Global,
-    plan: &Plan,
-    reader: ReaderNo,
-    key: KeyNo,
-) -> Result<String, AllocError>
+fn reached_key(alloc: Global, plan: &Plan, reader: ReaderNo, key: KeyNo) -> TextResult
     ensures { IfOk result (λ text. string_bytes text ≡ reached_key plan.now reader key) }
 {
     if plan.reaches(reader, key) {
@@ -49,7 +44,7 @@ fn reached_key(
 }
 
 /// The keys that can reach a reader.
-fn reached_keys(alloc: Global, plan: &Plan, reader: ReaderNo) -> Result<String, AllocError>
+fn reached_keys(alloc: Global, plan: &Plan, reader: ReaderNo) -> TextResult
     ensures { IfOk result (λ text. string_bytes text ≡ each_below 64 (reached_key plan.now reader)) }
 {
     text_below(
@@ -62,11 +57,7 @@ fn reached_keys(alloc: Global, plan: &Plan, reader: ReaderNo) -> Result<String, 
 }
 
 /// How many keys can reach a reader, and which.
-pub(crate) fn reader_instances_lines(
-    alloc: Global,
-    plan: &Plan,
-    reader: ReaderNo,
-) -> Result<String, AllocError>
+pub(crate) fn reader_instances_lines(alloc: Global, plan: &Plan, reader: ReaderNo) -> TextResult
     ensures { IfOk result (λ text. string_bytes text ≡ reader_instances_lines plan.now reader) }
 {
     let count = reached(plan, reader);
@@ -90,12 +81,7 @@ fn written(plan: &Plan, writer: WriterNo) -> u64
 }
 
 /// A key in a line of its own, if a rule writes it at the writer.
-fn written_key(
-    alloc: Global,
-    plan: &Plan,
-    writer: WriterNo,
-    key: KeyNo,
-) -> Result<String, AllocError>
+fn written_key(alloc: Global, plan: &Plan, writer: WriterNo, key: KeyNo) -> TextResult
     ensures { IfOk result (λ text. string_bytes text ≡ written_key plan.now writer key) }
 {
     if plan.is_written(writer, key) {
@@ -106,7 +92,7 @@ fn written_key(
 }
 
 /// The keys that rules write at a writer.
-fn written_keys(alloc: Global, plan: &Plan, writer: WriterNo) -> Result<String, AllocError>
+fn written_keys(alloc: Global, plan: &Plan, writer: WriterNo) -> TextResult
     ensures { IfOk result (λ text. string_bytes text ≡ each_below 64 (written_key plan.now writer)) }
 {
     text_below(
@@ -119,11 +105,7 @@ fn written_keys(alloc: Global, plan: &Plan, writer: WriterNo) -> Result<String, 
 }
 
 /// How many keys rules write at a writer, and which.
-pub(crate) fn writer_instances_lines(
-    alloc: Global,
-    plan: &Plan,
-    writer: WriterNo,
-) -> Result<String, AllocError>
+pub(crate) fn writer_instances_lines(alloc: Global, plan: &Plan, writer: WriterNo) -> TextResult
     ensures { IfOk result (λ text. string_bytes text ≡ writer_instances_lines plan.now writer) }
 {
     let count = written(plan, writer);
@@ -136,12 +118,7 @@ pub(crate) fn writer_instances_lines(
 }
 
 /// A key without a bound that the limit of an instance asks for.
-pub(crate) fn no_bound_line(
-    alloc: Global,
-    plan: &Plan,
-    reader: ReaderNo,
-    key: KeyNo,
-) -> Result<String, AllocError>
+pub(crate) fn no_bound_line(alloc: Global, plan: &Plan, reader: ReaderNo, key: KeyNo) -> TextResult
     ensures { IfOk result (λ text. string_bytes text ≡ no_bound_line plan.now reader key) }
 {
     let limits = reader_limits(plan, reader);
@@ -192,7 +169,7 @@ fn unbounded_key(
     bounds: &[Bound],
     reader: ReaderNo,
     key: KeyNo,
-) -> Result<String, AllocError>
+) -> TextResult
     ensures { IfOk result (λ text. string_bytes text ≡ unbounded_key plan.now bounds.now reader key) }
 {
     if is_bounded(plan, bounds, reader, key) {
@@ -203,12 +180,7 @@ fn unbounded_key(
 }
 
 /// The keys that can reach a reader and have no bound.
-fn unbounded_keys(
-    alloc: Global,
-    plan: &Plan,
-    bounds: &[Bound],
-    reader: ReaderNo,
-) -> Result<String, AllocError>
+fn unbounded_keys(alloc: Global, plan: &Plan, bounds: &[Bound], reader: ReaderNo) -> TextResult
     ensures { IfOk result (λ text. string_bytes text ≡ each_below 64 (unbounded_key plan.now bounds.now reader)) }
 {
     text_below(
@@ -226,7 +198,7 @@ pub(crate) fn no_total_lines(
     plan: &Plan,
     certificate: &Certificate,
     reader: ReaderNo,
-) -> Result<String, AllocError>
+) -> TextResult
     ensures { IfOk result (λ text. string_bytes text ≡ no_total_lines plan.now (certificate_view certificate.now) reader) }
 {
     let name = reader_name(plan, reader);
@@ -238,13 +210,10 @@ pub(crate) fn no_total_lines(
 }
 
 /// A bound in words.
-fn bound_text(alloc: Global, bound: Option<u32>) -> Result<String, AllocError>
+fn bound_text(alloc: Global, bound: Option<u32>) -> TextResult
     ensures { IfOk result (λ text. string_bytes text ≡ bound_text bound) }
 {
-    match bound {
-        Some(n) => format!(in alloc; "{n}"),
-        None => String::from_str(alloc, "none"),
-    }
+    number_or(alloc, bound, "none")
 }
 
 /// The bound of a key, and the limit of an instance.
@@ -254,7 +223,7 @@ pub(crate) fn bound_over_line(
     certificate: &Certificate,
     reader: ReaderNo,
     key: KeyNo,
-) -> Result<String, AllocError>
+) -> TextResult
     ensures { IfOk result (λ text. string_bytes text ≡ bound_over_line plan.now (certificate_view certificate.now) reader key) }
 {
     let limits = reader_limits(plan, reader);
@@ -269,7 +238,7 @@ pub(crate) fn bound_over_line(
 }
 
 /// A total in a line of its own, if there is one.
-fn total_line(alloc: Global, total: Option<u32>) -> Result<String, AllocError>
+fn total_line(alloc: Global, total: Option<u32>) -> TextResult
     ensures { IfOk result (λ text. string_bytes text ≡ total_line total) }
 {
     match total {
@@ -279,7 +248,7 @@ fn total_line(alloc: Global, total: Option<u32>) -> Result<String, AllocError>
 }
 
 /// The bound of a key in a line of its own, or that it has none.
-fn bound_line(alloc: Global, key: &str, bound: Option<u32>) -> Result<String, AllocError>
+fn bound_line(alloc: Global, key: &str, bound: Option<u32>) -> TextResult
     ensures { IfOk result (λ text. string_bytes text ≡ bound_line key.now bound) }
 {
     match bound {
@@ -295,7 +264,7 @@ fn reached_bound_line(
     bounds: &[Bound],
     reader: ReaderNo,
     key: KeyNo,
-) -> Result<String, AllocError>
+) -> TextResult
     ensures { IfOk result (λ text. string_bytes text ≡ reached_bound_line plan.now bounds.now reader key) }
 {
     if plan.reaches(reader, key) {
@@ -307,12 +276,7 @@ fn reached_bound_line(
 }
 
 /// The bounds of the keys that can reach a reader.
-fn reached_bound_lines(
-    alloc: Global,
-    plan: &Plan,
-    bounds: &[Bound],
-    reader: ReaderNo,
-) -> Result<String, AllocError>
+fn reached_bound_lines(alloc: Global, plan: &Plan, bounds: &[Bound], reader: ReaderNo) -> TextResult
     ensures { IfOk result (λ text. string_bytes text ≡ each_below 64 (reached_bound_line plan.now bounds.now reader)) }
 {
     text_below(
@@ -352,7 +316,7 @@ pub(crate) fn samples_over_lines(
     plan: &Plan,
     certificate: &Certificate,
     reader: ReaderNo,
-) -> Result<String, AllocError>
+) -> TextResult
     ensures { IfOk result (λ text. string_bytes text ≡ samples_over_lines plan.now (certificate_view certificate.now) reader) }
 {
     let name = reader_name(plan, reader);

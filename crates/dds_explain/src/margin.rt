@@ -3,18 +3,18 @@ ghost use Rattle.std.specs.Prelude.{◌≡◌, IfOk, string_bytes};
 ghost use Rattle.dds_cert.specs.Views.{certificate_view, row_view};
 ghost use Rattle.dds_explain.specs.Margin.{bound_line, bound_margin, bound_words, margin_lines, margin_text, named_instance_limit, named_limit, total_line, total_margin, total_words};
 
-use crate::pieces::{find_row, instance_limit, instance_limit_name, reader_limits, reader_name};
+use crate::pieces::{instance_limit, instance_limit_name, reader_limits, reader_name, text_of_row};
 use crate::shown::shown_text;
 use crate::weights::{budget, sample_weight};
 use dds_base::ReaderNo;
 use dds_cert::naming::reader_key;
 use dds_cert::{Bound, Certificate, Row, Total};
 use dds_match::Plan;
-use dds_show::texts::text_of_each;
-use std::alloc::{AllocError, Global};
+use dds_show::texts::{TextResult, text_of_each};
+use std::alloc::Global;
 
 /// A limit with the name of its policy, or that there is none.
-fn named_limit(alloc: Global, name: &str, limit: Option<u32>) -> Result<String, AllocError>
+fn named_limit(alloc: Global, name: &str, limit: Option<u32>) -> TextResult
     ensures { IfOk result (λ text. string_bytes text ≡ named_limit name.now limit) }
 {
     match limit {
@@ -24,13 +24,7 @@ fn named_limit(alloc: Global, name: &str, limit: Option<u32>) -> Result<String, 
 }
 
 /// What a bound or a total is and of which limit, and what the permits at the opening weigh by its row.
-fn margin_text(
-    alloc: Global,
-    claim: &str,
-    limit: &str,
-    row: &Row,
-    opening: u128,
-) -> Result<String, AllocError>
+fn margin_text(alloc: Global, claim: &str, limit: &str, row: &Row, opening: u128) -> TextResult
     ensures { IfOk result (λ text. string_bytes text ≡ margin_text claim.now limit.now (row_view row.now) opening) }
 {
     let row = row.name.as_str();
@@ -38,7 +32,7 @@ fn margin_text(
 }
 
 /// The reader, the key and the number of a bound.
-fn bound_words(alloc: Global, plan: &Plan, bound: &Bound) -> Result<String, AllocError>
+fn bound_words(alloc: Global, plan: &Plan, bound: &Bound) -> TextResult
     ensures { IfOk result (λ text. string_bytes text ≡ bound_words plan.now bound.now) }
 {
     let name = reader_name(plan, bound.reader);
@@ -48,7 +42,7 @@ fn bound_words(alloc: Global, plan: &Plan, bound: &Bound) -> Result<String, Allo
 }
 
 /// The limit of an instance of a reader.
-fn named_instance_limit(alloc: Global, plan: &Plan, reader: ReaderNo) -> Result<String, AllocError>
+fn named_instance_limit(alloc: Global, plan: &Plan, reader: ReaderNo) -> TextResult
     ensures { IfOk result (λ text. string_bytes text ≡ named_instance_limit plan.now reader) }
 {
     let limits = reader_limits(plan, reader);
@@ -56,7 +50,7 @@ fn named_instance_limit(alloc: Global, plan: &Plan, reader: ReaderNo) -> Result<
 }
 
 /// A bound beside its limit, and the least that its row shows.
-fn bound_line(alloc: Global, plan: &Plan, row: &Row, bound: &Bound) -> Result<String, AllocError>
+fn bound_line(alloc: Global, plan: &Plan, row: &Row, bound: &Bound) -> TextResult
     ensures { IfOk result (λ text. string_bytes text ≡ bound_line plan.now (row_view row.now) bound.now) }
 {
     let opening = budget(plan, row);
@@ -69,22 +63,16 @@ fn bound_line(alloc: Global, plan: &Plan, row: &Row, bound: &Bound) -> Result<St
 }
 
 /// A bound beside its limit, and the least that its row shows.
-fn bound_margin(
-    alloc: Global,
-    plan: &Plan,
-    certificate: &Certificate,
-    bound: &Bound,
-) -> Result<String, AllocError>
+fn bound_margin(alloc: Global, plan: &Plan, certificate: &Certificate, bound: &Bound) -> TextResult
     ensures { IfOk result (λ text. string_bytes text ≡ bound_margin plan.now (certificate_view certificate.now) bound.now) }
 {
-    match find_row(certificate, bound.row) {
-        Some(row) => bound_line(alloc, plan, row, bound),
-        None => Ok(String::new(alloc)),
-    }
+    text_of_row(alloc, certificate, bound.row, |row| {
+        bound_line(alloc, plan, row, bound)
+    })
 }
 
 /// The reader and the number of a total.
-fn total_words(alloc: Global, plan: &Plan, total: &Total) -> Result<String, AllocError>
+fn total_words(alloc: Global, plan: &Plan, total: &Total) -> TextResult
     ensures { IfOk result (λ text. string_bytes text ≡ total_words plan.now total.now) }
 {
     let name = reader_name(plan, total.reader);
@@ -93,7 +81,7 @@ fn total_words(alloc: Global, plan: &Plan, total: &Total) -> Result<String, Allo
 }
 
 /// A total beside its limit.
-fn total_line(alloc: Global, plan: &Plan, row: &Row, total: &Total) -> Result<String, AllocError>
+fn total_line(alloc: Global, plan: &Plan, row: &Row, total: &Total) -> TextResult
     ensures { IfOk result (λ text. string_bytes text ≡ total_line plan.now (row_view row.now) total.now) }
 {
     let opening = budget(plan, row);
@@ -105,26 +93,16 @@ fn total_line(alloc: Global, plan: &Plan, row: &Row, total: &Total) -> Result<St
 }
 
 /// A total beside its limit.
-fn total_margin(
-    alloc: Global,
-    plan: &Plan,
-    certificate: &Certificate,
-    total: &Total,
-) -> Result<String, AllocError>
+fn total_margin(alloc: Global, plan: &Plan, certificate: &Certificate, total: &Total) -> TextResult
     ensures { IfOk result (λ text. string_bytes text ≡ total_margin plan.now (certificate_view certificate.now) total.now) }
 {
-    match find_row(certificate, total.row) {
-        Some(row) => total_line(alloc, plan, row, total),
-        None => Ok(String::new(alloc)),
-    }
+    text_of_row(alloc, certificate, total.row, |row| {
+        total_line(alloc, plan, row, total)
+    })
 }
 
 /// A line for each bound, then a line for each total.
-pub(crate) fn margin_lines(
-    alloc: Global,
-    plan: &Plan,
-    certificate: &Certificate,
-) -> Result<String, AllocError>
+pub(crate) fn margin_lines(alloc: Global, plan: &Plan, certificate: &Certificate) -> TextResult
     ensures { IfOk result (λ text. string_bytes text ≡ margin_lines plan.now (certificate_view certificate.now)) }
 {
     let bounds = text_of_each(alloc, certificate.bounds.as_slice(), |bound| {

@@ -9,15 +9,11 @@ use crate::pieces::{reader_name, writer_name};
 use dds_base::{ReaderNo, WriterNo};
 use dds_match::Plan;
 use dds_show::reasons::reason_text;
-use std::alloc::{AllocError, Global};
+use dds_show::texts::TextResult;
+use std::alloc::Global;
 
 /// Why a pair doesn't match, in words: none where there is no reason.
-fn why_not_text(
-    alloc: Global,
-    plan: &Plan,
-    writer: WriterNo,
-    reader: ReaderNo,
-) -> Result<String, AllocError>
+fn why_not_text(alloc: Global, plan: &Plan, writer: WriterNo, reader: ReaderNo) -> TextResult
     ensures { IfOk result (λ text. string_bytes text ≡ option_map_or reason_words (why_not plan.now writer reader) []) }
 {
     match plan.why_not(writer, reader) {
@@ -32,7 +28,7 @@ pub(crate) fn not_matched_line(
     plan: &Plan,
     writer: WriterNo,
     reader: ReaderNo,
-) -> Result<String, AllocError>
+) -> TextResult
     ensures { IfOk result (λ text. string_bytes text ≡ not_matched_line plan.now writer reader) }
 {
     let reason = why_not_text(alloc, plan, writer, reader)?;
@@ -47,7 +43,7 @@ pub(crate) fn not_intended_line(
     plan: &Plan,
     writer: WriterNo,
     reader: ReaderNo,
-) -> Result<String, AllocError>
+) -> TextResult
     ensures { IfOk result (λ text. string_bytes text ≡ not_intended_line plan.now writer reader) }
 {
     let writer = writer_name(plan, writer);

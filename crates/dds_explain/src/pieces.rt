@@ -1,5 +1,6 @@
 //! Pieces of a reason: names, limits, rows, and terms of sums.
-ghost use Rattle.std.specs.Prelude.{◌≡◌, IfOk, option_map, slice_get, string_bytes};
+ghost use Rattle.std.specs.Prelude.{◌≡◌, ℕ, List, [], IfOk, option_map, slice_get, string_bytes};
+ghost use Rattle.std.specs.Option.{option_map_or};
 ghost use Rattle.dds_match.specs.Plan.{network_of};
 ghost use Rattle.dds_cert.specs.Views.{certificate_view, row_view};
 ghost use Rattle.dds_check.specs.Accepted.{instance_limit};
@@ -11,7 +12,8 @@ use dds_cert::naming::name_at;
 use dds_cert::{Certificate, Row};
 use dds_match::Plan;
 use dds_qos::{ReaderLimits, WriterLimits};
-use std::alloc::{AllocError, Global};
+use dds_show::texts::{TextResult, number_or};
+use std::alloc::Global;
 
 pub(crate) fn writer_name(plan: &Plan, writer: WriterNo) -> &str
     ensures { result.now ≡ writer_name plan.now writer }
@@ -57,13 +59,10 @@ pub(crate) fn reader_limits(plan: &Plan, reader: ReaderNo) -> ReaderLimits
 }
 
 /// A limit: a number, or "unlimited".
-pub(crate) fn limit_text(alloc: Global, limit: Option<u32>) -> Result<String, AllocError>
+pub(crate) fn limit_text(alloc: Global, limit: Option<u32>) -> TextResult
     ensures { IfOk result (λ text. string_bytes text ≡ limit_text limit) }
 {
-    match limit {
-        Some(n) => format!(in alloc; "{n}"),
-        None => String::from_str(alloc, "unlimited"),
-    }
+    number_or(alloc, limit, "unlimited")
 }
 
 /// The most samples of one instance that a reader may store.
@@ -93,8 +92,24 @@ pub(crate) fn find_row(certificate: &Certificate, n: usize) -> Option<&Row>
     certificate.rows.get(n)
 }
 
+/// What the row at this place of a certificate gives, nothing where there is no such row.
+pub(crate) fn text_of_row<F: Fn(&Row) -> TextResult>(
+    alloc: Global,
+    certificate: &Certificate,
+    n: usize,
+    piece: F,
+) -> TextResult
+    requires { F.IsAlwaysCallable piece }
+    ensures { (text_of : _ → List ℕ) → ((row : _) (r : _) → F.post piece row r → IfOk r (λ text. string_bytes text ≡ text_of (row_view row.now))) → IfOk result (λ text. string_bytes text ≡ option_map_or text_of (slice_get (certificate_view certificate.now).rows n) []) }
+{
+    match find_row(certificate, n) {
+        Some(row) => piece(row),
+        None => Ok(String::new(alloc)),
+    }
+}
+
 /// A key in a line of its own.
-pub(crate) fn key_line(alloc: Global, key: &str) -> Result<String, AllocError>
+pub(crate) fn key_line(alloc: Global, key: &str) -> TextResult
     ensures { IfOk result (λ text. string_bytes text ≡ key_line key.now) }
 {
     format!(in alloc; "  {key}\n")
@@ -108,7 +123,7 @@ pub(crate) fn weighed_term(
     weight: u32,
     key: &str,
     endpoint: &str,
-) -> Result<String, AllocError>
+) -> TextResult
     ensures { IfOk result (λ text. string_bytes text ≡ weighed_term what.now count weight key.now endpoint.now) }
 {
     format!(in alloc; "  {what} {count} x {weight} of {key} at {endpoint}\n")

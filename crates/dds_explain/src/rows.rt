@@ -5,7 +5,7 @@ ghost use Rattle.dds_cert.specs.Text.{each_below};
 ghost use Rattle.dds_cert.specs.Views.{certificate_view, row_view};
 ghost use Rattle.dds_explain.specs.Rows.{firing_line, firing_lines, heard_line, rule_lines, rule_raises_lines, take_line, take_raises_line, take_term, write_line, write_lines, write_raises_lines, write_term};
 
-use crate::pieces::{find_row, reader_name, weighed_term, writer_name};
+use crate::pieces::{reader_name, text_of_row, weighed_term, writer_name};
 use crate::weights::{
     permit_weight, permits_weighed, sample_weight, spread, take_weight, takes_weighed,
 };
@@ -15,17 +15,11 @@ use dds_cert::{Certificate, Row};
 use dds_deploy::Rule;
 use dds_events::rule_text;
 use dds_match::Plan;
-use dds_show::texts::{text_below, text_of_each};
-use std::alloc::{AllocError, Global};
+use dds_show::texts::{TextResult, text_below, text_of_each};
+use std::alloc::Global;
 
 /// What a take weighs, and a sample.
-fn take_line(
-    alloc: Global,
-    plan: &Plan,
-    row: &Row,
-    reader: ReaderNo,
-    key: KeyNo,
-) -> Result<String, AllocError>
+fn take_line(alloc: Global, plan: &Plan, row: &Row, reader: ReaderNo, key: KeyNo) -> TextResult
     ensures { IfOk result (λ text. string_bytes text ≡ take_line plan.now (row_view row.now) reader key) }
 {
     let take = take_weight(row, reader, key);
@@ -46,22 +40,16 @@ pub(crate) fn take_raises_line(
     row: usize,
     reader: ReaderNo,
     key: KeyNo,
-) -> Result<String, AllocError>
+) -> TextResult
     ensures { IfOk result (λ text. string_bytes text ≡ take_raises_line plan.now (certificate_view certificate.now) row reader key) }
 {
-    match find_row(certificate, row) {
-        Some(row) => take_line(alloc, plan, row, reader, key),
-        None => Ok(String::new(alloc)),
-    }
+    text_of_row(alloc, certificate, row, |row| {
+        take_line(alloc, plan, row, reader, key)
+    })
 }
 
 /// What a rule writes at one writer.
-fn write_term(
-    alloc: Global,
-    plan: &Plan,
-    row: &Row,
-    x: &Portion<WriterNo>,
-) -> Result<String, AllocError>
+fn write_term(alloc: Global, plan: &Plan, row: &Row, x: &Portion<WriterNo>) -> TextResult
     ensures { IfOk result (λ text. string_bytes text ≡ write_term plan.now (row_view row.now) x.now) }
 {
     let weight = permit_weight(row, x.endpoint, x.key);
@@ -71,12 +59,7 @@ fn write_term(
 }
 
 /// What a rule takes at one reader.
-fn take_term(
-    alloc: Global,
-    plan: &Plan,
-    row: &Row,
-    x: &Portion<ReaderNo>,
-) -> Result<String, AllocError>
+fn take_term(alloc: Global, plan: &Plan, row: &Row, x: &Portion<ReaderNo>) -> TextResult
     ensures { IfOk result (λ text. string_bytes text ≡ take_term plan.now (row_view row.now) x.now) }
 {
     let weight = take_weight(row, x.endpoint, x.key);
@@ -86,43 +69,21 @@ fn take_term(
 }
 
 /// What a rule writes.
-fn write_terms(
-    alloc: Global,
-    plan: &Plan,
-    row: &Row,
-    portions: &[Portion<WriterNo>],
-) -> Result<String, AllocError>
+fn write_terms(alloc: Global, plan: &Plan, row: &Row, portions: &[Portion<WriterNo>]) -> TextResult
     ensures { IfOk result (λ text. string_bytes text ≡ flat_map (write_term plan.now (row_view row.now)) portions.now) }
 {
-    text_of_each(
-        alloc,
-        portions,
-        |x|
-            ensures { IfOk result (λ text. string_bytes text ≡ write_term plan.entry.now (row_view row.entry.now) x.now) }
-        { write_term(alloc, plan, row, x) },
-    )
+    text_of_each(alloc, portions, |x| { write_term(alloc, plan, row, x) })
 }
 
 /// What a rule takes.
-fn take_terms(
-    alloc: Global,
-    plan: &Plan,
-    row: &Row,
-    portions: &[Portion<ReaderNo>],
-) -> Result<String, AllocError>
+fn take_terms(alloc: Global, plan: &Plan, row: &Row, portions: &[Portion<ReaderNo>]) -> TextResult
     ensures { IfOk result (λ text. string_bytes text ≡ flat_map (take_term plan.now (row_view row.now)) portions.now) }
 {
-    text_of_each(
-        alloc,
-        portions,
-        |x|
-            ensures { IfOk result (λ text. string_bytes text ≡ take_term plan.entry.now (row_view row.entry.now) x.now) }
-        { take_term(alloc, plan, row, x) },
-    )
+    text_of_each(alloc, portions, |x| { take_term(alloc, plan, row, x) })
 }
 
 /// What a rule writes and takes, weighed.
-fn firing_line(alloc: Global, row: &Row, name: &str, rule: &Rule) -> Result<String, AllocError>
+fn firing_line(alloc: Global, row: &Row, name: &str, rule: &Rule) -> TextResult
     ensures { IfOk result (λ text. string_bytes text ≡ firing_line (row_view row.now) name.now (rule_view rule.now)) }
 {
     let given = permits_weighed(row, &rule.writes);
@@ -134,13 +95,7 @@ fn firing_line(alloc: Global, row: &Row, name: &str, rule: &Rule) -> Result<Stri
 }
 
 /// What a rule writes and takes, weighed, with its terms.
-fn firing_lines(
-    alloc: Global,
-    plan: &Plan,
-    row: &Row,
-    u: RuleNo,
-    rule: &Rule,
-) -> Result<String, AllocError>
+fn firing_lines(alloc: Global, plan: &Plan, row: &Row, u: RuleNo, rule: &Rule) -> TextResult
     ensures { IfOk result (λ text. string_bytes text ≡ firing_lines plan.now (row_view row.now) u (rule_view rule.now)) }
 {
     let name = rule_text(alloc, plan.lists(), u)?;
@@ -151,7 +106,7 @@ fn firing_lines(
 }
 
 /// What the rule with this number writes and takes.
-fn rule_lines(alloc: Global, plan: &Plan, row: &Row, u: RuleNo) -> Result<String, AllocError>
+fn rule_lines(alloc: Global, plan: &Plan, row: &Row, u: RuleNo) -> TextResult
     ensures { IfOk result (λ text. string_bytes text ≡ rule_lines plan.now (row_view row.now) u) }
 {
     if u.number() < plan.lists().rules() {
@@ -168,13 +123,12 @@ pub(crate) fn rule_raises_lines(
     certificate: &Certificate,
     row: usize,
     rule: RuleNo,
-) -> Result<String, AllocError>
+) -> TextResult
     ensures { IfOk result (λ text. string_bytes text ≡ rule_raises_lines plan.now (certificate_view certificate.now) row rule) }
 {
-    match find_row(certificate, row) {
-        Some(row) => rule_lines(alloc, plan, row, rule),
-        None => Ok(String::new(alloc)),
-    }
+    text_of_row(alloc, certificate, row, |row| {
+        rule_lines(alloc, plan, row, rule)
+    })
 }
 
 /// What a sample of the key weighs at a matched reader that hears it.
@@ -185,7 +139,7 @@ fn heard_line(
     writer: WriterNo,
     key: KeyNo,
     reader: ReaderNo,
-) -> Result<String, AllocError>
+) -> TextResult
     ensures { IfOk result (λ text. string_bytes text ≡ heard_line plan.now (row_view row.now) writer key reader) }
 {
     if plan.matched(writer, reader) && plan.hears(reader, key) {
@@ -198,13 +152,7 @@ fn heard_line(
 }
 
 /// What a sample of the key weighs at each matched reader that hears it.
-fn heard_lines(
-    alloc: Global,
-    plan: &Plan,
-    row: &Row,
-    writer: WriterNo,
-    key: KeyNo,
-) -> Result<String, AllocError>
+fn heard_lines(alloc: Global, plan: &Plan, row: &Row, writer: WriterNo, key: KeyNo) -> TextResult
     ensures { IfOk result (λ text. string_bytes text ≡ each_below (length plan.now.readers.entries) (heard_line plan.now (row_view row.now) writer key)) }
 {
     text_below(alloc, plan.lists().readers(), |r| {
@@ -213,13 +161,7 @@ fn heard_lines(
 }
 
 /// What the samples of a write weigh, and its permit.
-fn write_line(
-    alloc: Global,
-    plan: &Plan,
-    row: &Row,
-    writer: WriterNo,
-    key: KeyNo,
-) -> Result<String, AllocError>
+fn write_line(alloc: Global, plan: &Plan, row: &Row, writer: WriterNo, key: KeyNo) -> TextResult
     ensures { IfOk result (λ text. string_bytes text ≡ write_line plan.now (row_view row.now) writer key) }
 {
     let spread = spread(plan, row, writer, key);
@@ -233,13 +175,7 @@ fn write_line(
 }
 
 /// What the samples of a write weigh, at each reader too, and its permit.
-fn write_lines(
-    alloc: Global,
-    plan: &Plan,
-    row: &Row,
-    writer: WriterNo,
-    key: KeyNo,
-) -> Result<String, AllocError>
+fn write_lines(alloc: Global, plan: &Plan, row: &Row, writer: WriterNo, key: KeyNo) -> TextResult
     ensures { IfOk result (λ text. string_bytes text ≡ write_lines plan.now (row_view row.now) writer key) }
 {
     let line = write_line(alloc, plan, row, writer, key)?;
@@ -255,11 +191,10 @@ pub(crate) fn write_raises_lines(
     row: usize,
     writer: WriterNo,
     key: KeyNo,
-) -> Result<String, AllocError>
+) -> TextResult
     ensures { IfOk result (λ text. string_bytes text ≡ write_raises_lines plan.now (certificate_view certificate.now) row writer key) }
 {
-    match find_row(certificate, row) {
-        Some(row) => write_lines(alloc, plan, row, writer, key),
-        None => Ok(String::new(alloc)),
-    }
+    text_of_row(alloc, certificate, row, |row| {
+        write_lines(alloc, plan, row, writer, key)
+    })
 }

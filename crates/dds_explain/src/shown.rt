@@ -8,18 +8,18 @@ ghost use Rattle.dds_check.specs.Accepted.{budget, row_of};
 ghost use Rattle.dds_check.specs.Shown.{shows, shows_all};
 ghost use Rattle.dds_explain.specs.Shown.{bound_claim, bound_lines, bound_not_shown_lines, permit_line, permit_lines, reached_sample_line, sample_line, shown_text, total_claim, total_lines, total_not_shown_lines, unshown_bound, unshown_bound_by, unshown_line, unshown_total, unshown_total_by, writer_permit_lines};
 
-use crate::pieces::{find_row, reader_name, weighed_term, writer_name};
+use crate::pieces::{find_row, reader_name, text_of_row, weighed_term, writer_name};
 use crate::weights::{budget, opening_permits, permit_weight, sample_weight};
 use dds_base::grid::KEYS;
 use dds_base::{KeyNo, ReaderNo, WriterNo};
 use dds_cert::naming::{reader_key, writer_key};
 use dds_cert::{Bound, Certificate, Row, Total};
 use dds_match::Plan;
-use dds_show::texts::{text_below, text_of_each};
-use std::alloc::{AllocError, Global};
+use dds_show::texts::{TextResult, text_below, text_of_each};
+use std::alloc::Global;
 
 /// The least bound that a row shows, by what the permits at the opening weigh and what a sample weighs.
-pub(crate) fn shown_text(alloc: Global, opening: u128, weight: u32) -> Result<String, AllocError>
+pub(crate) fn shown_text(alloc: Global, opening: u128, weight: u32) -> TextResult
     ensures { IfOk result (λ text. string_bytes text ≡ shown_text opening weight) }
 {
     if weight == 0 {
@@ -38,7 +38,7 @@ fn sample_line(
     opening: u128,
     reader: ReaderNo,
     key: KeyNo,
-) -> Result<String, AllocError>
+) -> TextResult
     ensures { IfOk result (λ text. string_bytes text ≡ sample_line plan.now (row_view row.now) opening reader key) }
 {
     let weight = sample_weight(row, reader, key);
@@ -48,13 +48,7 @@ fn sample_line(
 }
 
 /// The permits to write a key at a writer at the opening, if there are any.
-fn permit_line(
-    alloc: Global,
-    plan: &Plan,
-    row: &Row,
-    writer: WriterNo,
-    key: KeyNo,
-) -> Result<String, AllocError>
+fn permit_line(alloc: Global, plan: &Plan, row: &Row, writer: WriterNo, key: KeyNo) -> TextResult
     ensures { IfOk result (λ text. string_bytes text ≡ permit_line plan.now (row_view row.now) writer key) }
 {
     let count = opening_permits(plan, writer, key);
@@ -68,12 +62,7 @@ fn permit_line(
 }
 
 /// The permits at the opening at a writer.
-fn writer_permit_lines(
-    alloc: Global,
-    plan: &Plan,
-    row: &Row,
-    writer: WriterNo,
-) -> Result<String, AllocError>
+fn writer_permit_lines(alloc: Global, plan: &Plan, row: &Row, writer: WriterNo) -> TextResult
     ensures { IfOk result (λ text. string_bytes text ≡ writer_permit_lines plan.now (row_view row.now) writer) }
 {
     text_below(
@@ -86,7 +75,7 @@ fn writer_permit_lines(
 }
 
 /// The permits at the opening at all writers.
-fn permit_lines(alloc: Global, plan: &Plan, row: &Row) -> Result<String, AllocError>
+fn permit_lines(alloc: Global, plan: &Plan, row: &Row) -> TextResult
     ensures { IfOk result (λ text. string_bytes text ≡ permit_lines plan.now (row_view row.now)) }
 {
     text_below(
@@ -99,7 +88,7 @@ fn permit_lines(alloc: Global, plan: &Plan, row: &Row) -> Result<String, AllocEr
 }
 
 /// What a row doesn't show, and what the permits at the opening weigh by it.
-fn unshown_line(alloc: Global, row: &Row, claim: &str, opening: u128) -> Result<String, AllocError>
+fn unshown_line(alloc: Global, row: &Row, claim: &str, opening: u128) -> TextResult
     ensures { IfOk result (λ text. string_bytes text ≡ unshown_line (row_view row.now) claim.now opening) }
 {
     let row = row.name.as_str();
@@ -124,7 +113,7 @@ fn shows(plan: &Plan, row: &Row, opening: u128, bound: u32, reader: ReaderNo, ke
 }
 
 /// A bound in words.
-fn bound_claim(alloc: Global, plan: &Plan, bound: &Bound) -> Result<String, AllocError>
+fn bound_claim(alloc: Global, plan: &Plan, bound: &Bound) -> TextResult
     ensures { IfOk result (λ text. string_bytes text ≡ bound_claim plan.now bound.now) }
 {
     let number = bound.bound;
@@ -134,13 +123,7 @@ fn bound_claim(alloc: Global, plan: &Plan, bound: &Bound) -> Result<String, Allo
 }
 
 /// A bound that its row doesn't show, with a sample of its key and the permits.
-fn bound_lines(
-    alloc: Global,
-    plan: &Plan,
-    row: &Row,
-    bound: &Bound,
-    opening: u128,
-) -> Result<String, AllocError>
+fn bound_lines(alloc: Global, plan: &Plan, row: &Row, bound: &Bound, opening: u128) -> TextResult
     ensures { IfOk result (λ text. string_bytes text ≡ bound_lines plan.now (row_view row.now) bound.now opening) }
 {
     let claim = bound_claim(alloc, plan, bound)?;
@@ -151,12 +134,7 @@ fn bound_lines(
 }
 
 /// A bound with what its row weighs, if the row doesn't show it.
-fn unshown_bound_by(
-    alloc: Global,
-    plan: &Plan,
-    row: &Row,
-    bound: &Bound,
-) -> Result<String, AllocError>
+fn unshown_bound_by(alloc: Global, plan: &Plan, row: &Row, bound: &Bound) -> TextResult
     ensures { IfOk result (λ text. string_bytes text ≡ unshown_bound_by plan.now (row_view row.now) bound.now) }
 {
     let opening = budget(plan, row);
@@ -174,14 +152,13 @@ fn unshown_bound(
     reader: ReaderNo,
     key: KeyNo,
     bound: &Bound,
-) -> Result<String, AllocError>
+) -> TextResult
     ensures { IfOk result (λ text. string_bytes text ≡ unshown_bound plan.now (certificate_view certificate.now) reader key bound.now) }
 {
     if bound.reader == reader && bound.key == key {
-        match find_row(certificate, bound.row) {
-            Some(row) => unshown_bound_by(alloc, plan, row, bound),
-            None => Ok(String::new(alloc)),
-        }
+        text_of_row(alloc, certificate, bound.row, |row| {
+            unshown_bound_by(alloc, plan, row, bound)
+        })
     } else {
         Ok(String::new(alloc))
     }
@@ -194,16 +171,12 @@ pub(crate) fn bound_not_shown_lines(
     certificate: &Certificate,
     reader: ReaderNo,
     key: KeyNo,
-) -> Result<String, AllocError>
+) -> TextResult
     ensures { IfOk result (λ text. string_bytes text ≡ bound_not_shown_lines plan.now (certificate_view certificate.now) reader key) }
 {
-    text_of_each(
-        alloc,
-        certificate.bounds.as_slice(),
-        |bound|
-            ensures { IfOk result (λ text. string_bytes text ≡ unshown_bound plan.entry.now (certificate_view certificate.entry.now) reader key bound.now) }
-        { unshown_bound(alloc, plan, certificate, reader, key, bound) },
-    )
+    text_of_each(alloc, certificate.bounds.as_slice(), |bound| {
+        unshown_bound(alloc, plan, certificate, reader, key, bound)
+    })
 }
 
 /// Whether a key can't reach the reader of a total, or the row shows the total for it.
@@ -229,7 +202,7 @@ fn shows_all(plan: &Plan, row: &Row, opening: u128, total: &Total) -> bool
 }
 
 /// A total in words.
-fn total_claim(alloc: Global, plan: &Plan, total: &Total) -> Result<String, AllocError>
+fn total_claim(alloc: Global, plan: &Plan, total: &Total) -> TextResult
     ensures { IfOk result (λ text. string_bytes text ≡ total_claim plan.now total.now) }
 {
     let number = total.bound;
@@ -245,7 +218,7 @@ fn reached_sample_line(
     opening: u128,
     reader: ReaderNo,
     key: KeyNo,
-) -> Result<String, AllocError>
+) -> TextResult
     ensures { IfOk result (λ text. string_bytes text ≡ reached_sample_line plan.now (row_view row.now) opening reader key) }
 {
     if plan.reaches(reader, key) {
@@ -262,7 +235,7 @@ fn reached_sample_lines(
     row: &Row,
     opening: u128,
     reader: ReaderNo,
-) -> Result<String, AllocError>
+) -> TextResult
     ensures { IfOk result (λ text. string_bytes text ≡ each_below 64 (reached_sample_line plan.now (row_view row.now) opening reader)) }
 {
     text_below(
@@ -275,13 +248,7 @@ fn reached_sample_lines(
 }
 
 /// A total that its row doesn't show, with a sample of each key and the permits.
-fn total_lines(
-    alloc: Global,
-    plan: &Plan,
-    row: &Row,
-    total: &Total,
-    opening: u128,
-) -> Result<String, AllocError>
+fn total_lines(alloc: Global, plan: &Plan, row: &Row, total: &Total, opening: u128) -> TextResult
     ensures { IfOk result (λ text. string_bytes text ≡ total_lines plan.now (row_view row.now) total.now opening) }
 {
     let claim = total_claim(alloc, plan, total)?;
@@ -292,12 +259,7 @@ fn total_lines(
 }
 
 /// A total with what its row weighs, if the row doesn't show it.
-fn unshown_total_by(
-    alloc: Global,
-    plan: &Plan,
-    row: &Row,
-    total: &Total,
-) -> Result<String, AllocError>
+fn unshown_total_by(alloc: Global, plan: &Plan, row: &Row, total: &Total) -> TextResult
     ensures { IfOk result (λ text. string_bytes text ≡ unshown_total_by plan.now (row_view row.now) total.now) }
 {
     let opening = budget(plan, row);
@@ -314,7 +276,7 @@ fn unshown_total(
     certificate: &Certificate,
     reader: ReaderNo,
     total: &Total,
-) -> Result<String, AllocError>
+) -> TextResult
     ensures { IfOk result (λ text. string_bytes text ≡ unshown_total plan.now (certificate_view certificate.now) reader total.now) }
 {
     if total.reader == reader {
@@ -333,14 +295,10 @@ pub(crate) fn total_not_shown_lines(
     plan: &Plan,
     certificate: &Certificate,
     reader: ReaderNo,
-) -> Result<String, AllocError>
+) -> TextResult
     ensures { IfOk result (λ text. string_bytes text ≡ total_not_shown_lines plan.now (certificate_view certificate.now) reader) }
 {
-    text_of_each(
-        alloc,
-        certificate.totals.as_slice(),
-        |total|
-            ensures { IfOk result (λ text. string_bytes text ≡ unshown_total plan.entry.now (certificate_view certificate.entry.now) reader total.now) }
-        { unshown_total(alloc, plan, certificate, reader, total) },
-    )
+    text_of_each(alloc, certificate.totals.as_slice(), |total| {
+        unshown_total(alloc, plan, certificate, reader, total)
+    })
 }
