@@ -76,12 +76,12 @@ if ! build_library; then
     fail "no compiler built tools/refuse.c"
     finish
 fi
-sweep test_endpoints caches::caches_call_by_call
-sweep test_endpoints readers::readers_call_by_call
-sweep test_endpoints writers::two_readers_call_by_call
-sweep test_endpoints writers::a_watcher_call_by_call
-sweep test_endpoints writers::a_watcher_beside_a_reader
-sweep test_domain without_memory::each_event_without_memory
-sweep test_domain without_memory::a_list_without_memory
-sweep test_book without_memory::calls_without_memory
+sweep test_endpoints tests::caches::caches_call_by_call
+sweep test_endpoints tests::readers::readers_call_by_call
+sweep test_endpoints tests::writers::two_readers_call_by_call
+sweep test_endpoints tests::writers::a_watcher_call_by_call
+sweep test_endpoints tests::writers::a_watcher_beside_a_reader
+sweep test_domain tests::without_memory::each_event_without_memory
+sweep test_domain tests::without_memory::a_list_without_memory
+sweep test_book tests::without_memory::calls_without_memory
 finish

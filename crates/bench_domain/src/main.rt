@@ -4,44 +4,18 @@
 #![tactic(auto)]
 
 use dds_base::{Arrival, Event, KeyNo, ReaderNo, Reply, RuleNo, WriterNo};
-use dds_cert_file::read_certificate;
-use dds_check::{Checked, check};
-use dds_deploy_file::read_deployment;
 use dds_domain::Domain;
-use dds_match::planning::plan;
 use std::alloc::Global;
 use std::env::{self, Env};
 use std::io;
 use std::process::ExitCode;
 use std::time::{Clock, Duration, Instant};
 use test_files::texts::{PING, PING_CERT};
-
-/// The checked deployment.
-fn checked(alloc: Global) -> Option<Checked> {
-    let deployment = read_deployment(alloc, PING.as_bytes()).ok()?;
-    let plan = match plan(alloc, deployment) {
-        Ok(plan) => plan,
-        Err((_, deployment)) => {
-            drop(deployment);
-            return None;
-        }
-    };
-    let Ok(certificate) = read_certificate(alloc, &plan, PING_CERT.as_bytes()) else {
-        drop(plan);
-        return None;
-    };
-    match check(plan, certificate) {
-        Ok(checked) => Some(checked),
-        Err(refused) => {
-            drop(refused);
-            None
-        }
-    }
-}
+use test_plans::checked;
 
 /// The domain before the first event.
 fn opened(alloc: Global) -> Option<Domain> {
-    match Domain::open(alloc, checked(alloc)?) {
+    match Domain::open(alloc, checked(alloc, PING, PING_CERT)?) {
         Ok(domain) => Some(domain),
         Err((_, checked)) => {
             drop(checked);

@@ -11,11 +11,7 @@ mod trips;
 use crate::trips::{Timed, Times, Watch};
 use dds_base::{AppNo, Fate, Reply};
 use dds_book::{Gauge, GaugeSeat};
-use dds_cert_file::read_certificate;
-use dds_check::{Checked, check};
-use dds_deploy_file::read_deployment;
 use dds_match::NoMemory;
-use dds_match::planning::plan;
 use dds_peers::{App, AppEnd, Fates, Limits, Outcome, RunFault, Steady, run_peers};
 use std::alloc::Global;
 use std::env::{self, Env};
@@ -25,6 +21,7 @@ use std::sync::{Arc, Wait};
 use std::thread::Threads;
 use std::time::{Clock, Instant};
 use test_files::texts::{PING, PING_CERT};
+use test_plans::checked;
 
 /// No limit ends a run before the journal is full.
 const LIMITS: Limits = Limits {
@@ -32,29 +29,6 @@ const LIMITS: Limits = Limits {
     idle_waits: 100_000,
     pumps: u64::MAX,
 };
-
-/// The checked deployment.
-fn checked(alloc: Global) -> Option<Checked> {
-    let deployment = read_deployment(alloc, PING.as_bytes()).ok()?;
-    let plan = match plan(alloc, deployment) {
-        Ok(plan) => plan,
-        Err((_, deployment)) => {
-            drop(deployment);
-            return None;
-        }
-    };
-    let Ok(certificate) = read_certificate(alloc, &plan, PING_CERT.as_bytes()) else {
-        drop(plan);
-        return None;
-    };
-    match check(plan, certificate) {
-        Ok(checked) => Some(checked),
-        Err(refused) => {
-            drop(refused);
-            None
-        }
-    }
-}
 
 /// A circle of 64 fates, of which the packets lost stand apart as far as they can.
 fn fates(lost: usize) -> Option<Fates> {
@@ -92,7 +66,7 @@ fn ran<R: Threads + Wait + Clock + Sync>(
     fates: &Fates,
     watch: &Watch<R>,
 ) -> Option<Told> {
-    let checked = checked(alloc)?;
+    let checked = checked(alloc, PING, PING_CERT)?;
     let mut apps: Vec<Box<dyn App + Send>> = Vec::new(alloc);
     let count = checked.plan().lists().applications();
     for app in 0..count {

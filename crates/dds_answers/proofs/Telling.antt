@@ -1,9 +1,7 @@
 -- How a check ends, and what is told of it.
-use Rattle.std.proofs.Common.{ℕ, ◌≡◌, List, Option, Err, refl, string_bytes}
+use Rattle.std.proofs.Common.{◌≡◌, Err, refl, string_bytes}
 use Rattle.dds_fields.specs.Reading.{Flaw, Read}
-use Rattle.dds_fields.specs.Gives.{Fails, FailsAs}
-use Rattle.dds_fields.specs.declared.fault.ReadFault.{ReadFault}
-use Rattle.dds_fields.specs.declared.fault.ReadFault.TheVariants as unread
+use Rattle.dds_fields.specs.Gives.{FailsAs}
 use Rattle.dds_deploy.specs.Lists.{Lists}
 use Rattle.dds_cert.specs.Lists.{Certificate}
 use Rattle.dds_cert_file.specs.Faults.{cert_flaw, kind_of}
@@ -11,32 +9,16 @@ use Rattle.dds_cert_file.specs.declared.fault.CertFault.{CertFault}
 use Rattle.dds_cert_file.specs.declared.fault.CertFault.TheVariants.{At, NoMemory}
 use Rattle.dds_answers.specs.declared.fault.ToolFault.{ToolFault}
 use Rattle.dds_answers.specs.declared.fault.ToolFault.TheVariants as fault
-use Rattle.dds_answers.specs.declared.format.Format.{Format}
 use Rattle.dds_answers.specs.declared.report.Detail.{Detail}
 use Rattle.dds_answers.specs.declared.report.Detail.TheVariants.{Plain, Explained}
-use Rattle.dds_answers.specs.Outcome.{Outcome, bad_certificate, bad_deployment, comparison, drawing, drawing_with, judged, showing, told}
-use Rattle.dds_answers.specs.Report.{Ends, IsCertificateFault, IsDeploymentFault, Tells}
+use Rattle.dds_answers.specs.Outcome.{Outcome, bad_certificate, bad_deployment, drawing_with, judged, told}
+use Rattle.dds_answers.specs.Report.{Ends, IsCertificateFault, Tells}
 
 -- the fault of a certificate that could not be read is that of the check
 pub certificate_told : (lists : Lists) (read : Read Certificate) (f : CertFault) (t : ToolFault)
     → FailsAs (cert_flaw f) read → IsCertificateFault f t → Tells (Err t) (judged lists read)
 certificate_told lists read (At flaw) t fails is = rw (is, fails) refl
 certificate_told lists read NoMemory t fails is = rw is tt
-
--- the fault of a deployment that could not be read is one that its comparison can end with
-pub uncompared_ends : (read : Read Lists) (f : ReadFault) (t : ToolFault) → Fails f read → IsDeploymentFault f t → Ends t (comparison read)
-uncompared_ends read (unread.At flaw) t fails is = rw (is, fails) refl
-uncompared_ends read unread.NoMemory t fails is = rw is tt
-
--- the fault of a deployment that could not be read is one that its showing can end with
-pub unshown_ends : (format : Format) (read : Read Lists) (f : ReadFault) (t : ToolFault) → Fails f read → IsDeploymentFault f t → Ends t (showing format read)
-unshown_ends format read (unread.At flaw) t fails is = rw (is, fails) refl
-unshown_ends format read unread.NoMemory t fails is = rw is tt
-
--- the fault of a deployment that could not be read is one that its drawing can end with
-pub undrawn_ends : (c : Option (List ℕ)) (read : Read Lists) (f : ReadFault) (t : ToolFault) → Fails f read → IsDeploymentFault f t → Ends t (drawing read c)
-undrawn_ends c read (unread.At flaw) t fails is = rw (is, fails) refl
-undrawn_ends c read unread.NoMemory t fails is = rw is tt
 
 -- the fault of a certificate that could not be read is one that the drawing of its deployment can end with
 pub undrawn_with_ends : (lists : Lists) (read : Read Certificate) (f : CertFault) (t : ToolFault) → FailsAs (cert_flaw f) read → IsCertificateFault f t

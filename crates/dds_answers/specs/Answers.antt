@@ -30,12 +30,7 @@ abbrev pub SaysNothing : ToolFault → Type 0
 SaysNothing fault.Read = Unit {0}
 SaysNothing fault.Write = Unit {0}
 SaysNothing fault.NoMemory = Unit {0}
-SaysNothing (fault.Usage text) = ⊥
-SaysNothing (fault.Deployment flaw syntax) = ⊥
-SaysNothing (fault.Certificate flaw syntax) = ⊥
-SaysNothing (fault.Events kind line) = ⊥
-SaysNothing fault.TooLarge = ⊥
-SaysNothing fault.Run = ⊥
+SaysNothing _ = ⊥
 
 -- the answer of an end that may be, or the fault with which one that may be ends, or a fault of memory or of a device
 abbrev pub GivesOneOf : (Outcome → Type 0) → Result Answer ToolFault → Type 0

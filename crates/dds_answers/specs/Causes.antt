@@ -12,6 +12,4 @@ IsFileFault file_failed (fault.Events kind line) = Unit {0}
 IsFileFault file_failed fault.TooLarge = Unit {0}
 IsFileFault file_failed fault.Read = file_failed ≡ true
 IsFileFault file_failed fault.NoMemory = Unit {0}
-IsFileFault file_failed fault.Write = ⊥
-IsFileFault file_failed (fault.Usage text) = ⊥
-IsFileFault file_failed fault.Run = ⊥
+IsFileFault file_failed _ = ⊥

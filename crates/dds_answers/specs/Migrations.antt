@@ -1,21 +1,16 @@
 -- How a migration of a deployment may end.
-use Rattle.std.specs.Prelude.{ℕ, Bool, List, length, nat_le, ◌≡◌, Ok, Err, true, false}
+use Rattle.std.specs.Prelude.{ℕ, List, ◌≡◌, Ok, Err}
 use Rattle.dds_fields.specs.Reading.{Read}
 use Rattle.dds_deploy.specs.Lists.{Lists}
 use Rattle.dds_deploy_file.specs.Migration.{IsMigrated}
 use Rattle.dds_deploy_file.specs.Document.{read_up_to}
-use Rattle.dds_answers.specs.Outcome.{Outcome, bad_deployment, migrated, too_large}
+use Rattle.dds_answers.specs.Outcome.{MayOfFile, Outcome, bad_deployment, migrated}
 
 -- bytes that are read as a deployment of version 1 become a text of version 2 that stands for the same lists; else the flaw is told
 abbrev pub MayMigrate : List ℕ → Read Lists → Outcome → Type 0
 MayMigrate d (Ok lists) end = (text : List ℕ) × IsMigrated d text × (end ≡ migrated text)
 MayMigrate d (Err flaw) end = end ≡ bad_deployment flaw
 
--- of bytes that are few enough to be a file, and of too many
-abbrev pub MayMigrateIf : Bool → List ℕ → Outcome → Type 0
-MayMigrateIf true d end = MayMigrate d (read_up_to 1 d) end
-MayMigrateIf false d end = end ≡ too_large
-
--- the same of a file with these bytes, which is read whole before it is parsed
+-- the same of a file with these bytes
 abbrev pub MayMigrateFor : List ℕ → Outcome → Type 0
-MayMigrateFor d end = MayMigrateIf (nat_le (length d) 1048576) d end
+MayMigrateFor d end = MayOfFile d (MayMigrate d (read_up_to 1 d)) end

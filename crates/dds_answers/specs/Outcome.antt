@@ -1,5 +1,5 @@
 -- How a command on files ends.
-use Rattle.std.specs.Prelude.{ℕ, Bool, List, length, nat_le, ◌&&◌, Option, Some, None, Ok, Err, if◌then◌else◌}
+use Rattle.std.specs.Prelude.{ℕ, ◌≡◌, Bool, true, false, List, length, nat_le, ◌&&◌, Option, Some, None, Ok, Err, if◌then◌else◌}
 use Rattle.dds_answers.specs.declared.format.Format.{Format}
 use Rattle.dds_answers.specs.declared.report.Detail.{Detail}
 use Rattle.dds_answers.specs.declared.report.Detail.TheVariants.{Plain, Explained}
@@ -70,6 +70,19 @@ of_file d end = if nat_le (length d) 1048576 then end else too_large
 -- this end of a command on two files with these bytes, if neither is too large: both are read whole before either is parsed
 abbrev pub of_files : List ℕ → List ℕ → Outcome → Outcome
 of_files d c end = if nat_le (length d) 1048576 && nat_le (length c) 1048576 then end else too_large
+
+-- of bytes that are few enough an end that may be, and of too many that one
+abbrev pub MayIf : (is_few : Bool) → (Outcome → Type 0) → Outcome → Type 0
+MayIf true May end = May end
+MayIf false May end = end ≡ too_large
+
+-- an end that may be of a command on a file with these bytes, if it isn't too large: it is read whole before it is parsed
+abbrev pub MayOfFile : List ℕ → (Outcome → Type 0) → Outcome → Type 0
+MayOfFile d May end = MayIf (nat_le (length d) 1048576) May end
+
+-- an end that may be of a command on two files with these bytes, if neither is too large: both are read whole before either is parsed
+abbrev pub MayOfFiles : List ℕ → List ℕ → (Outcome → Type 0) → Outcome → Type 0
+MayOfFiles d c May end = MayIf (nat_le (length d) 1048576 && nat_le (length c) 1048576) May end
 
 -- how a check of two files with these bytes ends
 unfoldable pub file_outcome : List ℕ → List ℕ → Outcome

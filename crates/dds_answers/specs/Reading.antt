@@ -26,9 +26,4 @@ abbrev pub IsReadingFault : ToolFault → Type 0
 IsReadingFault fault.TooLarge = Unit {0}
 IsReadingFault fault.Read = Unit {0}
 IsReadingFault fault.NoMemory = Unit {0}
-IsReadingFault (fault.Usage text) = ⊥
-IsReadingFault (fault.Deployment flaw syntax) = ⊥
-IsReadingFault (fault.Certificate flaw syntax) = ⊥
-IsReadingFault (fault.Events kind line) = ⊥
-IsReadingFault fault.Write = ⊥
-IsReadingFault fault.Run = ⊥
+IsReadingFault _ = ⊥

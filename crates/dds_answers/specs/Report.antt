@@ -1,6 +1,7 @@
 -- What a check answers, and the lines that tell it.
 use Rattle.std.specs.Prelude.{ℕ, List, [], ◌++◌, ◌≡◌, length, if◌then◌else◌, codes, flat_map, string_bytes, None, Result, Ok, Err}
 use Rattle.std.specs.Fmt.{decimal}
+use Rattle.dds_fields.specs.Reading.{Read}
 use Rattle.dds_fields.specs.declared.fault.ReadFault.{ReadFault}
 use Rattle.dds_fields.specs.declared.fault.ReadFault.TheVariants as unread
 use Rattle.dds_deploy.specs.Lists.{Lists}
@@ -144,6 +145,12 @@ Ends fault.Run end = ⊥
 abbrev pub IsDeploymentFault : ReadFault → ToolFault → Type 0
 IsDeploymentFault (unread.At flaw) told = told ≡ fault.Deployment flaw None
 IsDeploymentFault unread.NoMemory told = told ≡ fault.NoMemory
+
+-- the fault with which a command ends that finds this flaw where it reads a deployment, or want of memory
+abbrev pub IsUnread : Read Lists → ToolFault → Type 0
+IsUnread read (fault.Deployment flaw syntax) = (read ≡ Err (flaw.kind, string_bytes flaw.path)) × (syntax ≡ None)
+IsUnread read fault.NoMemory = Unit {0}
+IsUnread read _ = ⊥
 
 -- the fault of a certificate that could not be read
 abbrev pub IsCertificateFault : CertFault → ToolFault → Type 0

@@ -14,12 +14,12 @@ use crate::exit::Exit;
 use crate::fault::ToolFault;
 use crate::format::Format;
 use crate::matches::{is_as_intended, match_text};
+use crate::planning::read_plan;
 use crate::report::{Detail, Report, deployment_fault, detailed_check, detailed_text};
 use dds_cert::{Certificate, certificate_text};
 use dds_deploy::Deployment;
 use dds_deploy_file::{migrate, read_deployment};
 use dds_match::Plan;
-use dds_match::planning::plan;
 use dds_propose::propose;
 use dds_show::deployment_json;
 use dds_xml::deployment_xml;
@@ -101,29 +101,13 @@ fn compared(alloc: Global, plan: Plan) -> Result<Answer, ToolFault>
     answer
 }
 
-/// The answer to which endpoints of the lists of a deployment match.
-fn lists_compared(alloc: Global, lists: Deployment) -> Result<Answer, ToolFault>
-    ensures gives { Gives result (compared lists) }
-    ensures fault { IfErr result IsAnswerFault }
-{
-    match plan(alloc, lists) {
-        Ok(plan) => compared(alloc, plan),
-        Err((_, lists)) => {
-            drop(lists);
-            Err(ToolFault::NoMemory)
-        }
-    }
-}
-
 /// The answer of `match` to the bytes of a deployment: yes where exactly the pairs of the connections match.
 pub fn match_answer(alloc: Global, deployment: &[u8]) -> Result<Answer, ToolFault>
     ensures gives { Gives result (match_outcome deployment.now) }
     ensures fault { IfErr result IsAnswerFault }
 {
-    match read_deployment(alloc, deployment) {
-        Ok(lists) => lists_compared(alloc, lists),
-        Err(fault) => Err(deployment_fault(fault)),
-    }
+    let plan = read_plan(alloc, deployment)?;
+    compared(alloc, plan)
 }
 
 /// A deployment in a format.
@@ -199,33 +183,15 @@ fn sought(alloc: Global, plan: &Plan) -> Result<Answer, ToolFault>
     }
 }
 
-/// The answer to what is proposed for the lists of a deployment.
-fn lists_sought(alloc: Global, lists: Deployment) -> Result<Answer, ToolFault>
-    ensures gives { (end : Outcome) × MayPropose (Ok lists) end × Gives result end }
-    ensures fault { IfErr result IsAnswerFault }
-{
-    match plan(alloc, lists) {
-        Ok(plan) => {
-            let answer = sought(alloc, &plan);
-            drop(plan);
-            answer
-        }
-        Err((_, lists)) => {
-            drop(lists);
-            Err(ToolFault::NoMemory)
-        }
-    }
-}
-
 /// The answer of `propose` to the bytes of a deployment: yes with the text of a certificate that is accepted, or no where none was found.
 pub fn propose_answer(alloc: Global, deployment: &[u8]) -> Result<Answer, ToolFault>
     ensures gives { (end : Outcome) × MayPropose (deployment_read deployment.now) end × Gives result end }
     ensures fault { IfErr result IsAnswerFault }
 {
-    match read_deployment(alloc, deployment) {
-        Ok(lists) => lists_sought(alloc, lists),
-        Err(fault) => Err(deployment_fault(fault)),
-    }
+    let plan = read_plan(alloc, deployment)?;
+    let answer = sought(alloc, &plan);
+    drop(plan);
+    answer
 }
 
 /// The answer of `migrate` to the bytes of a deployment of version 1: yes with a text of version 2 that stands for the same lists.

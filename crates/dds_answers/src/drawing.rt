@@ -8,14 +8,12 @@ ghost use Rattle.dds_answers.specs.Outcome.{draw_outcome, drawing, drawing_with,
 
 use crate::answer::{Answer, answered};
 use crate::fault::ToolFault;
-use crate::report::{certificate_fault, deployment_fault};
+use crate::planning::read_plan;
+use crate::report::certificate_fault;
 use dds_cert::Certificate;
 use dds_cert_file::read_certificate;
-use dds_deploy::Deployment;
-use dds_deploy_file::read_deployment;
 use dds_draw::drawing;
 use dds_match::Plan;
-use dds_match::planning::plan;
 use std::alloc::Global;
 
 /// The answer with the picture of a plan, which is needed no longer.
@@ -43,22 +41,11 @@ fn drawn_with(alloc: Global, plan: Plan, certificate: &[u8]) -> Result<Answer, T
     }
 }
 
-/// The answer with the picture of the lists of a deployment.
-fn lists_drawn(
-    alloc: Global,
-    lists: Deployment,
-    certificate: Option<&[u8]>,
-) -> Result<Answer, ToolFault>
-    ensures gives { Gives result (drawing (Ok lists) (option_map (λ c. c.now) certificate.entry)) }
+/// The answer with the picture of a plan, and of the bytes of its certificate if one is given.
+fn plan_drawn(alloc: Global, plan: Plan, certificate: Option<&[u8]>) -> Result<Answer, ToolFault>
+    ensures gives { Gives result (drawing (Ok plan) (option_map (λ c. c.now) certificate.entry)) }
     ensures fault { IfErr result IsAnswerFault }
 {
-    let plan = match plan(alloc, lists) {
-        Ok(plan) => plan,
-        Err((_, lists)) => {
-            drop(lists);
-            return Err(ToolFault::NoMemory);
-        }
-    };
     match certificate {
         Some(bytes) => drawn_with(alloc, plan, bytes),
         None => drawn(alloc, plan, None),
@@ -75,8 +62,6 @@ pub fn draw_answer(
     ensures gives { Gives result (draw_outcome deployment.now (option_map (λ c. c.now) certificate.entry)) }
     ensures fault { IfErr result IsAnswerFault }
 {
-    match read_deployment(alloc, deployment) {
-        Ok(lists) => lists_drawn(alloc, lists, certificate),
-        Err(fault) => Err(deployment_fault(fault)),
-    }
+    let plan = read_plan(alloc, deployment)?;
+    plan_drawn(alloc, plan, certificate)
 }

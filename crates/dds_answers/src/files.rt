@@ -1,5 +1,5 @@
 //! What each command answers to its files, which are read whole before any is parsed.
-ghost use Rattle.std.specs.Prelude.{◌≡◌, ℕ, List, [], ◌∷◌, ◌≤◌, ◌<◌, Some, None, IfOk, IfErr, IfSome, IsErrOf, OnOk, length};
+ghost use Rattle.std.specs.Prelude.{◌≡◌, ℕ, List, [], ◌∷◌, ◌≤◌, ◌<◌, ◌⊎◌, Some, None, IfOk, IfErr, IfSome, IsErrOf, OnOk, length};
 ghost use Rattle.dds_answers.specs.Answers.{Gives, GivesOneOf};
 ghost use Rattle.dds_answers.specs.Causes.{IsFileFault};
 ghost use Rattle.dds_answers.specs.Opened.{Opens, OpensAll};
@@ -41,6 +41,28 @@ pub fn read_file<S: Sources>(alloc: Global, files: &mut S, path: &str) -> Result
     bytes
 }
 
+/// The bytes of the files at two paths. The first is read whole and given back before the second is opened. `Read` comes only where a file has failed.
+#[tactic(auto, using(crate::proofs::Opened::both_open))]
+pub fn read_files<S: Sources>(
+    alloc: Global,
+    files: &mut S,
+    first: &str,
+    second: &str,
+) -> Result<(Vec<u8>, Vec<u8>), ToolFault>
+    ensures first { IfOk result (λ both. IfSome (S.holds files.old first.now) (λ xs. (both.0.items ≡ xs) × (length xs ≤ 1048576))) }
+    ensures second { IfOk result (λ both. IfSome (S.holds files.old second.now) (λ xs. (both.1.items ≡ xs) × (length xs ≤ 1048576))) }
+    ensures faults { IfErr result IsReadingFault }
+    ensures causes { IfErr result (IsFileFault (S.has_failed files.new)) }
+    ensures too_large { (x y : List ℕ) → S.holds files.old first.now ≡ Some x → S.holds files.old second.now ≡ Some y
+        → IsErrOf result ToolFault.TooLarge → (1048576 < length x) ⊎ (1048576 < length y) }
+    ensures opened { Opens (S.opened files.old) (S.opened files.new) (first.now ∷ second.now ∷ []) }
+    ensures all_opened { OnOk result (OpensAll (S.opened files.old) (S.opened files.new) (first.now ∷ second.now ∷ [])) }
+{
+    let first = read_file(alloc, files, first)?;
+    let second = read_file(alloc, files, second)?;
+    Ok((first, second))
+}
+
 /// The answer of `check` to two files, with its reason where it is asked for. Both are read whole, the deployment first, before either is parsed.
 #[tactic(auto, unfolding(crate::specs::Outcome::check_file_outcome))]
 pub fn check_files<S: Sources>(
@@ -58,8 +80,7 @@ pub fn check_files<S: Sources>(
     ensures opened { Opens (S.opened files.old) (S.opened files.new) (deployment.now ∷ certificate.now ∷ []) }
     ensures all_opened { OnOk result (OpensAll (S.opened files.old) (S.opened files.new) (deployment.now ∷ certificate.now ∷ [])) }
 {
-    let deployment = read_file(alloc, files, deployment)?;
-    let certificate = read_file(alloc, files, certificate)?;
+    let (deployment, certificate) = read_files(alloc, files, deployment, certificate)?;
     check_answer(alloc, deployment.as_slice(), certificate.as_slice(), detail)
 }
 
@@ -171,7 +192,6 @@ pub fn draw_files<S: Sources>(
     ensures opened { Opens (S.opened files.old) (S.opened files.new) (deployment.now ∷ certificate.now ∷ []) }
     ensures all_opened { OnOk result (OpensAll (S.opened files.old) (S.opened files.new) (deployment.now ∷ certificate.now ∷ [])) }
 {
-    let deployment = read_file(alloc, files, deployment)?;
-    let certificate = read_file(alloc, files, certificate)?;
+    let (deployment, certificate) = read_files(alloc, files, deployment, certificate)?;
     draw_answer(alloc, deployment.as_slice(), Some(certificate.as_slice()))
 }

@@ -14,6 +14,7 @@ mod format;
 mod giving;
 mod matches;
 mod output;
+mod planning;
 mod reading;
 mod report;
 mod sources;
@@ -32,12 +33,13 @@ pub use exit::Exit;
 pub use fault::{ToolFault, exit_of, fault_text};
 pub use files::{
     check_files, draw_file, draw_files, match_file, migrate_file, propose_file, read_file,
-    show_file, thorough_file,
+    read_files, show_file, thorough_file,
 };
 pub use format::Format;
 pub use giving::{give, print, tell_fault};
 pub use matches::{is_as_intended, match_text};
 pub use output::{Output, Stream};
+pub use planning::{plan_of, read_plan};
 pub use reading::{MAX_FILE, read_all};
 pub use report::{
     Detail, Report, answer_check, because_text, deployment_fault, detailed_check, detailed_text,

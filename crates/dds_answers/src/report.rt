@@ -1,5 +1,5 @@
 //! The answer to two files, and its text.
-ghost use Rattle.std.specs.Prelude.{◌≡◌, ◌++◌, Err, IfErr, IfOk, flat_map, string_bytes, true};
+ghost use Rattle.std.specs.Prelude.{◌≡◌, Err, IfErr, IfOk, string_bytes, true};
 ghost use Rattle.dds_match.specs.Plan.{network_of};
 ghost use Rattle.dds_cert.specs.Fits.{fits};
 ghost use Rattle.dds_cert.specs.Views.{certificate_view};
@@ -10,18 +10,18 @@ ghost use Rattle.dds_answers.specs.Report.{IsCertificateFault, IsDeploymentFault
 ghost use Rattle.dds_answers.specs.Syntax.{IsFaultTold};
 
 use crate::fault::ToolFault;
+use crate::planning::read_plan;
 use crate::syntax::syntax_told;
 use dds_cert::naming::{name_at, reader_key, row_name, writer_key};
 use dds_cert::{Bound, Certificate, Total};
 use dds_cert_file::{CertFault, CertKind, read_certificate};
 use dds_check::{Checked, No, Subject, check};
 use dds_deploy::Deployment;
-use dds_deploy_file::{DeployFault, read_deployment};
+use dds_deploy_file::DeployFault;
 use dds_events::rule_text;
 use dds_explain::{margins, reason};
 use dds_fields::fault::FaultKind;
 use dds_match::Plan;
-use dds_match::planning::plan;
 use std::alloc::{AllocError, Global};
 
 /// How much is told of a report.
@@ -95,16 +95,9 @@ pub fn answer_check(
 ) -> Result<Report, ToolFault>
     ensures { Tells result (outcome deployment.now certificate.now) }
 {
-    let lists = match read_deployment(alloc, deployment) {
-        Ok(lists) => lists,
-        Err(fault) => return Err(deployment_fault(fault)),
-    };
-    match plan(alloc, lists) {
+    match read_plan(alloc, deployment) {
         Ok(plan) => judge(alloc, plan, certificate),
-        Err((_, lists)) => {
-            drop(lists);
-            Err(ToolFault::NoMemory)
-        }
+        Err(fault) => Err(fault),
     }
 }
 
@@ -237,38 +230,6 @@ fn total_text(alloc: Global, lists: &Deployment, total: &Total) -> Result<String
     format!(in alloc; "total {reader} {number}\n")
 }
 
-/// Adds the line of each bound.
-fn push_bounds(
-    alloc: Global,
-    text: &mut String,
-    lists: &Deployment,
-    bounds: &[Bound],
-) -> Result<(), AllocError>
-    ensures { IfOk result (λ _. string_bytes text.new ≡ string_bytes text.old ++ flat_map (bound_line lists.now) bounds.now) }
-{
-    for bound in bounds {
-        let line = bound_text(alloc, lists, bound)?;
-        text.push_str(line.as_str())?;
-    }
-    Ok(())
-}
-
-/// Adds the line of each total.
-fn push_totals(
-    alloc: Global,
-    text: &mut String,
-    lists: &Deployment,
-    totals: &[Total],
-) -> Result<(), AllocError>
-    ensures { IfOk result (λ _. string_bytes text.new ≡ string_bytes text.old ++ flat_map (total_line lists.now) totals.now) }
-{
-    for total in totals {
-        let line = total_text(alloc, lists, total)?;
-        text.push_str(line.as_str())?;
-    }
-    Ok(())
-}
-
 /// The lines of an acceptance.
 fn acceptance_text(
     alloc: Global,
@@ -278,8 +239,12 @@ fn acceptance_text(
     ensures { IfOk result (λ text. string_bytes text ≡ acceptance_lines lists.now (certificate_view certificate.now)) }
 {
     let mut text = String::from_str(alloc, "yes\n")?;
-    push_bounds(alloc, &mut text, lists, certificate.bounds.as_slice())?;
-    push_totals(alloc, &mut text, lists, certificate.totals.as_slice())?;
+    for bound in certificate.bounds.as_slice() {
+        text.push_str(bound_text(alloc, lists, bound)?.as_str())?;
+    }
+    for total in certificate.totals.as_slice() {
+        text.push_str(total_text(alloc, lists, total)?.as_str())?;
+    }
     Ok(text)
 }
 

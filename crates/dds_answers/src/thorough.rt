@@ -8,15 +8,12 @@ ghost use Rattle.dds_deploy_file.specs.Document.{read as deployment_read};
 
 use crate::answer::{Answer, certified};
 use crate::fault::ToolFault;
-use crate::report::deployment_fault;
+use crate::planning::read_plan;
 use crate::structure::structure_text;
 use dds_base::ReaderNo;
 use dds_cert::naming::{name_at, reader_key};
 use dds_check::No;
-use dds_deploy::Deployment;
-use dds_deploy_file::read_deployment;
 use dds_match::Plan;
-use dds_match::planning::plan;
 use dds_propose::propose;
 use dds_propose::targets::Target;
 use dds_search::{Found, Least, Missing, search};
@@ -143,32 +140,14 @@ fn sought(alloc: Global, plan: &Plan) -> Result<Answer, ToolFault>
     }
 }
 
-/// The answer to what is found for the lists of a deployment.
-fn lists_sought(alloc: Global, lists: Deployment) -> Result<Answer, ToolFault>
-    ensures gives { (end : Outcome) × MayFind (Ok lists) end × Gives result end }
-    ensures fault { IfErr result IsAnswerFault }
-{
-    match plan(alloc, lists) {
-        Ok(plan) => {
-            let answer = sought(alloc, &plan);
-            drop(plan);
-            answer
-        }
-        Err((_, lists)) => {
-            drop(lists);
-            Err(ToolFault::NoMemory)
-        }
-    }
-}
-
 /// The answer of `propose --thorough` to the bytes of a deployment: yes with the text of a certificate that is accepted, or no where none was
 /// found, and then with a note that says why.
 pub fn thorough_answer(alloc: Global, deployment: &[u8]) -> Result<Answer, ToolFault>
     ensures gives { (end : Outcome) × MayFind (deployment_read deployment.now) end × Gives result end }
     ensures fault { IfErr result IsAnswerFault }
 {
-    match read_deployment(alloc, deployment) {
-        Ok(lists) => lists_sought(alloc, lists),
-        Err(fault) => Err(deployment_fault(fault)),
-    }
+    let plan = read_plan(alloc, deployment)?;
+    let answer = sought(alloc, &plan);
+    drop(plan);
+    answer
 }

@@ -51,7 +51,7 @@ report_said (answer.Refused first lists cert) Plain = refl
 report_said (answer.Refused first lists cert) Explained = refl
 
 -- an answer with a line, if there was memory for it, is what is given of an end that says it
-line_gives : {E : Type 0} (text : Result (String Global) E) (r : Result Answer ToolFault) (line : List ℕ) (is_yes b : Bool) → b ≡ is_yes
+pub line_gives : {E : Type 0} (text : Result (String Global) E) (r : Result Answer ToolFault) (line : List ℕ) (is_yes b : Bool) → b ≡ is_yes
     → IfOk r (λ a. (a.is_yes ≡ b) × IfOk text (λ t. a.text ≡ t)) → OnOk r (IsOk text) → IfErr r (λ e. e ≡ fault.NoMemory) → IfOk text (λ t. string_bytes t ≡ line)
     → Gives r (said line is_yes)
 line_gives (Ok t) (Ok a) line is_yes b same has there memory is = says a line is_yes (ap string_bytes has.1 ∙ is) (has.0 ∙ same)

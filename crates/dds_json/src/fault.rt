@@ -77,28 +77,16 @@ fn fault_document(alloc: Global, fault: &ToolFault) -> Result<Value, AllocError>
     match fault {
         ToolFault::Usage(_) => plain_document(alloc, 1, "Usage"),
         ToolFault::Deployment { flaw, syntax } => {
-            let kind = flaw.kind;
+            let number = flaw.kind.number();
+            let name = flaw.kind.name();
             let path = flaw.path.as_str();
-            file_document(
-                alloc,
-                "deployment",
-                kind.number(),
-                kind.name(),
-                path,
-                syntax,
-            )
+            file_document(alloc, "deployment", number, name, path, syntax)
         }
         ToolFault::Certificate { flaw, syntax } => {
-            let kind = flaw.kind;
+            let number = flaw.kind.number();
+            let name = flaw.kind.name();
             let path = flaw.path.as_str();
-            file_document(
-                alloc,
-                "certificate",
-                kind.number(),
-                kind.name(),
-                path,
-                syntax,
-            )
+            file_document(alloc, "certificate", number, name, path, syntax)
         }
         ToolFault::Events { kind, line } => {
             events_document(alloc, kind.number(), kind.name(), *line)

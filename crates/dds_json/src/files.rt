@@ -9,7 +9,7 @@ ghost use Rattle.dds_json.specs.Ends.{in_json};
 
 use crate::checking::check_answer_in_json;
 use crate::matching::match_answer_in_json;
-use dds_answers::{Answer, Detail, Sources, ToolFault, read_file};
+use dds_answers::{Answer, Detail, Sources, ToolFault, read_file, read_files};
 use std::alloc::Global;
 
 /// The answer of `check` to two files as a document, with its reason where it is asked for. Both are read whole, the deployment first, before either is
@@ -30,8 +30,7 @@ pub fn check_files_in_json<S: Sources>(
     ensures opened { Opens (S.opened files.old) (S.opened files.new) (deployment.now ∷ certificate.now ∷ []) }
     ensures all_opened { OnOk result (OpensAll (S.opened files.old) (S.opened files.new) (deployment.now ∷ certificate.now ∷ [])) }
 {
-    let deployment = read_file(alloc, files, deployment)?;
-    let certificate = read_file(alloc, files, certificate)?;
+    let (deployment, certificate) = read_files(alloc, files, deployment, certificate)?;
     check_answer_in_json(alloc, deployment.as_slice(), certificate.as_slice(), detail)
 }
 

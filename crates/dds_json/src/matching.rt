@@ -11,12 +11,9 @@ ghost use Rattle.dds_json.specs.Line.{line_of};
 ghost use Rattle.dds_json.specs.Matching.{answer_word, match_document, named_pair, pair_document, pairs, writer_pairs};
 
 use crate::line::line_of;
-use dds_answers::{Answer, ToolFault, answered, deployment_fault, is_as_intended};
+use dds_answers::{Answer, ToolFault, answered, is_as_intended, read_plan};
 use dds_base::{ReaderNo, WriterNo};
 use dds_cert::naming::name_at;
-use dds_deploy::Deployment;
-use dds_deploy_file::read_deployment;
-use dds_match::planning::plan;
 use dds_match::{Plan, WhyNot};
 use dds_show::reasons::reason_text;
 use serde_json::{Value, json};
@@ -123,27 +120,11 @@ fn compared_in_json(alloc: Global, plan: Plan) -> Result<Answer, ToolFault>
     answer
 }
 
-/// The answer to which endpoints of the lists of a deployment match.
-fn lists_compared(alloc: Global, lists: Deployment) -> Result<Answer, ToolFault>
-    ensures gives { Gives result (in_json (compared lists)) }
-    ensures fault { IfErr result IsAnswerFault }
-{
-    match plan(alloc, lists) {
-        Ok(plan) => compared_in_json(alloc, plan),
-        Err((_, lists)) => {
-            drop(lists);
-            Err(ToolFault::NoMemory)
-        }
-    }
-}
-
 /// The answer of `match` to the bytes of a deployment, as a document.
 pub(crate) fn match_answer_in_json(alloc: Global, deployment: &[u8]) -> Result<Answer, ToolFault>
     ensures gives { Gives result (in_json (match_outcome deployment.now)) }
     ensures fault { IfErr result IsAnswerFault }
 {
-    match read_deployment(alloc, deployment) {
-        Ok(lists) => lists_compared(alloc, lists),
-        Err(fault) => Err(deployment_fault(fault)),
-    }
+    let plan = read_plan(alloc, deployment)?;
+    compared_in_json(alloc, plan)
 }

@@ -6,7 +6,7 @@ use Rattle.dds_answers.specs.declared.fault.ToolFault.TheVariants as fault
 use Rattle.dds_tool.specs.declared.request.Request.{Request}
 use Rattle.dds_tool.specs.declared.request.Request.TheVariants as asked
 use Rattle.dds_answers.specs.declared.answer.Answer.{Answer}
-use Rattle.dds_answers.specs.Answers.{Gives, GivesOneOf, SaysNothing}
+use Rattle.dds_answers.specs.Answers.{Gives, GivesOneOf}
 use Rattle.dds_tool.specs.Asking.{Answers, GivesTo, Said}
 use Rattle.dds_answers.specs.Exit.{exit_status}
 use Rattle.dds_answers.specs.Fault.{fault_status}
@@ -14,6 +14,7 @@ use Rattle.dds_answers.specs.declared.exit.Exit.{Exit}
 use Rattle.dds_answers.specs.Migrations.{MayMigrateFor}
 use Rattle.dds_answers.specs.Outcome.{Outcome, check_file_outcome, draw_file_outcome, file_outcome, match_file_outcome, show_file_outcome, too_large, unproposed}
 use Rattle.dds_answers.specs.Report.{Ends, output_of, status_of}
+use Rattle.dds_answers.proofs.FileEnds.{any_end}
 use Rattle.dds_tool.specs.Refuting.{MayRefuteFor}
 use Rattle.dds_tool.specs.Replaying.{MayReplayFor}
 use Rattle.dds_tool.specs.RunEnds.{GivesRun, MayRun}
@@ -50,18 +51,6 @@ fault_said end fault.Write status old new is nothing told = inr (three status to
 fault_said end fault.NoMemory status old new is nothing told = inr (three status told)
 fault_said end (fault.Usage text) status old new is nothing told = absurd is
 fault_said end fault.Run status old new is nothing told = absurd is
-
--- a fault of memory or of a device may come with every end
-any_end : (e : ToolFault) (end : Outcome) → SaysNothing e → Ends e end
-any_end fault.Read end h = tt
-any_end fault.Write end h = tt
-any_end fault.NoMemory end h = tt
-any_end (fault.Usage text) end h = absurd h
-any_end (fault.Deployment flaw syntax) end h = absurd h
-any_end (fault.Certificate flaw syntax) end h = absurd h
-any_end (fault.Events kind line) end h = absurd h
-any_end fault.TooLarge end h = absurd h
-any_end fault.Run end h = absurd h
 
 -- a fault that ends two ends of another status is one of memory or of a device
 every_end : (f : ToolFault) → Ends f too_large → Ends f unproposed → fault_status f ≡ 3

@@ -1,8 +1,7 @@
 -- What a run of files gives.
-use Rattle.std.proofs.Common.{◌≡◌, ◌≤◌, ◌<◌, ◌⊎◌, ◌+◌, ◌&&◌, ◌∙◌, ℕ, Bool, true, false, List, length, map, nat_le, Result, Ok, Err, refl, sym, ap, inl, inr, string_bytes, subst, if◌then◌else◌}
+use Rattle.std.proofs.Common.{◌≡◌, ◌≤◌, ◌<◌, ◌⊎◌, ◌+◌, ◌∙◌, ℕ, List, length, map, Result, Ok, Err, refl, sym, ap, inl, inr, string_bytes, subst}
 use Rattle.std.specs.List.{range_with_len}
 use Rattle.std.specs.Result.{IsErrAnd}
-use Rattle.std.proofs.lemmas.Bool.{le-leb, lt-leb}
 use Rattle.std.proofs.lemmas.List.{length-map}
 use Rattle.std.proofs.lemmas.List.FromFn.{length-map-range_with_len}
 use Rattle.dds_fields.specs.Reading.{Flaw}
@@ -24,7 +23,8 @@ use Rattle.dds_answers.specs.Answers.{Gives}
 use Rattle.dds_answers.specs.Outcome.{Outcome, accepted, bad_certificate, bad_deployment, file_outcome, outcome, refused, said, too_large}
 use Rattle.dds_answers.specs.Reading.{IsReadingFault}
 use Rattle.dds_answers.specs.Report.{Tells}
-use Rattle.dds_tool.specs.RunEnds.{GivesRun}
+use Rattle.dds_answers.proofs.FileEnds.{few_of_files, large_of_files, unread_gives_one}
+use Rattle.dds_tool.specs.RunEnds.{GivesRun, MayRun}
 use Rattle.dds_tool.specs.Running.{all_stopped, app_names}
 use Rattle.dds_json.proofs.Ends.{says}
 use Rattle.dds_json.specs.Ends.{in_style}
@@ -83,44 +83,17 @@ told_gives style checked fault.Read tells = absurd tells
 told_gives style checked fault.Write tells = absurd tells
 told_gives style checked fault.Run tells = absurd tells
 
--- one of two files has too many bytes
-first_large : (d c : List ℕ) → 1048576 < length d → file_outcome d c ≡ too_large
-unfolding file_outcome
-first_large d c more = rw (lt-leb (length d) 1048576 more) refl
-
-second_large : (d c : List ℕ) → 1048576 < length c → file_outcome d c ≡ too_large
-unfolding file_outcome
-second_large d c more = rw (lt-leb (length c) 1048576 more) (either (nat_le (length d) 1048576))
-  where
-    either : (b : Bool) → (if b && false then outcome d c else too_large) ≡ too_large
-    either true = refl
-    either false = refl
-
-large_gives : (style : Style) (checked : Outcome) → checked ≡ too_large → GivesRun style checked (Err fault.TooLarge)
-large_gives style checked is = rw is (inr (inr (too_large, too_large_styled style, refl)))
-
--- the fault of a file that could not be read is one that the run gives
-unread_gives : (style : Style) (d c : List ℕ) (e : ToolFault) → IsReadingFault e → (e ≡ fault.TooLarge → (1048576 < length d) ⊎ (1048576 < length c))
-    → GivesRun style (file_outcome d c) (Err e)
-unread_gives style d c fault.TooLarge is large =
-    large_gives style (file_outcome d c) (elim (large refl) [ inl more ↦ first_large d c more | inr more ↦ second_large d c more ])
-unread_gives style d c fault.Read is large = inr (inl tt)
-unread_gives style d c fault.NoMemory is large = inr (inl tt)
-unread_gives style d c (fault.Usage text) is large = absurd is
-unread_gives style d c (fault.Deployment flaw syntax) is large = absurd is
-unread_gives style d c (fault.Certificate flaw syntax) is large = absurd is
-unread_gives style d c (fault.Events kind line) is large = absurd is
-unread_gives style d c fault.Write is large = absurd is
-unread_gives style d c fault.Run is large = absurd is
-
--- so it is where the fault is passed on
+-- the fault of a file that could not be read is one that the run gives, where it is passed on
 pub passed_gives : (style : Style) (d c : List ℕ) (r : Result Answer ToolFault) (e : ToolFault) → IsErrAnd r (λ f. f ≡ e) → IsReadingFault e
     → (e ≡ fault.TooLarge → (1048576 < length d) ⊎ (1048576 < length c)) → GivesRun style (file_outcome d c) r
+unfolding file_outcome
 passed_gives style d c (Ok answer) e same is large = absurd same
-passed_gives style d c (Err f) e same is large = rw same (unread_gives style d c e is large)
+passed_gives style d c (Err f) e same is large =
+    inr (unread_gives_one (MayRun style (file_outcome d c)) (Err f) e same is
+    (λ largest. subst (λ (checked : Outcome). MayRun style checked too_large) (sym (large_of_files d c (outcome d c) (large largest))) (too_large_styled style)))
 
 -- files that are not too large give what their bytes give
-pub file_gives : (style : Style) (d c : List ℕ) (r : Result Answer ToolFault) → length d ≤ 1048576 → length c ≤ 1048576 → GivesRun style (outcome d c) r
+pub run_gives : (style : Style) (d c : List ℕ) (r : Result Answer ToolFault) → length d ≤ 1048576 → length c ≤ 1048576 → GivesRun style (outcome d c) r
     → GivesRun style (file_outcome d c) r
 unfolding file_outcome
-file_gives style d c r few small gives = rw (le-leb (length d) 1048576 few, le-leb (length c) 1048576 small) gives
+run_gives style d c r few small gives = subst (λ (checked : Outcome). GivesRun style checked r) (sym (few_of_files d c (outcome d c) few small)) gives

@@ -9,15 +9,7 @@ use Rattle.dds_tool.specs.declared.request.Request.TheVariants as asked
 -- a deployment is to run
 abbrev pub IsRun : Request → Type 0
 IsRun (asked.Run d c wishes style) = Unit {0}
-IsRun (asked.Match d style) = ⊥
-IsRun (asked.Propose d style) = ⊥
-IsRun (asked.ProposeThoroughly d style) = ⊥
-IsRun (asked.Migrate d) = ⊥
-IsRun (asked.Refute d style) = ⊥
-IsRun (asked.Replay d e style) = ⊥
-IsRun (asked.Show d format) = ⊥
-IsRun (asked.Draw d c) = ⊥
-IsRun (asked.Check d c detail style) = ⊥
+IsRun _ = ⊥
 
 -- the faults with which a request can end before anything is written: those of commands on files, and of a run that it came to no end of its own
 abbrev pub IsRequestFault : (file_failed : Bool) → Request → ToolFault → Type 0

@@ -1,5 +1,5 @@
 -- What is answered of runs that lose a sample, and of events that are made again.
-use Rattle.std.specs.Prelude.{ℕ, ◌≡◌, ◌≢◌, ◌⊎◌, Bool, true, false, List, [], ◌++◌, length, nat_le, ◌&&◌, Option, Some, None, Result, Ok, Err, codes}
+use Rattle.std.specs.Prelude.{ℕ, ◌≡◌, ◌≢◌, Bool, true, false, List, ◌++◌, length, Some, None, Ok, Err, codes}
 use Rattle.std.specs.Fmt.{decimal}
 use Rattle.dds_fields.specs.Reading.{Read}
 use Rattle.dds_deploy.specs.Lists.{Lists}
@@ -22,7 +22,7 @@ use Rattle.dds_search.specs.declared.refuting.Refutation.TheVariants as refutati
 use Rattle.dds_search.specs.declared.refuting.Unknown.{Unknown}
 use Rattle.dds_search.specs.declared.refuting.Unknown.TheVariants as unknown
 use Rattle.dds_search.specs.Refutations.{IsCounterexample}
-use Rattle.dds_answers.specs.Outcome.{Outcome, bad_deployment, said, too_large}
+use Rattle.dds_answers.specs.Outcome.{MayOfFile, Outcome, bad_deployment, said}
 use Rattle.dds_answers.specs.Structure.{nothing}
 use Rattle.dds_answers.specs.Report.{refusal_line}
 use Rattle.serde_json.specs.Data.{Data, member, no_members, object, string}
@@ -101,11 +101,6 @@ abbrev pub MayRefute : Style → Read Lists → Outcome → Type 0
 MayRefute style (Ok lists) end = MayRefuteLists style lists end
 MayRefute style (Err flaw) end = end ≡ bad_deployment flaw
 
--- of bytes that are few enough to be a file, and of too many
-abbrev pub MayRefuteIf : Style → Bool → List ℕ → Outcome → Type 0
-MayRefuteIf style true d end = MayRefute style (deployment.read d) end
-MayRefuteIf style false d end = end ≡ too_large
-
--- the same of a file with these bytes, which is read whole before it is parsed
+-- the same of a file with these bytes
 abbrev pub MayRefuteFor : Style → List ℕ → Outcome → Type 0
-MayRefuteFor style d end = MayRefuteIf style (nat_le (length d) 1048576) d end
+MayRefuteFor style d end = MayOfFile d (MayRefute style (deployment.read d)) end

@@ -1,5 +1,5 @@
 -- What is answered to events that are made again.
-use Rattle.std.specs.Prelude.{codes, ℕ, ◌≡◌, ◌⊎◌, Bool, true, false, List, length, map, nat_le, ◌&&◌, Ok, Err, string_bytes}
+use Rattle.std.specs.Prelude.{codes, ℕ, ◌≡◌, ◌⊎◌, true, List, length, map, Ok, Err, string_bytes}
 use Rattle.dds_fields.specs.Reading.{Read}
 use Rattle.dds_deploy.specs.Lists.{Lists}
 use Rattle.dds_deploy_file.specs.Document as deployment
@@ -20,7 +20,7 @@ use Rattle.dds_json.specs.declared.style.Style.TheVariants.{Text, Json}
 use Rattle.dds_answers.specs.declared.answer.Answer.{Answer}
 use Rattle.dds_answers.specs.declared.fault.ToolFault.{ToolFault}
 use Rattle.dds_answers.specs.declared.fault.ToolFault.TheVariants as fault
-use Rattle.dds_answers.specs.Outcome.{Outcome, bad_deployment, bad_events, said, too_large}
+use Rattle.dds_answers.specs.Outcome.{MayOfFiles, Outcome, bad_deployment, bad_events, said}
 
 -- the document of events with their replies: the lines of both
 abbrev pub replay_document : Lists → List Event → List Reply → Data
@@ -47,14 +47,9 @@ abbrev pub MayReplay : Style → Read Lists → List ℕ → Outcome → Type 0
 MayReplay style (Ok lists) bytes end = MayReplayLists style lists bytes end
 MayReplay style (Err flaw) bytes end = end ≡ bad_deployment flaw
 
--- of bytes that are few enough to be two files, and of too many
-abbrev pub MayReplayIf : Style → Bool → List ℕ → List ℕ → Outcome → Type 0
-MayReplayIf style true d e end = MayReplay style (deployment.read d) e end
-MayReplayIf style false d e end = end ≡ too_large
-
--- the same of two files with these bytes, which are read whole before either is parsed
+-- the same of two files with these bytes
 abbrev pub MayReplayFor : Style → List ℕ → List ℕ → Outcome → Type 0
-MayReplayFor style d e end = MayReplayIf style (nat_le (length d) 1048576 && nat_le (length e) 1048576) d e end
+MayReplayFor style d e end = MayOfFiles d e (MayReplay style (deployment.read d) e) end
 
 -- ── for the parts of an answer
 -- the answer tells the events in this style, with replies that make them a run of the plan

@@ -26,7 +26,7 @@ use crate::telling::tell_in_style;
 use crate::wishes::Wishes;
 use dds_answers::{
     Answer, Exit, Output, Sources, ToolFault, draw_file, draw_files, give, migrate_file, print,
-    read_file, show_file, tell_fault,
+    read_file, read_files, show_file, tell_fault,
 };
 use dds_json::Style;
 use std::alloc::Global;
@@ -51,8 +51,7 @@ fn run_files<R: Threads + Wait + Clock + Sync, S: Sources>(
     ensures opened { Opens (S.opened files.old) (S.opened files.new) (deployment.now ∷ certificate.now ∷ []) }
     ensures all_opened { OnOk result (OpensAll (S.opened files.old) (S.opened files.new) (deployment.now ∷ certificate.now ∷ [])) }
 {
-    let deployment = read_file(alloc, files, deployment)?;
-    let certificate = read_file(alloc, files, certificate)?;
+    let (deployment, certificate) = read_files(alloc, files, deployment, certificate)?;
     run_answer(
         rt,
         alloc,
@@ -93,14 +92,8 @@ fn replay_files<S: Sources>(
     ensures opened { Opens (S.opened files.old) (S.opened files.new) (deployment.now ∷ events.now ∷ []) }
     ensures all_opened { OnOk result (OpensAll (S.opened files.old) (S.opened files.new) (deployment.now ∷ events.now ∷ [])) }
 {
-    let deployment_bytes = read_file(alloc, files, deployment)?;
-    let events_bytes = read_file(alloc, files, events)?;
-    replay_answer(
-        alloc,
-        deployment_bytes.as_slice(),
-        events_bytes.as_slice(),
-        style,
-    )
+    let (deployment, events) = read_files(alloc, files, deployment, events)?;
+    replay_answer(alloc, deployment.as_slice(), events.as_slice(), style)
 }
 
 /// What words that are no request come to: yes where help was asked for and written, else the fault of which the user is told.

@@ -6,14 +6,12 @@ ghost use Rattle.dds_deploy_file.specs.Document.{read as deployment_read};
 ghost use Rattle.dds_tool.specs.Refuting.{MayRefute, is_safe, known_text, loss_name, refuted_text, told_known, unknown_word, unsafe_line};
 
 use crate::refute_document::known_line;
-use dds_answers::{Answer, ToolFault, deployment_fault, structure_text};
+use dds_answers::{Answer, ToolFault, answered, read_plan, structure_text};
 use dds_cert::naming::{name_at, reader_key};
 use dds_deploy::Deployment;
-use dds_deploy_file::read_deployment;
 use dds_events::{lines_text, rejection_name};
 use dds_json::Style;
 use dds_match::Plan;
-use dds_match::planning::plan;
 use dds_search::{Counterexample, Loss, Refutation, Unknown, refute};
 use std::alloc::{AllocError, Global};
 
@@ -102,33 +100,21 @@ fn told_known(
     }
 }
 
-/// The answer to the lists of a deployment.
-fn lists_refuted(alloc: Global, lists: Deployment, style: Style) -> Result<Answer, ToolFault>
-    ensures gives { GivesOneOf (MayRefute style (Ok lists)) result }
+/// The answer to a plan, which is needed no longer.
+fn refuted(alloc: Global, plan: Plan, style: Style) -> Result<Answer, ToolFault>
+    ensures gives { GivesOneOf (MayRefute style (Ok plan)) result }
     ensures fault { IfErr result IsAnswerFault }
 {
-    let plan = match plan(alloc, lists) {
-        Ok(plan) => plan,
-        Err((_, lists)) => {
-            drop(lists);
-            return Err(ToolFault::NoMemory);
-        }
-    };
     let Ok((refutation, plan)) = refute(alloc, plan) else {
         return Err(ToolFault::NoMemory);
     };
-    let is_yes = is_safe(&refutation);
-    let text = told_known(alloc, &plan, &refutation, style);
+    let answer = answered(
+        told_known(alloc, &plan, &refutation, style),
+        is_safe(&refutation),
+    );
     drop(plan);
     drop(refutation);
-    match text {
-        Ok(text) => Ok(Answer {
-            text,
-            is_yes,
-            note: None,
-        }),
-        Err(_) => Err(ToolFault::NoMemory),
-    }
+    answer
 }
 
 /// The answer of `refute` to the bytes of a deployment, told in this style: yes with `safe` where a certificate is accepted, or no with a run that loses a sample, with a condition
@@ -137,8 +123,6 @@ pub fn refute_answer(alloc: Global, deployment: &[u8], style: Style) -> Result<A
     ensures gives { GivesOneOf (MayRefute style (deployment_read deployment.now)) result }
     ensures fault { IfErr result IsAnswerFault }
 {
-    match read_deployment(alloc, deployment) {
-        Ok(lists) => lists_refuted(alloc, lists, style),
-        Err(fault) => Err(deployment_fault(fault)),
-    }
+    let plan = read_plan(alloc, deployment)?;
+    refuted(alloc, plan, style)
 }

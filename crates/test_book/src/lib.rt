@@ -3,12 +3,4 @@
 #![tactic(auto)]
 
 #[cfg(test)]
-mod gauge;
-#[cfg(test)]
-mod kits;
-#[cfg(test)]
-mod longest;
-#[cfg(test)]
-mod seats;
-#[cfg(test)]
-mod without_memory;
+mod tests;

@@ -2,14 +2,4 @@
 #![tactic(auto)]
 
 #[cfg(test)]
-mod longest;
-#[cfg(test)]
-mod plans;
-#[cfg(test)]
-mod read;
-#[cfg(test)]
-mod rereading;
-#[cfg(test)]
-mod weights;
-#[cfg(test)]
-mod written;
+mod tests;

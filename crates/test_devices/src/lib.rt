@@ -3,12 +3,4 @@
 #![tactic(auto)]
 
 #[cfg(test)]
-mod devices;
-#[cfg(test)]
-mod documents;
-#[cfg(test)]
-mod files;
-#[cfg(test)]
-mod migrated;
-#[cfg(test)]
-mod runs;
+mod tests;

@@ -3,30 +3,4 @@
 #![tactic(auto)]
 
 #[cfg(test)]
-mod chance;
-#[cfg(test)]
-mod comparing;
-#[cfg(test)]
-mod domains;
-#[cfg(test)]
-mod mixed;
-#[cfg(test)]
-mod peers;
-#[cfg(test)]
-mod plans;
-#[cfg(test)]
-mod refuted;
-#[cfg(test)]
-mod seen;
-#[cfg(test)]
-mod speakers;
-#[cfg(test)]
-mod texts;
-#[cfg(test)]
-mod turns;
-#[cfg(test)]
-mod watchers;
-#[cfg(test)]
-mod without_memory;
-#[cfg(test)]
-mod worked;
+mod tests;

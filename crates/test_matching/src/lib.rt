@@ -3,10 +3,4 @@
 #![tactic(auto)]
 
 #[cfg(test)]
-mod consistency;
-#[cfg(test)]
-mod names;
-#[cfg(test)]
-mod patterns;
-#[cfg(test)]
-mod ranges;
+mod tests;

@@ -59,45 +59,6 @@ fn store(
     Ok(())
 }
 
-/// More numbers of a writer are irrelevant to a reader.
-fn mark_all_irrelevant(
-    world: &mut World,
-    reader: ReaderNo,
-    writer: WriterNo,
-    numbers: &[u64],
-) -> Result<(), AllocError> {
-    if let Some(held) = world.from_writer_mut(reader, writer) {
-        held.irrelevant.extend_from_slice(numbers)?;
-    }
-    Ok(())
-}
-
-/// One more number of a writer is irrelevant to a reader.
-fn mark_irrelevant(
-    world: &mut World,
-    reader: ReaderNo,
-    writer: WriterNo,
-    sn: u64,
-) -> Result<(), AllocError> {
-    if let Some(held) = world.from_writer_mut(reader, writer) {
-        held.irrelevant.push(sn)?;
-    }
-    Ok(())
-}
-
-/// More numbers of a writer are given up by a reader.
-fn mark_all_lost(
-    world: &mut World,
-    reader: ReaderNo,
-    writer: WriterNo,
-    numbers: &[u64],
-) -> Result<(), AllocError> {
-    if let Some(held) = world.from_writer_mut(reader, writer) {
-        held.lost.extend_from_slice(numbers)?;
-    }
-    Ok(())
-}
-
 /// The sample that leaves its place to another by this answer.
 fn replaced_by(answer: &Admit) -> Option<Sample> {
     match answer {
@@ -144,7 +105,9 @@ fn marks_it(arrival: &Arrival) -> bool {
 fn on_fresh_data(world: &mut World, message: &DataMsg) -> Result<Arrival, AllocError> {
     let (reader, sample) = (message.reader, &message.sample);
     if !world.layout.hears(reader, sample.key) {
-        mark_irrelevant(world, reader, sample.writer, sample.sn)?;
+        if let Some(held) = world.from_writer_mut(reader, sample.writer) {
+            held.irrelevant.push(sample.sn)?;
+        }
         return Ok(Arrival::Irrelevant(1));
     }
     admit(world, reader, sample)
@@ -176,7 +139,10 @@ fn give_up(
     sn: u64,
 ) -> Result<(), AllocError> {
     let missed = unmarked_between(world, reader, writer, 1, sn)?;
-    mark_all_lost(world, reader, writer, &missed)
+    if let Some(held) = world.from_writer_mut(reader, writer) {
+        held.lost.extend_from_slice(&missed)?;
+    }
+    Ok(())
 }
 
 /// The numbers from one up to another less one that a reader has not marked.
@@ -212,7 +178,9 @@ fn on_gap(world: &mut World, gap: &GapMsg) -> Result<Arrival, AllocError> {
             fresh.push(n)?;
         }
     }
-    mark_all_irrelevant(world, reader, writer, &fresh)?;
+    if let Some(held) = world.from_writer_mut(reader, writer) {
+        held.irrelevant.extend_from_slice(&fresh)?;
+    }
     Ok(Arrival::Irrelevant(fresh.len() as u64))
 }
 
@@ -227,8 +195,8 @@ fn on_heartbeat(world: &mut World, heartbeat: &Heartbeat) -> Result<Arrival, All
         return Ok(Arrival::Heard);
     }
     let fresh = unmarked_between(world, reader, writer, 1, heartbeat.first)?;
-    mark_all_lost(world, reader, writer, &fresh)?;
     if let Some(held) = world.from_writer_mut(reader, writer) {
+        held.lost.extend_from_slice(&fresh)?;
         held.heard = held.heard.max(heartbeat.last);
         held.owes = true;
     }

@@ -130,7 +130,8 @@ fn new_readers(alloc: Global, layout: &Layout) -> Result<Vec<ReaderPast>, AllocE
     Ok(readers)
 }
 
-fn empty_bus(alloc: Global) -> Result<Vec<Option<Packet>>, AllocError> {
+/// A bus without a packet.
+pub fn empty_bus(alloc: Global) -> Result<Vec<Option<Packet>>, AllocError> {
     let mut bus = Vec::new(alloc);
     for _ in 0..PLACES {
         bus.push(None)?;

@@ -2,16 +2,4 @@
 #![tactic(auto)]
 
 #[cfg(test)]
-mod answers;
-#[cfg(test)]
-mod ends;
-#[cfg(test)]
-mod faults;
-#[cfg(test)]
-mod meeting;
-#[cfg(test)]
-mod plans;
-#[cfg(test)]
-mod runs;
-#[cfg(test)]
-mod scripts;
+mod tests;

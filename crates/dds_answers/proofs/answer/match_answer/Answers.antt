@@ -1,14 +1,15 @@
-use Rattle.std.proofs.Common.{ap, subst, sym}
+use Rattle.std.proofs.Common.{ap, refl, subst, sym}
 use Rattle.dds_deploy_file.specs.Document.{read}
 use Rattle.dds_answers.specs.Answers.{Gives}
 use Rattle.dds_answers.specs.Outcome.{comparison, match_outcome}
-use Rattle.dds_answers.proofs.Telling.{uncompared_ends}
+use Rattle.dds_answers.proofs.Unread.{unread_gives}
 use Rattle.dds_answers.proofs.answer.match_answer.Goals as goal
 
-pub returns-in-Ok-clause-gives : goal.returns-in-Ok-clause-gives
+pub returns-clause-gives : goal.returns-clause-gives
 unfolding match_outcome
-returns-in-Ok-clause-gives c = subst (Gives c.lists_compared.result) (sym (ap comparison c.in-Ok.ensures)) c.lists_compared.ensures.gives
+returns-clause-gives c = subst (Gives c.compared.result) (sym (ap comparison c.in_ok-plan.ensures.plan)) c.compared.ensures.gives
 
-pub returns-in-Err-clause-gives : goal.returns-in-Err-clause-gives
+pub returns-in_err-plan-clause-gives : goal.returns-in_err-plan-clause-gives
 unfolding match_outcome
-returns-in-Err-clause-gives c = uncompared_ends (read c.args.deployment.now) c.in-Err.fault c.deployment_fault.result c.in-Err.ensures c.deployment_fault.ensures
+returns-in_err-plan-clause-gives c =
+    unread_gives comparison (λ flaw. refl) (read c.args.deployment.now) c.from_residual.result c.in_err-plan.field-0.0 c.from_residual.ensures.1 c.in_err-plan.ensures.fault

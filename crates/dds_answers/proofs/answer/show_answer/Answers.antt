@@ -1,8 +1,8 @@
-use Rattle.std.proofs.Common.{ap, subst, sym}
+use Rattle.std.proofs.Common.{ap, refl, subst, sym}
 use Rattle.dds_deploy_file.specs.Document.{read}
 use Rattle.dds_answers.specs.Answers.{Gives}
 use Rattle.dds_answers.specs.Outcome.{show_outcome, showing}
-use Rattle.dds_answers.proofs.Telling.{unshown_ends}
+use Rattle.dds_answers.proofs.Unread.{is_unread, unread_ends}
 use Rattle.dds_answers.proofs.answer.show_answer.Goals as goal
 
 pub returns-in-Ok-clause-gives : goal.returns-in-Ok-clause-gives
@@ -11,4 +11,6 @@ returns-in-Ok-clause-gives c = subst (Gives c.shown.result) (sym (ap (showing c.
 
 pub returns-in-Err-clause-gives : goal.returns-in-Err-clause-gives
 unfolding show_outcome
-returns-in-Err-clause-gives c = unshown_ends c.args.format (read c.args.deployment.now) c.in-Err.fault c.deployment_fault.result c.in-Err.ensures c.deployment_fault.ensures
+returns-in-Err-clause-gives c =
+    let d = read c.args.deployment.now in
+    unread_ends (showing c.args.format) (λ flaw. refl) d c.deployment_fault.result (is_unread d c.in-Err.fault c.deployment_fault.result c.in-Err.ensures c.deployment_fault.ensures)

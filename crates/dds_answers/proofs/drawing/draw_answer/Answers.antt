@@ -1,16 +1,17 @@
-use Rattle.std.proofs.Common.{ap, option_map, subst, sym}
+use Rattle.std.proofs.Common.{ap, option_map, refl, subst, sym}
 use Rattle.dds_deploy_file.specs.Document.{read}
 use Rattle.dds_answers.specs.Answers.{Gives}
 use Rattle.dds_answers.specs.Outcome.{draw_outcome, drawing}
-use Rattle.dds_answers.proofs.Telling.{undrawn_ends}
+use Rattle.dds_answers.proofs.Unread.{unread_gives}
 use Rattle.dds_answers.proofs.drawing.draw_answer.Goals as goal
 
-pub returns-in-Ok-clause-gives : goal.returns-in-Ok-clause-gives
+pub returns-clause-gives : goal.returns-clause-gives
 unfolding draw_outcome
-returns-in-Ok-clause-gives c =
-    subst (Gives c.lists_drawn.result) (sym (ap (λ d. drawing d (option_map (λ x. x.now) c.args.certificate)) c.in-Ok.ensures)) c.lists_drawn.ensures.gives
+returns-clause-gives c =
+    subst (Gives c.plan_drawn.result) (sym (ap (λ d. drawing d (option_map (λ x. x.now) c.args.certificate)) c.in_ok-plan.ensures.plan)) c.plan_drawn.ensures.gives
 
-pub returns-in-Err-clause-gives : goal.returns-in-Err-clause-gives
+pub returns-in_err-plan-clause-gives : goal.returns-in_err-plan-clause-gives
 unfolding draw_outcome
-returns-in-Err-clause-gives c =
-    undrawn_ends (option_map (λ x. x.now) c.args.certificate) (read c.args.deployment.now) c.in-Err.fault c.deployment_fault.result c.in-Err.ensures c.deployment_fault.ensures
+returns-in_err-plan-clause-gives c =
+    unread_gives (λ d. drawing d (option_map (λ x. x.now) c.args.certificate)) (λ flaw. refl) (read c.args.deployment.now) c.from_residual.result c.in_err-plan.field-0.0
+    c.from_residual.ensures.1 c.in_err-plan.ensures.fault

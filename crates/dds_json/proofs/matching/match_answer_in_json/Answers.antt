@@ -1,18 +1,17 @@
-use Rattle.std.proofs.Common.{ap, subst, sym}
+use Rattle.std.proofs.Common.{ap, refl, subst, sym}
 use Rattle.dds_deploy_file.specs.Document.{read}
 use Rattle.dds_answers.specs.Answers.{Gives}
 use Rattle.dds_answers.specs.Outcome.{Outcome, comparison, match_outcome}
-use Rattle.dds_answers.proofs.Telling.{uncompared_ends}
+use Rattle.dds_answers.proofs.Unread.{unread_gives}
 use Rattle.dds_json.specs.Ends.{in_json}
-use Rattle.dds_json.proofs.Ends.{ends_in_json}
 use Rattle.dds_json.proofs.matching.match_answer_in_json.Goals as goal
 
-pub returns-in-Ok-clause-gives : goal.returns-in-Ok-clause-gives
+pub returns-clause-gives : goal.returns-clause-gives
 unfolding match_outcome
-returns-in-Ok-clause-gives c = subst (λ (end : Outcome). Gives c.lists_compared.result (in_json end)) (sym (ap comparison c.in-Ok.ensures)) c.lists_compared.ensures.gives
+returns-clause-gives c = subst (λ (end : Outcome). Gives c.compared_in_json.result (in_json end)) (sym (ap comparison c.in_ok-plan.ensures.plan)) c.compared_in_json.ensures.gives
 
-pub returns-in-Err-clause-gives : goal.returns-in-Err-clause-gives
+pub returns-in_err-plan-clause-gives : goal.returns-in_err-plan-clause-gives
 unfolding match_outcome
-returns-in-Err-clause-gives c =
-    ends_in_json c.deployment_fault.result (comparison (read c.args.deployment.now))
-    (uncompared_ends (read c.args.deployment.now) c.in-Err.fault c.deployment_fault.result c.in-Err.ensures c.deployment_fault.ensures)
+returns-in_err-plan-clause-gives c =
+    unread_gives (λ d. in_json (comparison d)) (λ flaw. refl) (read c.args.deployment.now) c.from_residual.result c.in_err-plan.field-0.0 c.from_residual.ensures.1
+    c.in_err-plan.ensures.fault

@@ -1,6 +1,15 @@
+use Rattle.std.proofs.Common.{refl, subst, sym}
+use Rattle.dds_deploy.specs.Lists.{Lists}
 use Rattle.dds_deploy_file.specs.Document.{read}
-use Rattle.dds_tool.proofs.Refutes.{unrefuted_ends}
+use Rattle.dds_fields.specs.Reading.{Read}
+use Rattle.dds_answers.specs.Answers.{GivesOneOf}
+use Rattle.dds_answers.proofs.Unread.{unread_gives_one}
+use Rattle.dds_tool.specs.Refuting.{MayRefute}
 use Rattle.dds_tool.proofs.refuting.refute_answer.Goals as goal
 
-pub returns-in-Err-clause-gives : goal.returns-in-Err-clause-gives
-returns-in-Err-clause-gives c = unrefuted_ends c.args.style (read c.args.deployment.now) c.in-Err.fault c.deployment_fault.result c.in-Err.ensures c.deployment_fault.ensures
+pub returns-clause-gives : goal.returns-clause-gives
+returns-clause-gives c = subst (λ (d : Read Lists). GivesOneOf (MayRefute c.args.style d) c.refuted.result) (sym c.in_ok-plan.ensures.plan) c.refuted.ensures.gives
+
+pub returns-in_err-plan-clause-gives : goal.returns-in_err-plan-clause-gives
+returns-in_err-plan-clause-gives c =
+    unread_gives_one (MayRefute c.args.style) (λ flaw. refl) (read c.args.deployment.now) c.from_residual.result c.in_err-plan.field-0.0 c.from_residual.ensures.1 c.in_err-plan.ensures.fault

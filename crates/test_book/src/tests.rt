@@ -1,0 +1,5 @@
+mod gauge;
+mod kits;
+mod longest;
+mod seats;
+mod without_memory;

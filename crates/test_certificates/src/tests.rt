@@ -1,0 +1,6 @@
+mod longest;
+mod plans;
+mod read;
+mod rereading;
+mod weights;
+mod written;

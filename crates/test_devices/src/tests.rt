@@ -1,0 +1,5 @@
+mod devices;
+mod documents;
+mod files;
+mod migrated;
+mod runs;

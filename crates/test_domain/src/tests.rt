@@ -1,0 +1,14 @@
+mod chance;
+mod comparing;
+mod domains;
+mod mixed;
+mod peers;
+mod plans;
+mod refuted;
+mod seen;
+mod speakers;
+mod texts;
+mod turns;
+mod watchers;
+mod without_memory;
+mod worked;

@@ -1,0 +1,170 @@
+//! Both sides of a comparison: the parts of a plan, and the plain world.
+
+use crate::tests::peers::Peers;
+use crate::tests::plans::layout_of;
+use dds_base::{Event, KeyNo, ReaderNo, Reply, Sample, WriterNo};
+use dds_match::Plan;
+use std::alloc::{AllocError, Global};
+use std::process::Abort;
+use test_model::{World, step_as};
+
+/// How many keys are looked at. No topic here has more than two.
+pub(crate) const SOME_KEYS: usize = 3;
+
+/// How many places of the bus are looked at. The runs fill no more.
+pub(crate) const SOME_PLACES: usize = 128;
+
+/// The same run on both sides.
+#[derive(Drop)]
+pub(crate) struct Both {
+    pub(crate) peers: Peers,
+    pub(crate) world: World,
+}
+
+/// What a take gave.
+pub(crate) fn taken(reply: &Reply) -> Option<Sample> {
+    match reply {
+        Reply::Took(sample) => Some(*sample),
+        _ => None,
+    }
+}
+
+impl Both {
+    pub(crate) fn open(alloc: Global, plan: &Plan) -> Result<Both, AllocError> {
+        let layout = layout_of(alloc, plan)?;
+        Ok(Both {
+            peers: Peers::open(alloc, plan)?,
+            world: World::open(alloc, layout)?,
+        })
+    }
+
+    /// Makes an event on both sides, and compares the replies. Which writer's sample a take gives is free, so the world is asked for the
+    /// one that the parts gave.
+    pub(crate) fn enter_same(
+        &mut self,
+        rt: &impl Abort,
+        plan: &Plan,
+        event: &Event,
+    ) -> Result<Reply, AllocError> {
+        let reply = self.peers.enter(plan, event)?;
+        match step_as(&mut self.world, event, &taken(&reply)) {
+            Ok(other) => assert_eq!(rt; reply, other, "{event:?}"),
+            Err(error) => return Err(error),
+        }
+        Ok(reply)
+    }
+}
+
+/// Compares what is seen of a writer and a reader that match. The base that a watcher acknowledged is 1 throughout.
+fn expect_same_pair(rt: &impl Abort, both: &Both, writer: WriterNo, reader: ReaderNo) {
+    if let Some(speaker) = both.peers.writers.get(writer.number()) {
+        assert_eq!(rt;
+            speaker.base(reader),
+            Some(both.world.acked(writer, reader)),
+            "acknowledged base"
+        );
+        assert_eq!(rt; speaker.due(reader), both.world.due(writer, reader), "due");
+    }
+    if let Some(listener) = both.peers.readers.get(reader.number()) {
+        assert_eq!(rt;
+            listener.reader.base(writer),
+            both.world.base(reader, writer),
+            "base"
+        );
+        assert_eq!(rt;
+            listener.reader.owes(writer),
+            both.world.owes(reader, writer),
+            "owes"
+        );
+    }
+}
+
+/// Compares what is seen of each matched pair.
+fn expect_same_pairs(rt: &impl Abort, both: &Both, writer: WriterNo) {
+    for r in 0..both.peers.readers.len() {
+        let reader = ReaderNo::new(r);
+        if both.world.layout().matched(writer, reader) {
+            expect_same_pair(rt, both, writer, reader);
+        }
+    }
+}
+
+/// Compares the permits of a writer, of the first keys.
+fn expect_same_permits(rt: &impl Abort, both: &Both, writer: WriterNo) {
+    for k in 0..SOME_KEYS {
+        let key = KeyNo::new(k);
+        let permits = both.peers.accounts.ledger.permits(writer, key);
+        assert_eq!(rt;
+            u128::from(permits),
+            both.world.permits(writer, key),
+            "permits"
+        );
+    }
+}
+
+/// Compares what is seen of each writer.
+fn expect_same_writers(rt: &impl Abort, both: &Both) -> Result<(), AllocError> {
+    for (w, speaker) in both.peers.writers.iter().enumerate() {
+        let writer = WriterNo::new(w);
+        assert_eq!(rt;
+            speaker.writer.written(),
+            both.world.written(writer),
+            "written"
+        );
+        let kept = both.world.kept(writer)?;
+        assert_eq!(rt; speaker.writer.kept(), kept.len(), "kept");
+        expect_same_permits(rt, both, writer);
+        expect_same_pairs(rt, both, writer);
+    }
+    Ok(())
+}
+
+/// Compares the unread samples and the unspent takes of a reader, of the first keys.
+fn expect_same_keys(rt: &impl Abort, both: &Both, r: usize) -> Result<(), AllocError> {
+    let reader = ReaderNo::new(r);
+    for k in 0..SOME_KEYS {
+        let key = KeyNo::new(k);
+        let unspent = both.peers.accounts.ledger.spare(reader, key);
+        assert_eq!(rt;
+            u128::from(unspent),
+            both.world.unspent(reader, key),
+            "unspent"
+        );
+        if let Some(listener) = both.peers.readers.get(r) {
+            assert_eq!(rt;
+                listener.reader.unread(key),
+                both.world.unread(reader, key)?,
+                "unread"
+            );
+        }
+    }
+    Ok(())
+}
+
+/// Compares what is seen of each reader.
+fn expect_same_readers(rt: &impl Abort, both: &Both) -> Result<(), AllocError> {
+    for (r, listener) in both.peers.readers.iter().enumerate() {
+        let stored = both.world.stored(ReaderNo::new(r))?;
+        assert_eq!(rt; listener.reader.stored(), stored.len(), "stored");
+        expect_same_keys(rt, both, r)?;
+    }
+    Ok(())
+}
+
+/// Compares the packets at the first places.
+fn expect_same_bus(rt: &impl Abort, both: &Both) {
+    for place in 0..SOME_PLACES {
+        assert!(rt;
+            both.peers.at(place) == both.world.at(place),
+            "place {place}"
+        );
+    }
+}
+
+/// Compares all that can be seen.
+pub(crate) fn expect_same(rt: &impl Abort, both: &Both) -> Result<(), AllocError> {
+    expect_same_writers(rt, both)?;
+    expect_same_readers(rt, both)?;
+    expect_same_bus(rt, both);
+    Ok(())
+}

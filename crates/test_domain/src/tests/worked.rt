@@ -1,0 +1,217 @@
+//! The worked runs, made by the parts of a plan and in the plain world.
+
+use crate::tests::comparing::{Both, expect_same};
+use crate::tests::plans::plan_of;
+use dds_base::{ReaderNo, Refusal};
+use dds_match::Plan;
+use std::alloc::{AllocError, Global};
+use std::process::Abort;
+use std::test::Fail;
+use test_files::texts::{LOOP, SMALL};
+use test_model::PLACES;
+use test_model::worked::{Move, RUNS, Run, Stage, Told, event_of, told_of, told_of_packet};
+
+/// What stands in a text, and what is put in its place.
+type Edit = (&'static str, &'static str);
+
+const LIMIT: &str = "max_samples_per_instance = 3";
+
+const START: &str = "start = 3";
+
+const WRITER: &str = "topic = \"t\", history = \"KEEP_ALL\"";
+
+const KEYS: &str = "keys = [\"k\"]";
+
+const WRITES: &str = "writes = [{ writer = \"w\", key = \"k\", count = 1 }]";
+
+const READER: &str = "name = \"r\", participant = \"q\"";
+
+const RELIABLE: &str = "reliability = \"RELIABLE\"";
+
+const APPLICATIONS: &str = "]\napplications = [\n";
+
+const READERS: &str = "readers = [\"r\"]";
+
+const CONNECTION: &str = "{ writer = \"w\", reader = \"r\" }";
+
+const LIMIT_2: Edit = (LIMIT, "max_samples_per_instance = 2");
+
+const START_2: Edit = (START, "start = 2");
+
+const FILTERED: &[Edit] = &[
+    (START, "start = 1"),
+    (KEYS, "keys = [\"a\", \"b\"]"),
+    (
+        READER,
+        "name = \"r\", participant = \"q\", filter = [\"a\"]",
+    ),
+    (
+        WRITES,
+        "writes = [{ writer = \"w\", key = \"a\", count = 1 }, { writer = \"w\", key = \"b\", count = 2 }]",
+    ),
+];
+
+/// A watcher of the last sample, with its application and its connection.
+const WATCHED: &[Edit] = &[
+    (
+        APPLICATIONS,
+        "  { name = \"v\", participant = \"q\", topic = \"t\", reliability = \"BEST_EFFORT\", history = \"KEEP_LAST\", depth = 1 },\n]\napplications = [\n",
+    ),
+    (READERS, "readers = [\"r\", \"v\"]"),
+    (
+        CONNECTION,
+        "{ writer = \"w\", reader = \"r\" }, { writer = \"w\", reader = \"v\" }",
+    ),
+];
+
+/// The changes that make the deployment of a stage from that of one writer and one reader, or from that of two of each.
+fn edits_of(stage: Stage) -> &'static [Edit] {
+    match stage {
+        Stage::Small(1) => &[
+            (LIMIT, "max_samples_per_instance = 1"),
+            (START, "start = 1"),
+        ],
+        Stage::Small(2) => &[LIMIT_2, START_2],
+        Stage::Small(_) => &[],
+        Stage::Filtered => FILTERED,
+        Stage::Narrow => &[
+            LIMIT_2,
+            START_2,
+            (
+                WRITER,
+                "topic = \"t\", history = \"KEEP_ALL\", max_samples = 1",
+            ),
+        ],
+        Stage::Watched => WATCHED,
+        Stage::WatcherAlone => &[(RELIABLE, "reliability = \"BEST_EFFORT\"")],
+        Stage::Loop => &[],
+    }
+}
+
+/// The deployment of a stage. Each change has to find what it changes.
+pub(crate) fn text_of(rt: &impl Abort, alloc: Global, stage: Stage) -> Result<String, AllocError> {
+    let first = if stage == Stage::Loop { LOOP } else { SMALL };
+    let mut all = String::from_str(alloc, first)?;
+    for (old, new) in edits_of(stage) {
+        assert!(rt; all.as_str().contains(*old), "{old}");
+        all = all.as_str().replace(alloc, *old, new)?;
+    }
+    Ok(all)
+}
+
+/// What the parts answer to a question.
+fn answer(both: &Both, asked: Move) -> Told {
+    match asked {
+        Move::Look(place) => told_of_packet(&both.peers.at(place)),
+        Move::Kept(w) => match both.peers.writers.get(w) {
+            Some(speaker) => Told::Number(speaker.writer.kept() as u64),
+            None => Told::Wrong,
+        },
+        Move::Stored(r) => match both.peers.readers.get(r) {
+            Some(listener) => Told::Number(listener.reader.stored() as u64),
+            None => Told::Wrong,
+        },
+        Move::Acked(w, r) => match both.peers.writers.get(w) {
+            Some(speaker) => match speaker.base(ReaderNo::new(r)) {
+                Some(base) => Told::Number(base),
+                None => Told::Wrong,
+            },
+            None => Told::Wrong,
+        },
+        _ => Told::Wrong,
+    }
+}
+
+/// Makes a move on both sides, and tells what the parts reply.
+fn make(rt: &impl Abort, both: &mut Both, plan: &Plan, asked: Move) -> Result<Told, AllocError> {
+    match event_of(asked) {
+        Some(event) => Ok(told_of(&both.enter_same(rt, plan, &event)?)),
+        None => Ok(answer(both, asked)),
+    }
+}
+
+fn over_plan(rt: &impl Abort, alloc: Global, plan: &Plan, run: &Run) -> Result<(), AllocError> {
+    let mut both = Both::open(alloc, plan)?;
+    for (asked, told) in run.moves {
+        assert_eq!(rt;
+            make(rt, &mut both, plan, *asked)?,
+            *told,
+            "{}: {asked:?}",
+            run.about
+        );
+        expect_same(rt, &both)?;
+    }
+    drop(both);
+    Ok(())
+}
+
+fn expect(rt: &impl Abort, alloc: Global, run: &Run) -> Result<(), AllocError> {
+    let text = text_of(rt, alloc, run.stage)?;
+    let plan = plan_of(rt, alloc, text.as_str());
+    let done = over_plan(rt, alloc, &plan, run);
+    drop(plan);
+    done
+}
+
+#[test]
+fn worked_runs(rt: HostRuntime) -> Result<(), Fail> {
+    for run in &RUNS {
+        expect(&rt, rt.alloc(), run)?;
+    }
+    Ok(())
+}
+
+fn expect_move(
+    rt: &impl Abort,
+    both: &mut Both,
+    plan: &Plan,
+    asked: Move,
+    told: Told,
+) -> Result<(), AllocError> {
+    assert_eq!(rt; make(rt, both, plan, asked)?, told, "{asked:?}");
+    Ok(())
+}
+
+/// Sends a HEARTBEAT to each place of the bus.
+fn fill(rt: &impl Abort, both: &mut Both, plan: &Plan) -> Result<(), AllocError> {
+    for place in 0..PLACES {
+        expect_move(rt, both, plan, Move::SendHeartbeat(0, 0), Told::Sent(place))?;
+    }
+    Ok(())
+}
+
+/// What is asked of a full bus, and what is told.
+pub(crate) const ON_A_FULL_BUS: [(Move, Told); 4] = [
+    (Move::SendHeartbeat(0, 0), Told::NotSent),
+    (Move::Lose(7), Told::Dropped),
+    (Move::SendHeartbeat(0, 0), Told::Sent(7)),
+    (
+        Move::Deliver(PLACES, false),
+        Told::Refused(Refusal::NoPacket),
+    ),
+];
+
+fn over_full_bus(rt: &impl Abort, alloc: Global, plan: &Plan) -> Result<(), AllocError> {
+    let mut both = Both::open(alloc, plan)?;
+    fill(rt, &mut both, plan)?;
+    for (asked, told) in &ON_A_FULL_BUS {
+        expect_move(rt, &mut both, plan, *asked, *told)?;
+    }
+    expect_same(rt, &both)?;
+    drop(both);
+    Ok(())
+}
+
+fn expect_full_bus(rt: &impl Abort, alloc: Global) -> Result<(), AllocError> {
+    let text = text_of(rt, alloc, Stage::Small(1))?;
+    let plan = plan_of(rt, alloc, text.as_str());
+    let done = over_full_bus(rt, alloc, &plan);
+    drop(plan);
+    done
+}
+
+#[test]
+fn a_full_bus_loses_what_is_sent(rt: HostRuntime) -> Result<(), Fail> {
+    expect_full_bus(&rt, rt.alloc())?;
+    Ok(())
+}

@@ -1,0 +1,7 @@
+mod admissions;
+mod caches;
+mod drawn;
+mod forms;
+mod ledger;
+mod readers;
+mod writers;

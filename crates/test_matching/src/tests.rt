@@ -1,0 +1,4 @@
+mod consistency;
+mod names;
+mod patterns;
+mod ranges;

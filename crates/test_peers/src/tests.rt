@@ -1,0 +1,7 @@
+mod answers;
+mod ends;
+mod faults;
+mod meeting;
+mod plans;
+mod runs;
+mod scripts;
