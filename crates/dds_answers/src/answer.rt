@@ -16,6 +16,7 @@ use crate::format::Format;
 use crate::matches::{is_as_intended, match_text};
 use crate::planning::read_plan;
 use crate::report::{Detail, Report, deployment_fault, detailed_check, detailed_text};
+use dds_base::NoMemory;
 use dds_cert::{Certificate, certificate_text};
 use dds_deploy::Deployment;
 use dds_deploy_file::{migrate, read_deployment};
@@ -23,7 +24,7 @@ use dds_match::Plan;
 use dds_propose::propose;
 use dds_show::deployment_json;
 use dds_xml::deployment_xml;
-use std::alloc::{AllocError, Global};
+use std::alloc::Global;
 
 /// A text for the output, and whether the answer is yes.
 #[derive(Drop)]
@@ -44,7 +45,7 @@ impl Answer {
 }
 
 /// The answer with a text, if there was memory for it.
-pub fn answered(text: Result<String, AllocError>, is_yes: bool) -> Result<Answer, ToolFault>
+pub fn answered(text: Result<String, NoMemory>, is_yes: bool) -> Result<Answer, ToolFault>
     ensures answer { IfOk result (λ a. (a.is_yes ≡ is_yes) × IfOk text (λ t. a.text ≡ t)) }
     ensures text { OnOk result (IsOk text) }
     ensures memory { IfErr result (λ e. e ≡ ToolFault.NoMemory) }
@@ -111,7 +112,7 @@ pub fn match_answer(alloc: Global, deployment: &[u8]) -> Result<Answer, ToolFaul
 }
 
 /// A deployment in a format.
-fn shown_text(alloc: Global, lists: &Deployment, format: Format) -> Result<String, AllocError>
+fn shown_text(alloc: Global, lists: &Deployment, format: Format) -> Result<String, NoMemory>
     ensures { IfOk result (λ text. string_bytes text ≡ shown_text format lists.now) }
 {
     match format {

@@ -4,10 +4,11 @@ ghost use Rattle.dds_answers.specs.Fault.{events_line, exit_of, fault_line, flaw
 
 use crate::exit::Exit;
 use crate::syntax::SyntaxError;
+use dds_base::NoMemory;
 use dds_cert_file::CertFlaw;
 use dds_events::EventsFaultKind;
 use dds_fields::fault::Fault;
-use std::alloc::{AllocError, Global};
+use std::alloc::Global;
 
 /// Why a command gave no answer. Users are told the numbers.
 #[derive(Debug, Drop)]
@@ -48,7 +49,7 @@ fn flaw_text(
     number: u8,
     name: &str,
     path: &str,
-) -> Result<String, AllocError>
+) -> Result<String, NoMemory>
     ensures { IfOk result (λ text. string_bytes text ≡ flaw_line file.now number name.now path.now) }
 {
     if path.is_empty() {
@@ -63,7 +64,7 @@ fn file_text(
     alloc: Global,
     line: String,
     syntax: &Option<SyntaxError>,
-) -> Result<String, AllocError>
+) -> Result<String, NoMemory>
     ensures { IfOk result (λ text. string_bytes text ≡ string_bytes line ++ syntax_line syntax.now) }
 {
     let Some(error) = syntax else {
@@ -76,7 +77,7 @@ fn file_text(
 }
 
 /// What is told of the flaw of a file of events: the number and the word of its kind, and its line. A line 0 is left out with the words before it.
-fn events_text(alloc: Global, number: u8, name: &str, line: usize) -> Result<String, AllocError>
+fn events_text(alloc: Global, number: u8, name: &str, line: usize) -> Result<String, NoMemory>
     ensures { IfOk result (λ text. string_bytes text ≡ events_line number name.now line) }
 {
     if line == 0 {
@@ -87,7 +88,7 @@ fn events_text(alloc: Global, number: u8, name: &str, line: usize) -> Result<Str
 }
 
 /// The line that is told to users of a fault, and after it where a file is no TOML, if the fault tells that. Only want of memory is an error.
-pub fn fault_text(alloc: Global, fault: &ToolFault) -> Result<String, AllocError>
+pub fn fault_text(alloc: Global, fault: &ToolFault) -> Result<String, NoMemory>
     ensures { IfOk result (λ text. string_bytes text ≡ fault_line fault.now) }
 {
     match fault {

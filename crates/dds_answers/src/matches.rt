@@ -3,11 +3,11 @@ ghost use Rattle.std.specs.Prelude.{◌≡◌, ◌++◌, IfOk, length, string_by
 ghost use Rattle.dds_match.specs.Plan.{network_of};
 ghost use Rattle.dds_answers.specs.Matches.{is_as_intended, is_same, is_writer_as_intended, lines_of, pair_line, writer_lines};
 
-use dds_base::{ReaderNo, WriterNo};
+use dds_base::{NoMemory, ReaderNo, WriterNo};
 use dds_cert::naming::name_at;
 use dds_match::Plan;
 use dds_show::reasons::reason_text;
-use std::alloc::{AllocError, Global};
+use std::alloc::Global;
 
 /// The line of a writer and a reader.
 fn pair_text(
@@ -15,7 +15,7 @@ fn pair_text(
     plan: &Plan,
     writer: WriterNo,
     reader: ReaderNo,
-) -> Result<String, AllocError>
+) -> Result<String, NoMemory>
     ensures { IfOk result (λ text. string_bytes text ≡ pair_line plan.now writer reader) }
 {
     let lists = plan.lists();
@@ -37,7 +37,7 @@ fn push_writer(
     plan: &Plan,
     writer: WriterNo,
     readers: usize,
-) -> Result<(), AllocError>
+) -> Result<(), NoMemory>
     ensures { IfOk result (λ _. string_bytes text.new ≡ string_bytes text.old ++ writer_lines plan.now readers writer) }
 {
     for r in 0..readers {
@@ -48,7 +48,7 @@ fn push_writer(
 }
 
 /// The lines that tell of each writer and reader, in file order, whether they match. Only want of memory is an error.
-pub fn match_text(alloc: Global, plan: &Plan) -> Result<String, AllocError>
+pub fn match_text(alloc: Global, plan: &Plan) -> Result<String, NoMemory>
     ensures { IfOk result (λ text. string_bytes text ≡ lines_of plan.now (length plan.now.writers.entries) (length plan.now.readers.entries)) }
 {
     let writers = plan.lists().writers();

@@ -12,6 +12,7 @@ ghost use Rattle.dds_answers.specs.Syntax.{IsFaultTold};
 use crate::fault::ToolFault;
 use crate::planning::read_plan;
 use crate::syntax::syntax_told;
+use dds_base::NoMemory;
 use dds_cert::naming::{name_at, reader_key, row_name, writer_key};
 use dds_cert::{Bound, Certificate, Total};
 use dds_cert_file::{CertFault, CertKind, read_certificate};
@@ -22,7 +23,7 @@ use dds_events::rule_text;
 use dds_explain::{margins, reason};
 use dds_fields::fault::FaultKind;
 use dds_match::Plan;
-use std::alloc::{AllocError, Global};
+use std::alloc::Global;
 
 /// How much is told of a report.
 #[derive(Clone, Copy, Debug, PartialEq, Eq)]
@@ -154,7 +155,7 @@ fn subject_text(
     lists: &Deployment,
     certificate: &Certificate,
     subject: Subject,
-) -> Result<String, AllocError>
+) -> Result<String, NoMemory>
     ensures { IfOk result (λ text. string_bytes text ≡ subject_text lists.now (certificate_view certificate.now) subject) }
 {
     match subject {
@@ -202,7 +203,7 @@ pub(crate) fn refusal_text(
     no: No,
     lists: &Deployment,
     certificate: &Certificate,
-) -> Result<String, AllocError>
+) -> Result<String, NoMemory>
     ensures { IfOk result (λ text. string_bytes text ≡ refusal_line lists.now (certificate_view certificate.now) no) }
 {
     let subject = subject_text(alloc, lists, certificate, no.subject)?;
@@ -212,7 +213,7 @@ pub(crate) fn refusal_text(
 }
 
 /// The line of a bound.
-fn bound_text(alloc: Global, lists: &Deployment, bound: &Bound) -> Result<String, AllocError>
+fn bound_text(alloc: Global, lists: &Deployment, bound: &Bound) -> Result<String, NoMemory>
     ensures { IfOk result (λ text. string_bytes text ≡ bound_line lists.now bound.now) }
 {
     let reader = name_at(lists.reader_names(), bound.reader.number());
@@ -222,7 +223,7 @@ fn bound_text(alloc: Global, lists: &Deployment, bound: &Bound) -> Result<String
 }
 
 /// The line of a total.
-fn total_text(alloc: Global, lists: &Deployment, total: &Total) -> Result<String, AllocError>
+fn total_text(alloc: Global, lists: &Deployment, total: &Total) -> Result<String, NoMemory>
     ensures { IfOk result (λ text. string_bytes text ≡ total_line lists.now total.now) }
 {
     let reader = name_at(lists.reader_names(), total.reader.number());
@@ -235,7 +236,7 @@ fn acceptance_text(
     alloc: Global,
     lists: &Deployment,
     certificate: &Certificate,
-) -> Result<String, AllocError>
+) -> Result<String, NoMemory>
     ensures { IfOk result (λ text. string_bytes text ≡ acceptance_lines lists.now (certificate_view certificate.now)) }
 {
     let mut text = String::from_str(alloc, "yes\n")?;
@@ -249,7 +250,7 @@ fn acceptance_text(
 }
 
 /// The lines of the reason of a report. Only want of memory is an error.
-pub fn because_text(alloc: Global, report: &Report) -> Result<String, AllocError>
+pub fn because_text(alloc: Global, report: &Report) -> Result<String, NoMemory>
     ensures { IfOk result (λ text. string_bytes text ≡ because_lines report.now) }
 {
     match report {
@@ -260,7 +261,7 @@ pub fn because_text(alloc: Global, report: &Report) -> Result<String, AllocError
 
 /// The lines of a report, with those of its reason after them where they are asked for. Only want of memory is an error.
 #[tactic(auto, unfolding(crate::specs::Report::output_of))]
-pub fn detailed_text(alloc: Global, report: &Report, detail: Detail) -> Result<String, AllocError>
+pub fn detailed_text(alloc: Global, report: &Report, detail: Detail) -> Result<String, NoMemory>
     ensures { IfOk result (λ text. string_bytes text ≡ output_of (told detail (outcome_of report.now))) }
 {
     let text = report_text(alloc, report)?;
@@ -275,7 +276,7 @@ pub fn detailed_text(alloc: Global, report: &Report, detail: Detail) -> Result<S
 
 /// The lines of a report. Only want of memory is an error.
 #[tactic(auto, unfolding(crate::specs::Report::output_of))]
-pub fn report_text(alloc: Global, report: &Report) -> Result<String, AllocError>
+pub fn report_text(alloc: Global, report: &Report) -> Result<String, NoMemory>
     ensures { IfOk result (λ text. string_bytes text ≡ report_text_of report.now) }
 {
     match report {

@@ -4,13 +4,14 @@ ghost use Rattle.dds_answers.specs.Report.{refusal_line};
 ghost use Rattle.dds_answers.specs.Structure.{nothing};
 
 use crate::report::refusal_text;
+use dds_base::NoMemory;
 use dds_cert::Certificate;
 use dds_check::No;
 use dds_deploy::Deployment;
-use std::alloc::{AllocError, Global};
+use std::alloc::Global;
 
 /// The line of a refusal, as `check` prints it, where there is no certificate. Only want of memory is an error.
-pub fn structure_text(alloc: Global, lists: &Deployment, no: No) -> Result<String, AllocError>
+pub fn structure_text(alloc: Global, lists: &Deployment, no: No) -> Result<String, NoMemory>
     ensures { IfOk result (λ text. string_bytes text ≡ refusal_line lists.now nothing no) }
 {
     let nothing = Certificate {

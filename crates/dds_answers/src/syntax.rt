@@ -3,7 +3,8 @@ ghost use Rattle.std.specs.Prelude.{◌≡◌, IfOk};
 ghost use Rattle.dds_answers.specs.Syntax.{IsSyntaxOf, IsSyntaxTold, begins_character, column_after, line_after};
 
 use crate::report::Detail;
-use std::alloc::{AllocError, Global};
+use dds_base::NoMemory;
+use std::alloc::Global;
 
 /// Where a text is no TOML, and why.
 #[derive(Debug, Drop)]
@@ -47,7 +48,7 @@ fn column_after(before: &[u8]) -> usize
 }
 
 /// What the parser says of bytes that are no TOML; of others nothing. Only want of memory is an error.
-fn syntax_error(alloc: Global, bytes: &[u8]) -> Result<Option<SyntaxError>, AllocError>
+fn syntax_error(alloc: Global, bytes: &[u8]) -> Result<Option<SyntaxError>, NoMemory>
     ensures { IfOk result (IsSyntaxOf bytes.now) }
 {
     let error = match toml::table_from_slice(alloc, bytes) {
@@ -58,7 +59,7 @@ fn syntax_error(alloc: Global, bytes: &[u8]) -> Result<Option<SyntaxError>, Allo
         Err(error) => error,
     };
     let Some(span) = error.span() else {
-        return Err(AllocError);
+        return Err(NoMemory);
     };
     let before = &bytes[..span.start];
     Ok(Some(SyntaxError {
@@ -74,7 +75,7 @@ pub(crate) fn syntax_told(
     detail: Detail,
     is_not_toml: bool,
     bytes: &[u8],
-) -> Result<Option<SyntaxError>, AllocError>
+) -> Result<Option<SyntaxError>, NoMemory>
     ensures { IfOk result (IsSyntaxTold detail is_not_toml bytes.now) }
 {
     match detail {

@@ -10,14 +10,14 @@ use crate::answer::{Answer, certified};
 use crate::fault::ToolFault;
 use crate::planning::read_plan;
 use crate::structure::structure_text;
-use dds_base::ReaderNo;
+use dds_base::{NoMemory, ReaderNo};
 use dds_cert::naming::{name_at, reader_key};
 use dds_check::No;
 use dds_match::Plan;
 use dds_propose::propose;
 use dds_propose::targets::Target;
 use dds_search::{Found, Least, Missing, search};
-use std::alloc::{AllocError, Global};
+use std::alloc::Global;
 
 /// The name of the limit of a key of a reader: its depth where it keeps the last samples alone.
 fn instance_limit(plan: &Plan, reader: ReaderNo) -> &'static str {
@@ -31,7 +31,7 @@ fn instance_limit(plan: &Plan, reader: ReaderNo) -> &'static str {
 }
 
 /// The limit of a target, with the names of the reader and of the key.
-fn limit_text(alloc: Global, plan: &Plan, target: &Target) -> Result<String, AllocError> {
+fn limit_text(alloc: Global, plan: &Plan, target: &Target) -> Result<String, NoMemory> {
     let lists = plan.lists();
     match target {
         Target::Instance { reader, key } => {
@@ -61,7 +61,7 @@ fn least_text(
     limit: &str,
     shower: &str,
     least: Least,
-) -> Result<String, AllocError> {
+) -> Result<String, NoMemory> {
     match least {
         Least::Shown(bound) => format!(in alloc;
             "ddscheck: no weights show {limit}; the least bound that {shower} is {bound}\n"
@@ -76,7 +76,7 @@ fn least_text(
 }
 
 /// Why no certificate was found.
-fn missing_text(alloc: Global, plan: &Plan, missing: Missing) -> Result<String, AllocError> {
+fn missing_text(alloc: Global, plan: &Plan, missing: Missing) -> Result<String, NoMemory> {
     match missing {
         Missing::Structure(no) => {
             let line = structure_text(alloc, plan.lists(), no)?;

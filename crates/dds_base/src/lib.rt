@@ -25,3 +25,7 @@ pub use portion::Portion;
 pub use sample::{Arrival, Data, Rejection, Sample};
 pub use section::Section;
 pub use sets::SnSet;
+
+/// Memory ran out: an allocation was refused. Every public call that can meet want of memory answers it so; one that refuses for other reasons too has a case
+/// for it in an error of its own.
+pub use std::alloc::AllocError as NoMemory;

@@ -4,8 +4,9 @@ ghost use Rattle.std.specs.Prelude.{◌≡◌, ◌≤◌, ◌<◌, ℕ, List, []
 ghost use Rattle.std.specs.List.{list_all};
 ghost use Rattle.dds_base.specs.Names.{is_name_byte, is_name, number_of, refusal, IsRefused};
 
+use crate::NoMemory;
 use indexmap::IndexSet;
-use std::alloc::{AllocError, AllocFailed, Global};
+use std::alloc::{AllocFailed, Global};
 use std::marker::Model;
 
 /// Why a name is not added, in the order in which it is tested.
@@ -102,7 +103,7 @@ impl Names {
 
     /// Adds a text that is not there yet, at the end, whatever its bytes are: the caller knows whether it is a name.
     /// Fails only where no memory is left, and then nothing changes.
-    pub fn push(&mut self, name: String) -> Result<(), AllocError>
+    pub fn push(&mut self, name: String) -> Result<(), NoMemory>
         requires { number_of self.old (string_bytes name) ≡ None }
         ensures ok { IfOk result (λ _. self.new ≡ self.old ++ string_bytes name ∷ []) }
         ensures err { OnErr result (self.new ≡ self.old) }

@@ -2,8 +2,9 @@
 ghost use Rattle.std.specs.Prelude.{◌≡◌, ◌++◌, ◌∷◌, [], ℕ, List, false, IfOk, OnErr, length};
 ghost use Rattle.dds_base.specs.Pairs.{stands};
 
+use crate::NoMemory;
 use indexmap::IndexSet;
-use std::alloc::{AllocError, Global};
+use std::alloc::Global;
 use std::marker::Model;
 
 /// Distinct pairs of numbers, in the order in which they were added.
@@ -36,7 +37,7 @@ impl Pairs {
     }
 
     /// Adds a pair that is not there yet. An `Err` changes nothing.
-    pub fn push(&mut self, first: usize, second: usize) -> Result<(), AllocError>
+    pub fn push(&mut self, first: usize, second: usize) -> Result<(), NoMemory>
         requires { stands self.old first second ≡ false }
         ensures ok { IfOk result (λ _. self.new ≡ self.old ++ (first, second) ∷ []) }
         ensures err { OnErr result (self.new ≡ self.old) }

@@ -2,8 +2,9 @@
 ghost use Rattle.std.specs.Prelude.{◌≡◌, ◌++◌, ◌∷◌, [], length, vec_len, None, OnErr, OnOk};
 ghost use Rattle.dds_base.specs.Names.{number_of};
 
+use crate::NoMemory;
 use crate::names::Names;
-use std::alloc::{AllocError, Global};
+use std::alloc::Global;
 
 /// The entries of a section with their names. The number of a name is the place of both.
 #[derive(Drop)]
@@ -25,7 +26,7 @@ impl<T: Drop> Section<T> {
     }
 
     /// Adds an entry under a new name. Fails only where no memory is left, and then nothing changes.
-    pub fn push(&mut self, alloc: Global, name: &str, entry: T) -> Result<(), AllocError>
+    pub fn push(&mut self, alloc: Global, name: &str, entry: T) -> Result<(), NoMemory>
         requires { number_of self.old.names name.now ≡ None }
         ensures names { OnOk result (self.new.names ≡ self.old.names ++ name.now ∷ []) }
         ensures entries { OnOk result (self.new.entries.items ≡ self.old.entries.items ++ entry ∷ []) }

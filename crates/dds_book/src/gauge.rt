@@ -8,9 +8,8 @@ mod steps;
 
 use crate::gauge::steps::{Counts, Look, NewMonitor, NextOwner, OneMore};
 use atomic_table::{Seat, Shared, Table};
-use dds_base::AppNo;
-use dds_match::NoMemory;
-use std::alloc::{AllocError, Global};
+use dds_base::{AppNo, NoMemory};
+use std::alloc::Global;
 use std::collections::LinkedList;
 use std::marker::Model;
 
@@ -78,10 +77,7 @@ impl Gauge {
         ensures apps { IfOk result (λ r. r.0.apps ≡ apps) }
         ensures seats { IfOk result (λ r. r.1.items ≡ map (fresh_seat r.0.table apps) (range_with_len 0 (apps + monitors))) }
     {
-        match opened(alloc, apps, monitors) {
-            Ok(opened) => Ok(opened),
-            Err(_) => Err(NoMemory),
-        }
+        opened(alloc, apps, monitors)
     }
 
     /// Raises the seat's own count by one, and tells it. A full count stays as it is.
@@ -126,7 +122,7 @@ fn opened(
     alloc: Global,
     apps: usize,
     monitors: usize,
-) -> Result<(Gauge, Vec<GaugeSeat>), AllocError>
+) -> Result<(Gauge, Vec<GaugeSeat>), NoMemory>
     ensures apps { IfOk result (λ r. r.0.apps ≡ apps) }
     ensures seats { IfOk result (λ r. r.1.items ≡ map (fresh_seat r.0.table apps) (range_with_len 0 (apps + monitors))) }
 {

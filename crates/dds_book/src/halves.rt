@@ -7,7 +7,8 @@ mod steps;
 
 use crate::halves::steps::{OnePair, agree, begin, change};
 use atomic_table::{Badge, Table};
-use std::alloc::{AllocError, Global};
+use dds_base::NoMemory;
+use std::alloc::Global;
 use std::collections::LinkedList;
 use std::marker::{Brand, Model};
 use std::mem;
@@ -64,7 +65,7 @@ impl<E: Owned> Model for Holder<E> {
 
 impl<E: Owned> Holder<E> {
     /// A new pair with empty fronts, for the entries of an owner.
-    pub fn open(alloc: Global, owner: u64) -> Result<(Holder<E>, Half<E>), AllocError>
+    pub fn open(alloc: Global, owner: u64) -> Result<(Holder<E>, Half<E>), NoMemory>
         ensures pair { IfOk result (λ r. r.0 ≡ holder_of r.1.table owner []) }
         ensures empty { IfOk result (λ r. r.1.front ≡ []) }
     {

@@ -6,10 +6,10 @@ ghost use Rattle.dds_book.specs.Owning.{seat_count};
 use crate::entry::Entry;
 use crate::halves::{Half, Holder};
 use crate::owning::seat_count;
+use dds_base::NoMemory;
 use dds_check::Checked;
 use dds_domain::Domain;
-use dds_match::NoMemory;
-use std::alloc::{AllocError, Global};
+use std::alloc::Global;
 use std::marker::{Brand, Model};
 
 /// Names one plan and one list of the seats' tables, so that a book and its seats belong together by their types. A function over any name,
@@ -74,7 +74,7 @@ impl Kit {
 }
 
 // A pair of halves for each seat.
-fn pairs(alloc: Global, count: usize) -> Result<(Vec<Holder<Entry>>, Vec<Half<Entry>>), AllocError>
+fn pairs(alloc: Global, count: usize) -> Result<(Vec<Holder<Entry>>, Vec<Half<Entry>>), NoMemory>
     ensures count { IfOk result (λ r. length r.1.items ≡ count) }
     ensures pairs { IfOk result (λ r. ArePairs r.0.items r.1.items) }
 {

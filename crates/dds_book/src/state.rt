@@ -16,9 +16,8 @@ use crate::journal::Journal;
 use crate::kit::{Kit, Name};
 use crate::owning::{is_participant, owns, participant_of};
 use crate::seat::Seat;
-use dds_base::{Event, Fate, Reply};
+use dds_base::{Event, Fate, NoMemory, Reply};
 use dds_domain::Domain;
-use dds_match::NoMemory;
 use std::alloc::Global;
 use std::marker::{Model, PhantomData};
 

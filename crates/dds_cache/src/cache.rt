@@ -10,10 +10,10 @@ ghost use Rattle.dds_cache.specs.Cache.{available};
 
 use crate::contents::Contents;
 use crate::released::{Released, raise};
-use dds_base::{KeyNo, Rejection, Sample, WriterNo, are_rising};
+use dds_base::{KeyNo, NoMemory, Rejection, Sample, WriterNo, are_rising};
 use dds_qos::admission::is_reached;
 use dds_qos::{Admit, ReaderLimits};
-use std::alloc::{AllocError, Global};
+use std::alloc::Global;
 use std::marker::Model;
 
 /// The samples that a reader has stored and not given yet, within its limits (OMG DDS 1.4, clauses 2.2.3.18 and 2.2.3.19).
@@ -52,7 +52,7 @@ impl Cache {
         alloc: Global,
         limits: ReaderLimits,
         writers: &[WriterNo],
-    ) -> Result<Cache, AllocError>
+    ) -> Result<Cache, NoMemory>
         ensures { IfOk result (λ c. c ≡ record {
           limits = limits;
           stored = [];
@@ -132,7 +132,7 @@ impl Cache {
     /// 5. `Stored`: it is stored as the last, and its key is known from now on.
     ///
     /// A rejection changes nothing. `Err` where the sample would be stored and no memory is left for it; it changes nothing.
-    pub fn admit(&mut self, sample: Sample) -> Result<Admit, AllocError>
+    pub fn admit(&mut self, sample: Sample) -> Result<Admit, NoMemory>
         requires listed { IsTrue (is_listed sample.writer self.old.writers) }
         requires fresh { IsFresh self.old.stored sample }
         ensures answer { IfOk result (λ a. a ≡ admission self.old.limits self.old.stored self.old.keys sample) }

@@ -15,8 +15,8 @@ ghost use Rattle.dds_cache.specs.Least.{IsUniform, AreListed, IsLesser, IsLeastA
 
 use crate::order::Order;
 use crate::released::Released;
-use dds_base::{KeyNo, Sample};
-use std::alloc::{AllocError, Global};
+use dds_base::{KeyNo, NoMemory, Sample};
+use std::alloc::Global;
 use std::collections::BTreeMap;
 use std::ops::Bound;
 
@@ -128,7 +128,7 @@ impl Contents {
     }
 
     // Stores a sample as the last.
-    fn push(&mut self, sample: &Sample) -> Result<(), AllocError>
+    fn push(&mut self, sample: &Sample) -> Result<(), NoMemory>
         requires { IsFresh (values self.old.order.samples) sample.now }
         ensures entries { OnOk result (self.new.order.samples.entries ≡ self.old.order.samples.entries ++ (self.old.order.next, sample.now) ∷ []) }
         ensures keys { OnOk result (set.from_list {R = nat_cmp} (keys self.new.counts) ≡ set.insert (set.from_list (keys self.old.counts)) sample.now.key) }
@@ -143,12 +143,12 @@ impl Contents {
         self.queues.insert(place, ticket)?;
         if let Err(_) = self.order.push(sample) {
             self.queues.remove(&place);
-            return Err(AllocError);
+            return Err(NoMemory);
         }
         if let Err(_) = self.counts.insert(sample.key.number(), count + 1) {
             self.order.remove(sample.key, ticket);
             self.queues.remove(&place);
-            return Err(AllocError);
+            return Err(NoMemory);
         }
         Ok(())
     }
@@ -169,7 +169,7 @@ impl Contents {
     }
 
     // Stores a sample, in place of the first of its key where asked, and makes its key known.
-    pub(crate) fn store(&mut self, sample: &Sample, overwrites: bool) -> Result<(), AllocError>
+    pub(crate) fn store(&mut self, sample: &Sample, overwrites: bool) -> Result<(), NoMemory>
         requires { IsFresh (values self.old.order.samples) sample.now }
         ensures stored { OnOk result (values self.new.order.samples ≡
             cond overwrites (remove (values self.old.order.samples) (first_of sample.now.key (values self.old.order.samples))) (values self.old.order.samples)

@@ -7,8 +7,8 @@ ghost use Rattle.std.specs.Map.{remove_entry};
 ghost use Rattle.std.proofs.Props.{props};
 ghost use Rattle.dds_cache.specs.Order.{at, IsBelow, IsIndexed, IsFirstOf, NoneOf, IsFirstIn, has_key};
 
-use dds_base::{KeyNo, Sample};
-use std::alloc::{AllocError, Global};
+use dds_base::{KeyNo, NoMemory, Sample};
+use std::alloc::Global;
 use std::collections::BTreeMap;
 use std::ops::Bound;
 
@@ -57,20 +57,20 @@ impl Order {
     }
 
     // Stores a sample as the last, with the next ticket.
-    pub(crate) fn push(&mut self, sample: &Sample) -> Result<(), AllocError>
+    pub(crate) fn push(&mut self, sample: &Sample) -> Result<(), NoMemory>
         ensures entries { OnOk result (self.new.samples.entries ≡ self.old.samples.entries ++ (self.old.next, sample.now) ∷ []) }
         ensures updates { OnOk result (UpdatesBy nat_cmp (nat_cmp self.old.next) self.old.samples self.new.samples (Some sample.now)) }
         ensures err { OnErr result (self.new.samples.entries ≡ self.old.samples.entries) }
     {
         if self.next == u64::MAX {
-            return Err(AllocError);
+            return Err(NoMemory);
         }
         let ticket = self.next;
         let key = sample.key.number();
         self.tickets.insert((key, ticket), ())?;
         if let Err(_) = self.samples.insert(ticket, *sample) {
             self.tickets.remove(&(key, ticket));
-            return Err(AllocError);
+            return Err(NoMemory);
         }
         self.next = ticket + 1;
         Ok(())

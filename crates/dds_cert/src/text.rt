@@ -7,10 +7,10 @@ use crate::certificate::{Bound, Certificate, Row, Total, Weight};
 use crate::naming::{keys_of_reader, keys_of_writer, name_at, reader_key, row_name};
 use crate::weighing::weights_by_place;
 use dds_base::grid::{KEYS, PLACES};
-use dds_base::{Names, ReaderNo, WriterNo};
+use dds_base::{Names, NoMemory, ReaderNo, WriterNo};
 use dds_deploy::Deployment;
-use dds_match::{NoMemory, Plan};
-use std::alloc::{AllocError, Global};
+use dds_match::Plan;
+use std::alloc::Global;
 
 /// The line of a weight, none where it is 0. `side` is the field of the endpoint, `reader` or `writer`.
 fn push_weight(
@@ -20,7 +20,7 @@ fn push_weight(
     endpoint: &str,
     key: &str,
     weight: u32,
-) -> Result<(), AllocError>
+) -> Result<(), NoMemory>
     ensures { IfOk result (λ _. string_bytes text.new ≡ string_bytes text.old ++ weight_line side.now endpoint.now key.now weight) }
 {
     if weight == 0 {
@@ -41,7 +41,7 @@ fn push_endpoint(
     keys: &Names,
     number: usize,
     cells: &[u32; PLACES],
-) -> Result<(), AllocError>
+) -> Result<(), NoMemory>
     requires few_endpoints { number < 256 }
     requires few_keys { length keys.now ≤ 64 }
     ensures { IfOk result (λ _. string_bytes text.new ≡ string_bytes text.old ++ endpoint_lines side.now endpoint.now keys.now (λ k. slice_index cells.now (number * 64 + k))) }
@@ -58,7 +58,7 @@ fn reader_lines(
     alloc: Global,
     lists: &Deployment,
     weights: &[Weight<ReaderNo>],
-) -> Result<String, AllocError>
+) -> Result<String, NoMemory>
     ensures { IfOk result (λ text. string_bytes text ≡ reader_lines lists.now weights.now) }
 {
     let cells = weights_by_place(weights);
@@ -76,7 +76,7 @@ fn writer_lines(
     alloc: Global,
     lists: &Deployment,
     weights: &[Weight<WriterNo>],
-) -> Result<String, AllocError>
+) -> Result<String, NoMemory>
     ensures { IfOk result (λ text. string_bytes text ≡ writer_lines lists.now weights.now) }
 {
     let cells = weights_by_place(weights);
@@ -90,7 +90,7 @@ fn writer_lines(
 }
 
 /// A list of a row, with these lines.
-fn list_text(alloc: Global, lines: &str) -> Result<String, AllocError>
+fn list_text(alloc: Global, lines: &str) -> Result<String, NoMemory>
     ensures { IfOk result (λ text. string_bytes text ≡ list_text lines.now) }
 {
     if lines.is_empty() {
@@ -99,7 +99,7 @@ fn list_text(alloc: Global, lines: &str) -> Result<String, AllocError>
     format!(in alloc; "[\n{lines}]")
 }
 
-fn row_text(alloc: Global, lists: &Deployment, row: &Row) -> Result<String, AllocError>
+fn row_text(alloc: Global, lists: &Deployment, row: &Row) -> Result<String, NoMemory>
     ensures { IfOk result (λ text. string_bytes text ≡ row_text lists.now (row_view row.now)) }
 {
     let name = row.name.as_str();
@@ -116,7 +116,7 @@ fn push_rows(
     text: &mut String,
     lists: &Deployment,
     rows: &[Row],
-) -> Result<(), AllocError>
+) -> Result<(), NoMemory>
     ensures { IfOk result (λ _. string_bytes text.new ≡ string_bytes text.old ++ flat_map (λ r. row_text lists.now (row_view r)) rows.now) }
 {
     for row in rows {
@@ -131,7 +131,7 @@ fn bound_text(
     lists: &Deployment,
     certificate: &Certificate,
     bound: &Bound,
-) -> Result<String, AllocError>
+) -> Result<String, NoMemory>
     ensures { IfOk result (λ text. string_bytes text ≡ bound_text lists.now (certificate_view certificate.now) bound.now) }
 {
     let reader = name_at(lists.reader_names(), bound.reader.number());
@@ -148,7 +148,7 @@ fn total_text(
     lists: &Deployment,
     certificate: &Certificate,
     total: &Total,
-) -> Result<String, AllocError>
+) -> Result<String, NoMemory>
     ensures { IfOk result (λ text. string_bytes text ≡ total_text lists.now (certificate_view certificate.now) total.now) }
 {
     let reader = name_at(lists.reader_names(), total.reader.number());
@@ -162,7 +162,7 @@ fn push_bounds(
     text: &mut String,
     lists: &Deployment,
     certificate: &Certificate,
-) -> Result<(), AllocError>
+) -> Result<(), NoMemory>
     ensures { IfOk result (λ _. string_bytes text.new ≡ string_bytes text.old ++ flat_map (bound_text lists.now (certificate_view certificate.now)) certificate.now.bounds.items) }
 {
     for bound in &certificate.bounds {
@@ -177,7 +177,7 @@ fn push_totals(
     text: &mut String,
     lists: &Deployment,
     certificate: &Certificate,
-) -> Result<(), AllocError>
+) -> Result<(), NoMemory>
     ensures { IfOk result (λ _. string_bytes text.new ≡ string_bytes text.old ++ flat_map (total_text lists.now (certificate_view certificate.now)) certificate.now.totals.items) }
 {
     for total in &certificate.totals {
@@ -191,7 +191,7 @@ fn whole_text(
     alloc: Global,
     lists: &Deployment,
     certificate: &Certificate,
-) -> Result<String, AllocError>
+) -> Result<String, NoMemory>
     ensures { IfOk result (λ text. string_bytes text ≡ certificate_text lists.now (certificate_view certificate.now)) }
 {
     let mut text = String::from_str(alloc, "version = 1\n")?;
@@ -215,5 +215,5 @@ pub fn certificate_text(
 ) -> Result<String, NoMemory>
     ensures { IfOk result (λ text. string_bytes text ≡ certificate_text plan.now (certificate_view certificate.now)) }
 {
-    whole_text(alloc, plan.lists(), certificate).map_err(|_| NoMemory)
+    whole_text(alloc, plan.lists(), certificate)
 }

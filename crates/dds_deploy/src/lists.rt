@@ -5,9 +5,11 @@ ghost use Rattle.dds_base.specs.Section.{listed};
 ghost use Rattle.dds_deploy.specs.Lists.{key_name};
 ghost use Rattle.dds_deploy.specs.Views.{topic_view};
 
-use dds_base::{AppNo, KeyNo, Names, ParticipantNo, Portion, ReaderNo, Section, TopicNo, WriterNo};
+use dds_base::{
+    AppNo, KeyNo, Names, NoMemory, ParticipantNo, Portion, ReaderNo, Section, TopicNo, WriterNo,
+};
 use dds_qos::{ReaderQos, WriterQos};
-use std::alloc::{AllocError, Global};
+use std::alloc::Global;
 
 /// A domain participant. Endpoints talk where their participants are in one domain.
 #[derive(Drop)]
@@ -101,7 +103,7 @@ impl Rules {
         name: &str,
         mut origins: Vec<Origin>,
         mut rules: Vec<Rule>,
-    ) -> Result<(), AllocError>
+    ) -> Result<(), NoMemory>
         requires { number_of self.old.names name.now ≡ None }
         ensures names { OnOk result (self.new.names ≡ self.old.names ++ name.now ∷ []) }
         ensures origins { OnOk result (self.new.origins.items ≡ self.old.origins.items ++ origins.items) }

@@ -3,8 +3,8 @@ ghost use Rattle.std.specs.Prelude.{◌≡◌, None, is_none, is_some, nat_lt, r
 ghost use Rattle.dds_check.specs.Steps.{places};
 ghost use Rattle.dds_domain.specs.Bus.{IsLastPlace, at_place, last_taken, sent_to, taken_count, with_packet};
 
-use dds_base::Packet;
-use std::alloc::{AllocError, Global};
+use dds_base::{NoMemory, Packet};
+use std::alloc::Global;
 use std::marker::Model;
 
 /// How many packets are under way at most.
@@ -39,7 +39,7 @@ impl Model for Bus {
 
 impl Bus {
     /// A bus without packets. An `Err` means that memory ran out.
-    pub(crate) fn new(alloc: Global) -> Result<Bus, AllocError>
+    pub(crate) fn new(alloc: Global) -> Result<Bus, NoMemory>
         ensures { IfOk result (λ b. b ≡ replicate places None) }
     {
         let held = vec![in alloc; None; PLACES]?;

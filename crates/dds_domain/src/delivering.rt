@@ -5,13 +5,11 @@ ghost use Rattle.dds_domain.specs.Bus.{at_place};
 ghost use Rattle.dds_domain.specs.Standing.{HasWorld, IsSent, OnRefused, Receives, ReceivesNotes, StepsNotes, StepsWorld};
 
 use crate::parts::Parts;
-use dds_base::{Packet, Refusal, Reply};
-use dds_match::NoMemory;
-use std::alloc::AllocError;
+use dds_base::{NoMemory, Packet, Refusal, Reply};
 
 impl Parts {
     // A packet arrives at its reader, or an ACKNACK at its writer. An `Err` means that memory ran out; it changes nothing.
-    fn receive(&mut self, packet: &Packet) -> Result<Reply, AllocError>
+    fn receive(&mut self, packet: &Packet) -> Result<Reply, NoMemory>
         requires { IsSent self.old packet.now }
         ensures receives { IfOk result (λ reply. Receives self.old packet.now reply self.new × ReceivesNotes self.old packet.now self.new) }
         ensures arrives { IfOk result (λ reply. OnRefused reply ⊥) }

@@ -5,8 +5,8 @@ ghost use Rattle.dds_domain.specs.Standing.{GoesOn, OnRefused, StandsAfter, pair
 
 use crate::opening::open;
 use crate::parts::Parts;
-use dds_base::{Event, Packet, Reply};
-use dds_match::{NoMemory, Plan};
+use dds_base::{Event, NoMemory, Packet, Reply};
+use dds_match::Plan;
 use std::alloc::Global;
 use std::marker::Model;
 

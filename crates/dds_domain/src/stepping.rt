@@ -3,8 +3,7 @@ ghost use Rattle.std.specs.Prelude.{◌≡◌, ◌≤◌, length, IfErr, IfOk, M
 ghost use Rattle.dds_domain.specs.Standing.{HasWorld, IsRunning, OnRefused, Runs, StepsNotes, StepsWorld, paired};
 
 use crate::parts::Parts;
-use dds_base::{Arrival, Event, Reply};
-use dds_match::NoMemory;
+use dds_base::{Arrival, Event, NoMemory, Reply};
 use dds_qos::Due;
 use std::alloc::Global;
 

@@ -5,8 +5,7 @@ ghost use Rattle.dds_domain.specs.Standing.{HasWorld, OnRefused, StepsNotes, Ste
 ghost use Rattle.dds_writer.specs.Writer.{Tells};
 
 use crate::parts::Parts;
-use dds_base::{Data, KeyNo, Refusal, Reply, RuleNo, WriterNo};
-use dds_match::NoMemory;
+use dds_base::{Data, KeyNo, NoMemory, Refusal, Reply, RuleNo, WriterNo};
 use dds_rules::FireRefused;
 use dds_writer::WriteRefused;
 

@@ -14,8 +14,8 @@ ghost use Rattle.dds_fields.specs.Places.{place_text};
 
 use crate::fault::{FaultKind, ReadFault, refuse};
 use crate::place::Place;
-use dds_base::{Names, is_name};
-use std::alloc::{AllocError, Global};
+use dds_base::{Names, NoMemory, is_name};
+use std::alloc::Global;
 use toml::value::Array;
 use toml::{Table, Value};
 
@@ -213,7 +213,7 @@ fn shown_char(c: char) -> char
 }
 
 #[tactic(auto, unfolding(crate::specs::Reading::shown))]
-fn shown(alloc: Global, key: &str) -> Result<String, AllocError>
+fn shown(alloc: Global, key: &str) -> Result<String, NoMemory>
     ensures { IfOk result (λ s. string_bytes s ≡ shown key.now) }
 {
     let mut text = String::new(alloc);

@@ -5,7 +5,8 @@ ghost use Rattle.std.specs.Prelude.{◌≡◌, IfOk, string_bytes};
 ghost use Rattle.dds_fields.specs.Places.{place_text};
 
 use crate::path::{index_path, key_path};
-use std::alloc::{AllocError, Global};
+use dds_base::NoMemory;
+use std::alloc::Global;
 
 /// A place, as the steps from the document to it.
 #[derive(Clone, Copy)]
@@ -16,7 +17,7 @@ pub enum Place<'a> {
 }
 
 /// The text of a place.
-pub fn place_string(alloc: Global, place: &Place) -> Result<String, AllocError>
+pub fn place_string(alloc: Global, place: &Place) -> Result<String, NoMemory>
     ensures { IfOk result (λ s. string_bytes s ≡ place_text place.now) }
 {
     match place {

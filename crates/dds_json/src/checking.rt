@@ -15,16 +15,17 @@ ghost use Rattle.dds_json.specs.Line.{line_of};
 
 use crate::line::line_of;
 use dds_answers::{Answer, Detail, Report, ToolFault, answered, because_text, detailed_check};
+use dds_base::NoMemory;
 use dds_cert::naming::{name_at, reader_key, row_name, writer_key};
 use dds_cert::{Bound, Certificate, Total};
 use dds_check::{No, Subject};
 use dds_deploy::Deployment;
 use dds_events::rule_text;
 use serde_json::{Value, json};
-use std::alloc::{AllocError, Global};
+use std::alloc::Global;
 
 /// The bound of an instance.
-fn bound_document(alloc: Global, lists: &Deployment, bound: &Bound) -> Result<Value, AllocError>
+fn bound_document(alloc: Global, lists: &Deployment, bound: &Bound) -> Result<Value, NoMemory>
     ensures { IfOk result (λ v. view v ≡ bound_document lists.now bound.now) }
 {
     let reader = name_at(lists.reader_names(), bound.reader.number());
@@ -33,7 +34,7 @@ fn bound_document(alloc: Global, lists: &Deployment, bound: &Bound) -> Result<Va
 }
 
 /// The bounds of instances.
-fn bounds_array(alloc: Global, lists: &Deployment, bounds: &[Bound]) -> Result<Value, AllocError>
+fn bounds_array(alloc: Global, lists: &Deployment, bounds: &[Bound]) -> Result<Value, NoMemory>
     ensures { IfOk result (λ v. view v ≡ array (items_of (map (bound_document lists.now) bounds.now))) }
 {
     let mut documents = Vec::new(alloc);
@@ -44,7 +45,7 @@ fn bounds_array(alloc: Global, lists: &Deployment, bounds: &[Bound]) -> Result<V
 }
 
 /// The bound of all samples of a reader.
-fn total_document(alloc: Global, lists: &Deployment, total: &Total) -> Result<Value, AllocError>
+fn total_document(alloc: Global, lists: &Deployment, total: &Total) -> Result<Value, NoMemory>
     ensures { IfOk result (λ v. view v ≡ total_document lists.now total.now) }
 {
     let reader = name_at(lists.reader_names(), total.reader.number());
@@ -52,7 +53,7 @@ fn total_document(alloc: Global, lists: &Deployment, total: &Total) -> Result<Va
 }
 
 /// The bounds of all samples of readers.
-fn totals_array(alloc: Global, lists: &Deployment, totals: &[Total]) -> Result<Value, AllocError>
+fn totals_array(alloc: Global, lists: &Deployment, totals: &[Total]) -> Result<Value, NoMemory>
     ensures { IfOk result (λ v. view v ≡ array (items_of (map (total_document lists.now) totals.now))) }
 {
     let mut documents = Vec::new(alloc);
@@ -68,7 +69,7 @@ fn acceptance_document(
     lists: &Deployment,
     certificate: &Certificate,
     because: Option<String>,
-) -> Result<Value, AllocError>
+) -> Result<Value, NoMemory>
     ensures { IfOk result (λ v. view v ≡ acceptance_document lists.now (certificate_view certificate.now) (option_map string_bytes because)) }
 {
     let bounds = bounds_array(alloc, lists, certificate.bounds.as_slice())?;
@@ -87,7 +88,7 @@ fn subject_document(
     lists: &Deployment,
     certificate: &Certificate,
     subject: Subject,
-) -> Result<Value, AllocError>
+) -> Result<Value, NoMemory>
     ensures { IfOk result (λ v. view v ≡ subject_document lists.now (certificate_view certificate.now) subject) }
 {
     match subject {
@@ -136,7 +137,7 @@ pub(crate) fn refusal_document(
     certificate: &Certificate,
     no: No,
     because: Option<String>,
-) -> Result<Value, AllocError>
+) -> Result<Value, NoMemory>
     ensures { IfOk result (λ v. view v ≡ refusal_document lists.now (certificate_view certificate.now) no (option_map string_bytes because)) }
 {
     let subject = subject_document(alloc, lists, certificate, no.subject)?;
@@ -156,7 +157,7 @@ fn report_document(
     alloc: Global,
     report: &Report,
     because: Option<String>,
-) -> Result<Value, AllocError>
+) -> Result<Value, NoMemory>
     ensures { IfOk result (λ v. view v ≡ report_document report.now (option_map string_bytes because)) }
 {
     match report {
@@ -177,7 +178,7 @@ fn report_document(
 }
 
 /// The reason of a report, where it is asked for.
-fn reason_of(alloc: Global, report: &Report, detail: Detail) -> Result<Option<String>, AllocError>
+fn reason_of(alloc: Global, report: &Report, detail: Detail) -> Result<Option<String>, NoMemory>
     ensures { IfOk result (λ because. option_map string_bytes because ≡ reason_of report.now detail) }
 {
     match detail {
@@ -190,7 +191,7 @@ fn reason_of(alloc: Global, report: &Report, detail: Detail) -> Result<Option<St
 }
 
 /// The line of a report's document.
-fn report_line(alloc: Global, report: &Report, detail: Detail) -> Result<String, AllocError>
+fn report_line(alloc: Global, report: &Report, detail: Detail) -> Result<String, NoMemory>
     ensures { IfOk result (λ text. string_bytes text ≡ line_of (report_document report.now (reason_of report.now detail))) }
 {
     let because = reason_of(alloc, report, detail)?;

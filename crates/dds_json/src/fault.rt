@@ -6,11 +6,12 @@ ghost use Rattle.dds_json.specs.Fault.{events_document, fault_document, file_doc
 
 use crate::line::line_of;
 use dds_answers::{SyntaxError, ToolFault};
+use dds_base::NoMemory;
 use serde_json::{Value, json};
-use std::alloc::{AllocError, Global};
+use std::alloc::Global;
 
 /// A fault with this number and this word.
-fn plain_document(alloc: Global, number: u8, name: &str) -> Result<Value, AllocError>
+fn plain_document(alloc: Global, number: u8, name: &str) -> Result<Value, NoMemory>
     ensures { IfOk result (λ v. view v ≡ plain_document number name.now) }
 {
     json!(in alloc; {"answer": "fault", "number": number, "name": name})
@@ -23,7 +24,7 @@ fn flaw_document(
     number: u8,
     name: &str,
     path: &str,
-) -> Result<Value, AllocError>
+) -> Result<Value, NoMemory>
     ensures { IfOk result (λ v. view v ≡ flaw_document file.now number name.now path.now) }
 {
     json!(in alloc; {"answer": "fault", "file": file, "number": number, "name": name, "path": path})
@@ -37,7 +38,7 @@ fn syntax_document(
     name: &str,
     path: &str,
     error: &SyntaxError,
-) -> Result<Value, AllocError>
+) -> Result<Value, NoMemory>
     ensures { IfOk result (λ v. view v ≡ syntax_document file.now number name.now path.now error.now) }
 {
     let message = error.message.as_str();
@@ -54,7 +55,7 @@ fn file_document(
     name: &str,
     path: &str,
     syntax: &Option<SyntaxError>,
-) -> Result<Value, AllocError>
+) -> Result<Value, NoMemory>
     ensures { IfOk result (λ v. view v ≡ file_document file.now number name.now path.now syntax.now) }
 {
     match syntax {
@@ -64,14 +65,14 @@ fn file_document(
 }
 
 /// The flaw of a file of events: the number and the word of its kind, and its line.
-fn events_document(alloc: Global, number: u8, name: &str, line: usize) -> Result<Value, AllocError>
+fn events_document(alloc: Global, number: u8, name: &str, line: usize) -> Result<Value, NoMemory>
     ensures { IfOk result (λ v. view v ≡ events_document number name.now line) }
 {
     json!(in alloc; {"answer": "fault", "file": "events", "number": number, "name": name, "line": line})
 }
 
 /// The document of a fault.
-fn fault_document(alloc: Global, fault: &ToolFault) -> Result<Value, AllocError>
+fn fault_document(alloc: Global, fault: &ToolFault) -> Result<Value, NoMemory>
     ensures { IfOk result (λ v. view v ≡ fault_document fault.now) }
 {
     match fault {
@@ -100,7 +101,7 @@ fn fault_document(alloc: Global, fault: &ToolFault) -> Result<Value, AllocError>
 }
 
 /// The line of a fault's document. Only want of memory is an error.
-pub fn fault_line(alloc: Global, fault: &ToolFault) -> Result<String, AllocError>
+pub fn fault_line(alloc: Global, fault: &ToolFault) -> Result<String, NoMemory>
     ensures { IfOk result (λ text. string_bytes text ≡ line_of (fault_document fault.now)) }
 {
     let document = fault_document(alloc, fault)?;

@@ -12,15 +12,15 @@ ghost use Rattle.dds_json.specs.Matching.{answer_word, match_document, named_pai
 
 use crate::line::line_of;
 use dds_answers::{Answer, ToolFault, answered, is_as_intended, read_plan};
-use dds_base::{ReaderNo, WriterNo};
+use dds_base::{NoMemory, ReaderNo, WriterNo};
 use dds_cert::naming::name_at;
 use dds_match::{Plan, WhyNot};
 use dds_show::reasons::reason_text;
 use serde_json::{Value, json};
-use std::alloc::{AllocError, Global};
+use std::alloc::Global;
 
 /// A writer and a reader that match.
-fn matching_pair(alloc: Global, writer: &str, reader: &str) -> Result<Value, AllocError>
+fn matching_pair(alloc: Global, writer: &str, reader: &str) -> Result<Value, NoMemory>
     ensures { IfOk result (λ v. view v ≡ named_pair writer.now reader.now None) }
 {
     json!(in alloc; {"writer": writer, "reader": reader, "matches": true})
@@ -32,7 +32,7 @@ fn mismatched_pair(
     writer: &str,
     reader: &str,
     reason: WhyNot,
-) -> Result<Value, AllocError>
+) -> Result<Value, NoMemory>
     ensures { IfOk result (λ v. view v ≡ named_pair writer.now reader.now (Some reason)) }
 {
     let because = reason_text(alloc, reason)?;
@@ -45,7 +45,7 @@ fn pair_document(
     plan: &Plan,
     writer: WriterNo,
     reader: ReaderNo,
-) -> Result<Value, AllocError>
+) -> Result<Value, NoMemory>
     ensures { IfOk result (λ v. view v ≡ pair_document plan.now writer reader) }
 {
     let lists = plan.lists();
@@ -64,7 +64,7 @@ fn push_writer(
     plan: &Plan,
     writer: WriterNo,
     readers: usize,
-) -> Result<(), AllocError>
+) -> Result<(), NoMemory>
     ensures { IfOk result (λ _. map view documents.new.items ≡ map view documents.old.items ++ writer_pairs plan.now readers writer) }
 {
     for r in 0..readers {
@@ -74,7 +74,7 @@ fn push_writer(
 }
 
 /// The pairs of all writers and readers, in file order.
-fn pairs_of(alloc: Global, plan: &Plan) -> Result<Vec<Value>, AllocError>
+fn pairs_of(alloc: Global, plan: &Plan) -> Result<Vec<Value>, NoMemory>
     ensures { IfOk result (λ documents. map view documents.items ≡ pairs plan.now (length plan.now.writers.entries) (length plan.now.readers.entries)) }
 {
     let writers = plan.lists().writers();
@@ -94,7 +94,7 @@ pub fn answer_word(is_yes: bool) -> &'static str
 }
 
 /// The document of a plan's pairs.
-fn match_document(alloc: Global, plan: &Plan) -> Result<Value, AllocError>
+fn match_document(alloc: Global, plan: &Plan) -> Result<Value, NoMemory>
     ensures { IfOk result (λ v. view v ≡ match_document plan.now) }
 {
     let pairs = Value::Array(pairs_of(alloc, plan)?);
@@ -103,7 +103,7 @@ fn match_document(alloc: Global, plan: &Plan) -> Result<Value, AllocError>
 }
 
 /// The line of the document of a plan's pairs.
-fn match_line(alloc: Global, plan: &Plan) -> Result<String, AllocError>
+fn match_line(alloc: Global, plan: &Plan) -> Result<String, NoMemory>
     ensures { IfOk result (λ text. string_bytes text ≡ line_of (match_document plan.now)) }
 {
     let document = match_document(alloc, plan)?;

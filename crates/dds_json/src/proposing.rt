@@ -9,25 +9,26 @@ ghost use Rattle.dds_json.specs.Proposing.{none_document, proposal_document, pro
 
 use crate::line::line_of;
 use dds_answers::{Answer, ToolFault};
+use dds_base::NoMemory;
 use serde_json::{Value, json};
-use std::alloc::{AllocError, Global};
+use std::alloc::Global;
 
 /// The document of a proposal with this text.
-fn proposal_document(alloc: Global, text: &str) -> Result<Value, AllocError>
+fn proposal_document(alloc: Global, text: &str) -> Result<Value, NoMemory>
     ensures { IfOk result (λ v. view v ≡ proposal_document text.now) }
 {
     json!(in alloc; {"answer": "yes", "certificate": text})
 }
 
 /// The document where none was found.
-fn none_document(alloc: Global) -> Result<Value, AllocError>
+fn none_document(alloc: Global) -> Result<Value, NoMemory>
     ensures { IfOk result (λ v. view v ≡ none_document) }
 {
     json!(in alloc; {"answer": "no"})
 }
 
 /// The document of what was proposed, or that nothing was.
-fn proposed_document(alloc: Global, answer: &Answer) -> Result<Value, AllocError>
+fn proposed_document(alloc: Global, answer: &Answer) -> Result<Value, NoMemory>
     ensures { IfOk result (λ v. view v ≡ proposed_document answer.now) }
 {
     if answer.is_yes {
@@ -38,7 +39,7 @@ fn proposed_document(alloc: Global, answer: &Answer) -> Result<Value, AllocError
 }
 
 /// The line of that document.
-fn proposed_line(alloc: Global, answer: &Answer) -> Result<String, AllocError>
+fn proposed_line(alloc: Global, answer: &Answer) -> Result<String, NoMemory>
     ensures { IfOk result (λ line. string_bytes line ≡ line_of (proposed_document answer.now)) }
 {
     let document = proposed_document(alloc, answer)?;

@@ -5,14 +5,15 @@ ghost use Rattle.dds_answers.specs.Structure.{nothing};
 ghost use Rattle.dds_json.specs.Checking.{refusal_document};
 
 use crate::checking::refusal_document;
+use dds_base::NoMemory;
 use dds_cert::Certificate;
 use dds_check::No;
 use dds_deploy::Deployment;
 use serde_json::Value;
-use std::alloc::{AllocError, Global};
+use std::alloc::Global;
 
 /// The document of a refusal where there is no certificate. Only want of memory is an error.
-pub fn structure_document(alloc: Global, lists: &Deployment, no: No) -> Result<Value, AllocError>
+pub fn structure_document(alloc: Global, lists: &Deployment, no: No) -> Result<Value, NoMemory>
     ensures { IfOk result (λ v. view v ≡ refusal_document lists.now nothing no None) }
 {
     let nothing = Certificate {

@@ -2,8 +2,9 @@
 ghost use Rattle.std.specs.Prelude.{◌≡◌, ◌+◌, ◌*◌, ◌<◌, ◌≤◌, ◌==◌, ◌&&◌, Bool, false, List, length, replicate, IfOk};
 ghost use Rattle.dds_match.specs.Marks.{AddsMarks, is_marked};
 
+use dds_base::NoMemory;
 use dds_base::grid::KEYS;
-use std::alloc::{AllocError, Global};
+use std::alloc::Global;
 use std::marker::Model;
 
 /// Marks at endpoints and keys: a row of 64 places for each endpoint.
@@ -25,7 +26,7 @@ impl Model for KeyTable {
 
 impl KeyTable {
     /// A table without marks, for so many endpoints, at most 256.
-    pub(crate) fn new(alloc: Global, endpoints: usize) -> Result<KeyTable, AllocError>
+    pub(crate) fn new(alloc: Global, endpoints: usize) -> Result<KeyTable, NoMemory>
         requires { endpoints ≤ 256 }
         ensures { IfOk result (λ t. t ≡ replicate (endpoints * 64) false) }
     {

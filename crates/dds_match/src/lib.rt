@@ -10,4 +10,4 @@ mod tables;
 
 pub use matching::WhyNot;
 pub use partitions::{lists_match, name_matches};
-pub use plan::{NoMemory, Plan};
+pub use plan::Plan;

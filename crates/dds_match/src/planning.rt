@@ -1,8 +1,9 @@
 //! Makes the plan of a deployment.
 ghost use Rattle.std.specs.Prelude.{◌≡◌, IfOk, IfErr};
 
-use crate::plan::{NoMemory, Plan};
+use crate::plan::Plan;
 use crate::tables::Tables;
+use dds_base::NoMemory;
 use dds_deploy::Deployment;
 use std::alloc::Global;
 

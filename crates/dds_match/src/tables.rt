@@ -10,9 +10,9 @@ ghost use Rattle.dds_match.specs.Tables.{ShowsPlan, ShowsHearing, ShowsReasons};
 
 use crate::key_table::KeyTable;
 use crate::matching::{WhyNot, why_not_by_lists};
-use dds_base::{KeyNo, Portion, ReaderNo, RuleNo, WriterNo};
+use dds_base::{KeyNo, NoMemory, Portion, ReaderNo, RuleNo, WriterNo};
 use dds_deploy::Deployment;
-use std::alloc::{AllocError, Global};
+use std::alloc::Global;
 
 /// The most readers that a deployment has: a row of the reasons has a place for each.
 pub(crate) const READERS: usize = 256;
@@ -31,7 +31,7 @@ pub(crate) struct Tables {
 }
 
 /// The reasons of all pairs.
-fn reasons_of(alloc: Global, lists: &Deployment) -> Result<Vec<Option<WhyNot>>, AllocError>
+fn reasons_of(alloc: Global, lists: &Deployment) -> Result<Vec<Option<WhyNot>>, NoMemory>
     ensures { IfOk result (λ reasons. ShowsReasons lists.now reasons.items) }
 {
     let places = lists.writers() * READERS;
@@ -204,7 +204,7 @@ fn mark_reached(
 
 impl Tables {
     /// The tables of a deployment.
-    pub(crate) fn of(alloc: Global, lists: &Deployment) -> Result<Tables, AllocError>
+    pub(crate) fn of(alloc: Global, lists: &Deployment) -> Result<Tables, NoMemory>
         ensures { IfOk result (ShowsPlan lists.now) }
     {
         let reasons = reasons_of(alloc, lists)?;

@@ -3,8 +3,7 @@ ghost use Rattle.std.specs.Prelude.{◌≡◌, Some, IsSome, IfOk, [], ◌∷◌
 ghost use Rattle.dds_peers.specs.declared.app.Act.TheVariants.{Do};
 
 use crate::diary::Diary;
-use dds_base::{AppNo, Event, Reply};
-use dds_match::NoMemory;
+use dds_base::{AppNo, Event, NoMemory, Reply};
 
 /// What an application wants next.
 #[derive(Clone, Copy, Debug, PartialEq, Eq)]

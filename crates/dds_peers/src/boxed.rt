@@ -1,8 +1,7 @@
 //! A boxed application is an application.
 use crate::app::{Act, App};
 use crate::diary::Diary;
-use dds_base::Reply;
-use dds_match::NoMemory;
+use dds_base::{NoMemory, Reply};
 
 impl App for Box<dyn App + Send> {
     ghost notes = { λ b. (App-box b).notes b.value };

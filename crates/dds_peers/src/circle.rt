@@ -3,9 +3,8 @@ ghost use Rattle.std.specs.Prelude.{◌≡◌, ◌<◌, ◌++◌, ◌==◌, ◌&
 ghost use Rattle.std.specs.List.{list_any};
 ghost use Rattle.dds_peers.specs.Steady.{all_firings, all_takes, all_writes, is_fired, is_written, takes_of, writes_of};
 
-use dds_base::{AppNo, KeyNo, Portion, ReaderNo, RuleNo, WriterNo};
+use dds_base::{AppNo, KeyNo, NoMemory, Portion, ReaderNo, RuleNo, WriterNo};
 use dds_deploy::Deployment;
-use std::alloc::AllocError;
 
 /// One thing that an application may do.
 #[derive(Clone, Copy, Debug, PartialEq, Eq)]
@@ -20,7 +19,7 @@ fn push_takes_of(
     lists: &Deployment,
     reader: ReaderNo,
     circle: &mut Vec<Step>,
-) -> Result<(), AllocError>
+) -> Result<(), NoMemory>
     requires { reader < length lists.now.readers.entries }
     ensures { IfOk result (λ _. circle.new.items ≡ circle.old.items ++ takes_of lists.now reader) }
 {
@@ -41,7 +40,7 @@ pub(crate) fn push_takes(
     lists: &Deployment,
     app: AppNo,
     circle: &mut Vec<Step>,
-) -> Result<(), AllocError>
+) -> Result<(), NoMemory>
     requires { app < length lists.now.applications.entries }
     ensures { IfOk result (λ _. circle.new.items ≡ circle.old.items ++ all_takes lists.now app) }
 {
@@ -68,7 +67,7 @@ pub(crate) fn push_firings(
     lists: &Deployment,
     app: AppNo,
     circle: &mut Vec<Step>,
-) -> Result<(), AllocError>
+) -> Result<(), NoMemory>
     ensures { IfOk result (λ _. circle.new.items ≡ circle.old.items ++ all_firings lists.now app) }
 {
     for rule in 0..lists.rules() {
@@ -108,7 +107,7 @@ fn push_writes_of(
     app: AppNo,
     writer: WriterNo,
     circle: &mut Vec<Step>,
-) -> Result<(), AllocError>
+) -> Result<(), NoMemory>
     requires { writer < length lists.now.writers.entries }
     ensures { IfOk result (λ _. circle.new.items ≡ circle.old.items ++ writes_of lists.now app writer) }
 {
@@ -128,7 +127,7 @@ pub(crate) fn push_writes(
     lists: &Deployment,
     app: AppNo,
     circle: &mut Vec<Step>,
-) -> Result<(), AllocError>
+) -> Result<(), NoMemory>
     requires { app < length lists.now.applications.entries }
     ensures { IfOk result (λ _. circle.new.items ≡ circle.old.items ++ all_writes lists.now app) }
 {

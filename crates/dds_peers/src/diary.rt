@@ -2,8 +2,7 @@
 ghost use Rattle.std.specs.Prelude.{◌≡◌, Some, None, IsSome, [], ◌∷◌, ◌++◌, OnOk, OnErr};
 ghost use Rattle.dds_peers.specs.Diary.{empty_diary};
 
-use dds_base::{Arrival, Event, Reply};
-use dds_match::NoMemory;
+use dds_base::{Arrival, Event, NoMemory, Reply};
 use std::alloc::Global;
 use std::marker::Model;
 

@@ -19,9 +19,10 @@ use crate::fates::Fates;
 use crate::player::{AppEnd, Limits, Player};
 use crate::settling::{Settled, are_fresh, settle, sit};
 use crate::threads::{Room, together};
+use dds_base::NoMemory;
 use dds_book::{Book, Gauge, GaugeSeat, Journal, Kit, Name, Seat};
 use dds_check::Checked;
-use std::alloc::{AllocError, Global};
+use std::alloc::Global;
 use std::marker::Brand;
 use std::sync::Wait;
 use std::thread::Threads;
@@ -60,7 +61,7 @@ pub enum RunFault<A: App> {
 }
 
 // The participants with their seats.
-fn carriers_of<N: Name>(alloc: Global, seats: Vec<Seat<N>>) -> Result<Vec<Carrier<N>>, AllocError>
+fn carriers_of<N: Name>(alloc: Global, seats: Vec<Seat<N>>) -> Result<Vec<Carrier<N>>, NoMemory>
     requires { All (λ s. is_participant N.plan s.number ≡ true) seats.items }
 {
     let mut carriers = Vec::with_capacity(alloc, seats.len())?;
@@ -75,7 +76,7 @@ fn opened<N: Name>(
     alloc: Global,
     kit: Kit,
     apps: usize,
-) -> Result<(Book<N>, Vec<Seat<N>>, Vec<Carrier<N>>), AllocError>
+) -> Result<(Book<N>, Vec<Seat<N>>, Vec<Carrier<N>>), NoMemory>
     requires kit { IsKitOf N.plan N.tables kit }
     requires tables { length N.tables ≡ seat_count N.plan }
     requires apps { apps ≡ length N.plan.applications.entries }
@@ -85,12 +86,12 @@ fn opened<N: Name>(
         Ok(opened) => opened,
         Err((_, kit)) => {
             drop(kit);
-            return Err(AllocError);
+            return Err(NoMemory);
         }
     };
     let Ok(others) = seats.split_off(apps) else {
         drop(book);
-        return Err(AllocError);
+        return Err(NoMemory);
     };
     match carriers_of(alloc, others) {
         Ok(carriers) => Ok((book, seats, carriers)),
@@ -113,7 +114,7 @@ fn threads_room<A: App, N: Name>(
     alloc: Global,
     apps: usize,
     participants: usize,
-) -> Result<Room<A, N>, AllocError>
+) -> Result<Room<A, N>, NoMemory>
     ensures empty { IfOk result (λ r. (r.playing.items ≡ []) × (r.done.items ≡ []) × (vec_len r.carrying ≡ 0)) }
     ensures room { IfOk result (λ r. (apps ≤ vec_capacity r.playing) × (apps ≤ vec_capacity r.done) × (participants ≤ vec_capacity r.carrying)) }
 {
@@ -124,7 +125,7 @@ fn threads_room<A: App, N: Name>(
     })
 }
 
-fn settled_room<A: App, N: Name>(alloc: Global, apps: usize) -> Result<Settled<A, N>, AllocError>
+fn settled_room<A: App, N: Name>(alloc: Global, apps: usize) -> Result<Settled<A, N>, NoMemory>
     ensures empty { IfOk result (λ r. (r.apps.items ≡ []) × (r.ends.items ≡ []) × (r.counts.items ≡ []) × (r.seats.items ≡ [])) }
     ensures room { IfOk result (λ r. (apps ≤ vec_capacity r.apps) × (apps ≤ vec_capacity r.ends) × (apps ≤ vec_capacity r.counts) × (apps ≤ vec_capacity r.seats)) }
 {
@@ -141,7 +142,7 @@ fn rooms_for<A: App, N: Name>(
     alloc: Global,
     apps: usize,
     participants: usize,
-) -> Result<Rooms<A, N>, AllocError>
+) -> Result<Rooms<A, N>, NoMemory>
     ensures players { IfOk result (λ r. (r.players.items ≡ []) × (apps ≤ vec_capacity r.players)) }
     ensures threads_empty { IfOk result (λ r. (r.threads.playing.items ≡ []) × (r.threads.done.items ≡ []) × (vec_len r.threads.carrying ≡ 0)) }
     ensures threads_room { IfOk result (λ r. (apps ≤ vec_capacity r.threads.playing) × (apps ≤ vec_capacity r.threads.done) × (participants ≤ vec_capacity r.threads.carrying)) }

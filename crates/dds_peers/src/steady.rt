@@ -5,9 +5,9 @@ ghost use Rattle.dds_peers.specs.Steady.{IsNext, all_writes, circle_of, counted,
 use crate::app::{Act, App};
 use crate::circle::{Step, push_firings, push_takes, push_writes};
 use crate::diary::Diary;
-use dds_base::{AppNo, Data, Event, Reply};
-use dds_match::{NoMemory, Plan};
-use std::alloc::{AllocError, Global};
+use dds_base::{AppNo, Data, Event, NoMemory, Reply};
+use dds_match::Plan;
+use std::alloc::Global;
 use std::marker::Model;
 
 /// An application that goes in a circle: it takes at each of its readers and keys, fires each of its rules that needs takes, and writes each key that
@@ -152,7 +152,7 @@ impl App for Steady {
 }
 
 // The circle of an application, and whether it writes something.
-fn circle_of(alloc: Global, plan: &Plan, app: AppNo) -> Result<(Vec<Step>, bool), AllocError>
+fn circle_of(alloc: Global, plan: &Plan, app: AppNo) -> Result<(Vec<Step>, bool), NoMemory>
     requires { app < length plan.now.applications.entries }
     ensures circle { IfOk result (λ r. r.0.items ≡ circle_of plan.now app) }
     ensures writes { IfOk result (λ r. (count : ℕ) → wanted (all_writes plan.now app) count ≡ (if r.1 then count else 0)) }

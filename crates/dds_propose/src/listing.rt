@@ -7,17 +7,17 @@ ghost use Rattle.dds_propose.specs.Tables.{cell, row_of};
 
 use crate::weights::{Table, Weights};
 use dds_base::grid::KEYS;
-use dds_base::{Endpoint, KeyNo, ReaderNo, WriterNo};
+use dds_base::{Endpoint, KeyNo, NoMemory, ReaderNo, WriterNo};
 use dds_cert::{Row, Weight};
 use dds_match::Plan;
-use std::alloc::{AllocError, Global};
+use std::alloc::Global;
 
 /// Adds the weights of an endpoint's keys, in the order of the topic, without zeros.
 fn add_weights<E: Endpoint>(
     list: &mut Vec<Weight<E>>,
     table: &Table,
     endpoint: E,
-) -> Result<(), AllocError>
+) -> Result<(), NoMemory>
     ensures { IfOk result (λ _. list.new.items ≡ list.old.items ++ entries_of endpoint (cell table.now (E.number_of endpoint)) 64) }
 {
     for k in 0..KEYS {
@@ -39,7 +39,7 @@ fn reader_weights(
     alloc: Global,
     plan: &Plan,
     table: &Table,
-) -> Result<Vec<Weight<ReaderNo>>, AllocError>
+) -> Result<Vec<Weight<ReaderNo>>, NoMemory>
     ensures { IfOk result (λ list. list.items ≡ entries (cell table.now) (network_of plan.now).readers) }
 {
     let mut list = Vec::new(alloc);
@@ -54,7 +54,7 @@ fn writer_weights(
     alloc: Global,
     plan: &Plan,
     table: &Table,
-) -> Result<Vec<Weight<WriterNo>>, AllocError>
+) -> Result<Vec<Weight<WriterNo>>, NoMemory>
     ensures { IfOk result (λ list. list.items ≡ entries (cell table.now) (network_of plan.now).writers) }
 {
     let mut list = Vec::new(alloc);
@@ -70,7 +70,7 @@ pub(crate) fn listed_row(
     plan: &Plan,
     place: usize,
     weights: &Weights,
-) -> Result<Row, AllocError>
+) -> Result<Row, NoMemory>
     ensures { IfOk result (λ made. row_view made ≡ listed (network_of plan.now) place (row_of weights.now)) }
 {
     Ok(Row {

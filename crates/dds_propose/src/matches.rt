@@ -3,9 +3,9 @@ ghost use Rattle.std.specs.Prelude.{◌≡◌, IfOk};
 ghost use Rattle.dds_match.specs.Plan.{network_of};
 ghost use Rattle.dds_propose.specs.Matches.{matched_writers, writers_at, ShowsMatches};
 
-use dds_base::{ReaderNo, WriterNo};
+use dds_base::{NoMemory, ReaderNo, WriterNo};
 use dds_match::Plan;
-use std::alloc::{AllocError, Global};
+use std::alloc::Global;
 
 /// The writers that match each reader, in file order.
 #[derive(Drop)]
@@ -14,7 +14,7 @@ pub(crate) struct Matches {
 }
 
 /// The writers that match a reader.
-fn writers_of(alloc: Global, plan: &Plan, reader: ReaderNo) -> Result<Vec<WriterNo>, AllocError>
+fn writers_of(alloc: Global, plan: &Plan, reader: ReaderNo) -> Result<Vec<WriterNo>, NoMemory>
     ensures { IfOk result (λ list. list.items ≡ matched_writers (network_of plan.now) reader) }
 {
     let mut writers = Vec::new(alloc);
@@ -29,7 +29,7 @@ fn writers_of(alloc: Global, plan: &Plan, reader: ReaderNo) -> Result<Vec<Writer
 
 impl Matches {
     /// The matches of a plan.
-    pub(crate) fn of(alloc: Global, plan: &Plan) -> Result<Matches, AllocError>
+    pub(crate) fn of(alloc: Global, plan: &Plan) -> Result<Matches, NoMemory>
         ensures { IfOk result (ShowsMatches (network_of plan.now)) }
     {
         let mut writers = Vec::new(alloc);

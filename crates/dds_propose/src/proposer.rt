@@ -15,10 +15,11 @@ use crate::listing::listed_row;
 use crate::matches::Matches;
 use crate::rounds::row_weights;
 use crate::targets::{Target, targets};
+use dds_base::NoMemory;
 use dds_cert::{Bound, Certificate, Total};
 use dds_check::accepts::accepts;
-use dds_match::{NoMemory, Plan};
-use std::alloc::{AllocError, Global};
+use dds_match::Plan;
+use std::alloc::Global;
 
 /// The most rows that a certificate has.
 const ROWS: usize = 64;
@@ -29,7 +30,7 @@ fn add_bound(
     target: &Target,
     row: usize,
     bound: u32,
-) -> Result<(), AllocError>
+) -> Result<(), NoMemory>
     ensures rows { IfOk result (λ _. certificate.new.rows ≡ certificate.old.rows) }
     ensures bounds { IfOk result (λ _. certificate.new.bounds.items ≡ certificate.old.bounds.items ++ bound_entry target.now row bound) }
     ensures totals { IfOk result (λ _. certificate.new.totals.items ≡ certificate.old.totals.items ++ total_entry target.now row bound) }
@@ -58,7 +59,7 @@ fn add_target(
     matches: &Matches,
     certificate: &mut Certificate,
     target: &Target,
-) -> Result<bool, AllocError>
+) -> Result<bool, NoMemory>
     requires matches { ShowsMatches (network_of plan.now) matches.now }
     requires reached { IsReached (network_of plan.now) target.now }
     ensures { IfOk result (λ added. added ≡ true → AddsTarget (network_of plan.now) target.now (certificate_view certificate.old) (certificate_view certificate.new)) }
@@ -79,7 +80,7 @@ fn add_target(
 
 /// A certificate that may be accepted, with a row and a bound for each target. `None` where there are more than 64 targets, or one has no
 /// row or no bound.
-fn candidate(alloc: Global, plan: &Plan) -> Result<Option<Certificate>, AllocError>
+fn candidate(alloc: Global, plan: &Plan) -> Result<Option<Certificate>, NoMemory>
     ensures { IfOk result (λ made. IfSome made (λ c. IsProposal (network_of plan.now) (certificate_view c))) }
 {
     let targets = targets(alloc, plan)?;

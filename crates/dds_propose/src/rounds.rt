@@ -15,10 +15,10 @@ use crate::matches::Matches;
 use crate::targets::Target;
 use crate::weights::Weights;
 use dds_base::grid::KEYS;
-use dds_base::{KeyNo, ReaderNo, RuleNo, WriterNo};
+use dds_base::{KeyNo, NoMemory, ReaderNo, RuleNo, WriterNo};
 use dds_deploy::Rule;
 use dds_match::Plan;
-use std::alloc::{AllocError, Global};
+use std::alloc::Global;
 
 /// What a sample of a target weighs at the start: it is divided by each number up to 10.
 const UNIT: u32 = 5040;
@@ -264,7 +264,7 @@ fn come_to_rest(
 }
 
 /// The weights before the first round: the samples of the target weigh a unit.
-fn opening_weights(alloc: Global, plan: &Plan, target: &Target) -> Result<Weights, AllocError>
+fn opening_weights(alloc: Global, plan: &Plan, target: &Target) -> Result<Weights, NoMemory>
     requires { IsReached (network_of plan.now) target.now }
     ensures made { IfOk result (IsMade (network_of plan.now) target.now) }
     ensures opened { IfOk result (λ weights. IsSame (row_of weights) (opening (network_of plan.now) target.now)) }
@@ -289,7 +289,7 @@ pub(crate) fn row_weights(
     plan: &Plan,
     matches: &Matches,
     target: &Target,
-) -> Result<Option<Weights>, AllocError>
+) -> Result<Option<Weights>, NoMemory>
     requires matches { ShowsMatches (network_of plan.now) matches.now }
     requires reached { IsReached (network_of plan.now) target.now }
     ensures { IfOk result (λ made. IfSome made (λ weights. IsRest (network_of plan.now) target.now (row_of weights))) }

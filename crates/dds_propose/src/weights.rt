@@ -5,8 +5,8 @@ ghost use Rattle.dds_propose.specs.Following.{IsZero};
 ghost use Rattle.dds_propose.specs.Tables.{cell, is_place};
 
 use dds_base::grid::{ENDPOINTS, KEYS, PLACES};
-use dds_base::{Endpoint, KeyNo, Portion, ReaderNo, WriterNo};
-use std::alloc::{AllocError, Global};
+use dds_base::{Endpoint, KeyNo, NoMemory, Portion, ReaderNo, WriterNo};
+use std::alloc::Global;
 use std::marker::Model;
 
 /// A number for each key of each endpoint of one kind, 0 to 4,294,967,295.
@@ -28,7 +28,7 @@ impl Model for Table {
 impl Table {
     /// The table of zeros.
     #[tactic(auto, unfolding(crate::specs::Tables::cell))]
-    fn zero(alloc: Global) -> Result<Table, AllocError>
+    fn zero(alloc: Global) -> Result<Table, NoMemory>
         ensures { IfOk result (λ t. (e k : ℕ) → cell t e k ≡ 0) }
     {
         let cells = vec![in alloc; 0; PLACES]?;
@@ -89,7 +89,7 @@ pub(crate) struct Weights {
 
 impl Weights {
     /// All weights are 0.
-    pub(crate) fn zero(alloc: Global) -> Result<Weights, AllocError>
+    pub(crate) fn zero(alloc: Global) -> Result<Weights, NoMemory>
         ensures { IfOk result IsZero }
     {
         Ok(Weights {

@@ -14,10 +14,10 @@ ghost use Rattle.dds_reader.specs.Marks.{in_marks, has_marks, is_wanted, AddsMar
 ghost use Rattle.dds_reader.specs.Ranges.{is_between, IsLeastUnmarked, OnlyNumbers};
 
 use crate::ranges::Ranges;
-use dds_base::{GapMsg, Sample, SnSet, WriterNo};
+use dds_base::{GapMsg, NoMemory, Sample, SnSet, WriterNo};
 use dds_cache::Cache;
 use dds_qos::Admit;
-use std::alloc::{AllocError, Global};
+use std::alloc::Global;
 use std::collections::BTreeMap;
 use std::marker::Model;
 
@@ -42,7 +42,7 @@ impl Model for Marks {
 
 impl Marks {
     // No number of these writers is marked.
-    pub(crate) fn new(alloc: Global, writers: &[WriterNo]) -> Result<Marks, AllocError>
+    pub(crate) fn new(alloc: Global, writers: &[WriterNo]) -> Result<Marks, NoMemory>
         ensures unmarked { IfOk result (λ m. (w n : ℕ) → in_marks m w n ≡ false) }
         ensures writers { IfOk result (λ m. (w : ℕ) → has_marks w m ≡ list_any (λ v. v == w) writers.now) }
     {
@@ -83,7 +83,7 @@ impl Marks {
         writer: WriterNo,
         from: u64,
         until: u64,
-    ) -> Result<u64, AllocError>
+    ) -> Result<u64, NoMemory>
         requires listed { IsTrue (has_marks writer self.old) }
         requires low { 1 ≤ from }
         ensures marks { OnOk result (AddsMarks (in_marks self.old) (in_marks self.new) writer (is_between from until)) }
@@ -98,7 +98,7 @@ impl Marks {
     }
 
     // Marks the numbers that a GAP covers, and counts those that were not marked.
-    pub(crate) fn mark_gap(&mut self, gap: &GapMsg) -> Result<u64, AllocError>
+    pub(crate) fn mark_gap(&mut self, gap: &GapMsg) -> Result<u64, NoMemory>
         requires { IsTrue (has_marks gap.now.writer self.old) }
         ensures marks { OnOk result (AddsMarks (in_marks self.old) (in_marks self.new) gap.now.writer (covers gap.now)) }
         ensures count { IfOk result (λ gone. gone ≡ gap_count (in_marks self.old gap.now.writer) gap.now) }
@@ -119,7 +119,7 @@ impl Marks {
         from: u64,
         sample: &Sample,
         cache: &mut Cache,
-    ) -> Result<Admit, AllocError>
+    ) -> Result<Admit, NoMemory>
         requires known { IsTrue (has_marks sample.now.writer self.old) }
         requires listed { IsTrue (is_listed sample.now.writer cache.old.writers) }
         requires fresh { IsFresh cache.old.stored sample.now }

@@ -6,8 +6,8 @@ ghost use Rattle.dds_base.specs.Numbered.{AreRising};
 ghost use Rattle.dds_base.specs.Sets.{last_number};
 ghost use Rattle.dds_reader.specs.Notes.{has_writer, heard_in, hears, hears_one, opened, owes_in, pays, pays_one};
 
-use dds_base::{Numbered, WriterNo, place_of};
-use std::alloc::{AllocError, Global};
+use dds_base::{NoMemory, Numbered, WriterNo, place_of};
+use std::alloc::Global;
 
 /// What a reader notes of one of its writers (DDSI-RTPS 2.5, clause 8.4.10.4), its marks aside.
 #[derive(Clone, Copy, Debug, PartialEq, Eq)]
@@ -28,7 +28,7 @@ impl Numbered for WriterProxy {
 }
 
 // The notes of writers of which nothing is heard.
-pub(crate) fn opened(alloc: Global, writers: &[WriterNo]) -> Result<Vec<WriterProxy>, AllocError>
+pub(crate) fn opened(alloc: Global, writers: &[WriterNo]) -> Result<Vec<WriterProxy>, NoMemory>
     ensures { IfOk result (λ v. v.items ≡ opened writers.now) }
 {
     let mut proxies = Vec::with_capacity(alloc, writers.len())?;

@@ -14,10 +14,10 @@ ghost use Rattle.dds_qos.specs.Samples.{IsFresh};
 ghost use Rattle.dds_cache.specs.Released.{is_listed};
 ghost use Rattle.dds_reader.specs.Ranges.{at, has, is_between, IsAbove, IsAbsorbed, IsApart, IsFirstIn, IsFree, IsLastUpTo, IsLeastUnmarked, NoneIn, OnlyNumbers};
 
-use dds_base::{GapMsg, Sample, SnSet};
+use dds_base::{GapMsg, NoMemory, Sample, SnSet};
 use dds_cache::Cache;
 use dds_qos::Admit;
-use std::alloc::{AllocError, Global};
+use std::alloc::Global;
 use std::collections::BTreeMap;
 use std::ops::Bound;
 
@@ -90,7 +90,7 @@ impl Ranges {
     }
 
     // The same numbers, in memory of their own.
-    fn try_clone(&self) -> Result<Ranges, AllocError>
+    fn try_clone(&self) -> Result<Ranges, NoMemory>
         ensures { IfOk result (λ r. (n : ℕ) → has r.base r.above n ≡ has self.now.base self.now.above n) }
     {
         Ok(Ranges {
@@ -121,7 +121,7 @@ impl Ranges {
 
     // Marks the numbers from one to another less one, and counts those that were not marked. It needs no memory where the first is not
     // above the base or joins a range.
-    pub(crate) fn mark(&mut self, from: u64, until: u64) -> Result<u64, AllocError>
+    pub(crate) fn mark(&mut self, from: u64, until: u64) -> Result<u64, NoMemory>
         requires { 1 ≤ from }
         ensures marks { OnOk result ((n : ℕ) → has self.new.base self.new.above n ≡ (has self.old.base self.old.above n || is_between from until n)) }
         ensures count { IfOk result (λ k. k ≡ count_between (λ n. not (has self.old.base self.old.above n)) from until) }
@@ -176,7 +176,7 @@ impl Ranges {
         from: u64,
         sample: &Sample,
         cache: &mut Cache,
-    ) -> Result<Admit, AllocError>
+    ) -> Result<Admit, NoMemory>
         requires listed { IsTrue (is_listed sample.now.writer cache.old.writers) }
         requires fresh { IsFresh cache.old.stored sample.now }
         requires accepted { is_rejected (admission cache.old.limits cache.old.stored cache.old.keys sample.now) ≡ false }
@@ -203,7 +203,7 @@ impl Ranges {
         self.above.insert(from, until)?;
         let Ok(answer) = cache.admit(*sample) else {
             self.above.remove(&from);
-            return Err(AllocError);
+            return Err(NoMemory);
         };
         let (end, _) = absorb(&mut self.above, from, from, until);
         self.above.insert(from, end)?;
@@ -211,7 +211,7 @@ impl Ranges {
     }
 
     // Marks a number where the set has it, and counts it where it was not marked: 1, or 0.
-    fn mark_one(&mut self, set: &SnSet, n: u64) -> Result<u64, AllocError>
+    fn mark_one(&mut self, set: &SnSet, n: u64) -> Result<u64, NoMemory>
         requires { 1 ≤ n }
         ensures marks { OnOk result ((m : ℕ) → has self.new.base self.new.above m ≡ (has self.old.base self.old.above m || (has_number set.now m && (m == n)))) }
         ensures count { IfOk result (λ k. k ≡ cond (has_number set.now n && not (has self.old.base self.old.above n)) 1 0) }
@@ -225,7 +225,7 @@ impl Ranges {
     }
 
     // Marks the numbers of a set, and counts those that were not marked. Where it fails, some may be marked.
-    fn mark_set(&mut self, set: &SnSet) -> Result<u64, AllocError>
+    fn mark_set(&mut self, set: &SnSet) -> Result<u64, NoMemory>
         ensures marks { OnOk result ((n : ℕ) → has self.new.base self.new.above n ≡ (has self.old.base self.old.above n || has_number set.now n)) }
         ensures count { IfOk result (λ k. k ≡ count_between (λ m. has_number set.now m && not (has self.old.base self.old.above m)) set.now.base (set.now.base + 256)) }
         ensures small { IfOk result (λ k. k ≤ 256) }
@@ -241,7 +241,7 @@ impl Ranges {
 
     // Marks the numbers that a GAP covers, and counts those that were not marked. It marks them on a copy, so that none is marked where
     // it fails.
-    pub(crate) fn mark_gap(&mut self, gap: &GapMsg) -> Result<u64, AllocError>
+    pub(crate) fn mark_gap(&mut self, gap: &GapMsg) -> Result<u64, NoMemory>
         ensures marks { OnOk result ((n : ℕ) → has self.new.base self.new.above n ≡ (has self.old.base self.old.above n || covers gap.now n)) }
         ensures count { IfOk result (λ k. k ≡ gap_count (has self.old.base self.old.above) gap.now) }
         ensures numbers { OnOk result (OnlyNumbers (covers gap.now)) }

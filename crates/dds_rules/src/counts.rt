@@ -2,7 +2,8 @@
 ghost use Rattle.std.specs.Prelude.{◌≡◌, ◌+◌, ◌*◌, ◌<◌, ◌≤◌, ◌^◌, IfOk};
 ghost use Rattle.dds_rules.specs.Counts.{IsMoreBy, count_at, no_counts, only_at};
 
-use std::alloc::{AllocError, Global};
+use dds_base::NoMemory;
+use std::alloc::Global;
 use std::marker::Model;
 
 /// The most keys that a topic has.
@@ -28,7 +29,7 @@ impl Model for Counts {
 
 impl Counts {
     /// A table for so many endpoints, at most 256, in which each count is 0.
-    pub(crate) fn new(alloc: Global, endpoints: usize) -> Result<Counts, AllocError>
+    pub(crate) fn new(alloc: Global, endpoints: usize) -> Result<Counts, NoMemory>
         requires { endpoints ≤ 256 }
         ensures { IfOk result (λ t. t ≡ no_counts endpoints) }
     {

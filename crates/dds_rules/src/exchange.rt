@@ -7,9 +7,9 @@ ghost use Rattle.dds_rules.specs.Counts.{IsMoreBy, count_at};
 ghost use Rattle.dds_rules.specs.Exchange.{HasPlace, IsAlone, IsPlaced, exchange_of, lacks_room, lacks_takes};
 
 use crate::counts::Counts;
-use dds_base::{Portion, ReaderNo, WriterNo};
+use dds_base::{NoMemory, Portion, ReaderNo, WriterNo};
 use dds_deploy::Rule;
-use std::alloc::{AllocError, Global};
+use std::alloc::Global;
 use std::marker::Model;
 
 /// What a rule takes, and what it may write after that.
@@ -29,7 +29,7 @@ impl Model for Exchange {
 
 impl Exchange {
     /// The exchange of a rule.
-    pub(crate) fn of(alloc: Global, rule: &Rule) -> Result<Exchange, AllocError>
+    pub(crate) fn of(alloc: Global, rule: &Rule) -> Result<Exchange, NoMemory>
         ensures { IfOk result (λ x. x ≡ exchange_of (rule_view rule.now)) }
     {
         let takes = Vec::from_slice(alloc, &rule.takes)?;

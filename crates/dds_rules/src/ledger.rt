@@ -15,10 +15,10 @@ ghost use Rattle.dds_rules.specs.Standing.{Makes, StandsFor};
 use crate::counts::Counts;
 use crate::exchange::{Exchange, give, lacks_room, lacks_takes, spend};
 use crate::refused::{CountLimit, FireRefused, NoPermit};
-use dds_base::{KeyNo, ReaderNo, RuleNo, WriterNo};
+use dds_base::{KeyNo, NoMemory, ReaderNo, RuleNo, WriterNo};
 use dds_deploy::Deployment;
-use dds_match::{NoMemory, Plan};
-use std::alloc::{AllocError, Global};
+use dds_match::Plan;
+use std::alloc::Global;
 use std::marker::Model;
 
 /// The permits of each writer and key, and the unspent takes of each reader and key.
@@ -42,7 +42,7 @@ impl Model for Ledger {
 }
 
 /// What each rule takes and writes.
-fn exchanges_of(alloc: Global, lists: &Deployment) -> Result<Vec<Exchange>, AllocError>
+fn exchanges_of(alloc: Global, lists: &Deployment) -> Result<Vec<Exchange>, NoMemory>
     ensures { IfOk result (λ v. v.items ≡ map exchange_of lists.now.rules.entries) }
 {
     let mut exchanges = Vec::with_capacity(alloc, lists.rules())?;
@@ -67,7 +67,7 @@ fn give_starts(permits: &mut Counts, lists: &Deployment)
 }
 
 /// The ledger of a deployment at its opening.
-fn opened(alloc: Global, lists: &Deployment) -> Result<Ledger, AllocError>
+fn opened(alloc: Global, lists: &Deployment) -> Result<Ledger, NoMemory>
     requires { IsNetwork (network_of lists.now) }
     ensures rules { IfOk result (IsLedgerOf (network_of lists.now)) }
     ensures permits { IfOk result (λ l. (w k : ℕ) → count_at l.permits w k ≡ opening_permits (network_of lists.now) w k) }
@@ -94,11 +94,7 @@ impl Ledger {
         ensures permits { IfOk result (λ l. (w k : ℕ) → count_at l.permits w k ≡ opening_permits (network_of plan.now) w k) }
         ensures spare { IfOk result (λ l. (r k : ℕ) → count_at l.spare r k ≡ 0) }
     {
-        let lists = plan.lists();
-        match opened(alloc, lists) {
-            Ok(ledger) => Ok(ledger),
-            Err(_) => Err(NoMemory),
-        }
+        opened(alloc, plan.lists())
     }
 
     /// A reader took a sample of a key: one more unspent take. `CountLimit` where 2^64 - 1 takes are unspent; then nothing changes.

@@ -5,9 +5,9 @@ use crate::limits::Limited;
 use crate::lists::push;
 use crate::rows::{Entry, merged};
 use crate::weights::WeighedRow;
-use dds_base::{KeyNo, ReaderNo};
+use dds_base::{KeyNo, NoMemory, ReaderNo};
 use dds_propose::targets::Target;
-use std::alloc::{AllocError, Global};
+use std::alloc::Global;
 
 /// The rows and the bounds so far.
 #[derive(Drop)]
@@ -17,7 +17,7 @@ pub(crate) struct Collected {
 }
 
 /// A copy of a limit.
-fn copied(alloc: Global, limited: &Limited) -> Result<Limited, AllocError> {
+fn copied(alloc: Global, limited: &Limited) -> Result<Limited, NoMemory> {
     Ok(Limited {
         target: limited.target,
         places: limited.places.to_vec(alloc)?,
@@ -43,7 +43,7 @@ impl Collected {
     }
 
     /// Adds the row of a limit and the bound that it shows.
-    fn add(&mut self, limited: Limited, row: WeighedRow, bound: u32) -> Result<(), AllocError> {
+    fn add(&mut self, limited: Limited, row: WeighedRow, bound: u32) -> Result<(), NoMemory> {
         let row = merged(&mut self.rows, row)?;
         let entry = Entry {
             limited,
@@ -67,7 +67,7 @@ impl Collected {
         climber: &mut Climber,
         place: usize,
         left: u32,
-    ) -> Result<Option<u32>, AllocError> {
+    ) -> Result<Option<u32>, NoMemory> {
         let Some(known) = climber.net.places.get(place) else {
             return Ok(None);
         };
@@ -97,7 +97,7 @@ impl Collected {
         alloc: Global,
         climber: &mut Climber,
         limited: &Limited,
-    ) -> Result<bool, AllocError> {
+    ) -> Result<bool, NoMemory> {
         let mut left = limited.limit;
         for place in &limited.places {
             match self.add_part(alloc, climber, *place, left)? {
@@ -115,7 +115,7 @@ impl Collected {
         alloc: Global,
         climber: &mut Climber,
         limited: &Limited,
-    ) -> Result<Option<Attempt>, AllocError> {
+    ) -> Result<Option<Attempt>, NoMemory> {
         let attempt = match climber.attempt(alloc, &limited.places, limited.limit)? {
             Attempt::Row { row, bound } if bound <= limited.limit => {
                 self.add(copied(alloc, limited)?, row, bound)?;

@@ -1,7 +1,7 @@
 //! What was written and what came where, while a run is made: for each writer the keys of its samples in order, and for each pair the next number to come.
 
-use dds_base::{KeyNo, ReaderNo, WriterNo};
-use std::alloc::{AllocError, Global};
+use dds_base::{KeyNo, NoMemory, ReaderNo, WriterNo};
+use std::alloc::Global;
 
 /// The samples that were written, and how far each pair has come. Numbers begin at 1.
 #[derive(Drop)]
@@ -19,11 +19,11 @@ impl History {
         alloc: Global,
         writers: usize,
         readers: usize,
-    ) -> Result<History, AllocError> {
+    ) -> Result<History, NoMemory> {
         let mut written = Vec::new(alloc);
         for _ in 0..writers {
             if written.push(Vec::new(alloc)).is_err() {
-                return Err(AllocError);
+                return Err(NoMemory);
             }
         }
         Ok(History {
@@ -34,7 +34,7 @@ impl History {
     }
 
     /// Adds a sample of a key.
-    pub(crate) fn write(&mut self, writer: WriterNo, key: KeyNo) -> Result<(), AllocError> {
+    pub(crate) fn write(&mut self, writer: WriterNo, key: KeyNo) -> Result<(), NoMemory> {
         if let Some(keys) = self.written.get_mut(writer.number()) {
             keys.push(key)?;
         }

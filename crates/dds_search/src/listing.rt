@@ -8,17 +8,17 @@ use crate::outlets::Outlet;
 use crate::places::Place;
 use crate::rows::Entry;
 use crate::weights::{WeighedRow, permit};
-use dds_base::{ReaderNo, WriterNo};
+use dds_base::{NoMemory, ReaderNo, WriterNo};
 use dds_cert::{Bound, Certificate, Row, Total, Weight};
 use dds_propose::targets::Target;
-use std::alloc::{AllocError, Global};
+use std::alloc::Global;
 
 /// What a place's tokens weigh, listed where that is above 0.
 fn push_weight(
     list: &mut Vec<Weight<ReaderNo>>,
     place: &Place,
     weight: u32,
-) -> Result<(), AllocError> {
+) -> Result<(), NoMemory> {
     if weight > 0 {
         list.push(Weight {
             endpoint: place.reader,
@@ -34,7 +34,7 @@ fn samples(
     alloc: Global,
     net: &Net,
     row: &WeighedRow,
-) -> Result<Vec<Weight<ReaderNo>>, AllocError> {
+) -> Result<Vec<Weight<ReaderNo>>, NoMemory> {
     let mut list = Vec::new(alloc);
     for number in 0..net.places.len() {
         push_weight(&mut list, &net.places[number], row.weight(number))?;
@@ -43,7 +43,7 @@ fn samples(
 }
 
 /// The weights of the takes: of the tokens of each place that a rule needs.
-fn takes(alloc: Global, net: &Net, row: &WeighedRow) -> Result<Vec<Weight<ReaderNo>>, AllocError> {
+fn takes(alloc: Global, net: &Net, row: &WeighedRow) -> Result<Vec<Weight<ReaderNo>>, NoMemory> {
     let mut list = Vec::new(alloc);
     for number in 0..net.places.len() {
         if !net.places[number].users.is_empty() {
@@ -58,7 +58,7 @@ fn push_permit(
     list: &mut Vec<Weight<WriterNo>>,
     outlet: &Outlet,
     weight: u64,
-) -> Result<(), AllocError> {
+) -> Result<(), NoMemory> {
     if let Ok(weight) = u32::try_from(weight) {
         if weight > 0 {
             list.push(Weight {
@@ -76,7 +76,7 @@ fn permits(
     alloc: Global,
     net: &Net,
     row: &WeighedRow,
-) -> Result<Vec<Weight<WriterNo>>, AllocError> {
+) -> Result<Vec<Weight<WriterNo>>, NoMemory> {
     let mut list = Vec::new(alloc);
     for outlet in &net.outlets {
         push_permit(&mut list, outlet, permit(outlet, &row.weights))?;
@@ -85,7 +85,7 @@ fn permits(
 }
 
 /// A row as a certificate lists it, by its place in the certificate, from 0.
-fn listed(alloc: Global, net: &Net, place: usize, row: &WeighedRow) -> Result<Row, AllocError> {
+fn listed(alloc: Global, net: &Net, place: usize, row: &WeighedRow) -> Result<Row, NoMemory> {
     Ok(Row {
         name: format!(in alloc; "w{place}")?,
         samples: samples(alloc, net, row)?,
@@ -100,7 +100,7 @@ fn rows_of(
     net: &Net,
     rows: &[WeighedRow],
     chosen: &[usize],
-) -> Result<Vec<Row>, AllocError> {
+) -> Result<Vec<Row>, NoMemory> {
     let mut list = Vec::new(alloc);
     for place in 0..chosen.len() {
         if let Some(row) = rows.get(chosen[place]) {
@@ -111,7 +111,7 @@ fn rows_of(
 }
 
 /// The bounds of keys.
-fn bounds_of(alloc: Global, entries: &[Entry]) -> Result<Vec<Bound>, AllocError> {
+fn bounds_of(alloc: Global, entries: &[Entry]) -> Result<Vec<Bound>, NoMemory> {
     let mut list = Vec::new(alloc);
     for entry in entries {
         if let Target::Instance { reader, key } = entry.limited.target {
@@ -127,7 +127,7 @@ fn bounds_of(alloc: Global, entries: &[Entry]) -> Result<Vec<Bound>, AllocError>
 }
 
 /// The totals of readers.
-fn totals_of(alloc: Global, entries: &[Entry]) -> Result<Vec<Total>, AllocError> {
+fn totals_of(alloc: Global, entries: &[Entry]) -> Result<Vec<Total>, NoMemory> {
     let mut list = Vec::new(alloc);
     for entry in entries {
         if let Target::Reader(reader) = entry.limited.target {
@@ -148,7 +148,7 @@ pub(crate) fn certificate_of(
     rows: &[WeighedRow],
     chosen: &[usize],
     entries: &[Entry],
-) -> Result<Certificate, AllocError> {
+) -> Result<Certificate, NoMemory> {
     Ok(Certificate {
         rows: rows_of(alloc, net, rows, chosen)?,
         bounds: bounds_of(alloc, entries)?,
@@ -163,7 +163,7 @@ pub(crate) fn claim(
     target: &Target,
     row: &WeighedRow,
     bound: u32,
-) -> Result<Certificate, AllocError>
+) -> Result<Certificate, NoMemory>
     ensures bounds { IfOk result (λ c. c.bounds.items ≡ bound_entry target.now 0 bound) }
     ensures totals { IfOk result (λ c. c.totals.items ≡ total_entry target.now 0 bound) }
 {

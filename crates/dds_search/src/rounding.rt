@@ -4,7 +4,8 @@ use crate::firings::{Change, Firing};
 use crate::net::Net;
 use crate::outlets::Outlet;
 use crate::weights::{WeighedRow, weighed};
-use std::alloc::{AllocError, Global};
+use dds_base::NoMemory;
+use std::alloc::Global;
 
 /// How often the scale is halved. Each halving leaves more room for the weights to rise.
 const SCALES: u32 = 24;
@@ -53,7 +54,7 @@ fn scaled(
     values: &[i128],
     scale: u32,
     greatest: i128,
-) -> Result<Option<Vec<u32>>, AllocError> {
+) -> Result<Option<Vec<u32>>, NoMemory> {
     let mut weights = Vec::new(alloc);
     for value in values {
         let Some(weight) = scaled_value(*value, scale, greatest) else {
@@ -150,7 +151,7 @@ impl<'a> Rounding<'a> {
         alloc: Global,
         scale: u32,
         greatest: i128,
-    ) -> Result<Option<WeighedRow>, AllocError> {
+    ) -> Result<Option<WeighedRow>, NoMemory> {
         let Some(mut weights) = scaled(alloc, self.values, scale, greatest)? else {
             return Ok(None);
         };
@@ -168,7 +169,7 @@ impl<'a> Rounding<'a> {
     }
 
     /// A row that shows the limit, by the greatest scale that gives one.
-    pub(crate) fn row(&self, alloc: Global) -> Result<Option<WeighedRow>, AllocError> {
+    pub(crate) fn row(&self, alloc: Global) -> Result<Option<WeighedRow>, NoMemory> {
         let Some(greatest) = greatest(self.net, self.values) else {
             return Ok(None);
         };

@@ -5,7 +5,8 @@ ghost use Rattle.dds_search.specs.Rows.{weights_at};
 use crate::limits::Limited;
 use crate::lists::push;
 use crate::weights::WeighedRow;
-use std::alloc::{AllocError, Global};
+use dds_base::NoMemory;
+use std::alloc::Global;
 
 /// The most rows that a certificate has.
 pub(crate) const ROWS: usize = 64;
@@ -21,7 +22,7 @@ pub(crate) struct Entry {
 }
 
 /// The place of a row among others: of the one that is the same, and else at the end, where it is added.
-pub(crate) fn merged(rows: &mut Vec<WeighedRow>, row: WeighedRow) -> Result<usize, AllocError>
+pub(crate) fn merged(rows: &mut Vec<WeighedRow>, row: WeighedRow) -> Result<usize, NoMemory>
     ensures { IfOk result (λ place. weights_at rows.new.items place ≡ Some row.weights.items) }
 {
     for place in 0..rows.len() {
@@ -32,7 +33,7 @@ pub(crate) fn merged(rows: &mut Vec<WeighedRow>, row: WeighedRow) -> Result<usiz
     let place = rows.len();
     match rows.push(row) {
         Ok(()) => Ok(place),
-        Err(_) => Err(AllocError),
+        Err(_) => Err(NoMemory),
     }
 }
 
@@ -45,7 +46,7 @@ fn serves(row: &WeighedRow, entry: &Entry) -> bool {
 }
 
 /// Which entries a row serves.
-fn served_by(alloc: Global, row: &WeighedRow, entries: &[Entry]) -> Result<Vec<bool>, AllocError> {
+fn served_by(alloc: Global, row: &WeighedRow, entries: &[Entry]) -> Result<Vec<bool>, NoMemory> {
     let mut served = Vec::new(alloc);
     for entry in entries {
         served.push(serves(row, entry))?;
@@ -58,7 +59,7 @@ fn served(
     alloc: Global,
     rows: &[WeighedRow],
     entries: &[Entry],
-) -> Result<Vec<Vec<bool>>, AllocError> {
+) -> Result<Vec<Vec<bool>>, NoMemory> {
     let mut table = Vec::new(alloc);
     for row in rows {
         let served = served_by(alloc, row, entries)?;
@@ -108,7 +109,7 @@ fn chosen(
     alloc: Global,
     table: &[Vec<bool>],
     entries: usize,
-) -> Result<Option<Vec<usize>>, AllocError> {
+) -> Result<Option<Vec<usize>>, NoMemory> {
     let mut open = vec![in alloc; true; entries]?;
     let mut chosen = Vec::new(alloc);
     for _ in 0..ROWS {
@@ -160,7 +161,7 @@ pub(crate) fn cover(
     alloc: Global,
     rows: &[WeighedRow],
     entries: &mut Vec<Entry>,
-) -> Result<Option<Vec<usize>>, AllocError> {
+) -> Result<Option<Vec<usize>>, NoMemory> {
     if rows.len() <= ROWS {
         return Ok(Some(every_place(alloc, rows.len())?));
     }
@@ -173,7 +174,7 @@ pub(crate) fn cover(
 }
 
 /// The numbers below a count.
-fn every_place(alloc: Global, count: usize) -> Result<Vec<usize>, AllocError> {
+fn every_place(alloc: Global, count: usize) -> Result<Vec<usize>, NoMemory> {
     let mut places = Vec::new(alloc);
     for place in 0..count {
         places.push(place)?;

@@ -18,12 +18,13 @@ use crate::listing::{certificate_of, claim};
 use crate::net::Net;
 use crate::rows::cover;
 use crate::weights::WeighedRow;
+use dds_base::NoMemory;
 use dds_cert::Certificate;
 use dds_check::accepts::accepts;
 use dds_check::claims::{shows, structure_no};
-use dds_match::{NoMemory, Plan};
+use dds_match::Plan;
 use dds_propose::targets::Target;
-use std::alloc::{AllocError, Global};
+use std::alloc::Global;
 
 /// The certificate, where it is accepted.
 fn accepted(plan: &Plan, certificate: Certificate) -> Found
@@ -51,7 +52,7 @@ fn shown(
     target: &Target,
     row: &WeighedRow,
     bound: u32,
-) -> Result<Least, AllocError>
+) -> Result<Least, NoMemory>
     ensures { IfOk result (IsShownLeast (network_of plan.now) target.now) }
 {
     let claimed = claim(alloc, net, target, row, bound)?;
@@ -72,7 +73,7 @@ fn least_of(
     net: &Net,
     target: &Target,
     attempt: &Attempt,
-) -> Result<Least, AllocError>
+) -> Result<Least, NoMemory>
     ensures { IfOk result (IsShownLeast (network_of plan.now) target.now) }
 {
     match attempt {
@@ -89,7 +90,7 @@ fn add_limit(
     climber: &mut Climber,
     collected: &mut Collected,
     limited: &Limited,
-) -> Result<Option<Least>, AllocError>
+) -> Result<Option<Least>, NoMemory>
     ensures { IfOk result (λ least. IfSome least (IsShownLeast (network_of plan.now) limited.now.target)) }
 {
     match collected.add_limit(alloc, climber, limited)? {
@@ -107,7 +108,7 @@ fn add_limits(
     plan: &Plan,
     climber: &mut Climber,
     collected: &mut Collected,
-) -> Result<Option<(Target, Least)>, AllocError>
+) -> Result<Option<(Target, Least)>, NoMemory>
     ensures { IfOk result (λ missing. IfSome missing (λ m. IsShownLeast (network_of plan.now) m.0 m.1)) }
 {
     let limits = limits_of(alloc, plan, &climber.net)?;
@@ -125,7 +126,7 @@ fn concluded(
     plan: &Plan,
     net: &Net,
     collected: &mut Collected,
-) -> Result<Found, AllocError>
+) -> Result<Found, NoMemory>
     ensures fits { IfOk result (λ f. IfCertificate f (λ c. fits (network_of plan.now) (certificate_view c) ≡ true)) }
     ensures accepted { IfOk result (λ f. IfCertificate f (λ c. first_no plan.now (certificate_view c) ≡ None)) }
     ensures holds { IfOk result (λ f. IfCertificate f (λ c. Accepted (network_of plan.now) (certificate_of (certificate_view c)))) }
@@ -141,7 +142,7 @@ fn concluded(
 }
 
 /// Looks for a certificate of a plan whose structure is as it has to be.
-fn search_limits(alloc: Global, plan: &Plan) -> Result<Found, AllocError>
+fn search_limits(alloc: Global, plan: &Plan) -> Result<Found, NoMemory>
     ensures fits { IfOk result (λ f. IfCertificate f (λ c. fits (network_of plan.now) (certificate_view c) ≡ true)) }
     ensures accepted { IfOk result (λ f. IfCertificate f (λ c. first_no plan.now (certificate_view c) ≡ None)) }
     ensures holds { IfOk result (λ f. IfCertificate f (λ c. Accepted (network_of plan.now) (certificate_of (certificate_view c)))) }
@@ -177,8 +178,5 @@ pub fn search(alloc: Global, plan: &Plan) -> Result<Found, NoMemory>
     if let Some(no) = structure_no(plan) {
         return Ok(Found::Missing(Missing::Structure(no)));
     }
-    match search_limits(alloc, plan) {
-        Ok(found) => Ok(found),
-        Err(_) => Err(NoMemory),
-    }
+    search_limits(alloc, plan)
 }

@@ -5,8 +5,9 @@ use crate::firings::Change;
 use crate::net::Net;
 use crate::outlets::Outlet;
 use crate::places::Place;
+use dds_base::NoMemory;
 use dds_simplex::common_divisor;
-use std::alloc::{AllocError, Global};
+use std::alloc::Global;
 
 /// A row by places. A permit weighs what the tokens that its write makes weigh together.
 #[derive(Drop)]
@@ -30,7 +31,7 @@ fn divisor_of(values: &[i128]) -> u128 {
 }
 
 /// The values over a divisor, `None` where one isn't a number from 0 to 4,294,967,295.
-fn divided(alloc: Global, values: &[i128], divisor: i128) -> Result<Option<Vec<u32>>, AllocError> {
+fn divided(alloc: Global, values: &[i128], divisor: i128) -> Result<Option<Vec<u32>>, NoMemory> {
     let mut weights = Vec::new(alloc);
     for value in values {
         let quotient = value.checked_div(divisor);
@@ -102,7 +103,7 @@ impl WeighedRow {
         alloc: Global,
         net: &Net,
         values: &[i128],
-    ) -> Result<Option<WeighedRow>, AllocError> {
+    ) -> Result<Option<WeighedRow>, NoMemory> {
         let Ok(divisor) = i128::try_from(divisor_of(values)) else {
             return Ok(None);
         };

@@ -5,7 +5,8 @@ ghost use Rattle.clap.specs.declared.builder.command.Command.TheViews.{out-Comma
 ghost use Rattle.dds_tool.specs.Command.{checking, count_rule, drawing, file_rule, flag_rule, matching, one_file, optional_file_rule, refuting, replaying, running, searching, showing, styled, top_app, two_files, whole, wish_rule};
 
 use clap::{Arg, ArgAction, Command, value_parser};
-use std::alloc::{AllocError, Global};
+use dds_base::NoMemory;
+use std::alloc::Global;
 
 /// What help says of the argument that names a deployment.
 const DEPLOYMENT: &str =
@@ -83,7 +84,7 @@ fn wish<'a>(alloc: Global, id: &'a str, value: &'a str, default: &'a str, help: 
 }
 
 /// The command, told in lines where it isn't asked for a document.
-fn styled<'a>(alloc: Global, command: Command<'a>) -> Result<Command<'a>, AllocError>
+fn styled<'a>(alloc: Global, command: Command<'a>) -> Result<Command<'a>, NoMemory>
     requires local { (fields_of command).has_globals ≡ false }
     ensures app { IfOk result (λ c. app_of c ≡ styled (app_of command.entry)) }
     ensures local { IfOk result (λ c. (fields_of c).has_globals ≡ false) }
@@ -91,7 +92,7 @@ fn styled<'a>(alloc: Global, command: Command<'a>) -> Result<Command<'a>, AllocE
     command.arg(wish(alloc, "format", "FORMAT", "text", STYLE))
 }
 
-fn match_command<'a>(alloc: Global) -> Result<Command<'a>, AllocError>
+fn match_command<'a>(alloc: Global) -> Result<Command<'a>, NoMemory>
     ensures app { IfOk result (λ c. app_of c ≡ matching) }
     ensures local { IfOk result (λ c. (fields_of c).has_globals ≡ false) }
 {
@@ -103,7 +104,7 @@ fn match_command<'a>(alloc: Global) -> Result<Command<'a>, AllocError>
     styled(alloc, command)
 }
 
-fn propose_command<'a>(alloc: Global) -> Result<Command<'a>, AllocError>
+fn propose_command<'a>(alloc: Global) -> Result<Command<'a>, NoMemory>
     ensures app { IfOk result (λ c. app_of c ≡ searching) }
     ensures local { IfOk result (λ c. (fields_of c).has_globals ≡ false) }
 {
@@ -119,7 +120,7 @@ fn one_file_command<'a>(
     alloc: Global,
     name: &'a str,
     about: &'a str,
-) -> Result<Command<'a>, AllocError>
+) -> Result<Command<'a>, NoMemory>
     ensures app { IfOk result (λ c. app_of c ≡ one_file name.entry.now) }
     ensures local { IfOk result (λ c. (fields_of c).has_globals ≡ false) }
 {
@@ -132,7 +133,7 @@ fn two_files_command<'a>(
     alloc: Global,
     name: &'a str,
     about: &'a str,
-) -> Result<Command<'a>, AllocError>
+) -> Result<Command<'a>, NoMemory>
     ensures app { IfOk result (λ c. app_of c ≡ two_files name.entry.now) }
     ensures local { IfOk result (λ c. (fields_of c).has_globals ≡ false) }
 {
@@ -142,7 +143,7 @@ fn two_files_command<'a>(
         .arg(file(alloc, "certificate", CERTIFICATE))
 }
 
-fn check_command<'a>(alloc: Global) -> Result<Command<'a>, AllocError>
+fn check_command<'a>(alloc: Global) -> Result<Command<'a>, NoMemory>
     ensures app { IfOk result (λ c. app_of c ≡ checking) }
     ensures local { IfOk result (λ c. (fields_of c).has_globals ≡ false) }
 {
@@ -159,7 +160,7 @@ fn count<'a>(alloc: Global, id: &'a str, help: &'a str) -> Arg<'a>
     wish(alloc, id, "N", "10", help).value_parser(value_parser!(u16))
 }
 
-fn run_command<'a>(alloc: Global) -> Result<Command<'a>, AllocError>
+fn run_command<'a>(alloc: Global) -> Result<Command<'a>, NoMemory>
     ensures app { IfOk result (λ c. app_of c ≡ running) }
     ensures local { IfOk result (λ c. (fields_of c).has_globals ≡ false) }
 {
@@ -174,7 +175,7 @@ fn run_command<'a>(alloc: Global) -> Result<Command<'a>, AllocError>
     styled(alloc, command)
 }
 
-fn show_command<'a>(alloc: Global) -> Result<Command<'a>, AllocError>
+fn show_command<'a>(alloc: Global) -> Result<Command<'a>, NoMemory>
     ensures app { IfOk result (λ c. app_of c ≡ showing) }
     ensures local { IfOk result (λ c. (fields_of c).has_globals ≡ false) }
 {
@@ -186,7 +187,7 @@ fn show_command<'a>(alloc: Global) -> Result<Command<'a>, AllocError>
     .arg(wish(alloc, "format", "FORMAT", "json", FORMAT))
 }
 
-fn draw_command<'a>(alloc: Global) -> Result<Command<'a>, AllocError>
+fn draw_command<'a>(alloc: Global) -> Result<Command<'a>, NoMemory>
     ensures app { IfOk result (λ c. app_of c ≡ drawing) }
     ensures local { IfOk result (λ c. (fields_of c).has_globals ≡ false) }
 {
@@ -198,7 +199,7 @@ fn draw_command<'a>(alloc: Global) -> Result<Command<'a>, AllocError>
     .arg(optional_file(alloc, "certificate", DRAWN_CERTIFICATE))
 }
 
-fn refute_command<'a>(alloc: Global) -> Result<Command<'a>, AllocError>
+fn refute_command<'a>(alloc: Global) -> Result<Command<'a>, NoMemory>
     ensures app { IfOk result (λ c. app_of c ≡ refuting) }
     ensures local { IfOk result (λ c. (fields_of c).has_globals ≡ false) }
 {
@@ -210,7 +211,7 @@ fn refute_command<'a>(alloc: Global) -> Result<Command<'a>, AllocError>
     styled(alloc, command)
 }
 
-fn replay_command<'a>(alloc: Global) -> Result<Command<'a>, AllocError>
+fn replay_command<'a>(alloc: Global) -> Result<Command<'a>, NoMemory>
     ensures app { IfOk result (λ c. app_of c ≡ replaying) }
     ensures local { IfOk result (λ c. (fields_of c).has_globals ≡ false) }
 {
@@ -223,7 +224,7 @@ fn replay_command<'a>(alloc: Global) -> Result<Command<'a>, AllocError>
     styled(alloc, command)
 }
 
-fn migrate_command<'a>(alloc: Global) -> Result<Command<'a>, AllocError>
+fn migrate_command<'a>(alloc: Global) -> Result<Command<'a>, NoMemory>
     ensures app { IfOk result (λ c. app_of c ≡ one_file (codes "migrate")) }
     ensures local { IfOk result (λ c. (fields_of c).has_globals ≡ false) }
 {
@@ -237,8 +238,8 @@ fn migrate_command<'a>(alloc: Global) -> Result<Command<'a>, AllocError>
 /// The command, and a subcommand more that has no global argument.
 fn with_command<'a>(
     command: Command<'a>,
-    below: Result<Command<'a>, AllocError>,
-) -> Result<Command<'a>, AllocError>
+    below: Result<Command<'a>, NoMemory>,
+) -> Result<Command<'a>, NoMemory>
     requires below { IfOk below (λ b. (fields_of b).has_globals ≡ false) }
     ensures app { IfOk result (λ c. IfOk below.entry (λ b. app_of c ≡ with_subcommand (app_of command.entry) (app_of b).top)) }
     ensures below { OnOk result (IsOk below.entry) }
@@ -262,7 +263,7 @@ fn top_command<'a>(alloc: Global) -> Command<'a>
 }
 
 /// The whole command. Only want of memory is an error.
-pub(crate) fn whole_command<'a>(alloc: Global) -> Result<Command<'a>, AllocError>
+pub(crate) fn whole_command<'a>(alloc: Global) -> Result<Command<'a>, NoMemory>
     ensures { IfOk result (λ c. app_of c ≡ whole) }
 {
     let command = with_command(top_command(alloc), match_command(alloc))?;

@@ -5,6 +5,7 @@ ghost use Rattle.dds_json.specs.Line.{line_of};
 ghost use Rattle.dds_tool.specs.Refuting.{known_document, unsafe_document};
 
 use crate::refuting::{loss_name, unknown_word};
+use dds_base::NoMemory;
 use dds_cert::naming::{name_at, reader_key};
 use dds_deploy::Deployment;
 use dds_events::lines_text;
@@ -12,14 +13,14 @@ use dds_json::{line_of, structure_document};
 use dds_match::Plan;
 use dds_search::{Counterexample, Refutation};
 use serde_json::{Value, json};
-use std::alloc::{AllocError, Global};
+use std::alloc::Global;
 
 /// The document of a counterexample: the reader, the key, the loss, and the lines of its events with their replies.
 fn unsafe_document(
     alloc: Global,
     lists: &Deployment,
     found: &Counterexample,
-) -> Result<Value, AllocError>
+) -> Result<Value, NoMemory>
     ensures { IfOk result (λ v. view v ≡ unsafe_document lists.now found.now) }
 {
     let key = reader_key(lists, found.reader, found.key);
@@ -30,7 +31,7 @@ fn unsafe_document(
 }
 
 /// The document for what is known.
-fn known_document(alloc: Global, plan: &Plan, refutation: &Refutation) -> Result<Value, AllocError>
+fn known_document(alloc: Global, plan: &Plan, refutation: &Refutation) -> Result<Value, NoMemory>
     ensures { IfOk result (λ v. view v ≡ known_document plan.now refutation.now) }
 {
     match refutation {
@@ -49,7 +50,7 @@ pub(crate) fn known_line(
     alloc: Global,
     plan: &Plan,
     refutation: &Refutation,
-) -> Result<String, AllocError>
+) -> Result<String, NoMemory>
     ensures { IfOk result (λ text. string_bytes text ≡ line_of (known_document plan.now refutation.now)) }
 {
     let document = known_document(alloc, plan, refutation)?;

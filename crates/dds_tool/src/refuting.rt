@@ -7,13 +7,14 @@ ghost use Rattle.dds_tool.specs.Refuting.{MayRefute, is_safe, known_text, loss_n
 
 use crate::refute_document::known_line;
 use dds_answers::{Answer, ToolFault, answered, read_plan, structure_text};
+use dds_base::NoMemory;
 use dds_cert::naming::{name_at, reader_key};
 use dds_deploy::Deployment;
 use dds_events::{lines_text, rejection_name};
 use dds_json::Style;
 use dds_match::Plan;
 use dds_search::{Counterexample, Loss, Refutation, Unknown, refute};
-use std::alloc::{AllocError, Global};
+use std::alloc::Global;
 
 /// The word for a loss.
 pub(crate) fn loss_name(loss: Loss) -> &'static str
@@ -30,7 +31,7 @@ fn unsafe_line(
     alloc: Global,
     lists: &Deployment,
     found: &Counterexample,
-) -> Result<String, AllocError>
+) -> Result<String, NoMemory>
     ensures { IfOk result (λ text. string_bytes text ≡ unsafe_line lists.now found.now) }
 {
     let key = reader_key(lists, found.reader, found.key);
@@ -45,7 +46,7 @@ fn refuted_text(
     alloc: Global,
     lists: &Deployment,
     found: &Counterexample,
-) -> Result<String, AllocError>
+) -> Result<String, NoMemory>
     ensures { IfOk result (λ text. string_bytes text ≡ refuted_text lists.now found.now) }
 {
     let line = unsafe_line(alloc, lists, found)?;
@@ -71,7 +72,7 @@ fn is_safe(refutation: &Refutation) -> bool
 }
 
 /// The text for what is known of the runs of a plan.
-fn known_text(alloc: Global, plan: &Plan, refutation: &Refutation) -> Result<String, AllocError>
+fn known_text(alloc: Global, plan: &Plan, refutation: &Refutation) -> Result<String, NoMemory>
     ensures { IfOk result (λ text. string_bytes text ≡ known_text plan.now refutation.now) }
 {
     match refutation {
@@ -91,7 +92,7 @@ fn told_known(
     plan: &Plan,
     refutation: &Refutation,
     style: Style,
-) -> Result<String, AllocError>
+) -> Result<String, NoMemory>
     ensures { IfOk result (λ text. string_bytes text ≡ told_known style plan.now refutation.now) }
 {
     match style {

@@ -11,16 +11,16 @@ ghost use Rattle.dds_json.specs.Line.{line_of};
 ghost use Rattle.dds_tool.specs.Replaying.{IsEventsFault, IsReplayed, MayReplay, MayReplayLists, replay_document, told_replay};
 
 use dds_answers::{Answer, ToolFault, deployment_fault};
-use dds_base::{Event, Reply};
+use dds_base::{Event, NoMemory, Reply};
 use dds_deploy::Deployment;
 use dds_deploy_file::read_deployment;
 use dds_domain::Simulator;
 use dds_events::{EventsFault, lines_text, read_events};
 use dds_json::{Style, line_of};
 use dds_match::planning::plan;
-use dds_match::{NoMemory, Plan};
+use dds_match::Plan;
 use serde_json::{Value, json};
-use std::alloc::{AllocError, Global};
+use std::alloc::Global;
 
 /// The replies to events that are made on a plan from its opening, and the plan.
 fn replies_of(alloc: Global, plan: Plan, events: &[Event]) -> Result<(Vec<Reply>, Plan), NoMemory>
@@ -48,7 +48,7 @@ fn replay_document(
     lists: &Deployment,
     events: &[Event],
     replies: &[Reply],
-) -> Result<Value, AllocError>
+) -> Result<Value, NoMemory>
     ensures { IfOk result (λ v. view v ≡ replay_document lists.now events.now replies.now) }
 {
     let lines = lines_text(alloc, lists, events, replies)?;
@@ -61,7 +61,7 @@ fn replay_line(
     lists: &Deployment,
     events: &[Event],
     replies: &[Reply],
-) -> Result<String, AllocError>
+) -> Result<String, NoMemory>
     ensures { IfOk result (λ text. string_bytes text ≡ line_of (replay_document lists.now events.now replies.now)) }
 {
     let document = replay_document(alloc, lists, events, replies)?;
@@ -75,7 +75,7 @@ fn told_replay(
     events: &[Event],
     replies: &[Reply],
     style: Style,
-) -> Result<String, AllocError>
+) -> Result<String, NoMemory>
     ensures { IfOk result (λ text. string_bytes text ≡ told_replay style lists.now events.now replies.now) }
 {
     match style {

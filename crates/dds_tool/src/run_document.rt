@@ -8,11 +8,12 @@ ghost use Rattle.dds_peers.specs.Kept.{entries_of};
 ghost use Rattle.dds_tool.specs.RunDocument.{app_document, document_at, run_document};
 
 use crate::running::{all_stopped, end_word, taken_by, written_by};
+use dds_base::NoMemory;
 use dds_book::{Entry, Journal};
 use dds_json::{answer_word, line_of};
 use dds_peers::AppEnd;
 use serde_json::{Value, json};
-use std::alloc::{AllocError, Global};
+use std::alloc::Global;
 
 /// The document of an application.
 fn app_document(
@@ -21,7 +22,7 @@ fn app_document(
     seat: usize,
     entries: &[Entry],
     end: AppEnd,
-) -> Result<Value, AllocError>
+) -> Result<Value, NoMemory>
     ensures { IfOk result (λ v. view v ≡ app_document name.now (entries_of seat entries.now) end) }
 {
     let written = written_by(seat, entries);
@@ -36,7 +37,7 @@ fn app_documents(
     names: &[String],
     journal: &Journal,
     ends: &[AppEnd],
-) -> Result<Vec<Value>, AllocError>
+) -> Result<Vec<Value>, NoMemory>
     requires { length ends.now ≡ length names.now }
     ensures { IfOk result (λ documents. map view documents.items ≡ map (document_at (map string_bytes names.now) journal.now ends.now) (range_with_len 0 (length names.now))) }
 {
@@ -55,7 +56,7 @@ fn run_document(
     names: &[String],
     journal: &Journal,
     ends: &[AppEnd],
-) -> Result<Value, AllocError>
+) -> Result<Value, NoMemory>
     requires { length ends.now ≡ length names.now }
     ensures { IfOk result (λ v. view v ≡ run_document (map string_bytes names.now) journal.now ends.now) }
 {
@@ -70,7 +71,7 @@ pub(crate) fn run_line(
     names: &[String],
     journal: &Journal,
     ends: &[AppEnd],
-) -> Result<String, AllocError>
+) -> Result<String, NoMemory>
     requires { length ends.now ≡ length names.now }
     ensures { IfOk result (λ text. string_bytes text ≡ line_of (run_document (map string_bytes names.now) journal.now ends.now)) }
 {

@@ -15,15 +15,15 @@ ghost use Rattle.dds_tool.specs.Running.{all_stopped, app_line, app_names, end_w
 use crate::run_document::run_line;
 use crate::wishes::Wishes;
 use dds_answers::{Answer, Detail, Report, ToolFault, answer_check, reported};
-use dds_base::{AppNo, Reply};
+use dds_base::{AppNo, NoMemory, Reply};
 use dds_book::{Entry, Gauge, GaugeSeat, Journal};
 use dds_cert::naming::name_at;
 use dds_check::Checked;
 use dds_deploy::Deployment;
 use dds_json::{Style, reported_in_json};
-use dds_match::{NoMemory, Plan};
+use dds_match::Plan;
 use dds_peers::{App, AppEnd, Gate, Limits, Outcome, RunFault, Steady, run_peers};
-use std::alloc::{AllocError, Global};
+use std::alloc::Global;
 use std::sync::Wait;
 use std::thread::Threads;
 use std::time::Clock;
@@ -43,7 +43,7 @@ impl Gate for Open {
 }
 
 /// The names of the applications, in file order.
-fn names_of(alloc: Global, lists: &Deployment) -> Result<Vec<String>, AllocError>
+fn names_of(alloc: Global, lists: &Deployment) -> Result<Vec<String>, NoMemory>
     ensures { IfOk result (λ names. map string_bytes names.items ≡ app_names lists.now) }
 {
     let mut names = Vec::new(alloc);
@@ -95,7 +95,7 @@ fn app_text(
     seat: usize,
     entries: &[Entry],
     end: AppEnd,
-) -> Result<String, AllocError>
+) -> Result<String, NoMemory>
     ensures { IfOk result (λ text. string_bytes text ≡ app_line name.now (entries_of seat entries.now) end) }
 {
     let written = written_by(seat, entries);
@@ -110,7 +110,7 @@ fn run_text(
     names: &[String],
     journal: &Journal,
     ends: &[AppEnd],
-) -> Result<String, AllocError>
+) -> Result<String, NoMemory>
     requires { length ends.now ≡ length names.now }
     ensures { IfOk result (λ text. string_bytes text ≡ run_lines (map string_bytes names.now) journal.now ends.now) }
 {
@@ -142,7 +142,7 @@ fn told_run(
     journal: &Journal,
     ends: &[AppEnd],
     style: Style,
-) -> Result<String, AllocError>
+) -> Result<String, NoMemory>
     requires { length ends.now ≡ length names.now }
     ensures { IfOk result (λ text. string_bytes text ≡ told_run style (map string_bytes names.now) journal.now ends.now) }
 {
@@ -153,7 +153,7 @@ fn told_run(
 }
 
 /// A steady application for each of the plan's.
-fn steadies(alloc: Global, plan: &Plan, wishes: &Wishes) -> Result<Vec<Steady>, AllocError>
+fn steadies(alloc: Global, plan: &Plan, wishes: &Wishes) -> Result<Vec<Steady>, NoMemory>
     ensures { IfOk result (λ apps. length apps.items ≡ length plan.now.applications.entries) }
 {
     let writes = u64::from(wishes.writes);
@@ -161,7 +161,7 @@ fn steadies(alloc: Global, plan: &Plan, wishes: &Wishes) -> Result<Vec<Steady>, 
     let mut apps = Vec::new(alloc);
     for app in 0..plan.lists().applications() {
         let Ok(steady) = Steady::new(alloc, plan, AppNo::new(app), writes, takes) else {
-            return Err(AllocError);
+            return Err(NoMemory);
         };
         apps.push(steady)?;
     }

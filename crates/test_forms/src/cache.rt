@@ -11,11 +11,11 @@ ghost use Rattle.test_forms.specs.Least.{IsLeastAt, NoneAvailable};
 
 use crate::contents::{Contents, first_of};
 use crate::released::{raise, released_upto};
-use dds_base::{KeyNo, Rejection, Sample, WriterNo};
+use dds_base::{KeyNo, NoMemory, Rejection, Sample, WriterNo};
 use dds_cache::Released;
 use dds_qos::admission::is_reached;
 use dds_qos::{Admit, ReaderLimits};
-use std::alloc::{AllocError, Global};
+use std::alloc::Global;
 use std::marker::Model;
 
 /// The plain form of `dds_cache::Cache`, over lists, which tests compare with the fast one.
@@ -54,7 +54,7 @@ impl PlainCache {
         alloc: Global,
         limits: ReaderLimits,
         writers: &[WriterNo],
-    ) -> Result<PlainCache, AllocError>
+    ) -> Result<PlainCache, NoMemory>
         ensures { IfOk result (λ c. c ≡ record {
           limits = limits;
           stored = [];
@@ -136,7 +136,7 @@ impl PlainCache {
     /// 5. `Stored`: it is stored as the last, and its key is known from now on.
     ///
     /// A rejection changes nothing. `Err` where the sample would be stored and no memory is left for it; it changes nothing.
-    pub fn admit(&mut self, sample: Sample) -> Result<Admit, AllocError>
+    pub fn admit(&mut self, sample: Sample) -> Result<Admit, NoMemory>
         requires listed { IsTrue (is_listed sample.writer self.old.writers) }
         requires fresh { IsFresh self.old.stored sample }
         ensures answer { IfOk result (λ a. a ≡ admission self.old.limits self.old.stored self.old.keys sample) }

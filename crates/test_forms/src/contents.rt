@@ -6,8 +6,8 @@ ghost use Rattle.dds_qos.specs.Samples.{first_of, in_instance};
 ghost use Rattle.test_forms.specs.Keys.{has_key, learned};
 
 use crate::keys::{is_among, learn};
-use dds_base::{KeyNo, Sample};
-use std::alloc::{AllocError, Global};
+use dds_base::{KeyNo, NoMemory, Sample};
+use std::alloc::Global;
 
 // The stored samples in order of admission, none twice, and the known keys, none twice.
 #[derive(Drop)]
@@ -42,7 +42,7 @@ impl Contents {
     }
 
     // Stores a sample, in place of the first of its key where asked, and makes its key known.
-    pub(crate) fn store(&mut self, sample: &Sample, overwrites: bool) -> Result<(), AllocError>
+    pub(crate) fn store(&mut self, sample: &Sample, overwrites: bool) -> Result<(), NoMemory>
         ensures stored { OnOk result (self.new.stored.items ≡ (cond overwrites (remove self.old.stored.items (first_of sample.now.key self.old.stored.items)) self.old.stored.items) ++ sample.now ∷ []) }
         ensures keys { OnOk result (self.new.keys.items ≡ learned self.old.keys.items sample.now.key) }
         ensures stored_err { OnErr result (self.new.stored.items ≡ self.old.stored.items) }

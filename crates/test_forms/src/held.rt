@@ -16,9 +16,9 @@ ghost use Rattle.dds_reader.specs.Reader.{available_in};
 
 use crate::cache::PlainCache;
 use crate::marks::{Range, base_in, count_unmarked, is_in, missing};
-use dds_base::{GapMsg, KeyNo, Sample, SnSet, WriterNo};
+use dds_base::{GapMsg, KeyNo, NoMemory, Sample, SnSet, WriterNo};
 use dds_qos::{Admit, ReaderLimits};
-use std::alloc::{AllocError, Global};
+use std::alloc::Global;
 
 // The marks, and the cache, whose released numbers are those below the bases.
 #[derive(Drop)]
@@ -34,7 +34,7 @@ impl Held {
         alloc: Global,
         limits: ReaderLimits,
         writers: &[WriterNo],
-    ) -> Result<Held, AllocError>
+    ) -> Result<Held, NoMemory>
         ensures marks { IfOk result (λ h. h.marks.items ≡ []) }
         ensures cache { IfOk result (λ h. h.cache ≡ record {
           limits = limits;
@@ -75,7 +75,7 @@ impl Held {
 
     // Admits a sample, and where it is stored marks the numbers from one on up to its own. A sample over a limit needs no memory and
     // changes nothing.
-    pub(crate) fn store(&mut self, sample: &Sample, from: u64) -> Result<Admit, AllocError>
+    pub(crate) fn store(&mut self, sample: &Sample, from: u64) -> Result<Admit, NoMemory>
         requires listed { IsTrue (is_listed sample.now.writer self.old.cache.writers) }
         requires unmarked { in_marks self.old.marks.items sample.now.writer sample.now.sn ≡ false }
         requires low { 1 ≤ from }
@@ -118,7 +118,7 @@ impl Held {
         writer: WriterNo,
         from: u64,
         n: u64,
-    ) -> Result<(), AllocError>
+    ) -> Result<(), NoMemory>
         requires listed { IsTrue (is_listed writer self.old.cache.writers) }
         requires low { 1 ≤ from }
         requires order { from ≤ n }
@@ -134,7 +134,7 @@ impl Held {
     }
 
     // Marks the numbers below a HEARTBEAT's first, and counts those that were not marked. Where there is none, it needs no memory.
-    pub(crate) fn mark_below(&mut self, writer: WriterNo, first: u64) -> Result<u64, AllocError>
+    pub(crate) fn mark_below(&mut self, writer: WriterNo, first: u64) -> Result<u64, NoMemory>
         requires listed { IsTrue (is_listed writer self.old.cache.writers) }
         requires low { 1 ≤ first }
         requires high { first ≤ last_number + 1 }
@@ -154,7 +154,7 @@ impl Held {
     }
 
     // Marks the numbers that a GAP covers, and counts those that were not marked.
-    pub(crate) fn mark_gap(&mut self, gap: &GapMsg) -> Result<u64, AllocError>
+    pub(crate) fn mark_gap(&mut self, gap: &GapMsg) -> Result<u64, NoMemory>
         requires { IsTrue (is_listed gap.now.writer self.old.cache.writers) }
         ensures count { IfOk result (λ gone. gone ≡ gap_count (in_marks self.old.marks.items gap.now.writer) gap.now) }
         ensures marks { OnOk result (AddsMarks (in_marks self.old.marks.items) (in_marks self.new.marks.items) gap.now.writer (covers gap.now)) }

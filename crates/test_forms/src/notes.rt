@@ -5,12 +5,12 @@ ghost use Rattle.std.specs.List.{All};
 ghost use Rattle.dds_base.specs.Sets.{last_number};
 ghost use Rattle.dds_reader.specs.Notes.{has_writer, heard_in, hears, hears_one, opened, owes_in, pays, pays_one};
 
-use dds_base::WriterNo;
+use dds_base::{NoMemory, WriterNo};
 use dds_reader::WriterProxy;
-use std::alloc::{AllocError, Global};
+use std::alloc::Global;
 
 // The notes of writers of which nothing is heard.
-pub(crate) fn opened(alloc: Global, writers: &[WriterNo]) -> Result<Vec<WriterProxy>, AllocError>
+pub(crate) fn opened(alloc: Global, writers: &[WriterNo]) -> Result<Vec<WriterProxy>, NoMemory>
     ensures { IfOk result (λ v. v.items ≡ opened writers.now) }
 {
     let mut proxies = Vec::with_capacity(alloc, writers.len())?;

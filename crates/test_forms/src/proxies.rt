@@ -7,9 +7,9 @@ ghost use Rattle.dds_writer.specs.Proxies.{is_of, is_matched, is_watched, is_uns
 ghost use Rattle.dds_writer.specs.History.{FollowOn, is_silent_in};
 
 use crate::history::first_silent;
-use dds_base::{KeyNo, ReaderNo, Sample, SnSet};
+use dds_base::{KeyNo, NoMemory, ReaderNo, Sample, SnSet};
 use dds_writer::Proxy;
-use std::alloc::{AllocError, Global};
+use std::alloc::Global;
 use std::marker::Model;
 
 // What a plain writer holds for a matched reader.
@@ -164,7 +164,7 @@ pub(crate) fn open(
     alloc: Global,
     proxies: Vec<Proxy>,
     written: u64,
-) -> Result<Vec<MatchedReader>, AllocError>
+) -> Result<Vec<MatchedReader>, NoMemory>
     requires { written ≤ last_number }
     ensures { IfOk result (λ v. v.items ≡ map (opening_proxy written) proxies.items) }
 {

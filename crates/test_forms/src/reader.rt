@@ -13,10 +13,12 @@ ghost use Rattle.dds_reader.specs.Reader.{acknack_of, available, data_arrives, g
 
 use crate::held::Held;
 use crate::notes::{has_writer, hear, heard_from, opened, owes_to, pay};
-use dds_base::{AckNack, Arrival, DataMsg, GapMsg, Heartbeat, KeyNo, ReaderNo, Sample, WriterNo};
+use dds_base::{
+    AckNack, Arrival, DataMsg, GapMsg, Heartbeat, KeyNo, NoMemory, ReaderNo, Sample, WriterNo,
+};
 use dds_qos::{Admit, ReaderLimits};
 use dds_reader::WriterProxy;
-use std::alloc::{AllocError, Global};
+use std::alloc::Global;
 use std::marker::Model;
 
 /// The plain form of `dds_reader::Reader`, over lists, which tests compare with the fast one.
@@ -67,7 +69,7 @@ impl PlainReader {
         limits: ReaderLimits,
         filter: &[KeyNo],
         writers: &[WriterNo],
-    ) -> Result<PlainReader, AllocError>
+    ) -> Result<PlainReader, NoMemory>
         ensures me { IfOk result (λ r. r.me ≡ me) }
         ensures reliable { IfOk result (λ r. r.watching ≡ false) }
         ensures limits { IfOk result (λ r. r.limits ≡ limits) }
@@ -87,7 +89,7 @@ impl PlainReader {
         limits: ReaderLimits,
         filter: &[KeyNo],
         writers: &[WriterNo],
-    ) -> Result<PlainReader, AllocError>
+    ) -> Result<PlainReader, NoMemory>
         ensures me { IfOk result (λ r. r.me ≡ me) }
         ensures watching { IfOk result (λ r. r.watching ≡ true) }
         ensures limits { IfOk result (λ r. r.limits ≡ limits) }
@@ -107,7 +109,7 @@ impl PlainReader {
         limits: ReaderLimits,
         filter: &[KeyNo],
         writers: &[WriterNo],
-    ) -> Result<PlainReader, AllocError>
+    ) -> Result<PlainReader, NoMemory>
         ensures me { IfOk result (λ r. r.me ≡ me) }
         ensures watching { IfOk result (λ r. r.watching ≡ watching) }
         ensures limits { IfOk result (λ r. r.limits ≡ limits) }
@@ -216,7 +218,7 @@ impl PlainReader {
     ///
     /// A watcher marks with the number all numbers below it. `Stranger`, `Repeat` and `Rejected` change nothing. `Err` where a mark or a
     /// sample had no memory; it changes nothing.
-    pub fn on_data(&mut self, message: &DataMsg) -> Result<Arrival, AllocError>
+    pub fn on_data(&mut self, message: &DataMsg) -> Result<Arrival, NoMemory>
         requires to_me { message.now.reader ≡ self.old.me }
         ensures answer { IfOk result (λ a. a ≡ data_arrives self.old message.now) }
         ensures marks { IfOk result (λ a. MarksMore self.old self.new message.now.sample.writer (marked_by self.old.watching a message.now.sample.sn)) }
@@ -247,7 +249,7 @@ impl PlainReader {
     /// base of its set less one, and those of the set, are marked. `Irrelevant(n)` tells how many of them were not marked before, 0 to
     /// 2^63 - 1. `Stranger` where the reader does not know the writer; it changes nothing. A watcher marks nothing, and answers
     /// `Irrelevant(0)`. `Err` where a mark had no memory; it changes nothing.
-    pub fn on_gap(&mut self, gap: &GapMsg) -> Result<Arrival, AllocError>
+    pub fn on_gap(&mut self, gap: &GapMsg) -> Result<Arrival, NoMemory>
         requires to_me { gap.now.reader ≡ self.old.me }
         ensures answer { IfOk result (λ a. a ≡ gap_arrives self.old gap.now) }
         ensures marks { IfOk result (λ a. MarksMore self.old self.new gap.now.writer (λ n. heeds self.old gap.now.writer && covers gap.now n)) }
@@ -273,7 +275,7 @@ impl PlainReader {
     /// `Lost(n)` tells how many of the numbers below first were not marked before, 1 to 2^63 - 1, and `Heard` that none was. `Stranger`
     /// where the reader does not know the writer; it changes nothing. A watcher changes nothing either, and answers `Heard`. `Err` where
     /// a mark had no memory; it changes nothing.
-    pub fn on_heartbeat(&mut self, heartbeat: &Heartbeat) -> Result<Arrival, AllocError>
+    pub fn on_heartbeat(&mut self, heartbeat: &Heartbeat) -> Result<Arrival, NoMemory>
         requires to_me { heartbeat.now.reader ≡ self.old.me }
         ensures answer { IfOk result (λ a. a ≡ heartbeat_arrives self.old heartbeat.now) }
         ensures marks { IfOk result (λ a. MarksMore self.old self.new heartbeat.now.writer (λ n. heeds self.old heartbeat.now.writer && below_first heartbeat.now.first n)) }

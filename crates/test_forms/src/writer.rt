@@ -12,12 +12,12 @@ use crate::history::{count_of, keep, next_heard, next_unsent, next_wanted, place
 use crate::keys::{is_among, learn};
 use crate::proxies::{MatchedReader, acknowledge, is_awaited, last_of, note_sent, open, proxy_of};
 use dds_base::{
-    AckNack, Data, DataMsg, GapMsg, Heartbeat, KeyNo, ReaderNo, Sample, SnSet, WriterNo,
+    AckNack, Data, DataMsg, GapMsg, Heartbeat, KeyNo, NoMemory, ReaderNo, Sample, SnSet, WriterNo,
 };
 use dds_qos::admission::is_reached;
 use dds_qos::{Due, WriterLimits};
 use dds_writer::{Proxy, WriteRefused};
-use std::alloc::{AllocError, Global};
+use std::alloc::Global;
 use std::marker::Model;
 
 /// The plain form of `dds_writer::Writer`, over lists, which tests compare with the fast one.
@@ -66,7 +66,7 @@ impl PlainWriter {
         me: WriterNo,
         limits: WriterLimits,
         proxies: Vec<Proxy>,
-    ) -> Result<PlainWriter, AllocError>
+    ) -> Result<PlainWriter, NoMemory>
         ensures { IfOk result (λ w. w ≡ opening_of me limits proxies.items 0) }
     {
         PlainWriter::starting(alloc, me, limits, proxies, 0)
@@ -80,7 +80,7 @@ impl PlainWriter {
         limits: WriterLimits,
         proxies: Vec<Proxy>,
         written: u64,
-    ) -> Result<PlainWriter, AllocError>
+    ) -> Result<PlainWriter, NoMemory>
         requires { written ≤ last_number }
         ensures { IfOk result (λ w. w ≡ opening_of me limits proxies.items written) }
     {

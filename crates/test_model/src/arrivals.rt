@@ -4,25 +4,24 @@ use crate::layout::is_reached;
 use crate::world::World;
 use crate::writing::{count_of, keys_of};
 use dds_base::{
-    AckNack, Arrival, DataMsg, GapMsg, Heartbeat, Packet, ReaderNo, Refusal, Rejection, Reply,
-    Sample, WriterNo,
+    AckNack, Arrival, DataMsg, GapMsg, Heartbeat, NoMemory, Packet, ReaderNo, Refusal, Rejection,
+    Reply, Sample, WriterNo,
 };
 use dds_qos::Admit;
-use std::alloc::AllocError;
 
 /// Whether the key of a sample is new while max_instances keys are known. A key is known once a sample of it was stored.
 fn is_one_key_too_many(
     world: &World,
     reader: ReaderNo,
     sample: &Sample,
-) -> Result<bool, AllocError> {
+) -> Result<bool, NoMemory> {
     let keys = keys_of(world, world.received(reader))?;
     let limit = world.layout.reader_limits(reader).max_instances;
     Ok(is_reached(limit, keys.len()) && !keys.iter().any(|k| *k == sample.key))
 }
 
 /// What the limits of a reader answer on a sample: the first case that holds.
-fn admission(world: &World, reader: ReaderNo, sample: &Sample) -> Result<Admit, AllocError> {
+fn admission(world: &World, reader: ReaderNo, sample: &Sample) -> Result<Admit, NoMemory> {
     let limits = world.layout.reader_limits(reader);
     let stored = world.stored(reader)?;
     let unread = count_of(&stored, sample.key);
@@ -49,7 +48,7 @@ fn store(
     reader: ReaderNo,
     sample: Sample,
     replaced: Option<Sample>,
-) -> Result<(), AllocError> {
+) -> Result<(), NoMemory> {
     if let Some(past) = world.readers.get_mut(reader.number()) {
         past.received.push(sample)?;
         if let Some(old) = replaced {
@@ -76,7 +75,7 @@ fn arrival_of(answer: &Admit) -> Arrival {
 }
 
 /// A sample arrives at a reader that takes its key, and it didn't come before.
-fn admit(world: &mut World, reader: ReaderNo, sample: &Sample) -> Result<Arrival, AllocError> {
+fn admit(world: &mut World, reader: ReaderNo, sample: &Sample) -> Result<Arrival, NoMemory> {
     let answer = admission(world, reader, sample)?;
     if !answer.is_rejected() {
         store(world, reader, *sample, replaced_by(&answer))?;
@@ -102,7 +101,7 @@ fn marks_it(arrival: &Arrival) -> bool {
 }
 
 /// A DATA of a matched writer that didn't come before arrives.
-fn on_fresh_data(world: &mut World, message: &DataMsg) -> Result<Arrival, AllocError> {
+fn on_fresh_data(world: &mut World, message: &DataMsg) -> Result<Arrival, NoMemory> {
     let (reader, sample) = (message.reader, &message.sample);
     if !world.layout.hears(reader, sample.key) {
         if let Some(held) = world.from_writer_mut(reader, sample.writer) {
@@ -114,7 +113,7 @@ fn on_fresh_data(world: &mut World, message: &DataMsg) -> Result<Arrival, AllocE
 }
 
 /// A DATA arrives. Where it marks its number, a watcher gives up the unmarked numbers below that.
-fn on_data(world: &mut World, message: &DataMsg) -> Result<Arrival, AllocError> {
+fn on_data(world: &mut World, message: &DataMsg) -> Result<Arrival, NoMemory> {
     let reader = message.reader;
     let writer = message.sample.writer;
     let sn = message.sample.sn;
@@ -137,7 +136,7 @@ fn give_up(
     reader: ReaderNo,
     writer: WriterNo,
     sn: u64,
-) -> Result<(), AllocError> {
+) -> Result<(), NoMemory> {
     let missed = unmarked_between(world, reader, writer, 1, sn)?;
     if let Some(held) = world.from_writer_mut(reader, writer) {
         held.lost.extend_from_slice(&missed)?;
@@ -152,7 +151,7 @@ fn unmarked_between(
     writer: WriterNo,
     from: u64,
     until: u64,
-) -> Result<Vec<u64>, AllocError> {
+) -> Result<Vec<u64>, NoMemory> {
     let mut unmarked = Vec::new(world.alloc);
     for n in from..until {
         if !world.is_marked(reader, writer, n) {
@@ -163,7 +162,7 @@ fn unmarked_between(
 }
 
 /// A GAP arrives: the unmarked numbers from its start up to the base of its set, and those of the set, are irrelevant. At a watcher none is.
-fn on_gap(world: &mut World, gap: &GapMsg) -> Result<Arrival, AllocError> {
+fn on_gap(world: &mut World, gap: &GapMsg) -> Result<Arrival, NoMemory> {
     let (reader, writer) = (gap.reader, gap.writer);
     if !world.layout.matched(writer, reader) {
         return Ok(Arrival::Stranger);
@@ -186,7 +185,7 @@ fn on_gap(world: &mut World, gap: &GapMsg) -> Result<Arrival, AllocError> {
 
 /// A HEARTBEAT arrives: the unmarked numbers below its first are lost, the last number heard grows, and an ACKNACK is owed. A watcher
 /// heeds none.
-fn on_heartbeat(world: &mut World, heartbeat: &Heartbeat) -> Result<Arrival, AllocError> {
+fn on_heartbeat(world: &mut World, heartbeat: &Heartbeat) -> Result<Arrival, NoMemory> {
     let (reader, writer) = (heartbeat.reader, heartbeat.writer);
     if !world.layout.matched(writer, reader) {
         return Ok(Arrival::Stranger);
@@ -207,7 +206,7 @@ fn on_heartbeat(world: &mut World, heartbeat: &Heartbeat) -> Result<Arrival, All
 }
 
 /// The numbers of a set that an ACKNACK has.
-fn asked_by(world: &World, acknack: &AckNack) -> Result<Vec<u64>, AllocError> {
+fn asked_by(world: &World, acknack: &AckNack) -> Result<Vec<u64>, NoMemory> {
     let base = acknack.set.base();
     let mut asked = Vec::new(world.alloc);
     for n in base..base.saturating_add(256) {
@@ -220,7 +219,7 @@ fn asked_by(world: &World, acknack: &AckNack) -> Result<Vec<u64>, AllocError> {
 
 /// An ACKNACK arrives: its base is held, unless it is below the one held or above the next number to be written. Where it is held, what
 /// it asks for is noted. One of a watcher changes nothing.
-fn on_acknack(world: &mut World, acknack: &AckNack) -> Result<(), AllocError> {
+fn on_acknack(world: &mut World, acknack: &AckNack) -> Result<(), NoMemory> {
     let (reader, writer) = (acknack.reader, acknack.writer);
     if !world.layout.follows(writer, reader) {
         return Ok(());
@@ -238,7 +237,7 @@ fn on_acknack(world: &mut World, acknack: &AckNack) -> Result<(), AllocError> {
 }
 
 /// A packet arrives, from the bus or again.
-pub(crate) fn arrive(world: &mut World, packet: &Packet) -> Result<Reply, AllocError> {
+pub(crate) fn arrive(world: &mut World, packet: &Packet) -> Result<Reply, NoMemory> {
     match packet {
         Packet::Data(data) => Ok(Reply::Arrived(on_data(world, data)?)),
         Packet::Gap(gap) => Ok(Reply::Arrived(on_gap(world, gap)?)),
@@ -258,7 +257,7 @@ fn clear(world: &mut World, place: usize) {
 }
 
 /// The packet of a place arrives, and leaves its place unless it is kept.
-pub(crate) fn deliver(world: &mut World, place: usize, keep: bool) -> Result<Reply, AllocError> {
+pub(crate) fn deliver(world: &mut World, place: usize, keep: bool) -> Result<Reply, NoMemory> {
     let Some(packet) = world.at(place) else {
         return Ok(Reply::Refused(Refusal::NoPacket));
     };

@@ -4,9 +4,8 @@
 use crate::reading::has;
 use crate::sends::gap_end;
 use crate::world::World;
-use dds_base::{Event, ReaderNo, WriterNo};
+use dds_base::{Event, NoMemory, ReaderNo, WriterNo};
 use dds_qos::Due;
-use std::alloc::AllocError;
 
 impl World {
     /// Whether a number is kept, and its key isn't in the reader's filter.
@@ -90,7 +89,7 @@ fn note_sent(
     writer: WriterNo,
     reader: ReaderNo,
     sn: u64,
-) -> Result<(), AllocError> {
+) -> Result<(), NoMemory> {
     let mut asked = match world.for_reader(writer, reader) {
         Some(held) => Vec::from_slice(world.alloc, &held.asked)?,
         None => Vec::new(world.alloc),
@@ -104,7 +103,7 @@ fn note_sent(
 }
 
 /// Notes an event that sent a packet, on a full bus too.
-pub(crate) fn note(world: &mut World, event: &Event) -> Result<(), AllocError> {
+pub(crate) fn note(world: &mut World, event: &Event) -> Result<(), NoMemory> {
     match *event {
         Event::SendData { writer, reader, sn } => note_sent(world, writer, reader, sn),
         Event::SendGap {

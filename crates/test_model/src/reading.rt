@@ -5,8 +5,7 @@ ghost use Rattle.dds_qos.specs.Samples.{has_number};
 
 use crate::world::{LAST_NUMBER, World};
 use crate::writing::count_of;
-use dds_base::{KeyNo, ReaderNo, Sample, WriterNo};
-use std::alloc::AllocError;
+use dds_base::{KeyNo, NoMemory, ReaderNo, Sample, WriterNo};
 
 /// Whether one of the samples has the writer and the number.
 pub(crate) fn has_number(samples: &[Sample], writer: WriterNo, sn: u64) -> bool
@@ -65,14 +64,14 @@ impl World {
     }
 
     /// The samples that a reader stores, in the order of storing.
-    pub fn stored(&self, reader: ReaderNo) -> Result<Vec<Sample>, AllocError> {
+    pub fn stored(&self, reader: ReaderNo) -> Result<Vec<Sample>, NoMemory> {
         let mut stored = Vec::from_slice(self.alloc, self.received(reader))?;
         stored.retain(|s| self.is_stored(reader, s));
         Ok(stored)
     }
 
     /// How many samples of a key a reader stores, available or not.
-    pub fn unread(&self, reader: ReaderNo, key: KeyNo) -> Result<usize, AllocError> {
+    pub fn unread(&self, reader: ReaderNo, key: KeyNo) -> Result<usize, NoMemory> {
         let stored = self.stored(reader)?;
         Ok(count_of(&stored, key))
     }
@@ -82,7 +81,7 @@ impl World {
         &self,
         reader: ReaderNo,
         key: KeyNo,
-    ) -> Result<Vec<Sample>, AllocError> {
+    ) -> Result<Vec<Sample>, NoMemory> {
         let mut available = self.stored(reader)?;
         available.retain(|s| s.key == key && s.sn < self.base(reader, s.writer));
         Ok(available)

@@ -2,9 +2,9 @@
 
 use crate::world::World;
 use dds_base::{
-    AckNack, DataMsg, GapMsg, Heartbeat, Packet, ReaderNo, Refusal, Reply, SnSet, WriterNo,
+    AckNack, DataMsg, GapMsg, Heartbeat, NoMemory, Packet, ReaderNo, Refusal, Reply, SnSet,
+    WriterNo,
 };
-use std::alloc::AllocError;
 
 /// The DATA of a number. None where the number isn't at hand or isn't relevant.
 fn data(world: &World, writer: WriterNo, reader: ReaderNo, sn: u64) -> Option<Packet> {
@@ -60,7 +60,7 @@ fn heartbeat(world: &World, writer: WriterNo, reader: ReaderNo) -> Option<Packet
 }
 
 /// The numbers of a writer that a reader asks for: of the 256 from its base on, those heard of that have no mark.
-fn missing(world: &World, reader: ReaderNo, writer: WriterNo) -> Result<Vec<u64>, AllocError> {
+fn missing(world: &World, reader: ReaderNo, writer: WriterNo) -> Result<Vec<u64>, NoMemory> {
     let base = world.base(reader, writer);
     let heard = world.heard(reader, writer);
     let mut missing = Vec::new(world.alloc);
@@ -77,7 +77,7 @@ fn acknack(
     world: &World,
     reader: ReaderNo,
     writer: WriterNo,
-) -> Result<Option<Packet>, AllocError> {
+) -> Result<Option<Packet>, NoMemory> {
     if world.layout.is_watcher(reader) {
         return Ok(None);
     }
@@ -143,7 +143,7 @@ pub(crate) fn send_acknack(
     world: &mut World,
     reader: ReaderNo,
     writer: WriterNo,
-) -> Result<Reply, AllocError> {
+) -> Result<Reply, NoMemory> {
     if !world.layout.matched(writer, reader) {
         return Ok(Reply::Refused(Refusal::Foreign));
     }

@@ -7,11 +7,10 @@ use crate::sends::{send_acknack, send_data, send_gap, send_heartbeat};
 use crate::takes::take;
 use crate::world::World;
 use crate::writes::write;
-use dds_base::{Event, Reply, Sample};
-use std::alloc::AllocError;
+use dds_base::{Event, NoMemory, Reply, Sample};
 
 /// Makes an event, and answers its reply.
-fn made(world: &mut World, event: &Event, wanted: &Option<Sample>) -> Result<Reply, AllocError> {
+fn made(world: &mut World, event: &Event, wanted: &Option<Sample>) -> Result<Reply, NoMemory> {
     match *event {
         Event::Write {
             writer,
@@ -40,7 +39,7 @@ pub fn step_as(
     world: &mut World,
     event: &Event,
     wanted: &Option<Sample>,
-) -> Result<Reply, AllocError> {
+) -> Result<Reply, NoMemory> {
     let reply = made(world, event, wanted)?;
     if let Reply::Sent(_) = reply {
         note(world, event)?;
@@ -49,6 +48,6 @@ pub fn step_as(
 }
 
 /// `step_as` with nothing wanted.
-pub fn step(world: &mut World, event: &Event) -> Result<Reply, AllocError> {
+pub fn step(world: &mut World, event: &Event) -> Result<Reply, NoMemory> {
     step_as(world, event, &None)
 }

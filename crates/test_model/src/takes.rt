@@ -1,8 +1,7 @@
 //! A take. Which writer's sample is taken is free: of any writer, it is the available one with the least number.
 
 use crate::world::World;
-use dds_base::{KeyNo, ReaderNo, Refusal, Reply, Sample};
-use std::alloc::AllocError;
+use dds_base::{KeyNo, NoMemory, ReaderNo, Refusal, Reply, Sample};
 
 /// Whether none of the samples has the writer of this one and a lesser number.
 fn is_least(sample: &Sample, samples: &[Sample]) -> bool {
@@ -26,7 +25,7 @@ fn refusal(world: &World, reader: ReaderNo, key: KeyNo, available: usize) -> Opt
 }
 
 /// A reader's application takes this sample.
-fn take_it(world: &mut World, reader: ReaderNo, sample: &Sample) -> Result<Reply, AllocError> {
+fn take_it(world: &mut World, reader: ReaderNo, sample: &Sample) -> Result<Reply, NoMemory> {
     if let Some(past) = world.readers.get_mut(reader.number()) {
         past.taken.push(*sample)?;
     }
@@ -53,7 +52,7 @@ pub(crate) fn take(
     reader: ReaderNo,
     key: KeyNo,
     wanted: &Option<Sample>,
-) -> Result<Reply, AllocError> {
+) -> Result<Reply, NoMemory> {
     let available = world.available(reader, key)?;
     if let Some(why) = refusal(world, reader, key, available.len()) {
         return Ok(Reply::Refused(why));

@@ -4,9 +4,9 @@
 use crate::stepping::step;
 use crate::world::World;
 use dds_base::{
-    Arrival, Event, KeyNo, Packet, ReaderNo, Refusal, Rejection, Reply, RuleNo, Sample, WriterNo,
+    Arrival, Event, KeyNo, NoMemory, Packet, ReaderNo, Refusal, Rejection, Reply, RuleNo, Sample,
+    WriterNo,
 };
-use std::alloc::AllocError;
 
 /// The deployment of a run.
 #[derive(Clone, Copy, Debug, PartialEq, Eq)]
@@ -184,7 +184,7 @@ pub fn told_of(reply: &Reply) -> Told {
 }
 
 /// Makes an event in a world, and tells the reply. An `Err` means that memory ran out.
-pub fn told_by_step(world: &mut World, event: &Event) -> Result<Told, AllocError> {
+pub fn told_by_step(world: &mut World, event: &Event) -> Result<Told, NoMemory> {
     match step(world, event) {
         Ok(reply) => Ok(told_of(&reply)),
         Err(error) => Err(error),

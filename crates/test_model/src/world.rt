@@ -4,8 +4,8 @@
 ghost use Rattle.std.specs.Prelude.{◌≡◌, IfOk};
 
 use crate::layout::Layout;
-use dds_base::{Data, KeyNo, Packet, ReaderNo, Sample, WriterNo};
-use std::alloc::{AllocError, Global};
+use dds_base::{Data, KeyNo, NoMemory, Packet, ReaderNo, Sample, WriterNo};
+use std::alloc::Global;
 
 /// How many packets the bus holds at most.
 pub const PLACES: usize = 4096;
@@ -80,7 +80,7 @@ pub struct World {
 }
 
 /// A writer that has done nothing, among so many readers.
-fn new_writer(alloc: Global, readers: usize) -> Result<WriterPast, AllocError> {
+fn new_writer(alloc: Global, readers: usize) -> Result<WriterPast, NoMemory> {
     let mut held = Vec::new(alloc);
     for _ in 0..readers {
         held.push(ForReader {
@@ -96,7 +96,7 @@ fn new_writer(alloc: Global, readers: usize) -> Result<WriterPast, AllocError> {
 }
 
 /// A reader that has done nothing, among so many writers.
-fn new_reader(alloc: Global, writers: usize) -> Result<ReaderPast, AllocError> {
+fn new_reader(alloc: Global, writers: usize) -> Result<ReaderPast, NoMemory> {
     let mut held = Vec::new(alloc);
     for _ in 0..writers {
         held.push(FromWriter {
@@ -114,7 +114,7 @@ fn new_reader(alloc: Global, writers: usize) -> Result<ReaderPast, AllocError> {
     })
 }
 
-fn new_writers(alloc: Global, layout: &Layout) -> Result<Vec<WriterPast>, AllocError> {
+fn new_writers(alloc: Global, layout: &Layout) -> Result<Vec<WriterPast>, NoMemory> {
     let mut writers = Vec::new(alloc);
     for _ in &layout.writers {
         writers.push(new_writer(alloc, layout.readers.len())?)?;
@@ -122,7 +122,7 @@ fn new_writers(alloc: Global, layout: &Layout) -> Result<Vec<WriterPast>, AllocE
     Ok(writers)
 }
 
-fn new_readers(alloc: Global, layout: &Layout) -> Result<Vec<ReaderPast>, AllocError> {
+fn new_readers(alloc: Global, layout: &Layout) -> Result<Vec<ReaderPast>, NoMemory> {
     let mut readers = Vec::new(alloc);
     for _ in &layout.readers {
         readers.push(new_reader(alloc, layout.writers.len())?)?;
@@ -131,7 +131,7 @@ fn new_readers(alloc: Global, layout: &Layout) -> Result<Vec<ReaderPast>, AllocE
 }
 
 /// A bus without a packet.
-pub fn empty_bus(alloc: Global) -> Result<Vec<Option<Packet>>, AllocError> {
+pub fn empty_bus(alloc: Global) -> Result<Vec<Option<Packet>>, NoMemory> {
     let mut bus = Vec::new(alloc);
     for _ in 0..PLACES {
         bus.push(None)?;
@@ -141,7 +141,7 @@ pub fn empty_bus(alloc: Global) -> Result<Vec<Option<Packet>>, AllocError> {
 
 impl World {
     /// The world before the first event. An `Err` means that memory ran out.
-    pub fn open(alloc: Global, layout: Layout) -> Result<World, AllocError>
+    pub fn open(alloc: Global, layout: Layout) -> Result<World, NoMemory>
         ensures { IfOk result (λ v. v.layout ≡ layout) }
     {
         let mut fired = Vec::new(alloc);

@@ -3,11 +3,10 @@
 use crate::layout::is_reached;
 use crate::world::{Entry, LAST_NUMBER, World};
 use crate::writing::{count_of, keys_of};
-use dds_base::{Data, KeyNo, Refusal, Reply, WriterNo};
-use std::alloc::AllocError;
+use dds_base::{Data, KeyNo, NoMemory, Refusal, Reply, WriterNo};
 
 /// Whether the key is new to the writer while max_instances keys are written.
-fn is_one_key_too_many(world: &World, writer: WriterNo, key: KeyNo) -> Result<bool, AllocError> {
+fn is_one_key_too_many(world: &World, writer: WriterNo, key: KeyNo) -> Result<bool, NoMemory> {
     let history = world.history(writer)?;
     let keys = keys_of(world, &history)?;
     let limit = world.layout.writer_limits(writer).max_instances;
@@ -15,7 +14,7 @@ fn is_one_key_too_many(world: &World, writer: WriterNo, key: KeyNo) -> Result<bo
 }
 
 /// Why a write is refused: the first reason.
-fn refusal(world: &World, writer: WriterNo, key: KeyNo) -> Result<Option<Refusal>, AllocError> {
+fn refusal(world: &World, writer: WriterNo, key: KeyNo) -> Result<Option<Refusal>, NoMemory> {
     if !world.layout.writes_key(writer, key) {
         return Ok(Some(Refusal::Foreign));
     }
@@ -45,7 +44,7 @@ pub(crate) fn write(
     writer: WriterNo,
     key: KeyNo,
     payload: Data,
-) -> Result<Reply, AllocError> {
+) -> Result<Reply, NoMemory> {
     if let Some(why) = refusal(world, writer, key)? {
         return Ok(Reply::Refused(why));
     }

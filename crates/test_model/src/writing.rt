@@ -4,11 +4,10 @@ ghost use Rattle.std.specs.Prelude.{◌≡◌};
 ghost use Rattle.dds_qos.specs.Samples.{in_instance};
 
 use crate::world::World;
-use dds_base::{KeyNo, ReaderNo, Sample, WriterNo};
-use std::alloc::AllocError;
+use dds_base::{KeyNo, NoMemory, ReaderNo, Sample, WriterNo};
 
 /// The keys of some samples, none twice.
-pub(crate) fn keys_of(world: &World, samples: &[Sample]) -> Result<Vec<KeyNo>, AllocError> {
+pub(crate) fn keys_of(world: &World, samples: &[Sample]) -> Result<Vec<KeyNo>, NoMemory> {
     let mut keys: Vec<KeyNo> = Vec::new(world.alloc);
     for sample in samples {
         if !keys.iter().any(|k| *k == sample.key) {
@@ -70,7 +69,7 @@ impl World {
     }
 
     /// All samples that a writer has written, in order of number.
-    pub(crate) fn history(&self, writer: WriterNo) -> Result<Vec<Sample>, AllocError> {
+    pub(crate) fn history(&self, writer: WriterNo) -> Result<Vec<Sample>, NoMemory> {
         let mut history = Vec::new(self.alloc);
         for sn in 1..=self.written(writer) {
             if let Some(sample) = self.sample(writer, sn) {
@@ -81,7 +80,7 @@ impl World {
     }
 
     /// The samples that a writer keeps, in order of number.
-    pub fn kept(&self, writer: WriterNo) -> Result<Vec<Sample>, AllocError> {
+    pub fn kept(&self, writer: WriterNo) -> Result<Vec<Sample>, NoMemory> {
         let mut kept = self.history(writer)?;
         kept.retain(|s| self.is_awaited(writer, s.sn));
         Ok(kept)
