@@ -60,11 +60,7 @@ fn flaw_text(
 }
 
 /// What is told of the flaw of a file, and after it what the parser says, where that is told.
-fn file_text(
-    alloc: Global,
-    line: String,
-    syntax: &Option<SyntaxError>,
-) -> Result<String, NoMemory>
+fn file_text(alloc: Global, line: String, syntax: &Option<SyntaxError>) -> Result<String, NoMemory>
     ensures { IfOk result (λ text. string_bytes text ≡ string_bytes line ++ syntax_line syntax.now) }
 {
     let Some(error) = syntax else {

@@ -56,12 +56,7 @@ fn shown_by(target: &Target) -> &'static str {
 }
 
 /// What is known of the bounds for a limit that has no certificate.
-fn least_text(
-    alloc: Global,
-    limit: &str,
-    shower: &str,
-    least: Least,
-) -> Result<String, NoMemory> {
+fn least_text(alloc: Global, limit: &str, shower: &str, least: Least) -> Result<String, NoMemory> {
     match least {
         Least::Shown(bound) => format!(in alloc;
             "ddscheck: no weights show {limit}; the least bound that {shower} is {bound}\n"

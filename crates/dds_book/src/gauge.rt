@@ -118,11 +118,7 @@ impl Gauge {
 }
 
 // A new gauge with its seats.
-fn opened(
-    alloc: Global,
-    apps: usize,
-    monitors: usize,
-) -> Result<(Gauge, Vec<GaugeSeat>), NoMemory>
+fn opened(alloc: Global, apps: usize, monitors: usize) -> Result<(Gauge, Vec<GaugeSeat>), NoMemory>
     ensures apps { IfOk result (λ r. r.0.apps ≡ apps) }
     ensures seats { IfOk result (λ r. r.1.items ≡ map (fresh_seat r.0.table apps) (range_with_len 0 (apps + monitors))) }
 {

@@ -48,11 +48,7 @@ impl Model for Cache {
 impl Cache {
     /// An empty cache for the samples of these writers, which knows no key and has each writer's samples available up to 0, so none.
     /// Later samples take their memory from `alloc` too. `Err` where no memory is left for the list of writers.
-    pub fn new(
-        alloc: Global,
-        limits: ReaderLimits,
-        writers: &[WriterNo],
-    ) -> Result<Cache, NoMemory>
+    pub fn new(alloc: Global, limits: ReaderLimits, writers: &[WriterNo]) -> Result<Cache, NoMemory>
         ensures { IfOk result (λ c. c ≡ record {
           limits = limits;
           stored = [];

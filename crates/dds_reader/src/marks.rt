@@ -78,12 +78,7 @@ impl Marks {
 
     // Marks the numbers from one to another less one, and counts those that were not marked. It needs no memory where the first is not
     // above the base or joins a range.
-    pub(crate) fn mark(
-        &mut self,
-        writer: WriterNo,
-        from: u64,
-        until: u64,
-    ) -> Result<u64, NoMemory>
+    pub(crate) fn mark(&mut self, writer: WriterNo, from: u64, until: u64) -> Result<u64, NoMemory>
         requires listed { IsTrue (has_marks writer self.old) }
         requires low { 1 ≤ from }
         ensures marks { OnOk result (AddsMarks (in_marks self.old) (in_marks self.new) writer (is_between from until)) }

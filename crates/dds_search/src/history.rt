@@ -15,11 +15,7 @@ pub(crate) struct History {
 
 impl History {
     /// The history of so many writers and readers before anything is written.
-    pub(crate) fn new(
-        alloc: Global,
-        writers: usize,
-        readers: usize,
-    ) -> Result<History, NoMemory> {
+    pub(crate) fn new(alloc: Global, writers: usize, readers: usize) -> Result<History, NoMemory> {
         let mut written = Vec::new(alloc);
         for _ in 0..writers {
             if written.push(Vec::new(alloc)).is_err() {

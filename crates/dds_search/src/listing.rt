@@ -30,11 +30,7 @@ fn push_weight(
 }
 
 /// The weights of the samples: of the tokens of each place.
-fn samples(
-    alloc: Global,
-    net: &Net,
-    row: &WeighedRow,
-) -> Result<Vec<Weight<ReaderNo>>, NoMemory> {
+fn samples(alloc: Global, net: &Net, row: &WeighedRow) -> Result<Vec<Weight<ReaderNo>>, NoMemory> {
     let mut list = Vec::new(alloc);
     for number in 0..net.places.len() {
         push_weight(&mut list, &net.places[number], row.weight(number))?;
@@ -72,11 +68,7 @@ fn push_permit(
 }
 
 /// The weights of the permits.
-fn permits(
-    alloc: Global,
-    net: &Net,
-    row: &WeighedRow,
-) -> Result<Vec<Weight<WriterNo>>, NoMemory> {
+fn permits(alloc: Global, net: &Net, row: &WeighedRow) -> Result<Vec<Weight<WriterNo>>, NoMemory> {
     let mut list = Vec::new(alloc);
     for outlet in &net.outlets {
         push_permit(&mut list, outlet, permit(outlet, &row.weights))?;

@@ -1,4 +1,6 @@
 //! A dictionary: some variables in terms of the others, which are free. Where the free ones are 0, the others are not below 0.
+ghost use Rattle.std.specs.Prelude.{◌≡◌, ◌≢◌, ◌≤◌, ◌++◌, ◌∷◌, [], Err, Ok, IfErr, IfNone, IfOk, OnErr, OnOk, vec_len};
+ghost use Rattle.dds_simplex.specs.Dictionary.{IsGreatest, fresh_columns};
 
 use crate::line::Line;
 use std::alloc::{AllocError, Global};
@@ -61,7 +63,11 @@ enum Place<'a> {
 
 impl Dictionary {
     /// A dictionary without lines, over so many free variables.
-    pub fn new(alloc: Global, columns: usize) -> Result<Dictionary, AllocError> {
+    #[tactic(auto, using(crate::proofs::Columns::columns_push))]
+    pub fn new(alloc: Global, columns: usize) -> Result<Dictionary, AllocError>
+        ensures free { IfOk result (λ d. d.free.items ≡ fresh_columns columns) }
+        ensures lines { IfOk result (λ d. d.basics.items ≡ []) }
+    {
         let mut free = Vec::new(alloc);
         for column in 0..columns {
             free.push(Variable::Column(column))?;
@@ -72,8 +78,13 @@ impl Dictionary {
         })
     }
 
-    /// Adds the line of a variable that isn't free. Its constant has to be 0 or above.
-    pub fn push(&mut self, line: Line) -> Result<(), AllocError> {
+    /// Adds the line of a variable that isn't free, which is named by the line's place. Its constant has to be 0 or above. An `Err` means that memory ran out;
+    /// then nothing changes.
+    pub fn push(&mut self, line: Line) -> Result<(), AllocError>
+        ensures ok { OnOk result (self.new.basics.items ≡ self.old.basics.items ++ record { variable = Variable.Line (vec_len self.old.basics); line = line } ∷ []) }
+        ensures err { OnErr result (self.new.basics.items ≡ self.old.basics.items) }
+        ensures free { self.new.free ≡ self.old.free }
+    {
         let variable = Variable::Line(self.basics.len());
         match self.basics.push(Basic { variable, line }) {
             Ok(()) => Ok(()),
@@ -82,7 +93,9 @@ impl Dictionary {
     }
 
     /// The variables that are free, in the order of their columns.
-    pub fn free(&self) -> &[Variable] {
+    pub fn free(&self) -> &[Variable]
+        ensures { result.now ≡ self.now.free.items }
+    {
         &self.free
     }
 
@@ -138,7 +151,9 @@ impl Dictionary {
     }
 
     /// The column of the least free variable that would raise the sum.
-    fn entering(&self, sum: &Line) -> Option<usize> {
+    fn entering(&self, sum: &Line) -> Option<usize>
+        ensures { IfNone result (IsGreatest self.now sum.now) }
+    {
         let mut found: Option<(Variable, usize)> = None;
         for column in 0..self.free.len() {
             let variable = self.free[column];
@@ -155,7 +170,9 @@ impl Dictionary {
 
     /// The place of the line that bounds the free variable of a column the most, the least variable's where two are alike. None where no
     /// line bounds it.
-    fn leaving(&self, column: usize) -> Result<Option<usize>, Stop> {
+    fn leaving(&self, column: usize) -> Result<Option<usize>, Stop>
+        ensures { IfErr result (λ e. e ≡ Stop.Overflow) }
+    {
         let mut found: Option<usize> = None;
         for place in 0..self.basics.len() {
             let basic = &self.basics[place];
@@ -170,7 +187,9 @@ impl Dictionary {
     }
 
     /// The free variable of a column and the one that a line gives change places, in all lines and in the sum.
-    fn pivot(&mut self, sum: &mut Line, column: usize, place: usize) -> Result<(), Stop> {
+    fn pivot(&mut self, sum: &mut Line, column: usize, place: usize) -> Result<(), Stop>
+        ensures { result ≢ Err Stop.Budget }
+    {
         if place >= self.basics.len() {
             return Ok(());
         }
@@ -193,8 +212,14 @@ impl Dictionary {
     }
 
     /// Goes from point to point until the sum has its greatest value, and then says the sum by the variables that are free there. It takes
-    /// the pivots that it makes from those that are left. After an `Err` the dictionary is worth nothing.
-    pub fn climb(&mut self, sum: &mut Line, left: &mut usize) -> Result<End, Stop> {
+    /// the pivots that it makes from those that are left. After an `Err` the dictionary is worth nothing: `Overflow` where a number would pass 128 bits, `Memory`
+    /// where memory ran out, and `Budget` only where no pivot is left.
+    pub fn climb(&mut self, sum: &mut Line, left: &mut usize) -> Result<End, Stop>
+        // At the greatest value no free variable would raise the sum.
+        ensures greatest { result ≡ Ok End.Greatest → IsGreatest self.new sum.new }
+        ensures spent { left.new ≤ left.old }
+        ensures budget { result ≡ Err Stop.Budget → left.new ≡ 0 }
+    {
         while *left > 0 {
             let Some(column) = self.entering(sum) else {
                 return Ok(End::Greatest);

@@ -17,8 +17,8 @@ use dds_deploy_file::read_deployment;
 use dds_domain::Simulator;
 use dds_events::{EventsFault, lines_text, read_events};
 use dds_json::{Style, line_of};
-use dds_match::planning::plan;
 use dds_match::Plan;
+use dds_match::planning::plan;
 use serde_json::{Value, json};
 use std::alloc::Global;
 

@@ -113,12 +113,7 @@ impl Held {
     }
 
     // Marks the numbers from one to another, which is irrelevant.
-    pub(crate) fn mark_upto(
-        &mut self,
-        writer: WriterNo,
-        from: u64,
-        n: u64,
-    ) -> Result<(), NoMemory>
+    pub(crate) fn mark_upto(&mut self, writer: WriterNo, from: u64, n: u64) -> Result<(), NoMemory>
         requires listed { IsTrue (is_listed writer self.old.cache.writers) }
         requires low { 1 ≤ from }
         requires order { from ≤ n }

@@ -10,11 +10,7 @@ use dds_base::{
 use dds_qos::Admit;
 
 /// Whether the key of a sample is new while max_instances keys are known. A key is known once a sample of it was stored.
-fn is_one_key_too_many(
-    world: &World,
-    reader: ReaderNo,
-    sample: &Sample,
-) -> Result<bool, NoMemory> {
+fn is_one_key_too_many(world: &World, reader: ReaderNo, sample: &Sample) -> Result<bool, NoMemory> {
     let keys = keys_of(world, world.received(reader))?;
     let limit = world.layout.reader_limits(reader).max_instances;
     Ok(is_reached(limit, keys.len()) && !keys.iter().any(|k| *k == sample.key))
@@ -131,12 +127,7 @@ fn on_data(world: &mut World, message: &DataMsg) -> Result<Arrival, NoMemory> {
 }
 
 /// A reader gives up a writer's unmarked numbers below this one.
-fn give_up(
-    world: &mut World,
-    reader: ReaderNo,
-    writer: WriterNo,
-    sn: u64,
-) -> Result<(), NoMemory> {
+fn give_up(world: &mut World, reader: ReaderNo, writer: WriterNo, sn: u64) -> Result<(), NoMemory> {
     let missed = unmarked_between(world, reader, writer, 1, sn)?;
     if let Some(held) = world.from_writer_mut(reader, writer) {
         held.lost.extend_from_slice(&missed)?;

@@ -77,11 +77,7 @@ impl World {
     }
 
     /// The stored samples of a key whose number is below their writer's base.
-    pub(crate) fn available(
-        &self,
-        reader: ReaderNo,
-        key: KeyNo,
-    ) -> Result<Vec<Sample>, NoMemory> {
+    pub(crate) fn available(&self, reader: ReaderNo, key: KeyNo) -> Result<Vec<Sample>, NoMemory> {
         let mut available = self.stored(reader)?;
         available.retain(|s| s.key == key && s.sn < self.base(reader, s.writer));
         Ok(available)

@@ -73,11 +73,7 @@ fn missing(world: &World, reader: ReaderNo, writer: WriterNo) -> Result<Vec<u64>
 }
 
 /// The ACKNACK of a reader. None of a watcher.
-fn acknack(
-    world: &World,
-    reader: ReaderNo,
-    writer: WriterNo,
-) -> Result<Option<Packet>, NoMemory> {
+fn acknack(world: &World, reader: ReaderNo, writer: WriterNo) -> Result<Option<Packet>, NoMemory> {
     if world.layout.is_watcher(reader) {
         return Ok(None);
     }
