@@ -67,8 +67,14 @@ rules_section d = section (codes "rules") (each_below (length d.rules.entries) (
 abbrev pub connections_section : Lists → List ℕ
 connections_section d = section (codes "connections") (each_below (length (pairs d)) (connection_item d))
 
+-- the sections of what there is
+abbrev pub endpoint_sections : Lists → List ℕ
+endpoint_sections d = participants_section d ++ (codes ",\n" ++ (topics_section d ++ (codes ",\n" ++ (writers_section d ++ (codes ",\n" ++ readers_section d)))))
+
+-- the sections of what is done with it
+abbrev pub behaviour_sections : Lists → List ℕ
+behaviour_sections d = applications_section d ++ (codes ",\n" ++ (rules_section d ++ (codes ",\n" ++ connections_section d)))
+
 -- all sections, in the order of the file's format
 abbrev pub deployment_json : Lists → List ℕ
-deployment_json d =
-    codes "{\n" ++ (participants_section d ++ (codes ",\n" ++ (topics_section d ++ (codes ",\n" ++ (writers_section d ++ (codes ",\n" ++ (readers_section d
-    ++ (codes ",\n" ++ (applications_section d ++ (codes ",\n" ++ (rules_section d ++ (codes ",\n" ++ (connections_section d ++ codes "\n}\n")))))))))))))
+deployment_json d = codes "{\n" ++ (endpoint_sections d ++ (codes ",\n" ++ (behaviour_sections d ++ codes "\n}\n")))

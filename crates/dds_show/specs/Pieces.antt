@@ -10,13 +10,17 @@ use Rattle.dds_qos.specs.declared.policies.Duration.TheVariants.{Nanoseconds, In
 abbrev pub quoted : List ℕ → List ℕ
 quoted text = codes "\"" ++ (text ++ codes "\"")
 
--- what stands before the item at this place of a list in one line
-abbrev pub comma : ℕ → List ℕ
-comma i = if i == 0 then [] else codes ", "
+-- what stands before the item at this place of a list: before the first, and before each other
+abbrev pub start_of : List ℕ → List ℕ → ℕ → List ℕ
+start_of first next i = if i == 0 then first else next
 
--- what stands before the entry at this place of a section
+-- the same of a list in one line
+abbrev pub comma : ℕ → List ℕ
+comma i = start_of [] (codes ", ") i
+
+-- the same of a section, whose entries have lines of their own
 abbrev pub line_start : ℕ → List ℕ
-line_start i = if i == 0 then codes "\n    " else codes ",\n    "
+line_start i = start_of (codes "\n    ") (codes ",\n    ") i
 
 -- a name of a list, in quotes
 abbrev pub name_item : List (List ℕ) → ℕ → List ℕ

@@ -2,49 +2,41 @@
 ghost use Rattle.std.specs.Prelude.{◌≡◌, ◌++◌, ◌<◌, ℕ, List, IfOk, length, string_bytes};
 ghost use Rattle.dds_cert.specs.Text.{each_below};
 ghost use Rattle.dds_show.specs.Pieces.{line_start};
-ghost use Rattle.dds_show.specs.Json.{application_item, applications_section, connections_section, deployment_json, pair_at, pairs, pairs_of_writer, participant_item, participants_section, reader_item, readers_section, rules_section, section, topic_item, topics_section, writer_item, writers_section};
+ghost use Rattle.dds_show.specs.Json.{application_item, applications_section, behaviour_sections, connections_section, deployment_json, endpoint_sections, pair_at, pairs, pairs_of_writer, participant_item, participants_section, reader_item, readers_section, rules_section, section, topic_item, topics_section, writer_item, writers_section};
 
 use crate::entries::{
     application_entry, connection_entry, participant_entry, reader_entry, rule_entry, topic_entry,
     writer_entry,
 };
-use crate::pieces::line_start;
-use crate::texts::{TextResult, text_below};
+use crate::pieces::lines_below;
+use crate::texts::TextResult;
 use dds_base::{AppNo, ParticipantNo, ReaderNo, RuleNo, TopicNo, WriterNo};
 use dds_cert::naming::name_at;
 use dds_deploy::Deployment;
 use std::alloc::{AllocError, Global};
 
-/// The entries below `n`, each in a line of its own.
-fn lines_below<F: Fn(usize) -> TextResult>(alloc: Global, n: usize, entry: F) -> TextResult
-    requires { (i : ℕ) → i < n → F.pre entry i }
-    ensures { (item_of : ℕ → List ℕ) → ((i : ℕ) (r : _) → i < n → F.post entry i r → IfOk r (λ text. line_start i ++ string_bytes text ≡ item_of i)) → IfOk result (λ text. string_bytes text ≡ each_below n item_of) }
-{
-    text_below(
-        alloc,
-        n,
-        |i|
-            requires { F.pre entry i }
-        {
-            let start = line_start(i);
-            let entry = entry(i)?;
-            format!(in alloc; "{start}{entry}")
-        },
-    )
-}
-
 /// A section with these entries.
-fn section(alloc: Global, name: &str, items: &str) -> TextResult
+fn section_text(alloc: Global, name: &str, items: &str) -> TextResult
     ensures { IfOk result (λ text. string_bytes text ≡ section name.now items.now) }
 {
     format!(in alloc; "  \"{name}\": [{items}\n  ]")
 }
 
+/// A section with the entries below `n`, each in a line of its own.
+fn section<F: Fn(usize) -> TextResult>(alloc: Global, name: &str, n: usize, entry: F) -> TextResult
+    requires { (i : ℕ) → i < n → F.pre entry i }
+    ensures { (item_of : ℕ → List ℕ) → ((i : ℕ) (r : _) → i < n → F.post entry i r → IfOk r (λ text. line_start i ++ string_bytes text ≡ item_of i)) → IfOk result (λ text. string_bytes text ≡ section name.now (each_below n item_of)) }
+{
+    let items = lines_below(alloc, n, entry)?;
+    section_text(alloc, name, items.as_str())
+}
+
 fn participants_section(alloc: Global, lists: &Deployment) -> TextResult
     ensures { IfOk result (λ text. string_bytes text ≡ participants_section lists.now) }
 {
-    let items = lines_below(
+    section(
         alloc,
+        "participants",
         lists.participants(),
         |i|
             requires { i < length lists.now.participants.entries }
@@ -53,15 +45,15 @@ fn participants_section(alloc: Global, lists: &Deployment) -> TextResult
             let name = name_at(lists.participant_names(), i);
             participant_entry(alloc, name, lists.participant(ParticipantNo::new(i)))
         },
-    )?;
-    section(alloc, "participants", items.as_str())
+    )
 }
 
 fn topics_section(alloc: Global, lists: &Deployment) -> TextResult
     ensures { IfOk result (λ text. string_bytes text ≡ topics_section lists.now) }
 {
-    let items = lines_below(
+    section(
         alloc,
+        "topics",
         lists.topics(),
         |i|
             requires { i < length lists.now.topics.entries }
@@ -70,15 +62,15 @@ fn topics_section(alloc: Global, lists: &Deployment) -> TextResult
             let name = name_at(lists.topic_names(), i);
             topic_entry(alloc, name, lists.topic(TopicNo::new(i)))
         },
-    )?;
-    section(alloc, "topics", items.as_str())
+    )
 }
 
 fn writers_section(alloc: Global, lists: &Deployment) -> TextResult
     ensures { IfOk result (λ text. string_bytes text ≡ writers_section lists.now) }
 {
-    let items = lines_below(
+    section(
         alloc,
+        "writers",
         lists.writers(),
         |i|
             requires { i < length lists.now.writers.entries }
@@ -87,15 +79,15 @@ fn writers_section(alloc: Global, lists: &Deployment) -> TextResult
             let name = name_at(lists.writer_names(), i);
             writer_entry(alloc, lists, name, lists.writer(WriterNo::new(i)))
         },
-    )?;
-    section(alloc, "writers", items.as_str())
+    )
 }
 
 fn readers_section(alloc: Global, lists: &Deployment) -> TextResult
     ensures { IfOk result (λ text. string_bytes text ≡ readers_section lists.now) }
 {
-    let items = lines_below(
+    section(
         alloc,
+        "readers",
         lists.readers(),
         |i|
             requires { i < length lists.now.readers.entries }
@@ -106,15 +98,15 @@ fn readers_section(alloc: Global, lists: &Deployment) -> TextResult
             let name = name_at(lists.reader_names(), i);
             reader_entry(alloc, lists, name, lists.reader(ReaderNo::new(i)))
         },
-    )?;
-    section(alloc, "readers", items.as_str())
+    )
 }
 
 fn applications_section(alloc: Global, lists: &Deployment) -> TextResult
     ensures { IfOk result (λ text. string_bytes text ≡ applications_section lists.now) }
 {
-    let items = lines_below(
+    section(
         alloc,
+        "applications",
         lists.applications(),
         |i|
             requires { i < length lists.now.applications.entries }
@@ -123,18 +115,16 @@ fn applications_section(alloc: Global, lists: &Deployment) -> TextResult
             let name = name_at(lists.application_names(), i);
             application_entry(alloc, lists, name, lists.application(AppNo::new(i)))
         },
-    )?;
-    section(alloc, "applications", items.as_str())
+    )
 }
 
 fn rules_section(alloc: Global, lists: &Deployment) -> TextResult
     ensures { IfOk result (λ text. string_bytes text ≡ rules_section lists.now) }
 {
-    let items = lines_below(alloc, lists.rules(), |i| {
+    section(alloc, "rules", lists.rules(), |i| {
         let number = RuleNo::new(i);
         rule_entry(alloc, lists, lists.rule_origin(number), lists.rule(number))
-    })?;
-    section(alloc, "rules", items.as_str())
+    })
 }
 
 /// Adds a pair, if a connection names it.
@@ -184,7 +174,28 @@ fn connections_section(alloc: Global, lists: &Deployment) -> TextResult
     let items = lines_below(alloc, found.len(), |i| {
         connection_entry(alloc, lists, found[i])
     })?;
-    section(alloc, "connections", items.as_str())
+    section_text(alloc, "connections", items.as_str())
+}
+
+/// The sections of what there is: participants, topics, writers and readers.
+fn endpoint_sections(alloc: Global, lists: &Deployment) -> TextResult
+    ensures { IfOk result (λ text. string_bytes text ≡ endpoint_sections lists.now) }
+{
+    let participants = participants_section(alloc, lists)?;
+    let topics = topics_section(alloc, lists)?;
+    let writers = writers_section(alloc, lists)?;
+    let readers = readers_section(alloc, lists)?;
+    format!(in alloc; "{participants},\n{topics},\n{writers},\n{readers}")
+}
+
+/// The sections of what is done with it: applications, rules and connections.
+fn behaviour_sections(alloc: Global, lists: &Deployment) -> TextResult
+    ensures { IfOk result (λ text. string_bytes text ≡ behaviour_sections lists.now) }
+{
+    let applications = applications_section(alloc, lists)?;
+    let rules = rules_section(alloc, lists)?;
+    let connections = connections_section(alloc, lists)?;
+    format!(in alloc; "{applications},\n{rules},\n{connections}")
 }
 
 /// A deployment in JSON: `participants`, `topics`, `writers`, `readers`, `applications`, `rules` and `connections`, each a list with its entries in file
@@ -193,14 +204,7 @@ fn connections_section(alloc: Global, lists: &Deployment) -> TextResult
 pub fn deployment_json(alloc: Global, lists: &Deployment) -> TextResult
     ensures { IfOk result (λ text. string_bytes text ≡ deployment_json lists.now) }
 {
-    let participants = participants_section(alloc, lists)?;
-    let topics = topics_section(alloc, lists)?;
-    let writers = writers_section(alloc, lists)?;
-    let readers = readers_section(alloc, lists)?;
-    let applications = applications_section(alloc, lists)?;
-    let rules = rules_section(alloc, lists)?;
-    let connections = connections_section(alloc, lists)?;
-    format!(in alloc;
-        "{{\n{participants},\n{topics},\n{writers},\n{readers},\n{applications},\n{rules},\n{connections}\n}}\n"
-    )
+    let endpoints = endpoint_sections(alloc, lists)?;
+    let behaviour = behaviour_sections(alloc, lists)?;
+    format!(in alloc; "{{\n{endpoints},\n{behaviour}\n}}\n")
 }

@@ -1,24 +1,36 @@
 //! Pieces of a deployment's JSON. Names and partitions have no byte that JSON escapes.
 ghost use Rattle.std.specs.Prelude.{◌≡◌, ◌++◌, ◌<◌, ℕ, List, IfOk, map, string_bytes};
 ghost use Rattle.dds_cert.specs.Text.{each_below};
-ghost use Rattle.dds_show.specs.Pieces.{comma, duration_text, flag_word, limit_text, line_start, name_items, quoted};
+ghost use Rattle.dds_show.specs.Pieces.{comma, duration_text, flag_word, limit_text, line_start, name_items, quoted, start_of};
 
-use crate::texts::{TextResult, number_or, text_below};
+use crate::texts::{TextResult, number_or, start_of, text_below};
 use dds_base::Names;
 use dds_cert::naming::name_at;
 use dds_qos::Duration;
 use std::alloc::Global;
 
-pub(crate) fn comma(i: usize) -> &'static str
-    ensures { result.now ≡ comma i }
+/// The items below `n`, with `first` before the first and `next` before each other.
+fn listed_below<F: Fn(usize) -> TextResult>(
+    alloc: Global,
+    n: usize,
+    first: &str,
+    next: &str,
+    item: F,
+) -> TextResult
+    requires { (i : ℕ) → i < n → F.pre item i }
+    ensures { (item_of : ℕ → List ℕ) → ((i : ℕ) (r : _) → i < n → F.post item i r → IfOk r (λ text. start_of first.now next.now i ++ string_bytes text ≡ item_of i)) → IfOk result (λ text. string_bytes text ≡ each_below n item_of) }
 {
-    if i == 0 { "" } else { ", " }
-}
-
-pub(crate) fn line_start(i: usize) -> &'static str
-    ensures { result.now ≡ line_start i }
-{
-    if i == 0 { "\n    " } else { ",\n    " }
+    text_below(
+        alloc,
+        n,
+        |i|
+            requires { F.pre item i }
+        {
+            let start = start_of(i, first, next);
+            let item = item(i)?;
+            format!(in alloc; "{start}{item}")
+        },
+    )
 }
 
 /// The items below `n` in one line, with commas between them.
@@ -30,17 +42,19 @@ pub(crate) fn items_below<F: Fn(usize) -> TextResult>(
     requires { (i : ℕ) → i < n → F.pre item i }
     ensures { (item_of : ℕ → List ℕ) → ((i : ℕ) (r : _) → i < n → F.post item i r → IfOk r (λ text. comma i ++ string_bytes text ≡ item_of i)) → IfOk result (λ text. string_bytes text ≡ each_below n item_of) }
 {
-    text_below(
-        alloc,
-        n,
-        |i|
-            requires { F.pre item i }
-        {
-            let comma = comma(i);
-            let item = item(i)?;
-            format!(in alloc; "{comma}{item}")
-        },
-    )
+    listed_below(alloc, n, "", ", ", item)
+}
+
+/// The items below `n`, each in a line of its own.
+pub(crate) fn lines_below<F: Fn(usize) -> TextResult>(
+    alloc: Global,
+    n: usize,
+    line: F,
+) -> TextResult
+    requires { (i : ℕ) → i < n → F.pre line i }
+    ensures { (line_of : ℕ → List ℕ) → ((i : ℕ) (r : _) → i < n → F.post line i r → IfOk r (λ text. line_start i ++ string_bytes text ≡ line_of i)) → IfOk result (λ text. string_bytes text ≡ each_below n line_of) }
+{
+    listed_below(alloc, n, "\n    ", ",\n    ", line)
 }
 
 /// A text in quotes.

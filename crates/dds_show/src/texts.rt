@@ -2,7 +2,7 @@
 ghost use Rattle.std.specs.Prelude.{◌≡◌, ◌<◌, ℕ, List, IfOk, flat_map, string_bytes};
 ghost use Rattle.dds_cert.specs.Naming.{name_at};
 ghost use Rattle.dds_cert.specs.Text.{each_below};
-ghost use Rattle.dds_show.specs.Pieces.{number_or};
+ghost use Rattle.dds_show.specs.Pieces.{number_or, start_of};
 
 use dds_base::{Endpoint, Names};
 use dds_cert::naming::name_at;
@@ -19,6 +19,13 @@ pub fn number_or(alloc: Global, number: Option<u32>, none: &str) -> TextResult
         Some(n) => format!(in alloc; "{n}"),
         None => String::from_str(alloc, none),
     }
+}
+
+/// What stands before the item at this place of a list: `first` before the first, `next` before each other.
+pub fn start_of<'a>(place: usize, first: &'a str, next: &'a str) -> &'a str
+    ensures { result.now ≡ start_of first.now next.now place }
+{
+    if place == 0 { first } else { next }
 }
 
 /// The texts of the numbers below `n`, one after another. Only want of memory is an error, and what `piece` gives.

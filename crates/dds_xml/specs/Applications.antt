@@ -4,6 +4,7 @@ use Rattle.std.specs.Option.{option_map_or}
 use Rattle.dds_deploy.specs.Lists.{Application, Lists}
 use Rattle.dds_cert.specs.Naming.{name_at}
 use Rattle.dds_cert.specs.Text.{each_below}
+use Rattle.dds_xml.specs.Pieces.{library}
 
 -- the publisher or the subscriber of the endpoint with this name
 abbrev pub owned_element : List ℕ → List ℕ → List ℕ
@@ -26,5 +27,4 @@ application_at d a = option_map_or (application_element d (name_at d.application
 
 -- all applications
 unfoldable pub application_library : Lists → List ℕ
-application_library d =
-    codes "  <application_library name=\"applications\">\n" ++ (each_below (length d.applications.entries) (application_at d) ++ codes "  </application_library>\n")
+application_library d = library (codes "application_library") (codes "applications") (each_below (length d.applications.entries) (application_at d))

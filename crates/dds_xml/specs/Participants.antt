@@ -5,6 +5,8 @@ use Rattle.std.specs.Option.{option_map_or}
 use Rattle.dds_deploy.specs.Lists.{Lists, Participant, Reader, Writer, keys_at}
 use Rattle.dds_cert.specs.Naming.{name_at}
 use Rattle.dds_cert.specs.Text.{each_below}
+use Rattle.dds_show.specs.Pieces.{start_of}
+use Rattle.dds_xml.specs.Pieces.{library}
 
 -- a writer, in a publisher of its name, both with the writer's profile
 abbrev pub publisher : Lists → List ℕ → Writer → List ℕ
@@ -13,13 +15,9 @@ publisher d name x =
     ++ (codes "\" topic_ref=\"" ++ (name_at d.topics.names x.topic ++ (codes "\">\n          <datawriter_qos base_name=\"writers::" ++ (name
     ++ codes "\"/>\n        </data_writer>\n      </publisher>\n")))))))))
 
--- what stands before the key at this place of a filter
-abbrev pub disjunction : ℕ → List ℕ
-disjunction i = if i == 0 then [] else codes " OR "
-
 -- a key of a filter, by its place there
 abbrev pub filter_term : List ℕ → ℕ → List ℕ
-filter_term key i = disjunction i ++ (codes "key = '" ++ (key ++ codes "'"))
+filter_term key i = start_of [] (codes " OR ") i ++ (codes "key = '" ++ (key ++ codes "'"))
 
 -- the key at this place of a filter
 abbrev pub filter_term_at : List (List ℕ) → List ℕ → ℕ → List ℕ
@@ -75,5 +73,4 @@ participant_at d p = option_map_or (participant_element d p) (slice_get d.partic
 
 -- all participants
 unfoldable pub participant_library : Lists → List ℕ
-participant_library d =
-    codes "  <domain_participant_library name=\"participants\">\n" ++ (each_below (length d.participants.entries) (participant_at d) ++ codes "  </domain_participant_library>\n")
+participant_library d = library (codes "domain_participant_library") (codes "participants") (each_below (length d.participants.entries) (participant_at d))

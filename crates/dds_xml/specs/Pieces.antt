@@ -1,4 +1,4 @@
--- Pieces of a deployment's XML: lengths of time and limits. Their words are those of the IDL (OMG DDS 1.4, clause 2.3.3).
+-- Pieces of a deployment's XML: lengths of time, limits and libraries. Their words are those of the IDL (OMG DDS 1.4, clause 2.3.3).
 use Rattle.std.specs.Prelude.{codes, ℕ, List, ◌++◌, ◌/◌, ◌%◌, Option}
 use Rattle.std.specs.Fmt.{decimal}
 use Rattle.dds_qos.specs.declared.policies.Duration.{Duration}
@@ -28,3 +28,7 @@ limit_text limit = number_or limit (codes "LENGTH_UNLIMITED")
 -- a limit of what is kept
 abbrev pub limit_element : List ℕ → Option ℕ → List ℕ
 limit_element name limit = codes "          <" ++ (name ++ (codes ">" ++ (limit_text limit ++ (codes "</" ++ (name ++ codes ">\n")))))
+
+-- entries in the library of this kind and name
+abbrev pub library : List ℕ → List ℕ → List ℕ → List ℕ
+library kind name entries = codes "  <" ++ (kind ++ (codes " name=\"" ++ (name ++ (codes "\">\n" ++ (entries ++ (codes "  </" ++ (kind ++ codes ">\n")))))))

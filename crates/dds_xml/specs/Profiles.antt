@@ -12,7 +12,7 @@ use Rattle.dds_cert.specs.Naming.{name_at}
 use Rattle.dds_cert.specs.Text.{each_below}
 use Rattle.dds_show.specs.Pieces.{flag_word}
 use Rattle.dds_show.specs.Words.{access_scope_word, destination_order_word, durability_word, history_word, liveliness_word, ownership_word, reliability_word}
-use Rattle.dds_xml.specs.Pieces.{duration_element, limit_element}
+use Rattle.dds_xml.specs.Pieces.{duration_element, library, limit_element}
 
 -- a policy that is a kind and nothing else: its element, the word of the kind, and the word for the policy that ends the kind's name
 abbrev pub kind_element : List ℕ → List ℕ → List ℕ → List ℕ
@@ -96,14 +96,10 @@ writer_profile_at d w = option_map_or (writer_profile (name_at d.writers.names w
 abbrev pub reader_profile_at : Lists → ℕ → List ℕ
 reader_profile_at d r = option_map_or (reader_profile (name_at d.readers.names r)) (slice_get d.readers.entries r) []
 
--- profiles under the name of their library
-abbrev pub qos_library : List ℕ → List ℕ → List ℕ
-qos_library name profiles = codes "  <qos_library name=\"" ++ (name ++ (codes "\">\n" ++ (profiles ++ codes "  </qos_library>\n")))
-
 -- the profiles of all writers
 unfoldable pub writer_library : Lists → List ℕ
-writer_library d = qos_library (codes "writers") (each_below (length d.writers.entries) (writer_profile_at d))
+writer_library d = library (codes "qos_library") (codes "writers") (each_below (length d.writers.entries) (writer_profile_at d))
 
 -- the profiles of all readers
 unfoldable pub reader_library : Lists → List ℕ
-reader_library d = qos_library (codes "readers") (each_below (length d.readers.entries) (reader_profile_at d))
+reader_library d = library (codes "qos_library") (codes "readers") (each_below (length d.readers.entries) (reader_profile_at d))

@@ -3,10 +3,11 @@ ghost use Rattle.std.specs.Prelude.{◌≡◌, IfOk, string_bytes};
 ghost use Rattle.dds_deploy.specs.Views.{application_view};
 ghost use Rattle.dds_xml.specs.Applications.{application_element, application_library, owned_element};
 
+use crate::pieces::library;
 use dds_base::AppNo;
 use dds_cert::naming::name_at;
 use dds_deploy::{Application, Deployment};
-use dds_show::texts::{TextResult, text_below, text_of_endpoints};
+use dds_show::texts::{TextResult, text_of_endpoints};
 use std::alloc::Global;
 
 /// The publisher or the subscriber of the endpoint with this name.
@@ -40,11 +41,14 @@ fn application_element(alloc: Global, lists: &Deployment, name: &str, x: &Applic
 pub(crate) fn application_library(alloc: Global, lists: &Deployment) -> TextResult
     ensures { IfOk result (λ text. string_bytes text ≡ application_library lists.now) }
 {
-    let applications = text_below(alloc, lists.applications(), |a| {
-        let name = name_at(lists.application_names(), a);
-        application_element(alloc, lists, name, lists.application(AppNo::new(a)))
-    })?;
-    format!(in alloc;
-        "  <application_library name=\"applications\">\n{applications}  </application_library>\n"
+    library(
+        alloc,
+        "application_library",
+        "applications",
+        lists.applications(),
+        |a| {
+            let name = name_at(lists.application_names(), a);
+            application_element(alloc, lists, name, lists.application(AppNo::new(a)))
+        },
     )
 }

@@ -1,12 +1,13 @@
 //! The participants in XML, each with its writers and then its readers, in file order (OMG DDS-XML 1.0, building block DomainParticipants).
 ghost use Rattle.std.specs.Prelude.{◌≡◌, ◌<◌, IfOk, length, string_bytes};
 ghost use Rattle.dds_deploy.specs.Views.{participant_view, reader_view, writer_view};
-ghost use Rattle.dds_xml.specs.Participants.{content_filter, data_reader, disjunction, filter_expression, filter_term, participant_element, participant_library, publisher, publisher_at, publishers, subscriber, subscriber_at, subscribers};
+ghost use Rattle.dds_xml.specs.Participants.{content_filter, data_reader, filter_expression, filter_term, participant_element, participant_library, publisher, publisher_at, publishers, subscriber, subscriber_at, subscribers};
 
+use crate::pieces::library;
 use dds_base::{KeyNo, Names, ParticipantNo, ReaderNo, WriterNo};
 use dds_cert::naming::name_at;
 use dds_deploy::{Deployment, Participant, Reader, Writer};
-use dds_show::texts::{TextResult, text_below};
+use dds_show::texts::{TextResult, start_of, text_below};
 use std::alloc::Global;
 
 /// A writer, in a publisher of its name.
@@ -21,18 +22,11 @@ fn publisher(alloc: Global, lists: &Deployment, name: &str, x: &Writer) -> TextR
     )
 }
 
-/// What stands before the key at this place of a filter.
-fn disjunction(i: usize) -> &'static str
-    ensures { result.now ≡ disjunction i }
-{
-    if i == 0 { "" } else { " OR " }
-}
-
 /// A key of a filter, by its place there.
 fn filter_term(alloc: Global, key: &str, i: usize) -> TextResult
     ensures { IfOk result (λ text. string_bytes text ≡ filter_term key.now i) }
 {
-    let disjunction = disjunction(i);
+    let disjunction = start_of(i, "", " OR ");
     format!(in alloc; "{disjunction}key = '{key}'")
 }
 
@@ -150,11 +144,14 @@ fn participant_element(
 pub(crate) fn participant_library(alloc: Global, lists: &Deployment) -> TextResult
     ensures { IfOk result (λ text. string_bytes text ≡ participant_library lists.now) }
 {
-    let participants = text_below(alloc, lists.participants(), |p| {
-        let number = ParticipantNo::new(p);
-        participant_element(alloc, lists, number, lists.participant(number))
-    })?;
-    format!(in alloc;
-        "  <domain_participant_library name=\"participants\">\n{participants}  </domain_participant_library>\n"
+    library(
+        alloc,
+        "domain_participant_library",
+        "participants",
+        lists.participants(),
+        |p| {
+            let number = ParticipantNo::new(p);
+            participant_element(alloc, lists, number, lists.participant(number))
+        },
     )
 }

@@ -1,9 +1,10 @@
 //! Pieces of a deployment's XML. Names and partitions have no character that XML escapes.
-ghost use Rattle.std.specs.Prelude.{◌≡◌, IfOk, string_bytes};
-ghost use Rattle.dds_xml.specs.Pieces.{duration_element, limit_element, limit_text, nanoseconds_text, seconds_text};
+ghost use Rattle.std.specs.Prelude.{◌≡◌, ◌<◌, ℕ, List, IfOk, string_bytes};
+ghost use Rattle.dds_cert.specs.Text.{each_below};
+ghost use Rattle.dds_xml.specs.Pieces.{duration_element, library, limit_element, limit_text, nanoseconds_text, seconds_text};
 
 use dds_qos::Duration;
-use dds_show::texts::{TextResult, number_or};
+use dds_show::texts::{TextResult, number_or, text_below};
 use std::alloc::Global;
 
 /// So many nanoseconds are a second.
@@ -59,4 +60,19 @@ pub(crate) fn limit_element(alloc: Global, name: &str, limit: Option<u32>) -> Te
 {
     let limit = limit_text(alloc, limit)?;
     format!(in alloc; "          <{name}>{limit}</{name}>\n")
+}
+
+/// The library of this kind and name, with the entries below `n`.
+pub(crate) fn library<F: Fn(usize) -> TextResult>(
+    alloc: Global,
+    kind: &str,
+    name: &str,
+    n: usize,
+    entry: F,
+) -> TextResult
+    requires { (i : ℕ) → i < n → F.pre entry i }
+    ensures { (text_of : ℕ → List ℕ) → ((i : ℕ) (r : _) → i < n → F.post entry i r → IfOk r (λ text. string_bytes text ≡ text_of i)) → IfOk result (λ text. string_bytes text ≡ library kind.now name.now (each_below n text_of)) }
+{
+    let entries = text_below(alloc, n, entry)?;
+    format!(in alloc; "  <{kind} name=\"{name}\">\n{entries}  </{kind}>\n")
 }

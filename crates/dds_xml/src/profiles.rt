@@ -1,14 +1,14 @@
 //! The QoS profiles of the endpoints in XML (OMG DDS-XML 1.0, building block QoS). Policies and their kinds have the names of the IDL (OMG DDS 1.4, clause 2.3.3).
 ghost use Rattle.std.specs.Prelude.{◌≡◌, IfOk, map, string_bytes};
 ghost use Rattle.dds_deploy.specs.Views.{reader_view, writer_view};
-ghost use Rattle.dds_xml.specs.Profiles.{delivery_elements, endpoint_elements, group_elements, history_element, kind_element, limits_element, liveliness_element, partition_element, partition_name, presentation_element, profile, qos_element, qos_library, reader_library, reader_profile, timing_elements, writer_library, writer_profile};
+ghost use Rattle.dds_xml.specs.Profiles.{delivery_elements, endpoint_elements, group_elements, history_element, kind_element, limits_element, liveliness_element, partition_element, partition_name, presentation_element, profile, qos_element, reader_library, reader_profile, timing_elements, writer_library, writer_profile};
 
-use crate::pieces::{duration_element, limit_element};
+use crate::pieces::{duration_element, library, limit_element};
 use dds_base::{ReaderNo, WriterNo};
 use dds_cert::naming::name_at;
 use dds_deploy::{Deployment, Reader, Writer};
 use dds_qos::{History, Liveliness, Policies, Presentation, ResourceLimits};
-use dds_show::texts::{TextResult, text_below, text_of_each};
+use dds_show::texts::{TextResult, text_of_each};
 use dds_show::words::{
     access_scope_word, destination_order_word, durability_word, history_word, liveliness_word,
     ownership_word, reliability_word,
@@ -201,31 +201,22 @@ fn reader_profile(alloc: Global, name: &str, x: &Reader) -> TextResult
     )
 }
 
-/// Profiles under the name of their library.
-fn qos_library(alloc: Global, name: &str, profiles: &str) -> TextResult
-    ensures { IfOk result (λ text. string_bytes text ≡ qos_library name.now profiles.now) }
-{
-    format!(in alloc; "  <qos_library name=\"{name}\">\n{profiles}  </qos_library>\n")
-}
-
 /// The profiles of all writers.
 pub(crate) fn writer_library(alloc: Global, lists: &Deployment) -> TextResult
     ensures { IfOk result (λ text. string_bytes text ≡ writer_library lists.now) }
 {
-    let profiles = text_below(alloc, lists.writers(), |w| {
+    library(alloc, "qos_library", "writers", lists.writers(), |w| {
         let name = name_at(lists.writer_names(), w);
         writer_profile(alloc, name, lists.writer(WriterNo::new(w)))
-    })?;
-    qos_library(alloc, "writers", profiles.as_str())
+    })
 }
 
 /// The profiles of all readers.
 pub(crate) fn reader_library(alloc: Global, lists: &Deployment) -> TextResult
     ensures { IfOk result (λ text. string_bytes text ≡ reader_library lists.now) }
 {
-    let profiles = text_below(alloc, lists.readers(), |r| {
+    library(alloc, "qos_library", "readers", lists.readers(), |r| {
         let name = name_at(lists.reader_names(), r);
         reader_profile(alloc, name, lists.reader(ReaderNo::new(r)))
-    })?;
-    qos_library(alloc, "readers", profiles.as_str())
+    })
 }

@@ -4,4 +4,4 @@ use Rattle.dds_xml.proofs.applications.application_library.Goals as goal
 
 pub returns : goal.returns
 unfolding application_library
-returns c = rw (c.in_ok-applications.ensures (application_at c.args.lists.now) (λ a r below post. search rules), c.applications.ensures.count) at c.format.ensures.ok
+returns c = rw c.applications.ensures.count at (c.library.ensures (application_at c.args.lists.now) (λ a r below post. search rules))

@@ -4,4 +4,4 @@ use Rattle.dds_xml.proofs.participants.participant_library.Goals as goal
 
 pub returns : goal.returns
 unfolding participant_library
-returns c = rw (c.in_ok-participants.ensures (participant_at c.args.lists.now) (λ p r below post. search rules), c.participants.ensures) at c.format.ensures.ok
+returns c = rw c.participants.ensures at (c.library.ensures (participant_at c.args.lists.now) (λ p r below post. search rules))

@@ -4,4 +4,4 @@ use Rattle.dds_xml.proofs.profiles.reader_library.Goals as goal
 
 pub returns : goal.returns
 unfolding reader_library
-returns c = rw (c.as_str.ensures.value, c.in_ok-profiles.ensures (reader_profile_at c.args.lists.now) (λ n text below post. search rules), c.readers.ensures.count) at c.qos_library.ensures
+returns c = rw c.readers.ensures.count at (c.library.ensures (reader_profile_at c.args.lists.now) (λ n text below post. search rules))

@@ -4,4 +4,4 @@ use Rattle.dds_xml.proofs.profiles.writer_library.Goals as goal
 
 pub returns : goal.returns
 unfolding writer_library
-returns c = rw (c.as_str.ensures.value, c.in_ok-profiles.ensures (writer_profile_at c.args.lists.now) (λ n text below post. search rules), c.writers.ensures.count) at c.qos_library.ensures
+returns c = rw c.writers.ensures.count at (c.library.ensures (writer_profile_at c.args.lists.now) (λ n text below post. search rules))
