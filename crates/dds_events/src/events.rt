@@ -5,10 +5,10 @@ ghost use Rattle.dds_events.specs.Events.{event_text};
 ghost use Rattle.dds_events.specs.Naming.{reader_name, three_words, two_words, writer_name};
 
 use crate::naming::{reader_name, rule_text, writer_name};
-use dds_base::{Event, ReaderNo, WriterNo};
+use dds_base::{Event, NoMemory, ReaderNo, WriterNo};
 use dds_cert::naming::{reader_key, writer_key};
 use dds_deploy::Deployment;
-use std::alloc::{AllocError, Global};
+use std::alloc::Global;
 
 /// What a writer sends a reader: the word for it, their names and its number, with blanks between them.
 fn numbered_text(
@@ -18,7 +18,7 @@ fn numbered_text(
     writer: WriterNo,
     reader: ReaderNo,
     number: u64,
-) -> Result<String, AllocError>
+) -> Result<String, NoMemory>
     ensures { IfOk result (λ text. string_bytes text ≡ two_words what.now (three_words (writer_name lists.now writer) (reader_name lists.now reader) (decimal number))) }
 {
     let writer = writer_name(lists, writer);
@@ -27,14 +27,14 @@ fn numbered_text(
 }
 
 /// Two words, with a blank between them, after the word of what is done.
-fn paired_text(alloc: Global, what: &str, first: &str, second: &str) -> Result<String, AllocError>
+fn paired_text(alloc: Global, what: &str, first: &str, second: &str) -> Result<String, NoMemory>
     ensures { IfOk result (λ text. string_bytes text ≡ three_words what.now first.now second.now) }
 {
     format!(in alloc; "{what} {first} {second}")
 }
 
 /// What is done, in words, with the names of the file. The data of a write is not shown. Only want of memory is an error.
-pub fn event_text(alloc: Global, lists: &Deployment, event: &Event) -> Result<String, AllocError>
+pub fn event_text(alloc: Global, lists: &Deployment, event: &Event) -> Result<String, NoMemory>
     ensures { IfOk result (λ text. string_bytes text ≡ event_text lists.now event.now) }
 {
     match *event {

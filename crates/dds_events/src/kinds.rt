@@ -7,32 +7,12 @@ ghost use Rattle.dds_events.specs.Reading.{IsOfDeployment, IsSaidBy, IsUnsaidBy}
 
 use crate::naming::{reader_name, writer_name};
 use crate::words::{after_word, number_of, numbered_pair_of, pair_of, place_after};
-use dds_base::{Data, Event, KeyNo, Names, ReaderNo, RuleNo, WriterNo};
-use dds_cert::naming::name_at;
+use dds_base::{Data, Event, KeyNo, ReaderNo, RuleNo, WriterNo};
+use dds_cert::naming::{keys_of_reader, keys_of_writer, name_at};
 use dds_deploy::Deployment;
 
 /// What a write carries that is read from a text.
 const NO_DATA: Data = [0; 32];
-
-/// The keys of the topic of a writer.
-fn keys_of_writer(lists: &Deployment, writer: WriterNo) -> &Names
-    requires { writer < length lists.now.writers.entries }
-    ensures { result.now ≡ writer_keys lists.now writer }
-{
-    // What is known of every deployment: the topic is there.
-    let _writers = lists.writers();
-    lists.keys(lists.writer(writer).topic)
-}
-
-/// The keys of the topic of a reader.
-fn keys_of_reader(lists: &Deployment, reader: ReaderNo) -> &Names
-    requires { reader < length lists.now.readers.entries }
-    ensures { result.now ≡ reader_keys lists.now reader }
-{
-    // What is known of every deployment: the topic is there.
-    let _readers = lists.readers();
-    lists.keys(lists.reader(reader).topic)
-}
 
 /// The writer and the key of its topic whose names the text is.
 #[tactic(auto, using(crate::proofs::WordLaws::one_more))]

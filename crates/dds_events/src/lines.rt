@@ -4,9 +4,9 @@ ghost use Rattle.dds_events.specs.Lines.{line_of, lines_of};
 
 use crate::events::event_text;
 use crate::replies::reply_text;
-use dds_base::{Event, Reply};
+use dds_base::{Event, NoMemory, Reply};
 use dds_deploy::Deployment;
-use std::alloc::{AllocError, Global};
+use std::alloc::Global;
 
 /// The line of an event with its reply: `EVENT -> REPLY` and a line feed. Only want of memory is an error.
 pub fn line_text(
@@ -14,7 +14,7 @@ pub fn line_text(
     lists: &Deployment,
     event: &Event,
     reply: &Reply,
-) -> Result<String, AllocError>
+) -> Result<String, NoMemory>
     ensures { IfOk result (λ text. string_bytes text ≡ line_of lists.now event.now reply.now) }
 {
     let event = event_text(alloc, lists, event)?;
@@ -28,7 +28,7 @@ pub fn lines_text(
     lists: &Deployment,
     events: &[Event],
     replies: &[Reply],
-) -> Result<String, AllocError>
+) -> Result<String, NoMemory>
     ensures { IfOk result (λ text. string_bytes text ≡ lines_of lists.now events.now replies.now) }
 {
     let mut text = String::new(alloc);

@@ -2,13 +2,13 @@
 ghost use Rattle.std.specs.Prelude.{◌≡◌, IfOk, string_bytes};
 ghost use Rattle.dds_events.specs.Naming.{reader_name, rule_text, writer_name};
 
-use dds_base::{ReaderNo, RuleNo, WriterNo};
+use dds_base::{NoMemory, ReaderNo, RuleNo, WriterNo};
 use dds_cert::naming::name_at;
 use dds_deploy::Deployment;
-use std::alloc::{AllocError, Global};
+use std::alloc::Global;
 
 /// The name of a rule's entry, and after a blank the key where the rule stands for one of an entry with `each`.
-pub fn rule_text(alloc: Global, lists: &Deployment, rule: RuleNo) -> Result<String, AllocError>
+pub fn rule_text(alloc: Global, lists: &Deployment, rule: RuleNo) -> Result<String, NoMemory>
     ensures { IfOk result (λ text. string_bytes text ≡ rule_text lists.now rule) }
 {
     match lists.rule_origin(rule) {

@@ -3,9 +3,9 @@ ghost use Rattle.std.specs.Prelude.{◌≡◌, IfOk, string_bytes};
 ghost use Rattle.dds_events.specs.Replies.{arrival_text, refusal_name, rejection_name, reply_text, sample_text};
 
 use crate::naming::writer_name;
-use dds_base::{Arrival, Refusal, Rejection, Reply, Sample};
+use dds_base::{Arrival, NoMemory, Refusal, Rejection, Reply, Sample};
 use dds_deploy::Deployment;
-use std::alloc::{AllocError, Global};
+use std::alloc::Global;
 
 /// The word for why an event is refused: the name of the variant.
 pub(crate) fn refusal_name(refusal: Refusal) -> &'static str
@@ -38,7 +38,7 @@ pub fn rejection_name(rejection: Rejection) -> &'static str
 }
 
 /// The writer of a sample, and its number there.
-fn sample_text(alloc: Global, lists: &Deployment, sample: &Sample) -> Result<String, AllocError>
+fn sample_text(alloc: Global, lists: &Deployment, sample: &Sample) -> Result<String, NoMemory>
     ensures { IfOk result (λ text. string_bytes text ≡ sample_text lists.now sample.now) }
 {
     let writer = writer_name(lists, sample.writer);
@@ -47,7 +47,7 @@ fn sample_text(alloc: Global, lists: &Deployment, sample: &Sample) -> Result<Str
 }
 
 /// What a message did at a reader.
-fn arrival_text(alloc: Global, lists: &Deployment, arrival: &Arrival) -> Result<String, AllocError>
+fn arrival_text(alloc: Global, lists: &Deployment, arrival: &Arrival) -> Result<String, NoMemory>
     ensures { IfOk result (λ text. string_bytes text ≡ arrival_text lists.now arrival.now) }
 {
     match arrival {
@@ -69,7 +69,7 @@ fn arrival_text(alloc: Global, lists: &Deployment, arrival: &Arrival) -> Result<
 }
 
 /// What an event did, in words: of a sample its writer and its number there, without its data. Only want of memory is an error.
-pub fn reply_text(alloc: Global, lists: &Deployment, reply: &Reply) -> Result<String, AllocError>
+pub fn reply_text(alloc: Global, lists: &Deployment, reply: &Reply) -> Result<String, NoMemory>
     ensures { IfOk result (λ text. string_bytes text ≡ reply_text lists.now reply.now) }
 {
     match reply {

@@ -10,10 +10,10 @@ use crate::entries::{
 };
 use crate::pieces::lines_below;
 use crate::texts::TextResult;
-use dds_base::{AppNo, ParticipantNo, ReaderNo, RuleNo, TopicNo, WriterNo};
+use dds_base::{AppNo, NoMemory, ParticipantNo, ReaderNo, RuleNo, TopicNo, WriterNo};
 use dds_cert::naming::name_at;
 use dds_deploy::Deployment;
-use std::alloc::{AllocError, Global};
+use std::alloc::Global;
 
 /// A section with these entries.
 fn section_text(alloc: Global, name: &str, items: &str) -> TextResult
@@ -133,7 +133,7 @@ fn push_pair(
     lists: &Deployment,
     w: usize,
     r: usize,
-) -> Result<(), AllocError>
+) -> Result<(), NoMemory>
     ensures { IfOk result (λ _. found.new.items ≡ found.old.items ++ pair_at lists.now w r) }
 {
     if lists.is_connected(WriterNo::new(w), ReaderNo::new(r)) {
@@ -147,7 +147,7 @@ fn push_pairs_of_writer(
     found: &mut Vec<(usize, usize)>,
     lists: &Deployment,
     w: usize,
-) -> Result<(), AllocError>
+) -> Result<(), NoMemory>
     ensures { IfOk result (λ _. found.new.items ≡ found.old.items ++ pairs_of_writer lists.now w) }
 {
     for r in 0..lists.readers() {
@@ -157,7 +157,7 @@ fn push_pairs_of_writer(
 }
 
 /// The pairs of the connections, by writer and then by reader.
-fn pairs(alloc: Global, lists: &Deployment) -> Result<Vec<(usize, usize)>, AllocError>
+fn pairs(alloc: Global, lists: &Deployment) -> Result<Vec<(usize, usize)>, NoMemory>
     ensures { IfOk result (λ found. found.items ≡ pairs lists.now) }
 {
     let mut found = Vec::new(alloc);

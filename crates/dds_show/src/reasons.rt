@@ -5,16 +5,13 @@ ghost use Rattle.dds_qos.specs.Compatibility.{contains, name_of, policies};
 ghost use Rattle.dds_show.specs.Reasons.{reason_words};
 
 use crate::texts::TextResult;
+use dds_base::NoMemory;
 use dds_match::WhyNot;
 use dds_qos::{Policy, PolicySet};
-use std::alloc::{AllocError, Global};
+use std::alloc::Global;
 
 /// Adds the name of a policy, if it is in the set.
-fn push_name(
-    names: &mut Vec<&'static str>,
-    set: PolicySet,
-    policy: &Policy,
-) -> Result<(), AllocError>
+fn push_name(names: &mut Vec<&'static str>, set: PolicySet, policy: &Policy) -> Result<(), NoMemory>
     ensures { IfOk result (λ _. map (λ s. s.now) names.new.items ≡ map (λ s. s.now) names.old.items ++ map name_of (filter (contains set) (policy.now ∷ []))) }
 {
     if set.contains(*policy) {

@@ -4,12 +4,12 @@ ghost use Rattle.dds_cert.specs.Naming.{name_at};
 ghost use Rattle.dds_cert.specs.Text.{each_below};
 ghost use Rattle.dds_show.specs.Pieces.{number_or, start_of};
 
-use dds_base::{Endpoint, Names};
+use dds_base::{Endpoint, Names, NoMemory};
 use dds_cert::naming::name_at;
-use std::alloc::{AllocError, Global};
+use std::alloc::Global;
 
 /// A text, unless memory runs out.
-pub type TextResult = Result<String, AllocError>;
+pub type TextResult = Result<String, NoMemory>;
 
 /// A number, or this text where there is none. Only want of memory is an error.
 pub fn number_or(alloc: Global, number: Option<u32>, none: &str) -> TextResult
