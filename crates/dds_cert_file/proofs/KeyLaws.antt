@@ -152,6 +152,16 @@ writer_and_keys_are version d path ms e q =
     let found = keys_of_entry_are (AreKeys (writes_key d a.0)) version (all_keys (writer_keys d a.0)) (a_known_name (writer_keys d a.0)) path ms b.0 b.1 (topic_keys d a.0) (λ p y k z. one_had (writes_key d a.0) k (written_key_is d a.0 p y k z)) in
     subst (λ z. AreKeys (writes_key d z.0) z.1) (ok_is (a.0, b.0) e b.2) found
 
+-- ── the pairs of an endpoint and the keys, added one after the other
+stands_with : (e k : ℕ) (ks : List ℕ) → stands (map (λ j. (e, j)) ks) e k ≡ list_any (λ y. k == y) ks
+stands_with e k ks = list_any-map (λ p. e == p.0 && k == p.1) (λ j. (e, j)) ks ∙ rw (eq-eqb e e refl) refl
+
+not_there : (pairs : List (ℕ × ℕ)) (e : ℕ) (ks : List ℕ) (i k : ℕ) → any_stands pairs e ks ≡ false → keys_differ ks ≡ true → i < length ks → k ≡ get_or ks i k → stands (pairs ++ map (λ j. (e, j)) (take i ks)) e k ≡ false
+not_there pairs e ks i k new differ lt at =
+    let before : stands pairs e k ≡ false = subst (λ z. stands pairs e z ≡ false) (sym at) (none_pass (λ j. stands pairs e j) ks new i k lt) in
+    let earlier : stands (map (λ j. (e, j)) (take i ks)) e k ≡ false = stands_with e k (take i ks) ∙ not_before (λ x y. y == x) ks i k lt at differ in
+    list_any-append (λ p. e == p.0 && k == p.1) pairs (map (λ j. (e, j)) (take i ks)) ∙ rw (before, earlier) refl
+
 -- ── an endpoint with its keys at the end of a list that names none of them
 module _ {X : Type 0} (place : X → ℕ × ℕ) (e : ℕ) (make : ℕ → X) (at : (k : ℕ) → place (make k) ≡ (e, k)) where
   is_same : (x : X) (k : ℕ) → same_place place x (make k) ≡ (e == (place x).0 && k == (place x).1)
@@ -184,15 +194,9 @@ module _ {X : Type 0} (place : X → ℕ × ℕ) (e : ℕ) (make : ℕ → X) (a
   pairs_made [] = refl
   pairs_made (k ∷ ks) = rw (at k, pairs_made ks) refl
 
-  pub places_added : (xs : List X) (ks : List ℕ) → map place (xs ++ map make ks) ≡ map place xs ++ map (λ k. (e, k)) ks
+  places_added : (xs : List X) (ks : List ℕ) → map place (xs ++ map make ks) ≡ map place xs ++ map (λ k. (e, k)) ks
   places_added xs ks = map-append place xs (map make ks) ∙ ap (λ ps. map place xs ++ ps) (pairs_made ks)
 
--- ── the pairs of an endpoint and the keys, added one after the other
-stands_with : (e k : ℕ) (ks : List ℕ) → stands (map (λ j. (e, j)) ks) e k ≡ list_any (λ y. k == y) ks
-stands_with e k ks = list_any-map (λ p. e == p.0 && k == p.1) (λ j. (e, j)) ks ∙ rw (eq-eqb e e refl) refl
-
-pub not_there : (pairs : List (ℕ × ℕ)) (e : ℕ) (ks : List ℕ) (i k : ℕ) → any_stands pairs e ks ≡ false → keys_differ ks ≡ true → i < length ks → k ≡ get_or ks i k → stands (pairs ++ map (λ j. (e, j)) (take i ks)) e k ≡ false
-not_there pairs e ks i k new differ lt at =
-    let before : stands pairs e k ≡ false = subst (λ z. stands pairs e z ≡ false) (sym at) (none_pass (λ j. stands pairs e j) ks new i k lt) in
-    let earlier : stands (map (λ j. (e, j)) (take i ks)) e k ≡ false = stands_with e k (take i ks) ∙ not_before (λ x y. y == x) ks i k lt at differ in
-    list_any-append (λ p. e == p.0 && k == p.1) pairs (map (λ j. (e, j)) (take i ks)) ∙ rw (before, earlier) refl
+  -- the next of the keys is not named after those before it
+  pub not_placed : (before : List X) (ks : List ℕ) (i k : ℕ) → any_stands (map place before) e ks ≡ false → keys_differ ks ≡ true → i < length ks → k ≡ get_or ks i k → stands (map place (before ++ map make (take i ks))) e k ≡ false
+  not_placed before ks i k new differ lt at_i = ap (λ ps. stands ps e k) (places_added before (take i ks)) ∙ not_there (map place before) e ks i k new differ lt at_i

@@ -2,7 +2,7 @@
 use Rattle.std.proofs.Common.{ℕ, ◌+◌, ◌==◌, Bool, true, false, not, nat_le, List, [], ◌∷◌, length, codes, map, refl, if◌then◌else◌}
 use Rattle.toml.specs.Data.{Data, Items, Members}
 use Rattle.dds_fields.specs.declared.fault.FaultKind.TheVariants.{Duplicate, NotToml, TooMany, UnknownName}
-use Rattle.dds_fields.specs.Reading.{Read, or_fault, unless, a_number, a_name, a_new_name, a_known_name, field, optional, only, an_array_of, section}
+use Rattle.dds_fields.specs.Reading.{Read, or_fault, unless, a_number, a_name, a_new_name, a_known_name, field, optional, only, entry, an_array_of, section, a_list_of, a_section}
 use Rattle.dds_fields.specs.Document.{version, document}
 use Rattle.dds_fields.specs.Kinds.{is_common, FaultsAre}
 use Rattle.dds_fields.proofs.FaultLaws.{binds, found, tested, number_common, name_common, known_name_common, new_name_common, version_common, field_common, optional_common, array_common, section_common, only_common, entry_common, each_common}
@@ -15,7 +15,7 @@ use Rattle.dds_cert.specs.Lists.{Row}
 use Rattle.dds_cert.specs.Naming.{writer_keys}
 use Rattle.dds_cert_file.specs.Keys.{heard_key, a_heard_key, one_key, keys_of_entry, reader_and_keys, writer_and_keys}
 use Rattle.dds_cert_file.specs.Adding.{any_stands, may_add, and_more}
-use Rattle.dds_cert_file.specs.Weights.{weight_number, weight_place, weights_of, reader_weight_entry, reader_weight, reader_weights, writer_weight_entry, writer_weight, writer_weights}
+use Rattle.dds_cert_file.specs.Weights.{weight_number, weight_place, weights_of, weight, weights, reader_weights, writer_weights}
 use Rattle.dds_cert_file.specs.Rows.{row_names, row_entry, row_lists, row, rows}
 use Rattle.dds_cert_file.specs.Bounds.{bound_number, bound_entry, row_and_bound, bounds_of, bound, bounds}
 use Rattle.dds_cert_file.specs.Totals.{total_entry, total, totals}
@@ -68,37 +68,32 @@ bound_number_common : (path : List ℕ) (ms : Members) → FaultsAre is_common (
 unfolding bound_number
 bound_number_common path ms = field_common (codes "bound") (a_number 0 4294967295) path ms (number_common 0 4294967295)
 
-reader_weight_entry_common : (path : List ℕ) (x : Data) → FaultsAre is_common (reader_weight_entry path x)
-unfolding reader_weight_entry
-reader_weight_entry_common path x = entry_common _ path x
+a_list_common : {S : Type 0} (limit : ℕ) (read : S → List ℕ → Data → Read S) (before : S) (path : List ℕ) (x : Data) → ((s : S) (p : List ℕ) (y : Data) → FaultsAre is_common (read s p y)) → FaultsAre is_common (a_list_of limit read before path x)
+unfolding a_list_of
+a_list_common limit read before path x h = binds (an_array_of limit path x) _ (array_common limit path x) (λ (xs : Items). each_common read path 0 before xs h)
 
-reader_weight_common : (version : ℕ) (d : Lists) (list : List ℕ) (before : List (Weight ℕ)) (path : List ℕ) (x : Data) → FaultsAre is_common (reader_weight version d list before path x)
-unfolding reader_weight
-reader_weight_common version d list before path x =
-    binds (reader_weight_entry path x) _ (reader_weight_entry_common path x) (λ (ms : Members).
-    binds (reader_and_keys version d path ms) _ (reader_and_keys_common version d path ms) (λ (e : ℕ × List ℕ).
-    binds (weight_number path ms) _ (weight_number_common path ms) (λ (n : ℕ).
-    and_more_common list path (any_stands (map weight_place before) e.0 e.1) before (weights_of e n))))
+a_section_common : {S : Type 0} (key : List ℕ) (limit : ℕ) (read : S → List ℕ → Data → Read S) (before : S) (ms : Members) → ((s : S) (p : List ℕ) (y : Data) → FaultsAre is_common (read s p y)) → FaultsAre is_common (a_section key limit read before ms)
+unfolding a_section
+a_section_common key limit read before ms h = binds (section key limit ms) _ (section_common key limit ms) (λ (xs : Items). each_common read key 0 before xs h)
+
+-- weights at endpoints that `word` names, where the fields for such an endpoint and its keys have common faults
+module _ (word : List ℕ) (endpoint_and_keys : List ℕ → Members → Read (ℕ × List ℕ)) (h : (path : List ℕ) (ms : Members) → FaultsAre is_common (endpoint_and_keys path ms)) where
+  weight_common : (list : List ℕ) (before : List (Weight ℕ)) (path : List ℕ) (x : Data) → FaultsAre is_common (weight (λ n. n) word endpoint_and_keys list before path x)
+  unfolding weight
+  weight_common list before path x =
+      binds (entry (word ∷ codes "key" ∷ codes "weight" ∷ []) path x) _ (entry_common _ path x) (λ (ms : Members).
+      binds (endpoint_and_keys path ms) _ (h path ms) (λ (e : ℕ × List ℕ).
+      binds (weight_number path ms) _ (weight_number_common path ms) (λ (n : ℕ).
+      and_more_common list path (any_stands (map (weight_place (λ n. n)) before) e.0 e.1) before (weights_of e n))))
+
+  weights_common : (path : List ℕ) (x : Data) → FaultsAre is_common (weights (λ n. n) word endpoint_and_keys path x)
+  weights_common path x = a_list_common 16384 (weight (λ n. n) word endpoint_and_keys path) [] path x (weight_common path)
 
 reader_weights_common : (version : ℕ) (d : Lists) (path : List ℕ) (x : Data) → FaultsAre is_common (reader_weights version d path x)
-unfolding reader_weights
-reader_weights_common version d path x = binds (an_array_of 16384 path x) _ (array_common 16384 path x) (λ (xs : Items). each_common (reader_weight version d path) path 0 [] xs (reader_weight_common version d path))
-
-writer_weight_entry_common : (path : List ℕ) (x : Data) → FaultsAre is_common (writer_weight_entry path x)
-unfolding writer_weight_entry
-writer_weight_entry_common path x = entry_common _ path x
-
-writer_weight_common : (version : ℕ) (d : Lists) (list : List ℕ) (before : List (Weight ℕ)) (path : List ℕ) (x : Data) → FaultsAre is_common (writer_weight version d list before path x)
-unfolding writer_weight
-writer_weight_common version d list before path x =
-    binds (writer_weight_entry path x) _ (writer_weight_entry_common path x) (λ (ms : Members).
-    binds (writer_and_keys version d path ms) _ (writer_and_keys_common version d path ms) (λ (e : ℕ × List ℕ).
-    binds (weight_number path ms) _ (weight_number_common path ms) (λ (n : ℕ).
-    and_more_common list path (any_stands (map weight_place before) e.0 e.1) before (weights_of e n))))
+reader_weights_common version d = weights_common (codes "reader") (reader_and_keys version d) (reader_and_keys_common version d)
 
 writer_weights_common : (version : ℕ) (d : Lists) (path : List ℕ) (x : Data) → FaultsAre is_common (writer_weights version d path x)
-unfolding writer_weights
-writer_weights_common version d path x = binds (an_array_of 16384 path x) _ (array_common 16384 path x) (λ (xs : Items). each_common (writer_weight version d path) path 0 [] xs (writer_weight_common version d path))
+writer_weights_common version d = weights_common (codes "writer") (writer_and_keys version d) (writer_and_keys_common version d)
 
 row_entry_common : (path : List ℕ) (x : Data) → FaultsAre is_common (row_entry path x)
 unfolding row_entry
@@ -119,8 +114,7 @@ row_common version d before path x =
     binds (row_lists version d name path ms) _ (row_lists_common version d name path ms) (λ (r : Row). tt)))
 
 rows_common : (version : ℕ) (d : Lists) (ms : Members) → FaultsAre is_common (rows version d ms)
-unfolding rows
-rows_common version d ms = binds (section (codes "rows") 64 ms) _ (section_common (codes "rows") 64 ms) (λ (xs : Items). each_common (row version d) (codes "rows") 0 [] xs (row_common version d))
+rows_common version d ms = a_section_common (codes "rows") 64 (row version d) [] ms (row_common version d)
 
 row_and_bound_common : (names : List (List ℕ)) (path : List ℕ) (ms : Members) → FaultsAre is_common (row_and_bound names path ms)
 unfolding row_and_bound
@@ -141,8 +135,7 @@ bound_common version d names list before path x =
     and_more_common list path (any_stands (map bound_place before) e.0 e.1) before (bounds_of e b))))
 
 bounds_common : (version : ℕ) (d : Lists) (names : List (List ℕ)) (ms : Members) → FaultsAre is_common (bounds version d names ms)
-unfolding bounds
-bounds_common version d names ms = binds (section (codes "bounds") 16384 ms) _ (section_common (codes "bounds") 16384 ms) (λ (xs : Items). each_common (bound version d names (codes "bounds")) (codes "bounds") 0 [] xs (bound_common version d names (codes "bounds")))
+bounds_common version d names ms = a_section_common (codes "bounds") 16384 (bound version d names (codes "bounds")) [] ms (bound_common version d names (codes "bounds"))
 
 total_entry_common : (path : List ℕ) (x : Data) → FaultsAre is_common (total_entry path x)
 unfolding total_entry
@@ -157,8 +150,7 @@ total_common d names before path x =
     tested Duplicate path (not (has_total before r)) _ refl)))
 
 totals_common : (d : Lists) (names : List (List ℕ)) (ms : Members) → FaultsAre is_common (totals d names ms)
-unfolding totals
-totals_common d names ms = binds (section (codes "totals") 256 ms) _ (section_common (codes "totals") 256 ms) (λ (xs : Items). each_common (total d names) (codes "totals") 0 [] xs (total_common d names))
+totals_common d names ms = a_section_common (codes "totals") 256 (total d names) [] ms (total_common d names)
 
 head_common : (ms : Members) → FaultsAre is_common (head ms)
 unfolding head

@@ -13,7 +13,7 @@ use Rattle.dds_fields.specs.declared.fault.FaultKind.{FaultKind}
 use Rattle.dds_fields.specs.declared.fault.FaultKind.TheVariants.{Duplicate, TooMany, NotToml}
 use Rattle.dds_fields.specs.Paths.{key_path, index_path}
 use Rattle.dds_fields.specs.Document.{document}
-use Rattle.dds_fields.specs.Reading.{Read, ◌>>=◌, or_fault, unless, an_array, a_name, a_new_name, a_known_name, field, optional, an_array_of, section, each, count}
+use Rattle.dds_fields.specs.Reading.{Read, ◌>>=◌, or_fault, unless, an_array, a_name, a_new_name, a_known_name, field, optional, entry, an_array_of, section, a_list_of, a_section, each, count}
 use Rattle.dds_fields.proofs.Laws.{bind_ok, ok_is, each-keeps, known_within, field_is}
 use Rattle.dds_deploy.specs.Lists.{Lists}
 use Rattle.dds_deploy.specs.WellFormed.{IsWellFormed, NamesOnce}
@@ -25,7 +25,7 @@ use Rattle.dds_cert.specs.Lists.{Row, Certificate}
 use Rattle.dds_cert.specs.Fits.{is_distinct, weights_fit, row_fits, names_differ, rows_fit, bounds_fit, totals_fit, fits}
 use Rattle.dds_cert_file.specs.Keys.{reader_and_keys, writer_and_keys}
 use Rattle.dds_cert_file.specs.Adding.{any_stands, may_add, and_more}
-use Rattle.dds_cert_file.specs.Weights.{weight_number, weight_place, weights_of, and_weights, reader_weight_entry, reader_weight, reader_weights, writer_weight_entry, writer_weight, writer_weights}
+use Rattle.dds_cert_file.specs.Weights.{weight_number, weight_place, weights_of, and_weights, weight, weights, reader_weights, writer_weights}
 use Rattle.dds_cert_file.specs.Rows.{row_names, row_entry, row_lists, row, rows}
 use Rattle.dds_cert_file.specs.Bounds.{bound_entry, row_and_bound, bound_number, bounds_of, bound, bounds}
 use Rattle.dds_cert_file.specs.Totals.{total_entry, total, totals}
@@ -95,42 +95,37 @@ and_more_is list path is_double before more after q =
     let a = bind_ok (may_add list path is_double (length before + length more)) (λ _. Ok (before ++ more)) after q in
     (may_add_is list path is_double (length before + length more) a.0 a.1, ok_is (before ++ more) after a.2)
 
-weights_push : (has_key : ℕ → ℕ → Bool) (list : List ℕ) (before after : List (Weight ℕ)) (path : List ℕ) (e : ℕ × List ℕ) (n : ℕ) → weights_fit has_key before ≡ true → AreKeys (has_key e.0) e.1 → and_weights list before path e n ≡ Ok after → weights_fit has_key after ≡ true
+weights_push : (has_key : ℕ → ℕ → Bool) (list : List ℕ) (before after : List (Weight ℕ)) (path : List ℕ) (e : ℕ × List ℕ) (n : ℕ) → weights_fit has_key before ≡ true → AreKeys (has_key e.0) e.1 → and_weights (λ m. m) list before path e n ≡ Ok after → weights_fit has_key after ≡ true
 weights_push has_key list before after path e n fit keys q =
     let make : ℕ → Weight ℕ = λ k. record { endpoint = e.0; key = k; weight = n } in
-    let t = and_more_is list path (any_stands (map weight_place before) e.0 e.1) before (weights_of e n) after q in
+    let t = and_more_is list path (any_stands (map (weight_place (λ m. m)) before) e.0 e.1) before (weights_of e n) after q in
     let test : Weight ℕ → Bool = λ y. has_key y.endpoint y.key in
     let had : list_all test (before ++ map make e.1) ≡ true = list_all-append test before (map make e.1) ∙ both _ _ (first_of_both _ _ fit) (list_all-map test make e.1 ∙ keys.had) in
-    let distinct = made_distinct weight_place e.0 make (λ k. refl) before e.1 (second_of_both _ _ fit) keys.differ t.0 in
+    let distinct = made_distinct (weight_place (λ m. m)) e.0 make (λ k. refl) before e.1 (second_of_both _ _ fit) keys.differ t.0 in
     subst (λ ys. weights_fit has_key ys ≡ true) t.1 (both _ _ had distinct)
 
-reader_weight_keeps : (version : ℕ) (d : Lists) (list : List ℕ) (before after : List (Weight ℕ)) (path : List ℕ) (x : Data) → NamesOnce d → weights_fit (hears d) before ≡ true → reader_weight version d list before path x ≡ Ok after → weights_fit (hears d) after ≡ true
-unfolding reader_weight
-reader_weight_keeps version d list before after path x once fit q =
-    let a = bind_ok (reader_weight_entry path x) (λ ms. reader_and_keys version d path ms >>= λ e. weight_number path ms >>= λ n. and_weights list before path e n) after q in
-    let b = bind_ok (reader_and_keys version d path a.0) (λ e. weight_number path a.0 >>= λ n. and_weights list before path e n) after a.2 in
-    let c = bind_ok (weight_number path a.0) (λ n. and_weights list before path b.0 n) after b.2 in
-    weights_push (hears d) list before after path b.0 c.0 fit (reader_and_keys_are version d path a.0 b.0 once b.1) c.2
+-- weights at endpoints that `word` names, where the fields for such an endpoint and its keys give keys that it has
+module _ (has_key : ℕ → ℕ → Bool) (word : List ℕ) (endpoint_and_keys : List ℕ → Members → Read (ℕ × List ℕ)) (h : (path : List ℕ) (ms : Members) (e : ℕ × List ℕ) → endpoint_and_keys path ms ≡ Ok e → AreKeys (has_key e.0) e.1) where
+  weight_keeps : (list : List ℕ) (before after : List (Weight ℕ)) (path : List ℕ) (x : Data) → weights_fit has_key before ≡ true → weight (λ m. m) word endpoint_and_keys list before path x ≡ Ok after → weights_fit has_key after ≡ true
+  unfolding weight
+  weight_keeps list before after path x fit q =
+      let a = bind_ok (entry (word ∷ codes "key" ∷ codes "weight" ∷ []) path x) (λ ms. endpoint_and_keys path ms >>= λ e. weight_number path ms >>= λ n. and_weights (λ m. m) list before path e n) after q in
+      let b = bind_ok (endpoint_and_keys path a.0) (λ e. weight_number path a.0 >>= λ n. and_weights (λ m. m) list before path e n) after a.2 in
+      let c = bind_ok (weight_number path a.0) (λ n. and_weights (λ m. m) list before path b.0 n) after b.2 in
+      weights_push has_key list before after path b.0 c.0 fit (h path a.0 b.0 b.1) c.2
+
+  weights_read_fit : (path : List ℕ) (x : Data) (ws : List (Weight ℕ)) → weights (λ m. m) word endpoint_and_keys path x ≡ Ok ws → weights_fit has_key ws ≡ true
+  unfolding a_list_of
+  weights_read_fit path x ws q =
+      let read = weight (λ m. m) word endpoint_and_keys path in
+      let a = bind_ok (an_array_of 16384 path x) (λ xs. each read path 0 [] xs) ws q in
+      each-keeps read path (λ ys. weights_fit has_key ys ≡ true) (λ s t p y fit e. weight_keeps path s t p y fit e) 0 [] a.0 ws refl a.2
 
 reader_weights_fit : (version : ℕ) (d : Lists) (path : List ℕ) (x : Data) (ws : List (Weight ℕ)) → NamesOnce d → reader_weights version d path x ≡ Ok ws → weights_fit (hears d) ws ≡ true
-unfolding reader_weights
-reader_weights_fit version d path x ws once q =
-    let a = bind_ok (an_array_of 16384 path x) (λ xs. each (reader_weight version d path) path 0 [] xs) ws q in
-    each-keeps (reader_weight version d path) path (λ ys. weights_fit (hears d) ys ≡ true) (λ s t p y fit e. reader_weight_keeps version d path s t p y once fit e) 0 [] a.0 ws refl a.2
-
-writer_weight_keeps : (version : ℕ) (d : Lists) (list : List ℕ) (before after : List (Weight ℕ)) (path : List ℕ) (x : Data) → weights_fit (writes_key d) before ≡ true → writer_weight version d list before path x ≡ Ok after → weights_fit (writes_key d) after ≡ true
-unfolding writer_weight
-writer_weight_keeps version d list before after path x fit q =
-    let a = bind_ok (writer_weight_entry path x) (λ ms. writer_and_keys version d path ms >>= λ e. weight_number path ms >>= λ n. and_weights list before path e n) after q in
-    let b = bind_ok (writer_and_keys version d path a.0) (λ e. weight_number path a.0 >>= λ n. and_weights list before path e n) after a.2 in
-    let c = bind_ok (weight_number path a.0) (λ n. and_weights list before path b.0 n) after b.2 in
-    weights_push (writes_key d) list before after path b.0 c.0 fit (writer_and_keys_are version d path a.0 b.0 b.1) c.2
+reader_weights_fit version d path x ws once q = weights_read_fit (hears d) (codes "reader") (reader_and_keys version d) (λ p ms e z. reader_and_keys_are version d p ms e once z) path x ws q
 
 writer_weights_fit : (version : ℕ) (d : Lists) (path : List ℕ) (x : Data) (ws : List (Weight ℕ)) → writer_weights version d path x ≡ Ok ws → weights_fit (writes_key d) ws ≡ true
-unfolding writer_weights
-writer_weights_fit version d path x ws q =
-    let a = bind_ok (an_array_of 16384 path x) (λ xs. each (writer_weight version d path) path 0 [] xs) ws q in
-    each-keeps (writer_weight version d path) path (λ ys. weights_fit (writes_key d) ys ≡ true) (λ s t p y fit e. writer_weight_keeps version d path s t p y fit e) 0 [] a.0 ws refl a.2
+writer_weights_fit version d path x ws q = weights_read_fit (writes_key d) (codes "writer") (writer_and_keys version d) (writer_and_keys_are version d) path x ws q
 
 -- ── rows
 row_lists_is : (version : ℕ) (d : Lists) (name path : List ℕ) (ms : Members) (r : Row) → NamesOnce d → row_lists version d name path ms ≡ Ok r → (r.name ≡ name) × (row_fits (network_of d) r ≡ true)
@@ -182,7 +177,7 @@ row_adds_one : (version : ℕ) (d : Lists) (before after : List Row) (path : Lis
 row_adds_one version d before after path x once q = let a = row_adds version d before after path x once q in ap length (sym a.1) ∙ length-append before (a.0 ∷ [])
 
 rows_read_fit : (version : ℕ) (d : Lists) (ms : Members) (rs : List Row) → NamesOnce d → rows version d ms ≡ Ok rs → rows_fit (network_of d) rs ≡ true
-unfolding rows named_fit
+unfolding a_section named_fit
 rows_read_fit version d ms rs once q =
     let a = bind_ok (section (codes "rows") 64 ms) (λ xs. each (row version d) (codes "rows") 0 [] xs) rs q in
     let few = section_few (codes "rows") 64 ms a.0 a.1 in
@@ -222,7 +217,7 @@ bound_keeps version d names list before after path x once fit q =
     bounds_push d (length names) before after b.0 c.0 fit keys (row_and_bound_is names path a.0 c.0 c.1) t.0 t.1
 
 bounds_read_fit : (version : ℕ) (d : Lists) (names : List (List ℕ)) (ms : Members) (bs : List Bound) → NamesOnce d → bounds version d names ms ≡ Ok bs → bounds_fit (network_of d) (length names) bs ≡ true
-unfolding bounds
+unfolding a_section
 bounds_read_fit version d names ms bs once q =
     let a = bind_ok (section (codes "bounds") 16384 ms) (λ xs. each (bound version d names (codes "bounds")) (codes "bounds") 0 [] xs) bs q in
     each-keeps (bound version d names (codes "bounds")) (codes "bounds") (λ ys. bounds_fit (network_of d) (length names) ys ≡ true) (λ s t p y h e. bound_keeps version d names (codes "bounds") s t p y once h e) 0 [] a.0 bs refl a.2
@@ -242,7 +237,7 @@ total_keeps d names before after path x w fit q =
     subst (λ ys. totals_fit (network_of d) (length names) ys ≡ true) t.1 (both _ _ all_ok (is_distinct-push (λ u z. z.reader == u.reader) before y (second_of_both _ _ fit) (is_not (has_total before b.0) t.0)))
 
 totals_read_fit : (d : Lists) (names : List (List ℕ)) (ms : Members) (ts : List Total) → IsWellFormed d → totals d names ms ≡ Ok ts → totals_fit (network_of d) (length names) ts ≡ true
-unfolding totals
+unfolding a_section
 totals_read_fit d names ms ts w q =
     let a = bind_ok (section (codes "totals") 256 ms) (λ xs. each (total d names) (codes "totals") 0 [] xs) ts q in
     each-keeps (total d names) (codes "totals") (λ ys. totals_fit (network_of d) (length names) ys ≡ true) (λ s t p y h e. total_keeps d names s t p y w h e) 0 [] a.0 ts refl a.2

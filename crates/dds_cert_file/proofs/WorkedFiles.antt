@@ -5,22 +5,22 @@ use Rattle.std.specs.Fmt.{digits}
 use Rattle.toml.proofs.OnLiterals.{toml_on_literals}
 use Rattle.dds_fields.specs.declared.fault.FaultKind.TheVariants.{MissingKey, OutOfRange, Duplicate, UnknownName, BadName, WrongVersion}
 use Rattle.dds_fields.specs.Paths.{key_path, index_path}
-use Rattle.dds_fields.specs.Reading.{a_number, a_name, a_new_name, a_known_name, field, an_array_of, optional, section, shown, only, entry}
+use Rattle.dds_fields.specs.Reading.{a_number, a_name, a_new_name, a_known_name, field, an_array_of, a_list_of, a_section, optional, section, shown, only, entry}
 use Rattle.dds_fields.specs.Document.{version, document}
 use Rattle.dds_qos.specs.declared.policies.WriterQos.{WriterQos}
 use Rattle.dds_qos.specs.declared.policies.ReaderQos.{ReaderQos}
 use Rattle.dds_deploy.specs.Lists.{Lists}
 use Rattle.dds_cert_file.specs.Keys.{a_heard_key, one_key, keys_of_entry, reader_and_keys, writer_and_keys}
 use Rattle.dds_cert_file.specs.Adding.{may_add, and_more}
-use Rattle.dds_cert_file.specs.Weights.{weight_number, reader_weight_entry, reader_weight, reader_weights, writer_weight_entry, writer_weight, writer_weights}
-use Rattle.dds_cert_file.specs.Rows.{row_entry, row_lists, row, rows}
-use Rattle.dds_cert_file.specs.Bounds.{bound_number, bound_entry, row_and_bound, bound, bounds}
-use Rattle.dds_cert_file.specs.Totals.{total_entry, total, totals}
+use Rattle.dds_cert_file.specs.Weights.{weight_number, weight}
+use Rattle.dds_cert_file.specs.Rows.{row_entry, row_lists, row}
+use Rattle.dds_cert_file.specs.Bounds.{bound_number, bound_entry, row_and_bound, bound}
+use Rattle.dds_cert_file.specs.Totals.{total_entry, total}
 use Rattle.dds_cert_file.specs.Document.{head, certificate, read}
 
 -- `unfolding certificates_on_literals` computes what a literal file reads as
 unfoldable pub certificates_on_literals : Unit {0}
-unfolding toml_on_literals is_utf8 chars digits key_path index_path a_number a_name a_new_name a_known_name field optional an_array_of section shown only entry version document a_heard_key one_key keys_of_entry reader_and_keys writer_and_keys may_add and_more weight_number bound_number reader_weight_entry reader_weight reader_weights writer_weight_entry writer_weight writer_weights row_entry row_lists row rows bound_entry row_and_bound bound bounds total_entry total totals head certificate read
+unfolding toml_on_literals is_utf8 chars digits key_path index_path a_number a_name a_new_name a_known_name field optional an_array_of section a_list_of a_section shown only entry version document a_heard_key one_key keys_of_entry reader_and_keys writer_and_keys may_add and_more weight_number bound_number weight row_entry row_lists row bound_entry row_and_bound bound total_entry total head certificate read
 certificates_on_literals = tt
 
 -- a topic with the keys k and l, a writer w, and a reader r that takes k alone

@@ -1,7 +1,7 @@
 -- The section of the bounds, and the fields that bounds and totals share.
 use Rattle.std.specs.Prelude.{codes, ℕ, List, [], ◌∷◌, Ok, map}
 use Rattle.toml.specs.Data.{Data, Members}
-use Rattle.dds_fields.specs.Reading.{◌>>=◌, Read, a_number, a_known_name, field, each, entry, section}
+use Rattle.dds_fields.specs.Reading.{◌>>=◌, Read, a_number, a_known_name, field, entry, a_section}
 use Rattle.dds_fields.specs.Document.{version}
 use Rattle.dds_deploy.specs.Lists.{Lists}
 use Rattle.dds_cert.specs.declared.certificate.Bound.{Bound}
@@ -34,7 +34,5 @@ bound version d names list before path x = do
   b ← row_and_bound names path ms
   and_more list path (any_stands (map bound_place before) e.0 e.1) before (bounds_of e b)
 
-unfoldable pub bounds : ℕ → Lists → List (List ℕ) → Members → Read (List Bound)
-bounds version d names ms = do
-  xs ← section (codes "bounds") 16384 ms
-  each (bound version d names (codes "bounds")) (codes "bounds") 0 [] xs
+abbrev pub bounds : ℕ → Lists → List (List ℕ) → Members → Read (List Bound)
+bounds version d names = a_section (codes "bounds") 16384 (bound version d names (codes "bounds")) []

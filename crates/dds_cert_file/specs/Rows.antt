@@ -1,7 +1,7 @@
 -- The section of the rows.
 use Rattle.std.specs.Prelude.{codes, ℕ, List, [], ◌∷◌, ◌++◌, Ok, map}
 use Rattle.toml.specs.Data.{Data, Members}
-use Rattle.dds_fields.specs.Reading.{◌>>=◌, Read, a_new_name, field, optional, each, entry, section}
+use Rattle.dds_fields.specs.Reading.{◌>>=◌, Read, a_new_name, field, optional, entry, a_section}
 use Rattle.dds_fields.specs.Document.{version}
 use Rattle.dds_deploy.specs.Lists.{Lists}
 use Rattle.dds_cert.specs.Lists.{Row}
@@ -29,7 +29,5 @@ row version d before path x = do
   lists ← row_lists version d name path ms
   Ok (before ++ lists ∷ [])
 
-unfoldable pub rows : ℕ → Lists → Members → Read (List Row)
-rows version d ms = do
-  xs ← section (codes "rows") 64 ms
-  each (row version d) (codes "rows") 0 [] xs
+abbrev pub rows : ℕ → Lists → Members → Read (List Row)
+rows version d = a_section (codes "rows") 64 (row version d) []

@@ -2,7 +2,7 @@
 use Rattle.std.specs.Prelude.{codes, ℕ, List, [], ◌∷◌, ◌++◌, not}
 use Rattle.toml.specs.Data.{Data, Members}
 use Rattle.dds_fields.specs.declared.fault.FaultKind.TheVariants.{Duplicate}
-use Rattle.dds_fields.specs.Reading.{◌>>=◌, Read, unless, a_known_name, field, each, entry, section}
+use Rattle.dds_fields.specs.Reading.{◌>>=◌, Read, unless, a_known_name, field, entry, a_section}
 use Rattle.dds_deploy.specs.Lists.{Lists}
 use Rattle.dds_cert.specs.declared.certificate.Total.{Total}
 use Rattle.dds_cert.specs.Named.{has_total}
@@ -19,7 +19,5 @@ total d names before path x = do
   b ← row_and_bound names path ms
   unless Duplicate path (not (has_total before r)) (before ++ record { reader = r; row = b.0; bound = b.1 } ∷ [])
 
-unfoldable pub totals : Lists → List (List ℕ) → Members → Read (List Total)
-totals d names ms = do
-  xs ← section (codes "totals") 256 ms
-  each (total d names) (codes "totals") 0 [] xs
+abbrev pub totals : Lists → List (List ℕ) → Members → Read (List Total)
+totals d names = a_section (codes "totals") 256 (total d names) []

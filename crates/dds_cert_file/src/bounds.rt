@@ -1,22 +1,33 @@
 //! The section of the bounds, and the fields that bounds and totals share.
-ghost use Rattle.std.specs.Prelude.{◌≡◌, ◌++◌, [], map, IfOk, OnOk};
-ghost use Rattle.toml.specs.View.{view, items_view, table_view};
-ghost use Rattle.dds_fields.specs.Reading.{each};
+ghost use Rattle.std.specs.Prelude.{◌≡◌, ◌++◌, List, map, true, false, IfOk};
+ghost use Rattle.toml.specs.View.{view, table_view};
 ghost use Rattle.dds_fields.specs.Gives.{Gives};
 ghost use Rattle.dds_fields.specs.Places.{place_text};
+ghost use Rattle.dds_cert.specs.Fits.{keys_differ};
 ghost use Rattle.dds_cert.specs.Named.{bound_place};
+ghost use Rattle.dds_cert.specs.declared.certificate.Bound.{Bound as BoundView};
+ghost use Rattle.dds_cert_file.specs.Adding.{any_stands};
 ghost use Rattle.dds_cert_file.specs.Bounds.{bound_number, row_and_bound, bound_entry, bounds_of, bound, bounds};
 
-use crate::adding::{may_add, name_keys};
-use crate::keys::reader_and_keys;
-use dds_base::{KeyNo, Names, Pairs, ReaderNo};
+use crate::adding::{NamedOnce, Placed};
+use crate::keys::{EndpointFields, ReaderFields};
+use dds_base::{KeyNo, Names, ReaderNo};
 use dds_cert::Bound;
 use dds_deploy::Deployment;
 use dds_fields::fault::ReadFault;
-use dds_fields::field::{entry, known_name_field, number_field, section};
+use dds_fields::field::{entry, known_name_field, number_field};
+use dds_fields::items::{Items, section_of};
 use dds_fields::place::Place;
 use std::alloc::{AllocError, Global};
 use toml::{Table, Value};
+
+impl Placed for Bound {
+    ghost place = { bound_place };
+
+    fn place(self) -> (usize, usize) {
+        (self.reader.number(), self.key.number())
+    }
+}
 
 // 0 to 4,294,967,295.
 #[tactic(auto, unfolding(crate::specs::Bounds::bound_number))]
@@ -48,16 +59,18 @@ fn bound_entry<'a>(alloc: Global, path: &Place, value: &'a Value) -> Result<&'a 
     entry(alloc, &["reader", "key", "row", "bound"], path, value)
 }
 
-// The same bound for each of the keys.
+// The same bound for each of the keys, none of which is named yet.
 #[tactic(auto, using(dds_base::proofs::Lists::map_next))]
 fn push_bounds(
-    all: &mut Vec<Bound>,
+    all: &mut NamedOnce<Bound>,
     reader: ReaderNo,
     keys: &[KeyNo],
     row: usize,
     bound: u32,
 ) -> Result<(), AllocError>
-    ensures { IfOk result (λ _. all.new.items ≡ all.old.items ++ bounds_of (reader, keys.now) (row, bound)) }
+    requires new { any_stands (map bound_place all.old.items.items) reader keys.now ≡ false }
+    requires distinct { keys_differ keys.now ≡ true }
+    ensures { IfOk result (λ _. all.new.items.items ≡ all.old.items.items ++ bounds_of (reader, keys.now) (row, bound)) }
 {
     for key in keys {
         all.push(Bound {
@@ -70,58 +83,42 @@ fn push_bounds(
     Ok(())
 }
 
-// `named` has the readers and keys of `all`.
-#[tactic(auto, unfolding(crate::specs::Bounds::bound, crate::specs::Adding::and_more))]
-fn add_bound(
-    alloc: Global,
-    version: u32,
-    lists: &Deployment,
-    rows: &Names,
-    list: &Place,
-    named: &mut Pairs,
-    all: &mut Vec<Bound>,
-    path: &Place,
-    value: &Value,
-) -> Result<(), ReadFault>
-    requires { named.old ≡ map bound_place all.old.items }
-    ensures gives { Gives (λ _. all.new.items) result (bound version lists.now rows.now (place_text list.now) all.old.items (place_text path.now) (view value.now)) }
-    ensures named { OnOk result (named.new ≡ map bound_place all.new.items) }
-{
-    let table = bound_entry(alloc, path, value)?;
-    let (reader, keys) = reader_and_keys(alloc, version, lists, path, table)?;
-    let (row, bound) = row_and_bound(alloc, rows, path, table)?;
-    may_add(alloc, list, path, named, all.len(), reader.number(), &keys)?;
-    name_keys(named, reader.number(), &keys)?;
-    push_bounds(all, reader, &keys, row, bound)?;
-    Ok(())
+// What reads the bounds of a file, whose rows have these names.
+#[derive(Clone, Copy)]
+struct BoundEntries<'a> {
+    fields: ReaderFields<'a>,
+    rows: &'a Names,
+    list: &'a Place<'a>,
 }
 
-fn each_bound(
-    alloc: Global,
-    version: u32,
-    lists: &Deployment,
-    rows: &Names,
-    path: &Place,
-    values: &[Value],
-) -> Result<Vec<Bound>, ReadFault>
-    ensures { Gives (λ v. v.items) result (each (bound version lists.now rows.now (place_text path.now)) (place_text path.now) 0 [] (items_view values.now)) }
-{
-    let mut named = Pairs::new(alloc);
-    let mut all = Vec::new(alloc);
-    for (i, value) in values.iter().enumerate() {
-        let at = Place::Index {
-            parent: &*path,
-            index: i,
-        };
-        add_bound(
-            alloc, version, lists, rows, path, &mut named, &mut all, &at, value,
-        )?;
+impl Items for BoundEntries<'_> {
+    type Read = NamedOnce<Bound>;
+
+    ghost State = { List BoundView };
+
+    ghost state = { λ all. all.items.items };
+
+    ghost step = { λ it. bound it.fields.version it.fields.lists.now it.rows.now (place_text it.list.now) };
+
+    #[tactic(auto, unfolding(crate::specs::Bounds::bound, crate::specs::Adding::and_more))]
+    fn add(
+        &self,
+        alloc: Global,
+        all: &mut NamedOnce<Bound>,
+        path: &Place,
+        value: &Value,
+    ) -> Result<(), ReadFault> {
+        let table = bound_entry(alloc, path, value)?;
+        let (reader, keys) = self.fields.endpoint_and_keys(alloc, path, table)?;
+        let (row, bound) = row_and_bound(alloc, self.rows, path, table)?;
+        all.may_add(alloc, self.list, path, reader.number(), &keys)?;
+        push_bounds(all, reader, &keys, row, bound)?;
+        Ok(())
     }
-    Ok(all)
 }
 
 /// The bounds of a document, whose rows have these names.
-#[tactic(auto, unfolding(crate::specs::Bounds::bounds, dds_fields::specs::Paths::key_path))]
+#[tactic(auto, unfolding(dds_fields::specs::Paths::key_path))]
 pub(crate) fn bounds(
     alloc: Global,
     version: u32,
@@ -131,10 +128,16 @@ pub(crate) fn bounds(
 ) -> Result<Vec<Bound>, ReadFault>
     ensures { Gives (λ v. v.items) result (bounds version lists.now rows.now (table_view table.now)) }
 {
-    let values = section(alloc, table, "bounds", 16_384)?;
-    let at = Place::Key {
+    let list = Place::Key {
         parent: &Place::Root,
         key: "bounds",
     };
-    each_bound(alloc, version, lists, rows, &at, values)
+    let entries = BoundEntries {
+        fields: ReaderFields { version, lists },
+        rows,
+        list: &list,
+    };
+    let none = NamedOnce::new(alloc);
+    let all = section_of(alloc, 16_384, &entries, none, table, "bounds")?;
+    Ok(all.items)
 }

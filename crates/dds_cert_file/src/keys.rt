@@ -1,8 +1,9 @@
 //! The fields that name an endpoint and its keys.
-ghost use Rattle.std.specs.Prelude.{◌≡◌, ◌<◌, length, codes, true, IfOk};
+ghost use Rattle.std.specs.Prelude.{◌≡◌, ◌<◌, List, ℕ, length, codes, true, IfOk};
 ghost use Rattle.dds_match.specs.Plan.{hears};
+ghost use Rattle.toml.specs.Data.{Members};
 ghost use Rattle.toml.specs.View.{view, table_view};
-ghost use Rattle.dds_fields.specs.Reading.{field, a_known_name};
+ghost use Rattle.dds_fields.specs.Reading.{Read as Reading, field, a_known_name};
 ghost use Rattle.dds_fields.specs.Gives.{Gives};
 ghost use Rattle.dds_fields.specs.Places.{place_text};
 ghost use Rattle.dds_deploy.specs.Lists.{all_keys};
@@ -11,7 +12,7 @@ ghost use Rattle.dds_cert.specs.Fits.{keys_differ};
 ghost use Rattle.dds_cert.specs.Naming.{reader_keys, writer_keys};
 ghost use Rattle.dds_cert_file.specs.Keys.{heard_key, a_heard_key, one_key, keys_of_entry, reader_and_keys, writer_and_keys};
 
-use dds_base::{KeyNo, Names, ReaderNo, WriterNo};
+use dds_base::{Endpoint, KeyNo, Names, ReaderNo, WriterNo};
 use dds_cert::naming::{keys_of_reader, keys_of_writer};
 use dds_deploy::Deployment;
 use dds_fields::fault::{FaultKind, ReadFault, refuse};
@@ -186,40 +187,97 @@ fn writer_field(
     Ok(WriterNo::new(number))
 }
 
-/// The reader that an entry names, and the keys of its filter that the entry stands for: the one that it names, and from version 2
-/// on, where it names none, the whole filter in its order.
-#[tactic(auto, unfolding(crate::specs::Keys::reader_and_keys))]
-pub(crate) fn reader_and_keys(
-    alloc: Global,
-    version: u32,
-    lists: &Deployment,
-    path: &Place,
-    table: &Table,
-) -> Result<(ReaderNo, Vec<KeyNo>), ReadFault>
-    ensures gives { Gives (λ e. (e.0, e.1.items)) result (reader_and_keys version lists.now (place_text path.now) (table_view table.now)) }
-    ensures distinct { IfOk result (λ e. keys_differ e.1.items ≡ true) }
-{
-    // What is known of every deployment: no filter names a key twice.
-    let _applications = lists.applications();
-    let reader = reader_field(alloc, lists, path, table)?;
-    let keys = heard_keys(alloc, version, lists, reader, path, table)?;
-    Ok((reader, keys))
+/// What reads the fields that name an endpoint of one kind and keys of its own.
+pub(crate) trait EndpointFields {
+    /// The number of such an endpoint.
+    type Number: Endpoint;
+
+    // how a file calls one of them
+    ghost word: { List ℕ };
+
+    ghost endpoint_and_keys: { Self → List ℕ → Members → Reading (Self.Number × List ℕ) };
+
+    /// How a file calls one of them.
+    fn word() -> &'static str
+        ensures { result.now ≡ word };
+
+    /// The endpoint that an entry names, and those of its keys that the entry stands for: the one that it names, and from version
+    /// 2 on, where it names none, all of them in their order.
+    fn endpoint_and_keys(
+        &self,
+        alloc: Global,
+        path: &Place,
+        table: &Table,
+    ) -> Result<(Self::Number, Vec<KeyNo>), ReadFault>
+        ensures gives { Gives (λ e. (e.0, e.1.items)) result (endpoint_and_keys self.now (place_text path.now) (table_view table.now)) }
+        ensures distinct { IfOk result (λ e. keys_differ e.1.items ≡ true) };
 }
 
-/// The writer that an entry names, and the keys of its topic that the entry stands for: the one that it names, and from version 2
-/// on, where it names none, all of them in the topic's order.
-#[tactic(auto, unfolding(crate::specs::Keys::writer_and_keys))]
-pub(crate) fn writer_and_keys(
-    alloc: Global,
-    version: u32,
-    lists: &Deployment,
-    path: &Place,
-    table: &Table,
-) -> Result<(WriterNo, Vec<KeyNo>), ReadFault>
-    ensures gives { Gives (λ e. (e.0, e.1.items)) result (writer_and_keys version lists.now (place_text path.now) (table_view table.now)) }
-    ensures distinct { IfOk result (λ e. keys_differ e.1.items ≡ true) }
-{
-    let writer = writer_field(alloc, lists, path, table)?;
-    let keys = known_keys(alloc, version, keys_of_writer(lists, writer), path, table)?;
-    Ok((writer, keys))
+/// What reads the fields for a reader and keys of its filter, in a file of this version.
+#[derive(Clone, Copy)]
+pub(crate) struct ReaderFields<'a> {
+    pub(crate) version: u32,
+    pub(crate) lists: &'a Deployment,
+}
+
+impl EndpointFields for ReaderFields<'_> {
+    type Number = ReaderNo;
+
+    ghost word = { codes "reader" };
+
+    ghost endpoint_and_keys = { λ it. reader_and_keys it.version it.lists.now };
+
+    fn word() -> &'static str
+        ensures { result.now ≡ codes "reader" }
+    {
+        "reader"
+    }
+
+    #[tactic(auto, unfolding(crate::specs::Keys::reader_and_keys))]
+    fn endpoint_and_keys(
+        &self,
+        alloc: Global,
+        path: &Place,
+        table: &Table,
+    ) -> Result<(ReaderNo, Vec<KeyNo>), ReadFault> {
+        // What is known of every deployment: no filter names a key twice.
+        let _applications = self.lists.applications();
+        let reader = reader_field(alloc, self.lists, path, table)?;
+        let keys = heard_keys(alloc, self.version, self.lists, reader, path, table)?;
+        Ok((reader, keys))
+    }
+}
+
+/// What reads the fields for a writer and keys of its topic, in a file of this version.
+#[derive(Clone, Copy)]
+pub(crate) struct WriterFields<'a> {
+    pub(crate) version: u32,
+    pub(crate) lists: &'a Deployment,
+}
+
+impl EndpointFields for WriterFields<'_> {
+    type Number = WriterNo;
+
+    ghost word = { codes "writer" };
+
+    ghost endpoint_and_keys = { λ it. writer_and_keys it.version it.lists.now };
+
+    fn word() -> &'static str
+        ensures { result.now ≡ codes "writer" }
+    {
+        "writer"
+    }
+
+    #[tactic(auto, unfolding(crate::specs::Keys::writer_and_keys))]
+    fn endpoint_and_keys(
+        &self,
+        alloc: Global,
+        path: &Place,
+        table: &Table,
+    ) -> Result<(WriterNo, Vec<KeyNo>), ReadFault> {
+        let writer = writer_field(alloc, self.lists, path, table)?;
+        let names = keys_of_writer(self.lists, writer);
+        let keys = known_keys(alloc, self.version, names, path, table)?;
+        Ok((writer, keys))
+    }
 }
