@@ -5,10 +5,10 @@ ghost use Rattle.dds_fields.specs.Gives.{Gives};
 ghost use Rattle.dds_fields.specs.Places.{place_text};
 ghost use Rattle.dds_cert_file.specs.Adding.{any_stands, may_add};
 
-use dds_base::{KeyNo, Pairs};
+use dds_base::{KeyNo, NoMemory, Pairs};
 use dds_fields::fault::{FaultKind, ReadFault, refuse};
 use dds_fields::place::Place;
-use std::alloc::{AllocError, Global};
+use std::alloc::Global;
 
 fn any_stands(named: &Pairs, endpoint: usize, keys: &[KeyNo]) -> bool
     ensures { result ≡ any_stands named.now endpoint keys.now }
@@ -77,7 +77,7 @@ impl<T: Placed> NamedOnce<T> {
     }
 
     /// Adds an item whose key of its endpoint is not named yet. Fails only where no memory is left.
-    pub(crate) fn push(&mut self, item: T) -> Result<(), AllocError>
+    pub(crate) fn push(&mut self, item: T) -> Result<(), NoMemory>
         requires { stands (map T.place self.old.items.items) (T.place item).0 (T.place item).1 ≡ false }
         ensures { IfOk result (λ _. self.new.items.items ≡ self.old.items.items ++ item ∷ []) }
     {

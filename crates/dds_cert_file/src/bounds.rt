@@ -11,14 +11,14 @@ ghost use Rattle.dds_cert_file.specs.Bounds.{bound_number, row_and_bound, bound_
 
 use crate::adding::{NamedOnce, Placed};
 use crate::keys::{EndpointFields, ReaderFields};
-use dds_base::{KeyNo, Names, ReaderNo};
+use dds_base::{KeyNo, Names, NoMemory, ReaderNo};
 use dds_cert::Bound;
 use dds_deploy::Deployment;
 use dds_fields::fault::ReadFault;
 use dds_fields::field::{entry, known_name_field, number_field};
 use dds_fields::items::{Items, section_of};
 use dds_fields::place::Place;
-use std::alloc::{AllocError, Global};
+use std::alloc::Global;
 use toml::{Table, Value};
 
 impl Placed for Bound {
@@ -67,7 +67,7 @@ fn push_bounds(
     keys: &[KeyNo],
     row: usize,
     bound: u32,
-) -> Result<(), AllocError>
+) -> Result<(), NoMemory>
     requires new { any_stands (map bound_place all.old.items.items) reader keys.now ≡ false }
     requires distinct { keys_differ keys.now ≡ true }
     ensures { IfOk result (λ _. all.new.items.items ≡ all.old.items.items ++ bounds_of (reader, keys.now) (row, bound)) }

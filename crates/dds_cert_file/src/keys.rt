@@ -12,13 +12,13 @@ ghost use Rattle.dds_cert.specs.Fits.{keys_differ};
 ghost use Rattle.dds_cert.specs.Naming.{reader_keys, writer_keys};
 ghost use Rattle.dds_cert_file.specs.Keys.{heard_key, a_heard_key, one_key, keys_of_entry, reader_and_keys, writer_and_keys};
 
-use dds_base::{Endpoint, KeyNo, Names, ReaderNo, WriterNo};
+use dds_base::{Endpoint, KeyNo, Names, NoMemory, ReaderNo, WriterNo};
 use dds_cert::naming::{keys_of_reader, keys_of_writer};
 use dds_deploy::Deployment;
 use dds_fields::fault::{FaultKind, ReadFault, refuse};
 use dds_fields::field::{known_name_field, known_name_of, name_of, required, value_at};
 use dds_fields::place::Place;
-use std::alloc::{AllocError, Global};
+use std::alloc::Global;
 use toml::{Table, Value};
 
 fn is_in_filter(lists: &Deployment, reader: ReaderNo, key: KeyNo) -> bool
@@ -73,7 +73,7 @@ fn one_heard_key(
     Ok(Vec::from_slice(alloc, &[key])?)
 }
 
-fn filter_of(alloc: Global, lists: &Deployment, reader: ReaderNo) -> Result<Vec<KeyNo>, AllocError>
+fn filter_of(alloc: Global, lists: &Deployment, reader: ReaderNo) -> Result<Vec<KeyNo>, NoMemory>
     requires { reader < length lists.now.readers.entries }
     ensures { IfOk result (λ v. v.items ≡ filter_at lists.now.readers reader) }
 {
@@ -121,7 +121,7 @@ fn one_known_key(
 }
 
 #[tactic(auto, using(dds_base::proofs::Ranges::range_push))]
-fn every_key(alloc: Global, names: &Names) -> Result<Vec<KeyNo>, AllocError>
+fn every_key(alloc: Global, names: &Names) -> Result<Vec<KeyNo>, NoMemory>
     ensures { IfOk result (λ v. v.items ≡ all_keys names.now) }
 {
     let mut keys = Vec::new(alloc);

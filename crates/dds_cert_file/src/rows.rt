@@ -10,14 +10,14 @@ ghost use Rattle.dds_cert.specs.Views.{row_view};
 
 use crate::keys::{ReaderFields, WriterFields};
 use crate::weights::weights;
-use dds_base::Names;
+use dds_base::{Names, NoMemory};
 use dds_cert::Row;
 use dds_deploy::Deployment;
 use dds_fields::fault::ReadFault;
 use dds_fields::field::{entry, new_name_field};
 use dds_fields::items::{Items, section_of};
 use dds_fields::place::Place;
-use std::alloc::{AllocError, Global};
+use std::alloc::Global;
 use toml::{Table, Value};
 
 /// The rows, and the number of each name: its place.
@@ -39,7 +39,7 @@ impl NamedRows {
     }
 
     // Adds a row under its name, which is new. Fails only where no memory is left.
-    fn push(&mut self, alloc: Global, name: &str, row: Row) -> Result<(), AllocError>
+    fn push(&mut self, alloc: Global, name: &str, row: Row) -> Result<(), NoMemory>
         requires named { string_bytes row.name ≡ name.now }
         requires new { number_of self.old.names name.now ≡ None }
         ensures { IfOk result (λ _. self.new.rows.items ≡ self.old.rows.items ++ row ∷ []) }

@@ -11,13 +11,13 @@ ghost use Rattle.dds_cert_file.specs.Weights.{weight_place, weights_of, weight_n
 
 use crate::adding::{NamedOnce, Placed};
 use crate::keys::EndpointFields;
-use dds_base::{Endpoint, KeyNo};
+use dds_base::{Endpoint, KeyNo, NoMemory};
 use dds_cert::Weight;
 use dds_fields::fault::ReadFault;
 use dds_fields::field::{entry, number_field};
 use dds_fields::items::{Items, optional_list};
 use dds_fields::place::Place;
-use std::alloc::{AllocError, Global};
+use std::alloc::Global;
 use toml::{Table, Value};
 
 impl<E: Endpoint> Placed for Weight<E> {
@@ -43,7 +43,7 @@ fn push_weights<E: Endpoint>(
     endpoint: E,
     keys: &[KeyNo],
     weight: u32,
-) -> Result<(), AllocError>
+) -> Result<(), NoMemory>
     requires new { any_stands (map (weight_place E.number_of) all.old.items.items) (E.number_of endpoint) keys.now ≡ false }
     requires distinct { keys_differ keys.now ≡ true }
     ensures { IfOk result (λ _. all.new.items.items ≡ all.old.items.items ++ weights_of (endpoint, keys.now) weight) }

@@ -10,9 +10,10 @@ ghost use Rattle.dds_deploy_file.specs.Endpoints.{key_to_write, key_to_take};
 ghost use Rattle.dds_deploy_file.specs.Rules.{is_named};
 ghost use Rattle.dds_deploy.specs.Views.{topic_view, writer_view, reader_view, application_view};
 
-use dds_base::{Endpoint, KeyNo, Names, ParticipantNo, Portion, ReaderNo, Section, WriterNo};
+use dds_base::{
+    Endpoint, KeyNo, Names, NoMemory, ParticipantNo, Portion, ReaderNo, Section, WriterNo,
+};
 use dds_deploy::{Application, Reader, Topic, Writer};
-use std::alloc::AllocError;
 
 /// The writers or the readers of a file.
 pub(crate) trait Endpoints {
@@ -71,7 +72,7 @@ pub(crate) trait Endpoints {
         ensures { result ≡ has (numbers own.now) number };
 
     /// Adds the one with this number to the list.
-    fn push_number(own: &mut Vec<Self::Number>, number: usize) -> Result<(), AllocError>
+    fn push_number(own: &mut Vec<Self::Number>, number: usize) -> Result<(), NoMemory>
         ensures { IfOk result (λ _. numbers own.new.items ≡ numbers own.old.items ++ number ∷ []) };
 
     /// Whether one of the portions is of the endpoint with this number and this key.
@@ -84,7 +85,7 @@ pub(crate) trait Endpoints {
         number: usize,
         key: KeyNo,
         count: u16,
-    ) -> Result<(), AllocError>
+    ) -> Result<(), NoMemory>
         ensures { IfOk result (λ _. portions so_far.new.items ≡ portions so_far.old.items ++ record { endpoint = number; key = key; count = count } ∷ []) };
 
     /// Whether one of the shares is of the endpoint with this number.
@@ -96,7 +97,7 @@ pub(crate) trait Endpoints {
         so_far: &mut Vec<(Self::Number, u16)>,
         number: usize,
         count: u16,
-    ) -> Result<(), AllocError>
+    ) -> Result<(), NoMemory>
         ensures { IfOk result (λ _. shares so_far.new.items ≡ shares so_far.old.items ++ (number, count) ∷ []) };
 }
 
@@ -184,7 +185,7 @@ impl Endpoints for Section<Writer> {
         own.contains(&WriterNo::new(number))
     }
 
-    fn push_number(own: &mut Vec<WriterNo>, number: usize) -> Result<(), AllocError> {
+    fn push_number(own: &mut Vec<WriterNo>, number: usize) -> Result<(), NoMemory> {
         own.push(WriterNo::new(number))?;
         Ok(())
     }
@@ -198,7 +199,7 @@ impl Endpoints for Section<Writer> {
         number: usize,
         key: KeyNo,
         count: u16,
-    ) -> Result<(), AllocError> {
+    ) -> Result<(), NoMemory> {
         so_far.push(Portion {
             endpoint: WriterNo::new(number),
             key,
@@ -215,7 +216,7 @@ impl Endpoints for Section<Writer> {
         so_far: &mut Vec<(WriterNo, u16)>,
         number: usize,
         count: u16,
-    ) -> Result<(), AllocError> {
+    ) -> Result<(), NoMemory> {
         so_far.push((WriterNo::new(number), count))?;
         Ok(())
     }
@@ -277,7 +278,7 @@ impl Endpoints for Section<Reader> {
         own.contains(&ReaderNo::new(number))
     }
 
-    fn push_number(own: &mut Vec<ReaderNo>, number: usize) -> Result<(), AllocError> {
+    fn push_number(own: &mut Vec<ReaderNo>, number: usize) -> Result<(), NoMemory> {
         own.push(ReaderNo::new(number))?;
         Ok(())
     }
@@ -291,7 +292,7 @@ impl Endpoints for Section<Reader> {
         number: usize,
         key: KeyNo,
         count: u16,
-    ) -> Result<(), AllocError> {
+    ) -> Result<(), NoMemory> {
         so_far.push(Portion {
             endpoint: ReaderNo::new(number),
             key,
@@ -308,7 +309,7 @@ impl Endpoints for Section<Reader> {
         so_far: &mut Vec<(ReaderNo, u16)>,
         number: usize,
         count: u16,
-    ) -> Result<(), AllocError> {
+    ) -> Result<(), NoMemory> {
         so_far.push((ReaderNo::new(number), count))?;
         Ok(())
     }

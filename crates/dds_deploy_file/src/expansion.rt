@@ -13,12 +13,12 @@ ghost use Rattle.dds_deploy_file.specs.Each.{each_rule_view};
 use crate::each::{EachRule, each_rule};
 use crate::endpoints::Endpoints;
 use crate::known::Known;
-use dds_base::{Endpoint, KeyNo, Portion, Section, TopicNo};
+use dds_base::{Endpoint, KeyNo, NoMemory, Portion, Section, TopicNo};
 use dds_deploy::lists::key_name;
 use dds_deploy::{Origin, Rule, Topic};
 use dds_fields::fault::{FaultKind, ReadFault, refuse};
 use dds_fields::place::Place;
-use std::alloc::{AllocError, Global};
+use std::alloc::Global;
 use toml::Table;
 
 // Whether each of the endpoints has a key with this name.
@@ -64,7 +64,7 @@ fn add_common(
     topic: usize,
     keys: &mut Vec<KeyNo>,
     key: usize,
-) -> Result<(), AllocError>
+) -> Result<(), NoMemory>
     ensures { IfOk result (λ _. keys.new.items ≡ keys.old.items ++ filter (λ k. is_common (listed topic_view known.now.topics.now) (listed writer_view known.now.writers.now) (listed reader_view known.now.readers.now) (each_rule_view rule.now) (key_name (listed topic_view known.now.topics.now) topic k)) (key ∷ [])) }
 {
     if is_common(known, rule, key_name(known.topics, topic, key)) {
@@ -89,7 +89,7 @@ fn common_keys(
     known: &Known,
     rule: &EachRule,
     topic: usize,
-) -> Result<Vec<KeyNo>, AllocError>
+) -> Result<Vec<KeyNo>, NoMemory>
     ensures { IfOk result (λ v. v.items ≡ common_keys (listed topic_view known.now.topics.now) (listed writer_view known.now.writers.now) (listed reader_view known.now.readers.now) (each_rule_view rule.now) topic) }
 {
     let mut keys = Vec::new(alloc);
@@ -107,7 +107,7 @@ fn portions_for<E: Endpoints>(
     endpoints: &E,
     shares: &[(E::Number, u16)],
     name: &str,
-) -> Result<Vec<Portion<E::Number>>, AllocError>
+) -> Result<Vec<Portion<E::Number>>, NoMemory>
     ensures { IfOk result (λ v. v.items ≡ map (portion_at (λ e. E.key_at endpoints.now (listed topic_view topics.now) name.now (E.Number.number_of e))) shares.now) }
 {
     let mut portions = Vec::new(alloc);
@@ -123,7 +123,7 @@ fn portions_for<E: Endpoints>(
 }
 
 // The rule for the key with this name.
-fn rule_for(alloc: Global, known: &Known, rule: &EachRule, name: &str) -> Result<Rule, AllocError>
+fn rule_for(alloc: Global, known: &Known, rule: &EachRule, name: &str) -> Result<Rule, NoMemory>
     ensures { IfOk result (λ u. rule_view u ≡ rule_for (listed topic_view known.now.topics.now) (listed writer_view known.now.writers.now) (listed reader_view known.now.readers.now) (each_rule_view rule.now) name.now) }
 {
     let takes = portions_for(alloc, known.topics, known.readers, &rule.takes, name)?;
@@ -145,7 +145,7 @@ fn add_rule_for(
     topic: usize,
     rules: &mut Vec<Rule>,
     key: KeyNo,
-) -> Result<(), AllocError>
+) -> Result<(), NoMemory>
     ensures { IfOk result (λ _. map rule_view rules.new.items ≡ map rule_view rules.old.items ++ rule_for (listed topic_view known.now.topics.now) (listed writer_view known.now.writers.now) (listed reader_view known.now.readers.now) (each_rule_view rule.now) (key_name (listed topic_view known.now.topics.now) topic key) ∷ []) }
 {
     let name = key_name(known.topics, topic, key.number());
@@ -161,7 +161,7 @@ fn rules_for(
     rule: &EachRule,
     topic: usize,
     keys: &[KeyNo],
-) -> Result<Vec<Rule>, AllocError>
+) -> Result<Vec<Rule>, NoMemory>
     ensures { IfOk result (λ v. map rule_view v.items ≡ rules_for (listed topic_view known.now.topics.now) (listed writer_view known.now.writers.now) (listed reader_view known.now.readers.now) (each_rule_view rule.now) topic keys.now) }
 {
     let mut rules = Vec::new(alloc);
@@ -177,7 +177,7 @@ fn origins_for(
     name: usize,
     topic: usize,
     keys: &[KeyNo],
-) -> Result<Vec<Origin>, AllocError>
+) -> Result<Vec<Origin>, NoMemory>
     ensures { IfOk result (λ v. v.items ≡ origins_for name topic keys.now) }
 {
     let mut origins = Vec::new(alloc);
@@ -195,7 +195,7 @@ fn keys_to_expand(
     alloc: Global,
     known: &Known,
     rule: &EachRule,
-) -> Result<Option<(usize, Vec<KeyNo>)>, AllocError>
+) -> Result<Option<(usize, Vec<KeyNo>)>, NoMemory>
     ensures { IfOk result (λ o. option_map (λ c. (c.0, c.1.items)) o ≡ keys_to_expand (listed topic_view known.now.topics.now) (listed writer_view known.now.writers.now) (listed reader_view known.now.readers.now) (each_rule_view rule.now)) }
 {
     match first_topic(known, rule) {

@@ -8,14 +8,15 @@ ghost use Rattle.dds_deploy_file.specs.Migration.{AgreeElsewhere, IsMigrated};
 ghost use Rattle.dds_deploy_file.specs.Document.{read_up_to};
 
 use crate::document::deployment_of;
+use dds_base::NoMemory;
 use dds_fields::document::document_of;
 use dds_fields::fault::ReadFault as DeployFault;
-use std::alloc::{AllocError, Global};
+use std::alloc::Global;
 use toml::ser::Error as PrintError;
 use toml::{Table, Value};
 
 // Makes the version of a table 2.
-fn set_version(alloc: Global, table: &mut Table) -> Result<(), AllocError>
+fn set_version(alloc: Global, table: &mut Table) -> Result<(), NoMemory>
     requires { IsSome (get_member (codes "version") (table_view table.old)) }
     ensures version { IfOk result (λ _. get_member (codes "version") (table_view table.new) ≡ Some (integer (pos 2))) }
     ensures keys { IfOk result (λ _. keys_of (table_view table.new) ≡ keys_of (table_view table.old)) }

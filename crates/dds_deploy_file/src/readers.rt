@@ -10,14 +10,14 @@ ghost use Rattle.dds_deploy_file.specs.Readers.{filter_key, filter, reader_field
 ghost use Rattle.dds_deploy.specs.Views.{participant_view, topic_view, reader_view};
 
 use crate::policies::{partitions, policies};
-use dds_base::{KeyNo, Names, ParticipantNo, Section, TopicNo};
+use dds_base::{KeyNo, Names, NoMemory, ParticipantNo, Section, TopicNo};
 use dds_deploy::{Participant, Reader, Topic};
 use dds_fields::fault::{FaultKind, ReadFault, refuse};
 use dds_fields::field::{entry, known_name_field, known_name_of, new_name_field, value_at};
 use dds_fields::items::{Items, list_of, section_of};
 use dds_fields::place::Place;
 use dds_qos::{ReaderQos, Reliability, consistent_reader};
-use std::alloc::{AllocError, Global};
+use std::alloc::Global;
 use toml::{Table, Value};
 
 fn topic_keys(topics: &Section<Topic>, topic: usize) -> &Names
@@ -66,7 +66,7 @@ impl Items for FilterKeys<'_> {
 }
 
 #[tactic(auto, using(dds_base::proofs::Ranges::range_push))]
-fn every_key(alloc: Global, names: &Names) -> Result<Vec<KeyNo>, AllocError>
+fn every_key(alloc: Global, names: &Names) -> Result<Vec<KeyNo>, NoMemory>
     ensures { IfOk result (λ v. v.items ≡ all_keys names.now) }
 {
     let mut keys = Vec::new(alloc);
