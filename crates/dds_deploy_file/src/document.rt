@@ -42,47 +42,51 @@ fn head(alloc: Global, newest: u32, table: &Table) -> Result<u32, DeployFault>
     Ok(version)
 }
 
+// The participants, topics and endpoints of a file, which are dropped as one where a later section has a fault.
+#[derive(Drop)]
+struct Ends {
+    participants: Section<Participant>,
+    topics: Section<Topic>,
+    writers: Section<Writer>,
+    readers: Section<Reader>,
+}
+
 #[tactic(auto, unfolding(crate::specs::Document::endpoints))]
-fn endpoints(
-    alloc: Global,
-    table: &Table,
-) -> Result<
-    (
-        Section<Participant>,
-        Section<Topic>,
-        Section<Writer>,
-        Section<Reader>,
-    ),
-    DeployFault,
->
-    ensures { Gives (λ e. (listed participant_view e.0, listed topic_view e.1, listed writer_view e.2, listed reader_view e.3)) result (endpoints (table_view table.now)) }
+fn endpoints(alloc: Global, table: &Table) -> Result<Ends, DeployFault>
+    ensures { Gives (λ e. (listed participant_view e.participants, listed topic_view e.topics, listed writer_view e.writers, listed reader_view e.readers)) result (endpoints (table_view table.now)) }
 {
     let participants = participants(alloc, table)?;
     let topics = topics(alloc, table)?;
     let writers = writers(alloc, &participants, &topics, table)?;
     let readers = readers(alloc, &participants, &topics, table)?;
-    Ok((participants, topics, writers, readers))
+    Ok(Ends {
+        participants,
+        topics,
+        writers,
+        readers,
+    })
 }
 
 #[tactic(auto, unfolding(crate::specs::Document::lists))]
 fn lists(alloc: Global, version: u32, table: &Table) -> Result<Deployment, DeployFault>
     ensures { Gives (λ d. d) result (lists version (table_view table.now)) }
 {
-    let (participants, topics, writers, readers) = endpoints(alloc, table)?;
-    let applications = applications(alloc, &participants, &writers, &readers, table)?;
+    let ends = endpoints(alloc, table)?;
+    let (writers, readers) = (&ends.writers, &ends.readers);
+    let applications = applications(alloc, &ends.participants, writers, readers, table)?;
     let known = Known {
-        topics: &topics,
-        writers: &writers,
-        readers: &readers,
+        topics: &ends.topics,
+        writers,
+        readers,
         applications: &applications,
     };
     let rules = rules(alloc, version, &known, table)?;
-    let connections = connections(alloc, &writers, &readers, table)?;
+    let connections = connections(alloc, writers, readers, table)?;
     Ok(Deployment::new(
-        participants,
-        topics,
-        writers,
-        readers,
+        ends.participants,
+        ends.topics,
+        ends.writers,
+        ends.readers,
         applications,
         rules,
         connections,
