@@ -6,6 +6,7 @@ use Rattle.dds_deploy.specs.Lists.{Participant, Topic, Writer, Reader, Rule, Lis
 use Rattle.dds_deploy_file.specs.Document.{lists}
 use Rattle.dds_deploy.specs.WellFormed.{IsDeployment, IsWellFormed, IsWriterOf, IsReaderOf, IsRuleOf, NamesOnce, AreNumbered, AreDistinctBy, endpoint_and_key, IsConsistent, IsCounted, IsOwned, IsApplicationOf, KeepsToItsOwn}
 use Rattle.dds_deploy_file.proofs.ListsRead.{lists_read, read_all, rules_named_once}
+use Rattle.dds_deploy_file.proofs.Readings.{top_domain, consistent_is}
 use Rattle.dds_deploy_file.proofs.FitsEndpoints.{none_is, few_keys, some_keys, keys_numbered, writer_fits, reader_fits, filter_distinct}
 use Rattle.dds_deploy_file.proofs.FitsApplications.{applications_are_read, application_fits, writer_owned, reader_owned}
 use Rattle.dds_deploy_file.proofs.FitsRules.{rules_are, rules_fit, rule_fits, rule_keeps, connections_fit, connections_distinct}
@@ -61,10 +62,10 @@ lists_is_consistent v ms d h =
     let ws = r.writers.listed.paired in
     let paired = apps.list.listed.paired in
     record {
-      domains = read_all (λ (p : Participant). p.domain ≤ 2147483647) r.participants (λ before p x. x);
+      domains = read_all (λ (p : Participant). p.domain ≤ 2147483647) r.participants top_domain;
       some_keys = read_all (λ (x : Topic). 1 ≤ length x.keys) r.topics some_keys;
-      writers = read_all (λ (w : Writer). consistency_fault w.qos.offered ≡ None) r.writers (λ before w x. none_is (consistency_fault w.qos.offered) x.3);
-      readers = read_all (λ (q : Reader). consistency_fault q.qos.requested ≡ None) r.readers (λ before q x. none_is (consistency_fault q.qos.requested) x.3);
+      writers = read_all (λ (w : Writer). consistency_fault w.qos.offered ≡ None) r.writers (λ before w x. none_is (consistency_fault w.qos.offered) (consistent_is _ _ x.0 x.1 w x.2).1);
+      readers = read_all (λ (q : Reader). consistency_fault q.qos.requested ≡ None) r.readers (λ before q x. none_is (consistency_fault q.qos.requested) (consistent_is _ _ x.0 x.1 q x.2).1);
       takes = rules_fit d ws paired v ms r.rules_read (λ (u : Rule). All IsCounted u.takes) (λ u x. x.takes.counted);
       writes = rules_fit d ws paired v ms r.rules_read (λ (u : Rule). All IsCounted u.writes) (λ u x. x.writes.counted);
       starts = rules_fit d ws paired v ms r.rules_read (λ (u : Rule). u.start ≤ 65535) (λ u x. x.start);

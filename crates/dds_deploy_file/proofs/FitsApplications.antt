@@ -20,7 +20,7 @@ use Rattle.dds_deploy_file.specs.Applications.{may_own, writer_participant, read
 use Rattle.dds_deploy.specs.WellFormed.{AreDistinctBy, IsApplicationOf, IsOwnedOnce}
 use Rattle.dds_deploy_file.proofs.Pushes.{optional_keeps, pushes_all}
 use Rattle.dds_deploy_file.proofs.Distinct.{none_shows, pushes_distinct, distinct_nothing}
-use Rattle.dds_deploy_file.proofs.Readings.{both, number_field, IsReadEach, list_each, section_each, IsOwn, own_pushes, application_adds, IsApplicationRead}
+use Rattle.dds_deploy_file.proofs.Readings.{both, number_field, IsReadEach, list_each, section_each, IsOwn, own_pushes, entry_adds, IsApplicationRead}
 use Rattle.dds_deploy_file.proofs.ListsRead.{ListRead, list_read}
 use Rattle.dds_deploy_file.proofs.FitsRules.{contains_has}
 
@@ -172,7 +172,7 @@ applications_are_read ps ws rs ms all e =
     let w = bind_ok (are_owned (codes "writers") (λ x. x.writers) a.0 (length ws.entries)) _ all a.2 in
     let r = bind_ok (are_owned (codes "readers") (λ x. x.readers) a.0 (length rs.entries)) _ all w.2 in
     subst (ApplicationsRead ps ws rs) (ok_is a.0 all r.2) (record {
-      list = list_read (application ps ws rs) (IsApplicationRead ps ws rs) (application_adds ps ws rs) (codes "applications") 64 a.0 (section_each _ _ ms a.0 a.1);
+      list = list_read (application ps ws rs) (IsApplicationRead ps ws rs) (entry_adds _ _) (codes "applications") 64 a.0 (section_each _ _ ms a.0 a.1);
       writers = nothing_is EndpointOwner (index_path (codes "writers")) (without_owner (λ x. x.writers) a.0 (length ws.entries)) w.0 w.1;
       readers = nothing_is EndpointOwner (index_path (codes "readers")) (without_owner (λ x. x.readers) a.0 (length rs.entries)) r.0 r.1;
     })

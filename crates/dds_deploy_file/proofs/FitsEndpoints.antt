@@ -23,7 +23,7 @@ use Rattle.dds_deploy_file.specs.Readers.{reader_fields, filter, filter_key}
 use Rattle.dds_deploy.specs.WellFormed.{IsWriterOf, IsReaderOf, KeepsWithin, AreNumbered, AreDistinctBy}
 use Rattle.dds_deploy_file.proofs.Pushes.{optional_keeps, each_counts, push_size, pushes_few, pushes_all}
 use Rattle.dds_deploy_file.proofs.Distinct.{pushes_distinct, pushes_numbered, none_shows}
-use Rattle.dds_deploy_file.proofs.Readings.{number_field, number_between, keys_each, key_pushes, IsNewName, list_each, filter_key_pushes, IsFilterKey, IsTopicRead, IsWriterRead, IsReaderRead}
+use Rattle.dds_deploy_file.proofs.Readings.{number_field, number_between, keys_each, key_pushes, IsNewName, list_each, filter_key_pushes, IsFilterKey, keys_are, consistent_is, IsTopicRead, IsWriterRead, IsReaderRead}
 
 pub none_is : {A : Type 0} (o : Option A) → is_none o ≡ true → o ≡ None
 none_is None e = refl
@@ -31,19 +31,22 @@ none_is (Some x) e = absurd cc
 
 pub few_keys : (before : Listed Topic) (x : Topic) → IsTopicRead before x → length x.keys ≤ 64
 few_keys before x read =
-    let e = keys_each read.0 read.1 x.keys read.2 in
-    pushes_few key IsNewName key_pushes read.0 e.0 x.keys 64 e.1 e.3
+    let k = keys_are before x read in
+    let e = keys_each k.0 k.1 x.keys k.2 in
+    pushes_few key IsNewName key_pushes k.0 e.0 x.keys 64 e.1 e.3
 
 pub some_keys : (before : Listed Topic) (x : Topic) → IsTopicRead before x → 1 ≤ length x.keys
 some_keys before x read =
-    let e = keys_each read.0 read.1 x.keys read.2 in
-    let n = each_counts key read.0 length (λ s t p d h. push_size s t (key_pushes s t p d h)) 0 [] e.0 x.keys e.3 in
+    let k = keys_are before x read in
+    let e = keys_each k.0 k.1 x.keys k.2 in
+    let n = each_counts key k.0 length (λ s t p d h. push_size s t (key_pushes s t p d h)) 0 [] e.0 x.keys e.3 in
     omega (arith, n, e.2)
 
 pub keys_numbered : (before : Listed Topic) (x : Topic) → IsTopicRead before x → AreNumbered x.keys
 keys_numbered before x read =
-    let e = keys_each read.0 read.1 x.keys read.2 in
-    pushes_numbered key key_pushes read.0 e.0 x.keys e.3
+    let k = keys_are before x read in
+    let e = keys_each k.0 k.1 x.keys k.2 in
+    pushes_numbered key key_pushes k.0 e.0 x.keys e.3
 
 -- a history that agrees with its limits keeps within them
 keeps_within : (q : Policies) → is_none (consistency_fault q) ≡ true → KeepsWithin q
@@ -106,7 +109,7 @@ module _ (d : Lists) (ps : length d.participants.names ≡ length d.participants
       })
 
   pub writer_fits : (before : Listed Writer) (w : Writer) → IsWriterRead d.participants d.topics before w → IsWriterOf d w
-  writer_fits before w read = writer_fields_fit read.0 read.1 w read.2
+  writer_fits before w read = writer_fields_fit read.0 read.1 w (consistent_is _ _ read.0 read.1 w read.2).0
 
   -- the numbers of a reader
   record HasNumbers (r : Reader) : Type 0 where
@@ -133,8 +136,9 @@ module _ (d : Lists) (ps : length d.participants.names ≡ length d.participants
 
   pub reader_fits : (before : Listed Reader) (r : Reader) → IsReaderRead d.participants d.topics before r → IsReaderOf d r
   reader_fits before r read =
-      let numbers = reader_fields_fit read.0 read.1 r read.2 in
-      record { participant = numbers.participant; topic = numbers.topic; filter = numbers.filter.below; some_depth = numbers.some_depth; depth = keeps_within r.qos.requested read.3 }
+      let is = consistent_is _ _ read.0 read.1 r read.2 in
+      let numbers = reader_fields_fit read.0 read.1 r is.0 in
+      record { participant = numbers.participant; topic = numbers.topic; filter = numbers.filter.below; some_depth = numbers.some_depth; depth = keeps_within r.qos.requested is.1 }
 
   pub filter_distinct : (before : Listed Reader) (r : Reader) → IsReaderRead d.participants d.topics before r → AreDistinctBy (λ k. k) r.filter
-  filter_distinct before r read = (reader_fields_fit read.0 read.1 r read.2).filter.distinct
+  filter_distinct before r read = (reader_fields_fit read.0 read.1 r (consistent_is _ _ read.0 read.1 r read.2).0).filter.distinct

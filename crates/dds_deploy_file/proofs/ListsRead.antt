@@ -21,7 +21,7 @@ use Rattle.dds_deploy_file.specs.Document.{lists, endpoints}
 use Rattle.dds_deploy.specs.WellFormed.{IsListOf, AreRules, AreNumbered}
 use Rattle.dds_deploy_file.proofs.Pushes.{Adds, adds_listed, AreOf, rules_listed, rules_all}
 use Rattle.dds_deploy_file.proofs.Distinct.{adds_numbered, rules_numbered}
-use Rattle.dds_deploy_file.proofs.Readings.{IsReadEach, section_each, participant_adds, IsParticipantRead, topic_adds, IsTopicRead, writer_adds, IsWriterRead, reader_adds, IsReaderRead, rule_adds, IsEntryRead}
+use Rattle.dds_deploy_file.proofs.Readings.{IsReadEach, section_each, entry_adds, IsParticipantRead, IsTopicRead, IsWriterRead, IsReaderRead, rule_adds, IsEntryRead}
 
 pushed_at : {A : Type 0} (xs : List A) (e : A) (k : ℕ) (x : A) → slice_get (xs ++ e ∷ []) k ≡ Some x → (slice_get xs k ≡ Some x) ⊎ ((k ≡ length xs) × (e ≡ x))
 pushed_at [] e zero x h = inr (refl, cc)
@@ -73,10 +73,10 @@ endpoints_read ms e h =
     let w = bind_ok (writers p.0 t.0 ms) _ e t.2 in
     let r = bind_ok (readers p.0 t.0 ms) _ e w.2 in
     subst (λ x. EndpointsRead x.0 x.1 x.2 x.3) (ok_is (p.0, t.0, w.0, r.0) e r.2) (record {
-      participants = list_read participant IsParticipantRead participant_adds _ 64 p.0 (section_each _ _ ms p.0 p.1);
-      topics = list_read topic IsTopicRead topic_adds _ 256 t.0 (section_each _ _ ms t.0 t.1);
-      writers = list_read (writer p.0 t.0) (IsWriterRead p.0 t.0) (writer_adds p.0 t.0) _ 256 w.0 (section_each _ _ ms w.0 w.1);
-      readers = list_read (reader p.0 t.0) (IsReaderRead p.0 t.0) (reader_adds p.0 t.0) _ 256 r.0 (section_each _ _ ms r.0 r.1);
+      participants = list_read participant IsParticipantRead (entry_adds _ _) _ 64 p.0 (section_each _ _ ms p.0 p.1);
+      topics = list_read topic IsTopicRead (entry_adds _ _) _ 256 t.0 (section_each _ _ ms t.0 t.1);
+      writers = list_read (writer p.0 t.0) (IsWriterRead p.0 t.0) (entry_adds _ _) _ 256 w.0 (section_each _ _ ms w.0 w.1);
+      readers = list_read (reader p.0 t.0) (IsReaderRead p.0 t.0) (entry_adds _ _) _ 256 r.0 (section_each _ _ ms r.0 r.1);
     })
 
 module _ (v : ℕ) (ts : Listed Topic) (ws : Listed Writer) (rs : Listed Reader) (apps : Listed Application) (ms : Members) (us : Rules) (h : rules v ts ws rs apps ms ≡ Ok us) where

@@ -15,7 +15,7 @@ use Rattle.dds_qos.specs.declared.policies.Policies.{Policies}
 use Rattle.dds_qos.specs.declared.policies.Reliability.{Reliability}
 use Rattle.dds_qos.specs.declared.policies.Reliability.TheVariants.{BestEffort, Reliable}
 use Rattle.dds_fields.specs.declared.fault.FaultKind.TheVariants.{OutOfRange, NotToml}
-use Rattle.dds_fields.specs.Reading.{or_fault, a_text, a_new_name, a_known_name, an_array_of, a_list_of, count, unless, entry, optional, only, unlisted, keys_of}
+use Rattle.dds_fields.specs.Reading.{Read, or_fault, a_text, a_new_name, a_known_name, an_array_of, a_list_of, count, unless, entry, optional, only, unlisted, keys_of}
 use Rattle.dds_fields.specs.Words.{a_duration}
 use Rattle.dds_base.specs.Section.{Listed, nothing}
 use Rattle.dds_fields.specs.Document.{document}
@@ -24,32 +24,43 @@ use Rattle.dds_base.specs.declared.portion.Portion.{Portion}
 use Rattle.dds_deploy.specs.declared.lists.Origin.{Origin}
 use Rattle.dds_deploy.specs.Lists.{Participant, Topic, Writer, Reader, Application, Rule, Rules, no_rules, Lists}
 use Rattle.dds_deploy_file.specs.Each.{EachRule, share, each_takes, each_writes, each_rule}
-use Rattle.dds_deploy_file.specs.Policies.{policies, timing, presentation, durability, access_scope, coherent, ordered, duration, deadline, latency_budget, delivery, ownership, liveliness, liveliness_kind, lease, reliability, destination_order, history, history_kind, depth, resource_limits, max_samples, max_instances, max_samples_per_instance, partition, partition_list, partitions, policy_keys}
-use Rattle.dds_deploy_file.specs.Participants.{participant, participant_entry, participants}
-use Rattle.dds_deploy_file.specs.Topics.{key, keys, topic, topic_entry, topics}
-use Rattle.dds_deploy_file.specs.Writers.{writer, writer_entry, writer_fields, writers}
-use Rattle.dds_deploy_file.specs.Readers.{filter_key, filter, reader, reader_entry, reader_fields, readers}
-use Rattle.dds_deploy_file.specs.Applications.{own, own_writers, own_readers, application, application_entry, application_fields, application_list, applications}
+use Rattle.dds_deploy_file.specs.Policies.{policies, timing, presentation, durability, access_scope, coherent, ordered, duration, deadline, latency_budget, delivery, ownership, liveliness, liveliness_kind, lease, reliability, destination_order, history, history_kind, depth, resource_limits, max_samples, max_instances, max_samples_per_instance, partition, partition_list, partitions, policy_keys, endpoint_keys, consistent}
+use Rattle.dds_deploy_file.specs.Entries.{one_more}
+use Rattle.dds_deploy_file.specs.Participants.{participant, participant_keys, participant_fields, participants}
+use Rattle.dds_deploy_file.specs.Topics.{key, keys, topic, topic_keys, topic_fields, topics}
+use Rattle.dds_deploy_file.specs.Writers.{writer, writer_fields, writers}
+use Rattle.dds_deploy_file.specs.Readers.{filter_key, filter, reader, reader_fields, readers}
+use Rattle.dds_deploy_file.specs.Applications.{own, own_writers, own_readers, application, application_keys, application_fields, application_list, applications}
 use Rattle.dds_deploy_file.specs.Expansion.{expanded}
 use Rattle.dds_deploy_file.specs.Rules.{portion, takes, writes, plain_rule, single, rule, rule_entry, rule_fields, rules}
 use Rattle.dds_deploy_file.specs.Connections.{connection, connection_entry, connections}
 use Rattle.dds_deploy_file.specs.Document.{head, endpoints, lists, deployment}
 use Rattle.dds_deploy_file.proofs.Ascending.{document_in_order}
 use Rattle.dds_deploy_file.proofs.Pushes.{passed}
+use Rattle.dds_deploy_file.proofs.Readings.{consistent_is}
 use Rattle.dds_deploy_file.proofs.Migrated.{only_is}
 use Rattle.dds_deploy_file.proofs.Plain.{IsPlain, IsPlainAt, HasPlain, ReadsPlain, listed_plain, entry_plain, field_plain, optional_plain, list_plain, section_plain, text_plain, flag_plain, number_plain, version_plain, name_plain, new_name_plain, known_name_plain, word_plain, duration_plain, limit_plain}
 
 -- participants and topics
 
-participant_plain : (before : Listed Participant) → ReadsPlain 3 (participant before)
-unfolding participant participant_entry
-participant_plain before = record {
+-- an entry is plain where each of its fields is
+one_more_plain : {X : Type 0} (keys : List (List ℕ)) (fields : Listed X → List ℕ → Members → Read X) (before : Listed X)
+    → ((path : List ℕ) (ms : Members) (x : X) → fields before path ms ≡ Ok x → IsPlainAt 2 ms (codes "name") → AllByRecursion (IsPlainAt 2 ms) keys) → ReadsPlain 3 (one_more keys fields before)
+unfolding one_more
+one_more_plain keys fields before h = record {
   plain = λ path d x e.
-      let ms = bind_ok (participant_entry path d) _ x e in
+      let ms = bind_ok (entry keys path d) _ x e in
       let name = bind_ok _ _ x ms.2 in
-      let domain = bind_ok _ _ x name.2 in
-      entry_plain _ path d ms.0 ms.1 (field_plain (new_name_plain _) path _ name.1, (field_plain (number_plain _ _) path _ domain.1, tt));
+      let y = bind_ok (fields before path ms.0) _ x name.2 in
+      entry_plain keys path d ms.0 ms.1 (h path ms.0 y.0 y.1 (field_plain (new_name_plain _) path _ name.1));
 }
+
+participant_fields_plain : (path : List ℕ) (ms : Members) (p : Participant) → participant_fields path ms ≡ Ok p → IsPlainAt 2 ms (codes "domain")
+unfolding participant_fields
+participant_fields_plain path ms p e = let domain = bind_ok _ _ p e in field_plain (number_plain _ _) path _ domain.1
+
+participant_plain : (before : Listed Participant) → ReadsPlain 3 (participant before)
+participant_plain before = one_more_plain participant_keys (λ _. participant_fields) before (λ path ms p e name. (name, (participant_fields_plain path ms p e, tt)))
 
 participants_plain : (ms : Members) (ps : Listed Participant) → participants ms ≡ Ok ps → IsPlainAt 4 ms (codes "participants")
 participants_plain ms ps e = section_plain 64 nothing participant_plain ps e
@@ -68,16 +79,15 @@ keys_plain = record {
       (list_plain 64 [] key_plain).plain path d x (rw (all.1, same.1) some.2);
 }
 
+topic_fields_plain : (path : List ℕ) (ms : Members) (t : Topic) → topic_fields path ms ≡ Ok t → IsPlainAt 2 ms (codes "type") × IsPlainAt 2 ms (codes "keys")
+unfolding topic_fields
+topic_fields_plain path ms t e =
+    let type_name = bind_ok _ _ t e in
+    let keys = bind_ok _ _ t type_name.2 in
+    (field_plain name_plain path _ type_name.1, field_plain keys_plain path _ keys.1)
+
 topic_plain : (before : Listed Topic) → ReadsPlain 3 (topic before)
-unfolding topic topic_entry
-topic_plain before = record {
-  plain = λ path d x e.
-      let ms = bind_ok (topic_entry path d) _ x e in
-      let name = bind_ok _ _ x ms.2 in
-      let type_name = bind_ok _ _ x name.2 in
-      let keys = bind_ok _ _ x type_name.2 in
-      entry_plain _ path d ms.0 ms.1 (field_plain (new_name_plain _) path _ name.1, (field_plain name_plain path _ type_name.1, (field_plain keys_plain path _ keys.1, tt)));
-}
+topic_plain before = one_more_plain topic_keys (λ _. topic_fields) before (λ path ms t e name. let f = topic_fields_plain path ms t e in (name, (f.0, (f.1, tt))))
 
 topics_plain : (ms : Members) (ts : Listed Topic) → topics ms ≡ Ok ts → IsPlainAt 4 ms (codes "topics")
 topics_plain ms ts e = section_plain 256 nothing topic_plain ts e
@@ -163,24 +173,17 @@ module _ (path : List ℕ) (ms : Members) where
       let l = limits_plain limits.0 limits.1 in
       (t.0, (t.1.0, (t.1.1, (t.1.2, (t.2, (t.3, (d.0, (d.1.0, (d.1.1, (d.2, (d.3, (h.0, (h.1, (l.0, (l.1, (l.2, (optional_plain partition_list_plain _ path _ ns, tt)))))))))))))))))
 
-writer_fields_plain : (ps : Listed Participant) (ts : Listed Topic) (path : List ℕ) (ms : Members) (w : Writer) → writer_fields ps ts path ms ≡ Ok w → AllByRecursion (IsPlainAt 2 ms) (codes "participant" ∷ codes "topic" ∷ policy_keys)
+writer_fields_plain : (ps : Listed Participant) (ts : Listed Topic) (path : List ℕ) (ms : Members) (w : Writer) → writer_fields ps ts path ms ≡ Ok w → IsPlainAt 2 ms (codes "name") → AllByRecursion (IsPlainAt 2 ms) endpoint_keys
 unfolding writer_fields
-writer_fields_plain ps ts path ms w e =
+writer_fields_plain ps ts path ms w e name =
     let p = bind_ok _ _ w e in
     let t = bind_ok _ _ w p.2 in
     let q = bind_ok (policies Reliable path ms) _ w t.2 in
     let names = bind_ok (partitions path ms) _ w q.2 in
-    (field_plain (known_name_plain _) path _ p.1, (field_plain (known_name_plain _) path _ t.1, policies_plain path ms Reliable q.0 names.0 q.1 names.1))
+    (name, (field_plain (known_name_plain _) path _ p.1, (field_plain (known_name_plain _) path _ t.1, policies_plain path ms Reliable q.0 names.0 q.1 names.1)))
 
 writer_plain : (ps : Listed Participant) (ts : Listed Topic) (before : Listed Writer) → ReadsPlain 3 (writer ps ts before)
-unfolding writer writer_entry
-writer_plain ps ts before = record {
-  plain = λ path d x e.
-      let ms = bind_ok (writer_entry path d) _ x e in
-      let name = bind_ok _ _ x ms.2 in
-      let w = bind_ok (writer_fields ps ts path ms.0) _ x name.2 in
-      entry_plain _ path d ms.0 ms.1 (field_plain (new_name_plain _) path _ name.1, writer_fields_plain ps ts path ms.0 w.0 w.1);
-}
+writer_plain ps ts before = one_more_plain endpoint_keys (λ _. consistent (λ w. w.qos.offered) (writer_fields ps ts)) before (λ path ms w e name. writer_fields_plain ps ts path ms w (consistent_is _ _ path ms w e).0 name)
 
 writers_plain : (ps : Listed Participant) (ts : Listed Topic) (ms : Members) (ws : Listed Writer) → writers ps ts ms ≡ Ok ws → IsPlainAt 4 ms (codes "writers")
 writers_plain ps ts ms ws e = section_plain 256 nothing (writer_plain ps ts) ws e
@@ -192,26 +195,19 @@ filter_key_plain keys before = record { plain = λ path d x e. let n = bind_ok (
 filter_plain : (keys : List (List ℕ)) → ReadsPlain 2 (filter keys)
 filter_plain keys = list_plain 64 [] (filter_key_plain keys)
 
-reader_fields_plain : (ps : Listed Participant) (ts : Listed Topic) (path : List ℕ) (ms : Members) (r : Reader) → reader_fields ps ts path ms ≡ Ok r
-    → AllByRecursion (IsPlainAt 2 ms) (codes "participant" ∷ codes "topic" ∷ codes "filter" ∷ policy_keys)
+reader_fields_plain : (ps : Listed Participant) (ts : Listed Topic) (path : List ℕ) (ms : Members) (r : Reader) → reader_fields ps ts path ms ≡ Ok r → IsPlainAt 2 ms (codes "name")
+    → AllByRecursion (IsPlainAt 2 ms) (codes "filter" ∷ endpoint_keys)
 unfolding reader_fields
-reader_fields_plain ps ts path ms r e =
+reader_fields_plain ps ts path ms r e name =
     let p = bind_ok _ _ r e in
     let t = bind_ok _ _ r p.2 in
     let keys = bind_ok _ _ r t.2 in
     let q = bind_ok (policies BestEffort path ms) _ r keys.2 in
     let names = bind_ok (partitions path ms) _ r q.2 in
-    (field_plain (known_name_plain _) path _ p.1, (field_plain (known_name_plain _) path _ t.1, (optional_plain (filter_plain _) _ path _ keys.1, policies_plain path ms BestEffort q.0 names.0 q.1 names.1)))
+    (optional_plain (filter_plain _) _ path _ keys.1, (name, (field_plain (known_name_plain _) path _ p.1, (field_plain (known_name_plain _) path _ t.1, policies_plain path ms BestEffort q.0 names.0 q.1 names.1))))
 
 reader_plain : (ps : Listed Participant) (ts : Listed Topic) (before : Listed Reader) → ReadsPlain 3 (reader ps ts before)
-unfolding reader reader_entry
-reader_plain ps ts before = record {
-  plain = λ path d x e.
-      let ms = bind_ok (reader_entry path d) _ x e in
-      let name = bind_ok _ _ x ms.2 in
-      let r = bind_ok (reader_fields ps ts path ms.0) _ x name.2 in
-      entry_plain _ path d ms.0 ms.1 (field_plain (new_name_plain _) path _ name.1, reader_fields_plain ps ts path ms.0 r.0 r.1);
-}
+reader_plain ps ts before = one_more_plain (codes "filter" ∷ endpoint_keys) (λ _. consistent (λ r. r.qos.requested) (reader_fields ps ts)) before (λ path ms r e name. reader_fields_plain ps ts path ms r (consistent_is _ _ path ms r e).0 name)
 
 readers_plain : (ps : Listed Participant) (ts : Listed Topic) (ms : Members) (rs : Listed Reader) → readers ps ts ms ≡ Ok rs → IsPlainAt 4 ms (codes "readers")
 readers_plain ps ts ms rs e = section_plain 256 nothing (reader_plain ps ts) rs e
@@ -228,24 +224,17 @@ own_writers_plain ws others p = list_plain 256 [] (own_plain _ _ _ others p)
 own_readers_plain : (rs : Listed Reader) (others : Listed Application) (p : ℕ) → ReadsPlain 2 (own_readers rs others p)
 own_readers_plain rs others p = list_plain 256 [] (own_plain _ _ _ others p)
 
+application_fields_plain : (ps : Listed Participant) (ws : Listed Writer) (rs : Listed Reader) (others : Listed Application) (path : List ℕ) (ms : Members) (a : Application) → application_fields ps ws rs others path ms ≡ Ok a
+    → IsPlainAt 2 ms (codes "participant") × IsPlainAt 2 ms (codes "writers") × IsPlainAt 2 ms (codes "readers")
+unfolding application_fields
+application_fields_plain ps ws rs others path ms a e =
+    let p = bind_ok _ _ a e in
+    let own_ws = bind_ok _ _ a p.2 in
+    let own_rs = bind_ok _ _ a own_ws.2 in
+    (field_plain (known_name_plain _) path _ p.1, optional_plain (own_writers_plain ws others p.0) _ path _ own_ws.1, optional_plain (own_readers_plain rs others p.0) _ path _ own_rs.1)
+
 application_plain : (ps : Listed Participant) (ws : Listed Writer) (rs : Listed Reader) (before : Listed Application) → ReadsPlain 3 (application ps ws rs before)
-unfolding application application_entry application_fields
-application_plain ps ws rs before = record {
-  plain = λ path d x e.
-      let ms = bind_ok (application_entry path d) _ x e in
-      let name = bind_ok _ _ x ms.2 in
-      let a = bind_ok (application_fields ps ws rs before path ms.0) _ x name.2 in
-      let p = bind_ok _ _ a.0 a.1 in
-      let own_ws = bind_ok _ _ a.0 p.2 in
-      let own_rs = bind_ok _ _ a.0 own_ws.2 in
-      entry_plain _ path d ms.0 ms.1 (
-        field_plain (new_name_plain _) path _ name.1,
-        (
-          field_plain (known_name_plain _) path _ p.1,
-          (optional_plain (own_writers_plain ws before p.0) _ path _ own_ws.1, (optional_plain (own_readers_plain rs before p.0) _ path _ own_rs.1, tt)),
-        ),
-      );
-}
+application_plain ps ws rs before = one_more_plain application_keys (application_fields ps ws rs) before (λ path ms a e name. let f = application_fields_plain ps ws rs before path ms a e in (name, (f.0, (f.1, (f.2, tt)))))
 
 applications_plain : (ps : Listed Participant) (ws : Listed Writer) (rs : Listed Reader) (ms : Members) (apps : Listed Application) → applications ps ws rs ms ≡ Ok apps → IsPlainAt 4 ms (codes "applications")
 unfolding applications

@@ -7,6 +7,7 @@ use Rattle.dds_base.proofs.Bools.{is_not}
 use Rattle.dds_base.specs.Names.{number_of, is_between}
 use Rattle.dds_base.specs.declared.portion.Portion.{Portion}
 use Rattle.dds_qos.specs.Consistency.{consistency_fault}
+use Rattle.dds_qos.specs.declared.policies.Policies.{Policies}
 use Rattle.toml.specs.Data.{Data, Items, Members, as_integer}
 use Rattle.dds_fields.specs.declared.fault.FaultKind.TheVariants.{OutOfRange, WrongKind, Duplicate, Qos, RuleEntry, EndpointOwner, TooMany}
 use Rattle.dds_fields.specs.Reading.{Read, unless, or_fault, natural, count, field, a_name, a_text, a_number, a_new_name, a_known_name, an_array_of, a_list_of, a_section, each, entry, section}
@@ -16,11 +17,13 @@ use Rattle.dds_fields.specs.Paths.{key_path}
 use Rattle.dds_fields.proofs.Laws.{bind_ok, ok_is, field_is, found_is, known_within}
 use Rattle.dds_deploy.specs.declared.lists.Origin.{Origin}
 use Rattle.dds_deploy.specs.Lists.{Participant, Topic, Writer, Reader, Application, Rule, Rules, and_rules, has}
-use Rattle.dds_deploy_file.specs.Participants.{participant, participant_entry}
-use Rattle.dds_deploy_file.specs.Topics.{key, keys, topic, topic_entry}
-use Rattle.dds_deploy_file.specs.Writers.{writer, writer_fields, writer_entry}
-use Rattle.dds_deploy_file.specs.Readers.{reader, reader_fields, reader_entry, filter_key}
-use Rattle.dds_deploy_file.specs.Applications.{own, may_own, application, application_entry, application_fields}
+use Rattle.dds_deploy_file.specs.Participants.{participant_fields}
+use Rattle.dds_deploy_file.specs.Topics.{key, keys, topic_fields}
+use Rattle.dds_deploy_file.specs.Writers.{writer_fields}
+use Rattle.dds_deploy_file.specs.Readers.{reader_fields, filter_key}
+use Rattle.dds_deploy_file.specs.Policies.{consistent}
+use Rattle.dds_deploy_file.specs.Entries.{one_more}
+use Rattle.dds_deploy_file.specs.Applications.{own, may_own, application_fields}
 use Rattle.dds_deploy_file.specs.Each.{may_share, share}
 use Rattle.dds_deploy_file.specs.Rules.{is_named, rule, rule_entry, rule_fields, free_key, portion}
 use Rattle.dds_deploy_file.specs.Connections.{connection, connection_entry}
@@ -187,66 +190,57 @@ connection_pushes ws rs s t path item e =
 
 -- entries, with the fields that they were read from
 
-abbrev pub IsParticipantRead : Listed Participant → Participant → Type 0
-IsParticipantRead before p = p.domain ≤ 2147483647
+-- read from these fields, after the entries before it
+abbrev pub IsReadFrom : {X : Type 0} → (Listed X → List ℕ → Members → Read X) → Listed X → X → Type 0
+IsReadFrom fields before x = (path : List ℕ) × (ms : Members) × (fields before path ms ≡ Ok x)
 
-pub participant_adds : (s t : Listed Participant) (path : List ℕ) (item : Data) → participant s path item ≡ Ok t → Adds IsParticipantRead s t
-unfolding participant
-participant_adds s t path item e =
-    let a = bind_ok (participant_entry path item) _ t e in
+pub entry_adds : {X : Type 0} (keys : List (List ℕ)) (fields : Listed X → List ℕ → Members → Read X) (s t : Listed X) (path : List ℕ) (item : Data) → one_more keys fields s path item ≡ Ok t → Adds (IsReadFrom fields) s t
+unfolding one_more
+entry_adds keys fields s t path item e =
+    let a = bind_ok (entry keys path item) _ t e in
     let b = bind_ok (field (codes "name") (a_new_name s.names) path a.0) _ t a.2 in
-    let c = bind_ok (field (codes "domain") (a_number 0 2147483647) path a.0) _ t b.2 in
-    let f = field_is (codes "domain") (a_number 0 2147483647) path a.0 c.0 c.1 in
-    record { name = b.0; entry = record { domain = c.0 }; new = new_name_field s.names path a.0 b.0 b.1; added = sym (ok_is (and_entry s b.0 (record { domain = c.0 })) t c.2); holds = (number_between 0 2147483647 (key_path path (codes "domain")) f.0 c.0 f.1).1 }
+    let c = bind_ok (fields s path a.0) _ t b.2 in
+    record { name = b.0; entry = c.0; new = new_name_field s.names path a.0 b.0 b.1; added = sym (ok_is (and_entry s b.0 c.0) t c.2); holds = (path, a.0, c.1) }
+
+abbrev pub IsParticipantRead : Listed Participant → Participant → Type 0
+IsParticipantRead = IsReadFrom (λ _. participant_fields)
+
+pub top_domain : (before : Listed Participant) (p : Participant) → IsParticipantRead before p → p.domain ≤ 2147483647
+unfolding participant_fields
+top_domain before p read =
+    let a = bind_ok (field (codes "domain") (a_number 0 2147483647) read.0 read.1) _ p read.2 in
+    let f = field_is (codes "domain") (a_number 0 2147483647) read.0 read.1 a.0 a.1 in
+    subst (λ (x : Participant). x.domain ≤ 2147483647) (ok_is (record { domain = a.0 }) p a.2) (number_between 0 2147483647 (key_path read.0 (codes "domain")) f.0 a.0 f.1).1
 
 abbrev pub IsTopicRead : Listed Topic → Topic → Type 0
-IsTopicRead before x = (path : List ℕ) × (item : Data) × (keys path item ≡ Ok x.keys)
+IsTopicRead = IsReadFrom (λ _. topic_fields)
 
-pub topic_adds : (s t : Listed Topic) (path : List ℕ) (item : Data) → topic s path item ≡ Ok t → Adds IsTopicRead s t
-unfolding topic
-topic_adds s t path item e =
-    let a = bind_ok (topic_entry path item) _ t e in
-    let b = bind_ok (field (codes "name") (a_new_name s.names) path a.0) _ t a.2 in
-    let c = bind_ok (field (codes "type") a_name path a.0) _ t b.2 in
-    let k = bind_ok (field (codes "keys") keys path a.0) _ t c.2 in
+-- the list that the keys of a topic were read from
+pub keys_are : (before : Listed Topic) (x : Topic) → IsTopicRead before x → (path : List ℕ) × (item : Data) × (keys path item ≡ Ok x.keys)
+unfolding topic_fields
+keys_are before x read =
+    let c = bind_ok (field (codes "type") a_name read.0 read.1) _ x read.2 in
+    let k = bind_ok (field (codes "keys") keys read.0 read.1) _ x c.2 in
     let made : Topic = record { type_name = c.0; keys = k.0 } in
-    let f = field_is (codes "keys") keys path a.0 k.0 k.1 in
-    record { name = b.0; entry = made; new = new_name_field s.names path a.0 b.0 b.1; added = sym (ok_is (and_entry s b.0 made) t k.2); holds = (key_path path (codes "keys"), f.0, f.1) }
+    let f = field_is (codes "keys") keys read.0 read.1 k.0 k.1 in
+    (key_path read.0 (codes "keys"), f.0, subst (λ (y : Topic). keys (key_path read.0 (codes "keys")) f.0 ≡ Ok y.keys) (ok_is made x k.2) f.1)
+
+-- the fields were read, and the policies are consistent
+pub consistent_is : {X : Type 0} (policies_of : X → Policies) (fields : List ℕ → Members → Read X) (path : List ℕ) (ms : Members) (x : X) → consistent policies_of fields path ms ≡ Ok x → (fields path ms ≡ Ok x) × (is_none (consistency_fault (policies_of x)) ≡ true)
+unfolding consistent
+consistent_is {X} policies_of fields path ms x e =
+    let a = bind_ok (fields path ms) _ x e in
+    let p = passed Qos path (is_none (consistency_fault (policies_of a.0))) a.0 x a.2 in
+    subst (λ (y : X). (fields path ms ≡ Ok y) × (is_none (consistency_fault (policies_of y)) ≡ true)) p.1 (a.1, p.0)
 
 abbrev pub IsWriterRead : Listed Participant → Listed Topic → Listed Writer → Writer → Type 0
-IsWriterRead ps ts before w = (path : List ℕ) × (ms : Members) × (writer_fields ps ts path ms ≡ Ok w) × (is_none (consistency_fault w.qos.offered) ≡ true)
-
-pub writer_adds : (ps : Listed Participant) (ts : Listed Topic) (s t : Listed Writer) (path : List ℕ) (item : Data) → writer ps ts s path item ≡ Ok t → Adds (IsWriterRead ps ts) s t
-unfolding writer
-writer_adds ps ts s t path item e =
-    let a = bind_ok (writer_entry path item) _ t e in
-    let b = bind_ok (field (codes "name") (a_new_name s.names) path a.0) _ t a.2 in
-    let c = bind_ok (writer_fields ps ts path a.0) _ t b.2 in
-    let p = passed Qos path (is_none (consistency_fault c.0.qos.offered)) (and_entry s b.0 c.0) t c.2 in
-    record { name = b.0; entry = c.0; new = new_name_field s.names path a.0 b.0 b.1; added = sym p.1; holds = (path, a.0, c.1, p.0) }
+IsWriterRead ps ts = IsReadFrom (λ _. consistent (λ w. w.qos.offered) (writer_fields ps ts))
 
 abbrev pub IsReaderRead : Listed Participant → Listed Topic → Listed Reader → Reader → Type 0
-IsReaderRead ps ts before r = (path : List ℕ) × (ms : Members) × (reader_fields ps ts path ms ≡ Ok r) × (is_none (consistency_fault r.qos.requested) ≡ true)
-
-pub reader_adds : (ps : Listed Participant) (ts : Listed Topic) (s t : Listed Reader) (path : List ℕ) (item : Data) → reader ps ts s path item ≡ Ok t → Adds (IsReaderRead ps ts) s t
-unfolding reader
-reader_adds ps ts s t path item e =
-    let a = bind_ok (reader_entry path item) _ t e in
-    let b = bind_ok (field (codes "name") (a_new_name s.names) path a.0) _ t a.2 in
-    let c = bind_ok (reader_fields ps ts path a.0) _ t b.2 in
-    let p = passed Qos path (is_none (consistency_fault c.0.qos.requested)) (and_entry s b.0 c.0) t c.2 in
-    record { name = b.0; entry = c.0; new = new_name_field s.names path a.0 b.0 b.1; added = sym p.1; holds = (path, a.0, c.1, p.0) }
+IsReaderRead ps ts = IsReadFrom (λ _. consistent (λ r. r.qos.requested) (reader_fields ps ts))
 
 abbrev pub IsApplicationRead : Listed Participant → Listed Writer → Listed Reader → Listed Application → Application → Type 0
-IsApplicationRead ps ws rs before a = (path : List ℕ) × (ms : Members) × (application_fields ps ws rs before path ms ≡ Ok a)
-
-pub application_adds : (ps : Listed Participant) (ws : Listed Writer) (rs : Listed Reader) (s t : Listed Application) (path : List ℕ) (item : Data) → application ps ws rs s path item ≡ Ok t → Adds (IsApplicationRead ps ws rs) s t
-unfolding application
-application_adds ps ws rs s t path item e =
-    let a = bind_ok (application_entry path item) _ t e in
-    let b = bind_ok (field (codes "name") (a_new_name s.names) path a.0) _ t a.2 in
-    let c = bind_ok (application_fields ps ws rs s path a.0) _ t b.2 in
-    record { name = b.0; entry = c.0; new = new_name_field s.names path a.0 b.0 b.1; added = sym (ok_is (and_entry s b.0 c.0) t c.2); holds = (path, a.0, c.1) }
+IsApplicationRead ps ws rs = IsReadFrom (application_fields ps ws rs)
 
 abbrev pub IsEntryRead : Listed Topic → Listed Writer → Listed Reader → Listed Application → ℕ → List Origin × List Rule → Type 0
 IsEntryRead ts ws rs apps name more = (path : List ℕ) × (ms : Members) × (rule_fields ts ws rs apps name path ms ≡ Ok more)

@@ -3,10 +3,11 @@ use Rattle.std.specs.Prelude.{codes, ℕ, Bool, List, [], ◌∷◌, ◌++◌, O
 use Rattle.std.specs.List.{list_any, range_with_len, find}
 use Rattle.toml.specs.Data.{Data, Members}
 use Rattle.dds_fields.specs.declared.fault.FaultKind.TheVariants.{EndpointOwner}
-use Rattle.dds_fields.specs.Reading.{◌>>=◌, Read, unless, nothing_or, a_new_name, a_known_name, field, optional, count, entry, a_list_of, a_section}
-use Rattle.dds_base.specs.Section.{Listed, nothing, and_entry}
+use Rattle.dds_fields.specs.Reading.{◌>>=◌, Read, unless, nothing_or, a_known_name, field, optional, count, a_list_of, a_section}
+use Rattle.dds_base.specs.Section.{Listed, nothing}
 use Rattle.dds_fields.specs.Paths.{index_path}
 use Rattle.dds_deploy.specs.Lists.{Participant, Writer, Reader, Application, has}
+use Rattle.dds_deploy_file.specs.Entries.{one_more}
 
 -- one more endpoint of an application: it is at the participant p, and neither these applications nor this list have it already
 abbrev pub may_own : (Application → List ℕ) → (ℕ → ℕ) → Listed Application → ℕ → List ℕ → ℕ → Bool
@@ -32,8 +33,8 @@ own_writers ws others p = a_list_of 256 (own ws.names (λ a. a.writers) (writer_
 abbrev pub own_readers : Listed Reader → Listed Application → ℕ → List ℕ → Data → Read (List ℕ)
 own_readers rs others p = a_list_of 256 (own rs.names (λ a. a.readers) (reader_participant rs) others p) []
 
-unfoldable pub application_entry : List ℕ → Data → Read Members
-application_entry path d = entry (codes "name" ∷ codes "participant" ∷ codes "writers" ∷ codes "readers" ∷ []) path d
+abbrev pub application_keys : List (List ℕ)
+application_keys = codes "name" ∷ codes "participant" ∷ codes "writers" ∷ codes "readers" ∷ []
 
 unfoldable pub application_fields : Listed Participant → Listed Writer → Listed Reader → Listed Application → List ℕ → Members → Read Application
 application_fields ps ws rs others path ms = do
@@ -43,12 +44,8 @@ application_fields ps ws rs others path ms = do
   Ok (record { participant = p; writers = own_ws; readers = own_rs })
 
 -- one more application
-unfoldable pub application : Listed Participant → Listed Writer → Listed Reader → Listed Application → List ℕ → Data → Read (Listed Application)
-application ps ws rs before path d = do
-  ms ← application_entry path d
-  name ← field (codes "name") (a_new_name before.names) path ms
-  a ← application_fields ps ws rs before path ms
-  Ok (and_entry before name a)
+abbrev pub application : Listed Participant → Listed Writer → Listed Reader → Listed Application → List ℕ → Data → Read (Listed Application)
+application ps ws rs = one_more application_keys (application_fields ps ws rs)
 
 abbrev pub application_list : Listed Participant → Listed Writer → Listed Reader → Members → Read (Listed Application)
 application_list ps ws rs = a_section (codes "applications") 64 (application ps ws rs) nothing

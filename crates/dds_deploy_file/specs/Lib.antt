@@ -11,3 +11,4 @@ pub mod Connections
 pub mod Document
 pub mod Policies
 pub mod Migration
+pub mod Entries

@@ -1,11 +1,12 @@
 -- The policy fields of an endpoint, in the order in which they are read.
-use Rattle.std.specs.Prelude.{codes, ℕ, Bool, false, List, [], ◌∷◌, ◌++◌, length, nat_le, ◌&&◌, ◌||◌, ◌==◌, Option, Some, None, Ok}
+use Rattle.std.specs.Prelude.{codes, ℕ, Bool, false, List, [], ◌∷◌, ◌++◌, length, nat_le, ◌&&◌, ◌||◌, ◌==◌, Option, Some, None, Ok, is_none}
 use Rattle.std.specs.List.{list_all}
 use Rattle.toml.specs.Data.{Data, Members}
 use Rattle.dds_base.specs.Names.{is_name_byte}
-use Rattle.dds_fields.specs.declared.fault.FaultKind.TheVariants.{BadName}
+use Rattle.dds_fields.specs.declared.fault.FaultKind.TheVariants.{BadName, Qos}
 use Rattle.dds_fields.specs.Reading.{Read, ◌>>=◌, unless, optional, a_text, a_number, a_list_of}
 use Rattle.dds_fields.specs.Words.{a_word, a_flag, a_duration, a_limit}
+use Rattle.dds_qos.specs.Consistency.{consistency_fault}
 use Rattle.dds_qos.specs.declared.policies.Durability.{Durability}
 use Rattle.dds_qos.specs.declared.policies.Durability.TheVariants.{Volatile, TransientLocal, Transient, Persistent}
 use Rattle.dds_qos.specs.declared.policies.AccessScope.{AccessScope}
@@ -177,3 +178,13 @@ policy_keys =
     codes "durability" ∷ codes "access_scope" ∷ codes "coherent" ∷ codes "ordered" ∷ codes "deadline" ∷ codes "latency_budget" ∷ codes "ownership"
     ∷ codes "liveliness" ∷ codes "lease" ∷ codes "reliability" ∷ codes "destination_order" ∷ codes "history" ∷ codes "depth" ∷ codes "max_samples"
     ∷ codes "max_instances" ∷ codes "max_samples_per_instance" ∷ codes "partitions" ∷ []
+
+-- the keys of a writer. A reader has `filter` too
+abbrev pub endpoint_keys : List (List ℕ)
+endpoint_keys = codes "name" ∷ codes "participant" ∷ codes "topic" ∷ policy_keys
+
+-- the fields of an endpoint, whose policies have to be consistent
+unfoldable pub consistent : {X : Type 0} → (X → Policies) → (List ℕ → Members → Read X) → List ℕ → Members → Read X
+consistent policies_of fields path ms = do
+  x ← fields path ms
+  unless Qos path (is_none (consistency_fault (policies_of x))) x

@@ -1,14 +1,14 @@
 -- The section of the readers.
-use Rattle.std.specs.Prelude.{codes, ℕ, List, [], ◌∷◌, ◌++◌, Ok, not, ◌==◌, is_none}
+use Rattle.std.specs.Prelude.{codes, ℕ, List, [], ◌∷◌, ◌++◌, Ok, not, ◌==◌}
 use Rattle.std.specs.List.{list_any}
 use Rattle.toml.specs.Data.{Data, Members}
 use Rattle.dds_qos.specs.declared.policies.Reliability.TheVariants.{BestEffort}
-use Rattle.dds_qos.specs.Consistency.{consistency_fault}
-use Rattle.dds_fields.specs.declared.fault.FaultKind.TheVariants.{Duplicate, Qos}
-use Rattle.dds_fields.specs.Reading.{◌>>=◌, Read, unless, a_new_name, a_known_name, field, optional, entry, a_list_of, a_section}
-use Rattle.dds_base.specs.Section.{Listed, nothing, and_entry}
+use Rattle.dds_fields.specs.declared.fault.FaultKind.TheVariants.{Duplicate}
+use Rattle.dds_fields.specs.Reading.{◌>>=◌, Read, unless, a_known_name, field, optional, a_list_of, a_section}
+use Rattle.dds_base.specs.Section.{Listed, nothing}
 use Rattle.dds_deploy.specs.Lists.{Participant, Topic, Reader, keys_at, all_keys}
-use Rattle.dds_deploy_file.specs.Policies.{policies, partitions, policy_keys}
+use Rattle.dds_deploy_file.specs.Policies.{policies, partitions, endpoint_keys, consistent}
+use Rattle.dds_deploy_file.specs.Entries.{one_more}
 
 -- one more key of a filter
 unfoldable pub filter_key : List (List ℕ) → List ℕ → List ℕ → Data → Read (List ℕ)
@@ -28,16 +28,9 @@ reader_fields ps ts path ms = do
   names ← partitions path ms
   Ok (record { participant = p; topic = t; filter = keys; qos = record { requested = q }; partitions = names })
 
-unfoldable pub reader_entry : List ℕ → Data → Read Members
-reader_entry path d = entry (codes "name" ∷ codes "participant" ∷ codes "topic" ∷ codes "filter" ∷ policy_keys) path d
-
--- one more reader, which has to be consistent
-unfoldable pub reader : Listed Participant → Listed Topic → Listed Reader → List ℕ → Data → Read (Listed Reader)
-reader ps ts before path d = do
-  ms ← reader_entry path d
-  name ← field (codes "name") (a_new_name before.names) path ms
-  r ← reader_fields ps ts path ms
-  unless Qos path (is_none (consistency_fault r.qos.requested)) (and_entry before name r)
+-- one more reader
+abbrev pub reader : Listed Participant → Listed Topic → Listed Reader → List ℕ → Data → Read (Listed Reader)
+reader ps ts = one_more (codes "filter" ∷ endpoint_keys) (λ _. consistent (λ r. r.qos.requested) (reader_fields ps ts))
 
 abbrev pub readers : Listed Participant → Listed Topic → Members → Read (Listed Reader)
 readers ps ts = a_section (codes "readers") 256 (reader ps ts) nothing

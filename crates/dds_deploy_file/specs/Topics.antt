@@ -2,9 +2,10 @@
 use Rattle.std.specs.Prelude.{codes, ℕ, List, [], ◌∷◌, ◌++◌, Ok, nat_le}
 use Rattle.toml.specs.Data.{Data, Members}
 use Rattle.dds_fields.specs.declared.fault.FaultKind.TheVariants.{OutOfRange}
-use Rattle.dds_fields.specs.Reading.{◌>>=◌, Read, unless, a_name, a_new_name, field, each, count, entry, an_array_of, a_section}
-use Rattle.dds_base.specs.Section.{Listed, nothing, and_entry}
+use Rattle.dds_fields.specs.Reading.{◌>>=◌, Read, unless, a_name, a_new_name, field, each, count, an_array_of, a_section}
+use Rattle.dds_base.specs.Section.{Listed, nothing}
 use Rattle.dds_deploy.specs.Lists.{Topic}
+use Rattle.dds_deploy_file.specs.Entries.{one_more}
 
 -- one more key of a topic
 unfoldable pub key : List (List ℕ) → List ℕ → Data → Read (List (List ℕ))
@@ -19,17 +20,18 @@ keys path d = do
   some ← unless OutOfRange path (nat_le 1 (count ds)) ds
   each key path 0 [] some
 
-unfoldable pub topic_entry : List ℕ → Data → Read Members
-topic_entry path d = entry (codes "name" ∷ codes "type" ∷ codes "keys" ∷ []) path d
+abbrev pub topic_keys : List (List ℕ)
+topic_keys = codes "name" ∷ codes "type" ∷ codes "keys" ∷ []
 
--- one more topic
-unfoldable pub topic : Listed Topic → List ℕ → Data → Read (Listed Topic)
-topic before path d = do
-  ms ← topic_entry path d
-  name ← field (codes "name") (a_new_name before.names) path ms
+unfoldable pub topic_fields : List ℕ → Members → Read Topic
+topic_fields path ms = do
   type_name ← field (codes "type") a_name path ms
   keys ← field (codes "keys") keys path ms
-  Ok (and_entry before name (record { type_name = type_name; keys = keys }))
+  Ok (record { type_name = type_name; keys = keys })
+
+-- one more topic
+abbrev pub topic : Listed Topic → List ℕ → Data → Read (Listed Topic)
+topic = one_more topic_keys (λ _. topic_fields)
 
 abbrev pub topics : Members → Read (Listed Topic)
 topics = a_section (codes "topics") 256 topic nothing

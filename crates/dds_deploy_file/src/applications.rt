@@ -4,18 +4,19 @@ ghost use Rattle.std.specs.Prelude.{◌≡◌, ◌<◌, List, ℕ, [], length, o
 ghost use Rattle.std.specs.List.{list_any};
 ghost use Rattle.toml.specs.View.{view, table_view};
 ghost use Rattle.dds_fields.specs.Gives.{Gives};
-ghost use Rattle.dds_base.specs.Section.{Listed, listed};
+ghost use Rattle.dds_base.specs.Section.{listed};
 ghost use Rattle.dds_fields.specs.Places.{place_text};
 ghost use Rattle.dds_deploy.specs.Lists.{Application as ApplicationView, has};
-ghost use Rattle.dds_deploy_file.specs.Applications.{may_own, own, application_entry, application_fields, application, application_list, without_owner, are_owned, applications};
+ghost use Rattle.dds_deploy_file.specs.Applications.{may_own, own, application_keys, application_fields, application_list, without_owner, are_owned, applications};
 ghost use Rattle.dds_deploy.specs.Views.{participant_view, writer_view, reader_view, application_view};
 
 use crate::endpoints::Endpoints;
+use crate::entries::{Entries, section};
 use dds_base::{ParticipantNo, Section};
 use dds_deploy::{Application, Participant, Reader, Writer};
 use dds_fields::fault::{FaultKind, ReadFault, refuse};
-use dds_fields::field::{entry, known_name_field, known_name_of, new_name_field};
-use dds_fields::items::{Items, optional_list, section_of};
+use dds_fields::field::{entry, known_name_field, known_name_of};
+use dds_fields::items::{Items, optional_list};
 use dds_fields::place::Place;
 use std::alloc::Global;
 use toml::{Table, Value};
@@ -122,22 +123,6 @@ fn application_fields(
     })
 }
 
-#[tactic(auto, unfolding(crate::specs::Applications::application_entry))]
-fn application_entry<'a>(
-    alloc: Global,
-    path: &Place,
-    value: &'a Value,
-) -> Result<&'a Table, ReadFault>
-    ensures { Gives (λ t. table_view t.now) result (application_entry (place_text path.now) (view value.now)) }
-{
-    entry(
-        alloc,
-        &["name", "participant", "writers", "readers"],
-        path,
-        value,
-    )
-}
-
 // What reads the applications of a file.
 #[derive(Clone, Copy)]
 struct ApplicationEntries<'a> {
@@ -146,36 +131,44 @@ struct ApplicationEntries<'a> {
     readers: &'a Section<Reader>,
 }
 
-impl Items for ApplicationEntries<'_> {
-    type Read = Section<Application>;
+impl Entries for ApplicationEntries<'_> {
+    type Entry = Application;
 
-    ghost State = { Listed ApplicationView };
+    ghost View = { ApplicationView };
 
-    ghost state = { λ all. listed application_view all };
+    ghost view = { application_view };
 
-    ghost step = { λ it. application (listed participant_view it.participants.now) (listed writer_view it.writers.now) (listed reader_view it.readers.now) };
+    ghost keys = { application_keys };
 
-    #[tactic(auto, unfolding(crate::specs::Applications::application))]
-    fn add(
+    ghost fields = { λ it. application_fields (listed participant_view it.participants.now) (listed writer_view it.writers.now) (listed reader_view it.readers.now) };
+
+    fn table<'a>(
         &self,
         alloc: Global,
-        all: &mut Section<Application>,
         path: &Place,
-        value: &Value,
-    ) -> Result<(), ReadFault> {
-        let table = application_entry(alloc, path, value)?;
-        let name = new_name_field(alloc, &all.names, path, table, "name")?;
-        let application = application_fields(
+        value: &'a Value,
+    ) -> Result<&'a Table, ReadFault> {
+        let keys = ["name", "participant", "writers", "readers"];
+        entry(alloc, &keys, path, value)
+    }
+
+    fn fields(
+        &self,
+        alloc: Global,
+        before: &Section<Application>,
+        path: &Place,
+        table: &Table,
+    ) -> Result<Application, ReadFault> {
+        let (writers, readers) = (self.writers, self.readers);
+        application_fields(
             alloc,
             self.participants,
-            self.writers,
-            self.readers,
-            all,
+            writers,
+            readers,
+            before,
             path,
             table,
-        )?;
-        all.push(alloc, name, application)?;
-        Ok(())
+        )
     }
 }
 
@@ -193,14 +186,7 @@ fn application_list(
         writers,
         readers,
     };
-    section_of(
-        alloc,
-        64,
-        &entries,
-        Section::new(alloc),
-        table,
-        "applications",
-    )
+    section(alloc, 64, &entries, table, "applications")
 }
 
 #[tactic(auto, using(dds_base::proofs::Ranges::range_none))]

@@ -7,6 +7,7 @@ mod connections;
 pub mod document;
 mod each;
 mod endpoints;
+mod entries;
 mod expansion;
 mod known;
 mod migration;

@@ -1,59 +1,56 @@
 //! The section `participants`: their names, and the domain of each.
 ghost use Rattle.std.specs.Prelude.{◌≡◌};
-ghost use Rattle.toml.specs.View.{view, table_view};
+ghost use Rattle.toml.specs.View.{table_view};
 ghost use Rattle.dds_fields.specs.Gives.{Gives};
-ghost use Rattle.dds_base.specs.Section.{Listed, listed};
+ghost use Rattle.dds_base.specs.Section.{listed};
 ghost use Rattle.dds_fields.specs.Places.{place_text};
 ghost use Rattle.dds_deploy.specs.Lists.{Participant as ParticipantView};
-ghost use Rattle.dds_deploy_file.specs.Participants.{participant_entry, participant, participants};
+ghost use Rattle.dds_deploy_file.specs.Participants.{participant_keys, participant_fields, participants};
 ghost use Rattle.dds_deploy.specs.Views.{participant_view};
 
+use crate::entries::{Entries, section};
 use dds_base::Section;
 use dds_deploy::Participant;
 use dds_fields::fault::ReadFault;
-use dds_fields::field::{entry, new_name_field, number_field};
-use dds_fields::items::{Items, section_of};
+use dds_fields::field::{entry, number_field};
 use dds_fields::place::Place;
 use std::alloc::Global;
 use toml::{Table, Value};
-
-#[tactic(auto, unfolding(crate::specs::Participants::participant_entry))]
-fn participant_entry<'a>(
-    alloc: Global,
-    path: &Place,
-    value: &'a Value,
-) -> Result<&'a Table, ReadFault>
-    ensures { Gives (λ t. table_view t.now) result (participant_entry (place_text path.now) (view value.now)) }
-{
-    entry(alloc, &["name", "domain"], path, value)
-}
 
 // What reads the participants of a file.
 #[derive(Clone, Copy)]
 struct ParticipantEntries;
 
-impl Items for ParticipantEntries {
-    type Read = Section<Participant>;
+impl Entries for ParticipantEntries {
+    type Entry = Participant;
 
-    ghost State = { Listed ParticipantView };
+    ghost View = { ParticipantView };
 
-    ghost state = { λ all. listed participant_view all };
+    ghost view = { participant_view };
 
-    ghost step = { λ _. participant };
+    ghost keys = { participant_keys };
 
-    #[tactic(auto, unfolding(crate::specs::Participants::participant))]
-    fn add(
+    ghost fields = { λ _ _. participant_fields };
+
+    fn table<'a>(
         &self,
         alloc: Global,
-        all: &mut Section<Participant>,
         path: &Place,
-        value: &Value,
-    ) -> Result<(), ReadFault> {
-        let table = participant_entry(alloc, path, value)?;
-        let name = new_name_field(alloc, &all.names, path, table, "name")?;
+        value: &'a Value,
+    ) -> Result<&'a Table, ReadFault> {
+        entry(alloc, &["name", "domain"], path, value)
+    }
+
+    #[tactic(auto, unfolding(crate::specs::Participants::participant_fields))]
+    fn fields(
+        &self,
+        alloc: Global,
+        _before: &Section<Participant>,
+        path: &Place,
+        table: &Table,
+    ) -> Result<Participant, ReadFault> {
         let domain = number_field(alloc, 0, 2_147_483_647, path, table, "domain")?;
-        all.push(alloc, name, Participant { domain })?;
-        Ok(())
+        Ok(Participant { domain })
     }
 }
 
@@ -61,6 +58,5 @@ impl Items for ParticipantEntries {
 pub(crate) fn participants(alloc: Global, table: &Table) -> Result<Section<Participant>, ReadFault>
     ensures { Gives (listed participant_view) result (participants (table_view table.now)) }
 {
-    let none = Section::new(alloc);
-    section_of(alloc, 64, &ParticipantEntries, none, table, "participants")
+    section(alloc, 64, &ParticipantEntries, table, "participants")
 }

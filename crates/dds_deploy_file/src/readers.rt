@@ -1,20 +1,22 @@
 //! The section `readers`: their names, participants, topics, filters and policies.
-ghost use Rattle.std.specs.Prelude.{◌≡◌, ◌<◌, List, ℕ, length, IfOk};
-ghost use Rattle.toml.specs.View.{view, table_view};
+ghost use Rattle.std.specs.Prelude.{codes, ◌≡◌, ◌<◌, ◌∷◌, List, ℕ, length, IfOk};
+ghost use Rattle.toml.specs.View.{table_view};
 ghost use Rattle.dds_fields.specs.Gives.{Gives};
-ghost use Rattle.dds_base.specs.Section.{Listed, listed};
+ghost use Rattle.dds_base.specs.Section.{listed};
 ghost use Rattle.dds_fields.specs.Places.{place_text};
 ghost use Rattle.dds_fields.specs.Reading.{optional};
 ghost use Rattle.dds_deploy.specs.Lists.{Reader as ReaderView, keys_at, has, all_keys};
-ghost use Rattle.dds_deploy_file.specs.Readers.{filter_key, filter, reader_fields, reader_entry, reader, readers};
+ghost use Rattle.dds_deploy_file.specs.Policies.{endpoint_keys, consistent};
+ghost use Rattle.dds_deploy_file.specs.Readers.{filter_key, filter, reader_fields, readers};
 ghost use Rattle.dds_deploy.specs.Views.{participant_view, topic_view, reader_view};
 
-use crate::policies::{partitions, policies};
+use crate::entries::{Entries, section};
+use crate::policies::{endpoint_table, partitions, policies};
 use dds_base::{KeyNo, Names, NoMemory, ParticipantNo, Section, TopicNo};
 use dds_deploy::{Participant, Reader, Topic};
 use dds_fields::fault::{FaultKind, ReadFault, refuse};
-use dds_fields::field::{entry, known_name_field, known_name_of, new_name_field, value_at};
-use dds_fields::items::{Items, list_of, section_of};
+use dds_fields::field::{known_name_field, known_name_of, value_at};
+use dds_fields::items::{Items, list_of};
 use dds_fields::place::Place;
 use dds_qos::{ReaderQos, Reliability, consistent_reader};
 use std::alloc::Global;
@@ -126,36 +128,6 @@ fn reader_fields(
     })
 }
 
-#[tactic(auto, unfolding(crate::specs::Readers::reader_entry))]
-fn reader_entry<'a>(alloc: Global, path: &Place, value: &'a Value) -> Result<&'a Table, ReadFault>
-    ensures { Gives (λ t. table_view t.now) result (reader_entry (place_text path.now) (view value.now)) }
-{
-    let keys = [
-        "name",
-        "participant",
-        "topic",
-        "filter",
-        "durability",
-        "access_scope",
-        "coherent",
-        "ordered",
-        "deadline",
-        "latency_budget",
-        "ownership",
-        "liveliness",
-        "lease",
-        "reliability",
-        "destination_order",
-        "history",
-        "depth",
-        "max_samples",
-        "max_instances",
-        "max_samples_per_instance",
-        "partitions",
-    ];
-    entry(alloc, &keys, path, value)
-}
-
 // What reads the readers of a file.
 #[derive(Clone, Copy)]
 struct ReaderEntries<'a> {
@@ -163,31 +135,39 @@ struct ReaderEntries<'a> {
     topics: &'a Section<Topic>,
 }
 
-impl Items for ReaderEntries<'_> {
-    type Read = Section<Reader>;
+impl Entries for ReaderEntries<'_> {
+    type Entry = Reader;
 
-    ghost State = { Listed ReaderView };
+    ghost View = { ReaderView };
 
-    ghost state = { λ all. listed reader_view all };
+    ghost view = { reader_view };
 
-    ghost step = { λ it. reader (listed participant_view it.participants.now) (listed topic_view it.topics.now) };
+    ghost keys = { codes "filter" ∷ endpoint_keys };
 
-    #[tactic(auto, unfolding(crate::specs::Readers::reader))]
-    fn add(
+    ghost fields = { λ it _. consistent (λ x. x.qos.requested) (reader_fields (listed participant_view it.participants.now) (listed topic_view it.topics.now)) };
+
+    fn table<'a>(
         &self,
         alloc: Global,
-        all: &mut Section<Reader>,
         path: &Place,
-        value: &Value,
-    ) -> Result<(), ReadFault> {
-        let table = reader_entry(alloc, path, value)?;
-        let name = new_name_field(alloc, &all.names, path, table, "name")?;
+        value: &'a Value,
+    ) -> Result<&'a Table, ReadFault> {
+        endpoint_table(alloc, true, path, value)
+    }
+
+    #[tactic(auto, unfolding(crate::specs::Policies::consistent))]
+    fn fields(
+        &self,
+        alloc: Global,
+        _before: &Section<Reader>,
+        path: &Place,
+        table: &Table,
+    ) -> Result<Reader, ReadFault> {
         let reader = reader_fields(alloc, self.participants, self.topics, path, table)?;
         if consistent_reader(&reader.qos).is_err() {
             return Err(refuse(alloc, FaultKind::Qos, path));
         }
-        all.push(alloc, name, reader)?;
-        Ok(())
+        Ok(reader)
     }
 }
 
@@ -204,5 +184,5 @@ pub(crate) fn readers(
         participants,
         topics,
     };
-    section_of(alloc, 256, &entries, Section::new(alloc), table, "readers")
+    section(alloc, 256, &entries, table, "readers")
 }

@@ -2,18 +2,19 @@
 ghost use Rattle.std.specs.Prelude.{◌≡◌, List, ℕ};
 ghost use Rattle.toml.specs.View.{view, table_view};
 ghost use Rattle.dds_fields.specs.Gives.{Gives};
-ghost use Rattle.dds_base.specs.Section.{Listed, listed};
+ghost use Rattle.dds_base.specs.Section.{listed};
 ghost use Rattle.dds_fields.specs.Places.{place_text};
 ghost use Rattle.dds_fields.specs.Reading.{field};
 ghost use Rattle.dds_deploy.specs.Lists.{Topic as TopicView};
-ghost use Rattle.dds_deploy_file.specs.Topics.{key, keys, topic_entry, topic, topics};
+ghost use Rattle.dds_deploy_file.specs.Topics.{key, keys, topic_keys, topic_fields, topics};
 ghost use Rattle.dds_deploy.specs.Views.{topic_view};
 
+use crate::entries::{Entries, section};
 use dds_base::{Names, Section};
 use dds_deploy::Topic;
 use dds_fields::fault::{FaultKind, ReadFault, refuse};
-use dds_fields::field::{array_of_limit, entry, name_field, new_name_field, new_name_of, required};
-use dds_fields::items::{Items, each, section_of};
+use dds_fields::field::{array_of_limit, entry, name_field, new_name_of, required};
+use dds_fields::items::{Items, each};
 use dds_fields::place::Place;
 use std::alloc::Global;
 use toml::{Table, Value};
@@ -65,41 +66,42 @@ fn keys_field(alloc: Global, path: &Place, table: &Table, key: &str) -> Result<N
     keys_of(alloc, &at, value)
 }
 
-#[tactic(auto, unfolding(crate::specs::Topics::topic_entry))]
-fn topic_entry<'a>(alloc: Global, path: &Place, value: &'a Value) -> Result<&'a Table, ReadFault>
-    ensures { Gives (λ t. table_view t.now) result (topic_entry (place_text path.now) (view value.now)) }
-{
-    entry(alloc, &["name", "type", "keys"], path, value)
-}
-
 // What reads the topics of a file.
 #[derive(Clone, Copy)]
 struct TopicEntries;
 
-impl Items for TopicEntries {
-    type Read = Section<Topic>;
+impl Entries for TopicEntries {
+    type Entry = Topic;
 
-    ghost State = { Listed TopicView };
+    ghost View = { TopicView };
 
-    ghost state = { λ all. listed topic_view all };
+    ghost view = { topic_view };
 
-    ghost step = { λ _. topic };
+    ghost keys = { topic_keys };
 
-    #[tactic(auto, unfolding(crate::specs::Topics::topic))]
-    fn add(
+    ghost fields = { λ _ _. topic_fields };
+
+    fn table<'a>(
         &self,
         alloc: Global,
-        all: &mut Section<Topic>,
         path: &Place,
-        value: &Value,
-    ) -> Result<(), ReadFault> {
-        let table = topic_entry(alloc, path, value)?;
-        let name = new_name_field(alloc, &all.names, path, table, "name")?;
+        value: &'a Value,
+    ) -> Result<&'a Table, ReadFault> {
+        entry(alloc, &["name", "type", "keys"], path, value)
+    }
+
+    #[tactic(auto, unfolding(crate::specs::Topics::topic_fields))]
+    fn fields(
+        &self,
+        alloc: Global,
+        _before: &Section<Topic>,
+        path: &Place,
+        table: &Table,
+    ) -> Result<Topic, ReadFault> {
         let type_name = name_field(alloc, path, table, "type")?;
         let keys = keys_field(alloc, path, table, "keys")?;
         let type_name = String::from_str(alloc, type_name)?;
-        all.push(alloc, name, Topic { type_name, keys })?;
-        Ok(())
+        Ok(Topic { type_name, keys })
     }
 }
 
@@ -107,12 +109,5 @@ impl Items for TopicEntries {
 pub(crate) fn topics(alloc: Global, table: &Table) -> Result<Section<Topic>, ReadFault>
     ensures { Gives (listed topic_view) result (topics (table_view table.now)) }
 {
-    section_of(
-        alloc,
-        256,
-        &TopicEntries,
-        Section::new(alloc),
-        table,
-        "topics",
-    )
+    section(alloc, 256, &TopicEntries, table, "topics")
 }

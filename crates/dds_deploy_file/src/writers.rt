@@ -1,19 +1,20 @@
 //! The section `writers`: their names, participants, topics and policies.
 ghost use Rattle.std.specs.Prelude.{◌≡◌};
-ghost use Rattle.toml.specs.View.{view, table_view};
+ghost use Rattle.toml.specs.View.{table_view};
 ghost use Rattle.dds_fields.specs.Gives.{Gives};
-ghost use Rattle.dds_base.specs.Section.{Listed, listed};
+ghost use Rattle.dds_base.specs.Section.{listed};
 ghost use Rattle.dds_fields.specs.Places.{place_text};
 ghost use Rattle.dds_deploy.specs.Lists.{Writer as WriterView};
-ghost use Rattle.dds_deploy_file.specs.Writers.{writer_fields, writer_entry, writer, writers};
+ghost use Rattle.dds_deploy_file.specs.Policies.{endpoint_keys, consistent};
+ghost use Rattle.dds_deploy_file.specs.Writers.{writer_fields, writers};
 ghost use Rattle.dds_deploy.specs.Views.{participant_view, topic_view, writer_view};
 
-use crate::policies::{partitions, policies};
+use crate::entries::{Entries, section};
+use crate::policies::{endpoint_table, partitions, policies};
 use dds_base::{ParticipantNo, Section, TopicNo};
 use dds_deploy::{Participant, Topic, Writer};
 use dds_fields::fault::{FaultKind, ReadFault, refuse};
-use dds_fields::field::{entry, known_name_field, new_name_field};
-use dds_fields::items::{Items, section_of};
+use dds_fields::field::known_name_field;
 use dds_fields::place::Place;
 use dds_qos::{Reliability, WriterQos, consistent_writer};
 use std::alloc::Global;
@@ -41,35 +42,6 @@ fn writer_fields(
     })
 }
 
-#[tactic(auto, unfolding(crate::specs::Writers::writer_entry))]
-fn writer_entry<'a>(alloc: Global, path: &Place, value: &'a Value) -> Result<&'a Table, ReadFault>
-    ensures { Gives (λ t. table_view t.now) result (writer_entry (place_text path.now) (view value.now)) }
-{
-    let keys = [
-        "name",
-        "participant",
-        "topic",
-        "durability",
-        "access_scope",
-        "coherent",
-        "ordered",
-        "deadline",
-        "latency_budget",
-        "ownership",
-        "liveliness",
-        "lease",
-        "reliability",
-        "destination_order",
-        "history",
-        "depth",
-        "max_samples",
-        "max_instances",
-        "max_samples_per_instance",
-        "partitions",
-    ];
-    entry(alloc, &keys, path, value)
-}
-
 // What reads the writers of a file.
 #[derive(Clone, Copy)]
 struct WriterEntries<'a> {
@@ -77,31 +49,39 @@ struct WriterEntries<'a> {
     topics: &'a Section<Topic>,
 }
 
-impl Items for WriterEntries<'_> {
-    type Read = Section<Writer>;
+impl Entries for WriterEntries<'_> {
+    type Entry = Writer;
 
-    ghost State = { Listed WriterView };
+    ghost View = { WriterView };
 
-    ghost state = { λ all. listed writer_view all };
+    ghost view = { writer_view };
 
-    ghost step = { λ it. writer (listed participant_view it.participants.now) (listed topic_view it.topics.now) };
+    ghost keys = { endpoint_keys };
 
-    #[tactic(auto, unfolding(crate::specs::Writers::writer))]
-    fn add(
+    ghost fields = { λ it _. consistent (λ x. x.qos.offered) (writer_fields (listed participant_view it.participants.now) (listed topic_view it.topics.now)) };
+
+    fn table<'a>(
         &self,
         alloc: Global,
-        all: &mut Section<Writer>,
         path: &Place,
-        value: &Value,
-    ) -> Result<(), ReadFault> {
-        let table = writer_entry(alloc, path, value)?;
-        let name = new_name_field(alloc, &all.names, path, table, "name")?;
+        value: &'a Value,
+    ) -> Result<&'a Table, ReadFault> {
+        endpoint_table(alloc, false, path, value)
+    }
+
+    #[tactic(auto, unfolding(crate::specs::Policies::consistent))]
+    fn fields(
+        &self,
+        alloc: Global,
+        _before: &Section<Writer>,
+        path: &Place,
+        table: &Table,
+    ) -> Result<Writer, ReadFault> {
         let writer = writer_fields(alloc, self.participants, self.topics, path, table)?;
         if consistent_writer(&writer.qos).is_err() {
             return Err(refuse(alloc, FaultKind::Qos, path));
         }
-        all.push(alloc, name, writer)?;
-        Ok(())
+        Ok(writer)
     }
 }
 
@@ -118,5 +98,5 @@ pub(crate) fn writers(
         participants,
         topics,
     };
-    section_of(alloc, 256, &entries, Section::new(alloc), table, "writers")
+    section(alloc, 256, &entries, table, "writers")
 }
