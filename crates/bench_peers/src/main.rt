@@ -9,9 +9,8 @@ ghost use Rattle.dds_peers.specs.Kept.{AreOwners};
 mod trips;
 
 use crate::trips::{Timed, Times, Watch};
-use dds_base::{AppNo, Fate, Reply};
+use dds_base::{AppNo, Fate, NoMemory, Reply};
 use dds_book::{Gauge, GaugeSeat};
-use dds_match::NoMemory;
 use dds_peers::{App, AppEnd, Fates, Limits, Outcome, RunFault, Steady, run_peers};
 use std::alloc::Global;
 use std::env::{self, Env};

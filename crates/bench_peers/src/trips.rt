@@ -2,10 +2,9 @@
 
 ghost use Rattle.std.specs.Prelude.{◌≡◌};
 
-use dds_base::{AppNo, Reply};
-use dds_match::NoMemory;
+use dds_base::{AppNo, NoMemory, Reply};
 use dds_peers::{Act, App, Diary, Gate, Steady};
-use std::alloc::{AllocError, Global};
+use std::alloc::Global;
 use std::sync::Arc;
 use std::sync::atomic::{AtomicU64, Ordering};
 use std::time::{Clock, Instant};
@@ -95,7 +94,7 @@ impl Timed {
     }
 
     /// Notes when a write or a take of the timed application was let through.
-    fn note(&mut self, reply: &Reply) -> Result<(), AllocError>
+    fn note(&mut self, reply: &Reply) -> Result<(), NoMemory>
         ensures { self.new.steady ≡ self.old.steady }
     {
         if self.app.number() != TIMED {
@@ -111,7 +110,7 @@ impl Timed {
     }
 
     /// How long each round trip took, the shortest first.
-    fn trips(&self) -> Result<Vec<u64>, AllocError> {
+    fn trips(&self) -> Result<Vec<u64>, NoMemory> {
         let mut trips = Vec::new(self.alloc);
         for (written, taken) in self.writes.iter().zip(self.takes.iter()) {
             trips.push(taken.saturating_sub(*written))?;

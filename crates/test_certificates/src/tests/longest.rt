@@ -2,10 +2,11 @@
 //! since one more names an endpoint and key again. So TooMany is told of arrays alone.
 
 use crate::tests::plans::{certificate_of, plan_of};
+use dds_base::NoMemory;
 use dds_cert::Certificate;
 use dds_cert_file::CertFault;
 use dds_match::Plan;
-use std::alloc::{AllocError, Global};
+use std::alloc::Global;
 use std::process::Abort;
 use std::test::Fail;
 
@@ -22,7 +23,7 @@ fn numbered(
     part: &str,
     times: u32,
     end: &str,
-) -> Result<String, AllocError> {
+) -> Result<String, NoMemory> {
     let mut text = String::from_str(alloc, start)?;
     for n in 0..times {
         let number = format!(in alloc; "{n}")?;
@@ -34,13 +35,13 @@ fn numbered(
 }
 
 /// A list of this name, with an entry for each endpoint.
-fn list_of(alloc: Global, name: &str, part: &str, end: &str) -> Result<String, AllocError> {
+fn list_of(alloc: Global, name: &str, part: &str, end: &str) -> Result<String, NoMemory> {
     let start = format!(in alloc; "{name} = [")?;
     numbered(alloc, start.as_str(), part, ENDPOINTS, end)
 }
 
 /// A topic of 64 keys, 256 writers and 256 readers.
-fn greatest(alloc: Global) -> Result<String, AllocError> {
+fn greatest(alloc: Global) -> Result<String, NoMemory> {
     let topics = numbered(
         alloc,
         "version = 1\nparticipants = [{ name = \"p\", domain = 0 }]\ntopics = [{ name = \"t\", type = \"T\", keys = [",
@@ -63,7 +64,7 @@ fn greatest(alloc: Global) -> Result<String, AllocError> {
 }
 
 /// A certificate that names each key of each endpoint in each list, and after them in `permits` what `more` says.
-fn longest(alloc: Global, more: &str) -> Result<String, AllocError> {
+fn longest(alloc: Global, more: &str) -> Result<String, NoMemory> {
     let bound = "{ reader = \"r#\", row = \"m\", bound = 1 }, ";
     let bounds = list_of(alloc, "version = 2\nbounds", bound, "]\n")?;
     let reader = "{ reader = \"r#\", weight = 2 }, ";
@@ -93,7 +94,7 @@ fn expect_longest(rt: &impl Abort, found: &Certificate) {
 }
 
 /// What is told of a certificate: the number and the name of the fault and its path, or `ok`.
-fn told(alloc: Global, plan: &Plan, bytes: &[u8]) -> Result<String, AllocError> {
+fn told(alloc: Global, plan: &Plan, bytes: &[u8]) -> Result<String, NoMemory> {
     match certificate_of(alloc, plan, bytes) {
         Ok(certificate) => {
             drop(certificate);

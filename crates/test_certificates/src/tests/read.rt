@@ -2,21 +2,38 @@
 
 use crate::tests::plans::{FILTERS, certificate_of, plan_of};
 use crate::tests::weights::{
-    PlainBound, PlainTotal, PlainWeight, plain_bounds, plain_row, plain_totals,
+    PlainBound, PlainRow, PlainTotal, PlainWeight, plain_bounds, plain_row, plain_totals,
 };
+use dds_base::NoMemory;
 use dds_cert::{Certificate, Row};
 use dds_match::Plan;
-use std::alloc::{AllocError, Global};
+use std::alloc::Global;
 use std::process::Abort;
 use std::test::Fail;
 use test_files::texts::{LOOP, LOOP_CERT, PING, PING_CERT, SMALL, SMALL_CERT, TWO, TWO_CERT};
 
 /// A row that is expected.
-struct WantedRow {
-    name: &'static str,
-    samples: &'static [PlainWeight],
-    takes: &'static [PlainWeight],
-    permits: &'static [PlainWeight],
+enum WantedRow {
+    /// A name, and weights that the samples, the takes and the permits share.
+    Even(&'static str, &'static [PlainWeight]),
+    /// A name, and the weights of the samples, the takes and the permits.
+    Uneven(&'static str, [&'static [PlainWeight]; 3]),
+}
+
+impl WantedRow {
+    fn name(&self) -> &'static str {
+        match self {
+            WantedRow::Even(name, _) | WantedRow::Uneven(name, _) => name,
+        }
+    }
+
+    /// The weights of the samples, the takes and the permits.
+    fn lists(&self) -> [&'static [PlainWeight]; 3] {
+        match self {
+            WantedRow::Even(_, all) => [all, all, all],
+            WantedRow::Uneven(_, lists) => *lists,
+        }
+    }
 }
 
 /// A certificate that is expected.
@@ -40,13 +57,18 @@ fn expect_row(
     alloc: Global,
     have: &Row,
     wanted: &WantedRow,
-) -> Result<(), AllocError> {
+) -> Result<(), NoMemory> {
+    assert_eq!(rt; have.name.as_str(), wanted.name());
     let weights = plain_row(alloc, have)?;
-    assert_eq!(rt; have.name.as_str(), wanted.name);
-    assert_eq!(rt; weights.samples.as_slice(), wanted.samples);
-    assert_eq!(rt; weights.takes.as_slice(), wanted.takes);
-    assert_eq!(rt; weights.permits.as_slice(), wanted.permits);
+    expect_weights(rt, &weights, wanted.lists());
     Ok(())
+}
+
+fn expect_weights(rt: &impl Abort, have: &PlainRow, wanted: [&'static [PlainWeight]; 3]) {
+    let [samples, takes, permits] = wanted;
+    assert_eq!(rt; have.samples.as_slice(), samples);
+    assert_eq!(rt; have.takes.as_slice(), takes);
+    assert_eq!(rt; have.permits.as_slice(), permits);
 }
 
 fn expect_rows(
@@ -54,7 +76,7 @@ fn expect_rows(
     alloc: Global,
     rows: &[Row],
     wanted: &[WantedRow],
-) -> Result<(), AllocError> {
+) -> Result<(), NoMemory> {
     assert_eq!(rt; rows.len(), wanted.len());
     for (have, want) in rows.iter().zip(wanted) {
         expect_row(rt, alloc, have, want)?;
@@ -68,7 +90,7 @@ fn expect_certificate(
     alloc: Global,
     have: &Certificate,
     wanted: &Wanted,
-) -> Result<(), AllocError> {
+) -> Result<(), NoMemory> {
     expect_rows(rt, alloc, &have.rows, wanted.rows)?;
     let bounds = plain_bounds(alloc, &have.bounds)?;
     let totals = plain_totals(alloc, &have.totals)?;
@@ -84,14 +106,14 @@ fn replaced(
     text: &str,
     old: &str,
     new: &str,
-) -> Result<String, AllocError> {
+) -> Result<String, NoMemory> {
     let all = text.replace(alloc, old, new)?;
     assert!(rt; all.as_str() != text, "{old}");
     Ok(all)
 }
 
 /// The text of a file with its changes.
-fn text_of(rt: &impl Abort, alloc: Global, file: &File) -> Result<String, AllocError> {
+fn text_of(rt: &impl Abort, alloc: Global, file: &File) -> Result<String, NoMemory> {
     let mut text = String::from_str(alloc, file.text)?;
     for (old, new) in file.edits {
         text = replaced(rt, alloc, text.as_str(), old, new)?;
@@ -129,12 +151,7 @@ static PING_FILES: [File; 2] = [
         text: PING_CERT,
         edits: &[],
         wanted: Wanted {
-            rows: &[WantedRow {
-                name: "m",
-                samples: &[(0, 0, 1), (1, 0, 1)],
-                takes: &[(0, 0, 1), (1, 0, 1)],
-                permits: &[(0, 0, 1), (1, 0, 1)],
-            }],
+            rows: &[WantedRow::Even("m", &[(0, 0, 1), (1, 0, 1)])],
             bounds: &[(0, 0, 0, 3), (1, 0, 0, 3)],
             totals: &[],
         },
@@ -144,20 +161,7 @@ static PING_FILES: [File; 2] = [
         text: "totals = [{ bound = 5, row = \"n\", reader = \"pong_r\" }]\nbounds = []\nrows = [{ name = \"m\" }, { name = \"n\" }]\nversion = 1\n",
         edits: &[],
         wanted: Wanted {
-            rows: &[
-                WantedRow {
-                    name: "m",
-                    samples: &[],
-                    takes: &[],
-                    permits: &[],
-                },
-                WantedRow {
-                    name: "n",
-                    samples: &[],
-                    takes: &[],
-                    permits: &[],
-                },
-            ],
+            rows: &[WantedRow::Even("m", &[]), WantedRow::Even("n", &[])],
             bounds: &[],
             totals: &[(1, 1, 5)],
         },
@@ -170,12 +174,7 @@ static LOOP_FILES: [File; 2] = [
         text: LOOP_CERT,
         edits: &[],
         wanted: Wanted {
-            rows: &[WantedRow {
-                name: "m",
-                samples: &[(0, 0, 1), (1, 0, 2)],
-                takes: &[(0, 0, 1), (1, 0, 2)],
-                permits: &[(0, 0, 1), (1, 0, 2)],
-            }],
+            rows: &[WantedRow::Even("m", &[(0, 0, 1), (1, 0, 2)])],
             bounds: &[(0, 0, 0, 4), (1, 0, 0, 2)],
             totals: &[],
         },
@@ -185,12 +184,7 @@ static LOOP_FILES: [File; 2] = [
         text: LOOP_CERT,
         edits: &[("weight = 2", "weight = 1"), ("bound = 2", "bound = 4")],
         wanted: Wanted {
-            rows: &[WantedRow {
-                name: "m",
-                samples: &[(0, 0, 1), (1, 0, 1)],
-                takes: &[(0, 0, 1), (1, 0, 1)],
-                permits: &[(0, 0, 1), (1, 0, 1)],
-            }],
+            rows: &[WantedRow::Even("m", &[(0, 0, 1), (1, 0, 1)])],
             bounds: &[(0, 0, 0, 4), (1, 0, 0, 4)],
             totals: &[],
         },
@@ -203,12 +197,7 @@ static SMALL_FILES: [File; 3] = [
         text: SMALL_CERT,
         edits: &[],
         wanted: Wanted {
-            rows: &[WantedRow {
-                name: "m",
-                samples: &[(0, 0, 1)],
-                takes: &[(0, 0, 1)],
-                permits: &[(0, 0, 1)],
-            }],
+            rows: &[WantedRow::Even("m", &[(0, 0, 1)])],
             bounds: &[(0, 0, 0, 3)],
             totals: &[],
         },
@@ -221,12 +210,7 @@ static SMALL_FILES: [File; 3] = [
             ("bound = 3", "bound = 4294967295"),
         ],
         wanted: Wanted {
-            rows: &[WantedRow {
-                name: "m",
-                samples: &[(0, 0, 4294967295)],
-                takes: &[(0, 0, 4294967295)],
-                permits: &[(0, 0, 4294967295)],
-            }],
+            rows: &[WantedRow::Even("m", &[(0, 0, 4294967295)])],
             bounds: &[(0, 0, 0, 4294967295)],
             totals: &[],
         },
@@ -249,12 +233,7 @@ static TWO_FILES: [File; 4] = [
         text: TWO_CERT,
         edits: &[],
         wanted: Wanted {
-            rows: &[WantedRow {
-                name: "m",
-                samples: &[(0, 0, 1), (0, 1, 1)],
-                takes: &[(0, 0, 1), (0, 1, 1)],
-                permits: &[(0, 0, 1), (0, 1, 1)],
-            }],
+            rows: &[WantedRow::Even("m", &[(0, 0, 1), (0, 1, 1)])],
             bounds: &[(0, 0, 0, 2), (0, 1, 0, 2)],
             totals: &[],
         },
@@ -267,12 +246,7 @@ static TWO_FILES: [File; 4] = [
             "",
         )],
         wanted: Wanted {
-            rows: &[WantedRow {
-                name: "m",
-                samples: &[(0, 0, 1), (0, 1, 1)],
-                takes: &[(0, 0, 1), (0, 1, 1)],
-                permits: &[(0, 0, 1), (0, 1, 1)],
-            }],
+            rows: &[WantedRow::Even("m", &[(0, 0, 1), (0, 1, 1)])],
             bounds: &[],
             totals: &[],
         },
@@ -285,12 +259,14 @@ static TWO_FILES: [File; 4] = [
             "takes = [{ reader = \"r\", key = \"a\", weight = 2 }",
         )],
         wanted: Wanted {
-            rows: &[WantedRow {
-                name: "m",
-                samples: &[(0, 0, 1), (0, 1, 1)],
-                takes: &[(0, 0, 2), (0, 1, 1)],
-                permits: &[(0, 0, 1), (0, 1, 1)],
-            }],
+            rows: &[WantedRow::Uneven(
+                "m",
+                [
+                    &[(0, 0, 1), (0, 1, 1)],
+                    &[(0, 0, 2), (0, 1, 1)],
+                    &[(0, 0, 1), (0, 1, 1)],
+                ],
+            )],
             bounds: &[(0, 0, 0, 2), (0, 1, 0, 2)],
             totals: &[],
         },
@@ -303,12 +279,7 @@ static TWO_FILES: [File; 4] = [
             "totals = [{ reader = \"r\", row = \"m\", bound = 2 }]\n\n[[rows]]\n",
         )],
         wanted: Wanted {
-            rows: &[WantedRow {
-                name: "m",
-                samples: &[(0, 0, 1), (0, 1, 1)],
-                takes: &[(0, 0, 1), (0, 1, 1)],
-                permits: &[(0, 0, 1), (0, 1, 1)],
-            }],
+            rows: &[WantedRow::Even("m", &[(0, 0, 1), (0, 1, 1)])],
             bounds: &[(0, 0, 0, 2), (0, 1, 0, 2)],
             totals: &[(0, 0, 2)],
         },
@@ -349,24 +320,16 @@ takes = [{ reader = "r", key = "c", weight = 9 }]
 /// What is read of `MIXED`.
 const MIXED_WANTED: Wanted = Wanted {
     rows: &[
-        WantedRow {
-            name: "first",
-            samples: &[],
-            takes: &[],
-            permits: &[(1, 0, 3), (0, 2, 16)],
-        },
-        WantedRow {
-            name: "none",
-            samples: &[],
-            takes: &[],
-            permits: &[],
-        },
-        WantedRow {
-            name: "last",
-            samples: &[(1, 2, 2), (2, 0, 0), (1, 0, 1000), (0, 1, 5)],
-            takes: &[(0, 2, 9)],
-            permits: &[],
-        },
+        WantedRow::Uneven("first", [&[], &[], &[(1, 0, 3), (0, 2, 16)]]),
+        WantedRow::Even("none", &[]),
+        WantedRow::Uneven(
+            "last",
+            [
+                &[(1, 2, 2), (2, 0, 0), (1, 0, 1000), (0, 1, 5)],
+                &[(0, 2, 9)],
+                &[],
+            ],
+        ),
     ],
     bounds: &[(1, 2, 2, 7), (0, 1, 0, 0), (1, 0, 2, 6)],
     totals: &[(2, 2, 0), (0, 0, 4294967295)],
@@ -418,18 +381,15 @@ static FILTERS_FILES: [File; 3] = [
         edits: &[],
         wanted: Wanted {
             rows: &[
-                WantedRow {
-                    name: "m",
-                    samples: &[(1, 2, 2), (1, 0, 2), (0, 1, 5), (2, 0, 0)],
-                    takes: &[(0, 0, 7), (0, 1, 7), (0, 2, 7)],
-                    permits: &[(1, 0, 3), (0, 0, 4), (0, 1, 4), (0, 2, 4)],
-                },
-                WantedRow {
-                    name: "n",
-                    samples: &[],
-                    takes: &[],
-                    permits: &[(0, 2, 1), (1, 0, 1), (0, 0, 2)],
-                },
+                WantedRow::Uneven(
+                    "m",
+                    [
+                        &[(1, 2, 2), (1, 0, 2), (0, 1, 5), (2, 0, 0)],
+                        &[(0, 0, 7), (0, 1, 7), (0, 2, 7)],
+                        &[(1, 0, 3), (0, 0, 4), (0, 1, 4), (0, 2, 4)],
+                    ],
+                ),
+                WantedRow::Uneven("n", [&[], &[], &[(0, 2, 1), (1, 0, 1), (0, 0, 2)]]),
             ],
             bounds: &[
                 (2, 0, 0, 1),

@@ -2,10 +2,10 @@
 
 use crate::tests::plans::{FILTERS, certificate_of, plan_of};
 use crate::tests::weights::{Placed, PlainWeight, plain_row};
-use dds_base::{KeyNo, ReaderNo};
+use dds_base::{KeyNo, NoMemory, ReaderNo};
 use dds_cert::{Bound, Certificate, Row, Total, Weight, certificate_text};
 use dds_match::Plan;
-use std::alloc::{AllocError, Global};
+use std::alloc::Global;
 use std::process::Abort;
 use std::test::Fail;
 use test_files::dice::Dice;
@@ -37,7 +37,7 @@ fn weights<E: Placed>(
     alloc: Global,
     dice: &mut Dice,
     places: &[Place],
-) -> Result<Vec<Weight<E>>, AllocError> {
+) -> Result<Vec<Weight<E>>, NoMemory> {
     let mut all = Vec::new(alloc);
     for (endpoint, key) in places {
         if dice.comes() {
@@ -54,7 +54,7 @@ fn weights<E: Placed>(
     Ok(all)
 }
 
-fn rows(alloc: Global, dice: &mut Dice, count: usize) -> Result<Vec<Row>, AllocError> {
+fn rows(alloc: Global, dice: &mut Dice, count: usize) -> Result<Vec<Row>, NoMemory> {
     let mut all = Vec::new(alloc);
     for i in 0..count {
         let name = format!(in alloc; "m{i}")?;
@@ -72,7 +72,7 @@ fn rows(alloc: Global, dice: &mut Dice, count: usize) -> Result<Vec<Row>, AllocE
 }
 
 /// Bounds of some places, each by one of so many rows.
-fn bounds(alloc: Global, dice: &mut Dice, rows: usize) -> Result<Vec<Bound>, AllocError> {
+fn bounds(alloc: Global, dice: &mut Dice, rows: usize) -> Result<Vec<Bound>, NoMemory> {
     let mut all = Vec::new(alloc);
     for (reader, key) in READER_PLACES {
         if dice.comes() {
@@ -91,7 +91,7 @@ fn bounds(alloc: Global, dice: &mut Dice, rows: usize) -> Result<Vec<Bound>, All
 }
 
 /// Totals of some readers, each by one of so many rows.
-fn totals(alloc: Global, dice: &mut Dice, rows: usize) -> Result<Vec<Total>, AllocError> {
+fn totals(alloc: Global, dice: &mut Dice, rows: usize) -> Result<Vec<Total>, NoMemory> {
     let mut all = Vec::new(alloc);
     for reader in 0..3 {
         if dice.comes() {
@@ -106,7 +106,7 @@ fn totals(alloc: Global, dice: &mut Dice, rows: usize) -> Result<Vec<Total>, All
 }
 
 /// A certificate for FILTERS, of up to three rows, with and without bounds and totals.
-fn made(alloc: Global, number: u32) -> Result<Certificate, AllocError> {
+fn made(alloc: Global, number: u32) -> Result<Certificate, NoMemory> {
     let mut dice = Dice::new(number);
     let count = (number % 4) as usize;
     let rows = rows(alloc, &mut dice, count)?;
@@ -140,7 +140,7 @@ fn in_order(
     alloc: Global,
     list: &[PlainWeight],
     places: &[Place],
-) -> Result<Vec<PlainWeight>, AllocError> {
+) -> Result<Vec<PlainWeight>, NoMemory> {
     let mut all = Vec::new(alloc);
     for place in places {
         let weight = weight_of(list, *place);
@@ -158,18 +158,13 @@ fn expect_weights(
     found: &[PlainWeight],
     written: &[PlainWeight],
     places: &[Place],
-) -> Result<(), AllocError> {
+) -> Result<(), NoMemory> {
     let wanted = in_order(alloc, written, places)?;
     assert_eq!(rt; found, wanted.as_slice());
     Ok(())
 }
 
-fn expect_row(
-    rt: &impl Abort,
-    alloc: Global,
-    found: &Row,
-    written: &Row,
-) -> Result<(), AllocError> {
+fn expect_row(rt: &impl Abort, alloc: Global, found: &Row, written: &Row) -> Result<(), NoMemory> {
     assert_eq!(rt; found.name.as_str(), written.name.as_str());
     let found = plain_row(alloc, found)?;
     let written = plain_row(alloc, written)?;
@@ -183,7 +178,7 @@ fn expect_rows(
     alloc: Global,
     found: &[Row],
     written: &[Row],
-) -> Result<(), AllocError> {
+) -> Result<(), NoMemory> {
     assert_eq!(rt; found.len(), written.len());
     for (have, want) in found.iter().zip(written) {
         expect_row(rt, alloc, have, want)?;

@@ -1,8 +1,8 @@
 //! The lists of a certificate as plain numbers.
 
-use dds_base::{Endpoint, ReaderNo, WriterNo};
+use dds_base::{Endpoint, NoMemory, ReaderNo, WriterNo};
 use dds_cert::{Bound, Row, Total, Weight};
-use std::alloc::{AllocError, Global};
+use std::alloc::Global;
 
 /// The place of an endpoint, the place of a key in its topic, and the weight.
 pub(crate) type PlainWeight = (usize, usize, u32);
@@ -38,7 +38,7 @@ impl Placed for WriterNo {
     }
 }
 
-fn plain<E: Endpoint>(alloc: Global, list: &[Weight<E>]) -> Result<Vec<PlainWeight>, AllocError> {
+fn plain<E: Endpoint>(alloc: Global, list: &[Weight<E>]) -> Result<Vec<PlainWeight>, NoMemory> {
     let mut all = Vec::new(alloc);
     for entry in list {
         all.push((entry.endpoint.place(), entry.key.number(), entry.weight))?;
@@ -46,7 +46,7 @@ fn plain<E: Endpoint>(alloc: Global, list: &[Weight<E>]) -> Result<Vec<PlainWeig
     Ok(all)
 }
 
-pub(crate) fn plain_row(alloc: Global, row: &Row) -> Result<PlainRow, AllocError> {
+pub(crate) fn plain_row(alloc: Global, row: &Row) -> Result<PlainRow, NoMemory> {
     let samples = plain(alloc, &row.samples)?;
     let takes = plain(alloc, &row.takes)?;
     let permits = plain(alloc, &row.permits)?;
@@ -57,7 +57,7 @@ pub(crate) fn plain_row(alloc: Global, row: &Row) -> Result<PlainRow, AllocError
     })
 }
 
-pub(crate) fn plain_bounds(alloc: Global, list: &[Bound]) -> Result<Vec<PlainBound>, AllocError> {
+pub(crate) fn plain_bounds(alloc: Global, list: &[Bound]) -> Result<Vec<PlainBound>, NoMemory> {
     let mut all = Vec::new(alloc);
     for entry in list {
         let (reader, key) = (entry.reader.number(), entry.key.number());
@@ -66,7 +66,7 @@ pub(crate) fn plain_bounds(alloc: Global, list: &[Bound]) -> Result<Vec<PlainBou
     Ok(all)
 }
 
-pub(crate) fn plain_totals(alloc: Global, list: &[Total]) -> Result<Vec<PlainTotal>, AllocError> {
+pub(crate) fn plain_totals(alloc: Global, list: &[Total]) -> Result<Vec<PlainTotal>, NoMemory> {
     let mut all = Vec::new(alloc);
     for entry in list {
         all.push((entry.reader.number(), entry.row, entry.bound))?;

@@ -2,10 +2,10 @@
 
 use crate::tests::plans::{FILTERS, certificate_of, plan_of};
 use crate::tests::weights::{Placed, PlainWeight};
-use dds_base::{KeyNo, ReaderNo};
+use dds_base::{KeyNo, NoMemory, ReaderNo};
 use dds_cert::{Bound, Certificate, Row, Total, Weight, certificate_text};
 use dds_match::Plan;
-use std::alloc::{AllocError, Global};
+use std::alloc::Global;
 use std::process::Abort;
 use std::test::Fail;
 use test_files::proposed::{PING_PROPOSED, SMALL_PROPOSED};
@@ -84,7 +84,7 @@ bound = 1
 "#;
 
 /// The weights of endpoints.
-fn weights<E: Placed>(alloc: Global, list: &[PlainWeight]) -> Result<Vec<Weight<E>>, AllocError> {
+fn weights<E: Placed>(alloc: Global, list: &[PlainWeight]) -> Result<Vec<Weight<E>>, NoMemory> {
     let mut all = Vec::new(alloc);
     for (place, key, weight) in list {
         all.push(Weight {
@@ -103,7 +103,7 @@ fn row(
     samples: &[PlainWeight],
     takes: &[PlainWeight],
     permits: &[PlainWeight],
-) -> Result<Row, AllocError> {
+) -> Result<Row, NoMemory> {
     Ok(Row {
         name: String::from_str(alloc, name)?,
         samples: weights(alloc, samples)?,

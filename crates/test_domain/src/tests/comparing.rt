@@ -2,9 +2,9 @@
 
 use crate::tests::peers::Peers;
 use crate::tests::plans::layout_of;
-use dds_base::{Event, KeyNo, ReaderNo, Reply, Sample, WriterNo};
+use dds_base::{Event, KeyNo, NoMemory, ReaderNo, Reply, Sample, WriterNo};
 use dds_match::Plan;
-use std::alloc::{AllocError, Global};
+use std::alloc::Global;
 use std::process::Abort;
 use test_model::{World, step_as};
 
@@ -30,7 +30,7 @@ pub(crate) fn taken(reply: &Reply) -> Option<Sample> {
 }
 
 impl Both {
-    pub(crate) fn open(alloc: Global, plan: &Plan) -> Result<Both, AllocError> {
+    pub(crate) fn open(alloc: Global, plan: &Plan) -> Result<Both, NoMemory> {
         let layout = layout_of(alloc, plan)?;
         Ok(Both {
             peers: Peers::open(alloc, plan)?,
@@ -45,7 +45,7 @@ impl Both {
         rt: &impl Abort,
         plan: &Plan,
         event: &Event,
-    ) -> Result<Reply, AllocError> {
+    ) -> Result<Reply, NoMemory> {
         let reply = self.peers.enter(plan, event)?;
         match step_as(&mut self.world, event, &taken(&reply)) {
             Ok(other) => assert_eq!(rt; reply, other, "{event:?}"),
@@ -103,7 +103,7 @@ fn expect_same_permits(rt: &impl Abort, both: &Both, writer: WriterNo) {
 }
 
 /// Compares what is seen of each writer.
-fn expect_same_writers(rt: &impl Abort, both: &Both) -> Result<(), AllocError> {
+fn expect_same_writers(rt: &impl Abort, both: &Both) -> Result<(), NoMemory> {
     for (w, speaker) in both.peers.writers.iter().enumerate() {
         let writer = WriterNo::new(w);
         assert_eq!(rt;
@@ -120,7 +120,7 @@ fn expect_same_writers(rt: &impl Abort, both: &Both) -> Result<(), AllocError> {
 }
 
 /// Compares the unread samples and the unspent takes of a reader, of the first keys.
-fn expect_same_keys(rt: &impl Abort, both: &Both, r: usize) -> Result<(), AllocError> {
+fn expect_same_keys(rt: &impl Abort, both: &Both, r: usize) -> Result<(), NoMemory> {
     let reader = ReaderNo::new(r);
     for k in 0..SOME_KEYS {
         let key = KeyNo::new(k);
@@ -142,7 +142,7 @@ fn expect_same_keys(rt: &impl Abort, both: &Both, r: usize) -> Result<(), AllocE
 }
 
 /// Compares what is seen of each reader.
-fn expect_same_readers(rt: &impl Abort, both: &Both) -> Result<(), AllocError> {
+fn expect_same_readers(rt: &impl Abort, both: &Both) -> Result<(), NoMemory> {
     for (r, listener) in both.peers.readers.iter().enumerate() {
         let stored = both.world.stored(ReaderNo::new(r))?;
         assert_eq!(rt; listener.reader.stored(), stored.len(), "stored");
@@ -162,7 +162,7 @@ fn expect_same_bus(rt: &impl Abort, both: &Both) {
 }
 
 /// Compares all that can be seen.
-pub(crate) fn expect_same(rt: &impl Abort, both: &Both) -> Result<(), AllocError> {
+pub(crate) fn expect_same(rt: &impl Abort, both: &Both) -> Result<(), NoMemory> {
     expect_same_writers(rt, both)?;
     expect_same_readers(rt, both)?;
     expect_same_bus(rt, both);

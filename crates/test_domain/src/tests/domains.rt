@@ -2,10 +2,10 @@
 
 use crate::tests::plans::plan_of;
 use crate::tests::worked::{ON_A_FULL_BUS, text_of};
-use dds_base::{Arrival, Event, KeyNo, ReaderNo, Refusal, Reply, WriterNo};
+use dds_base::{Arrival, Event, KeyNo, NoMemory, ReaderNo, Refusal, Reply, WriterNo};
 use dds_domain::Domain;
-use dds_match::{NoMemory, Plan};
-use std::alloc::{AllocError, Global};
+use dds_match::Plan;
+use std::alloc::Global;
 use std::process::Abort;
 use std::test::Fail;
 use test_model::PLACES;
@@ -22,7 +22,7 @@ pub(crate) fn opened(rt: &impl Abort, alloc: Global, plan: Plan) -> Domain {
 }
 
 /// The domain of a stage, before the first event.
-fn domain_of(rt: &impl Abort, alloc: Global, stage: Stage) -> Result<Domain, AllocError> {
+fn domain_of(rt: &impl Abort, alloc: Global, stage: Stage) -> Result<Domain, NoMemory> {
     let text = text_of(rt, alloc, stage)?;
     let plan = plan_of(rt, alloc, text.as_str());
     Ok(opened(rt, alloc, plan))
@@ -69,7 +69,7 @@ fn expect_move(
     }
 }
 
-fn expect(rt: &impl Abort, alloc: Global, run: &Run) -> Result<(), AllocError> {
+fn expect(rt: &impl Abort, alloc: Global, run: &Run) -> Result<(), NoMemory> {
     let mut domain = domain_of(rt, alloc, run.stage)?;
     let mut written = 0;
     for (asked, told) in run.moves {
@@ -135,7 +135,7 @@ fn expect_three_sent(rt: &impl Abort, domain: &mut Domain) {
     }
 }
 
-fn expect_ten_times(rt: &impl Abort, alloc: Global, order: &[usize; 30]) -> Result<(), AllocError> {
+fn expect_ten_times(rt: &impl Abort, alloc: Global, order: &[usize; 30]) -> Result<(), NoMemory> {
     let mut domain = domain_of(rt, alloc, Stage::Small(3))?;
     expect_three_sent(rt, &mut domain);
     deliver_all(rt, &mut domain, order);
@@ -174,7 +174,7 @@ const LIST: [(Move, Told); 14] = [
 ];
 
 /// The events of the list.
-pub(crate) fn listed(alloc: Global) -> Result<Vec<Event>, AllocError> {
+pub(crate) fn listed(alloc: Global) -> Result<Vec<Event>, NoMemory> {
     let mut events = Vec::new(alloc);
     for (asked, _) in &LIST {
         if let Some(event) = event_of(*asked) {
@@ -191,7 +191,7 @@ pub(crate) fn expect_replies(rt: &impl Abort, replies: &[Reply], from: usize) {
     }
 }
 
-fn expect_list(rt: &impl Abort, alloc: Global) -> Result<(), AllocError> {
+fn expect_list(rt: &impl Abort, alloc: Global) -> Result<(), NoMemory> {
     let events = listed(alloc)?;
     let mut domain = domain_of(rt, alloc, Stage::Small(3))?;
     let replies = match domain.run(&events) {
@@ -224,7 +224,7 @@ fn fill(rt: &impl Abort, domain: &mut Domain) {
     }
 }
 
-fn expect_full_bus(rt: &impl Abort, alloc: Global) -> Result<(), AllocError> {
+fn expect_full_bus(rt: &impl Abort, alloc: Global) -> Result<(), NoMemory> {
     let mut domain = domain_of(rt, alloc, Stage::Small(1))?;
     fill(rt, &mut domain);
     for (asked, told) in &ON_A_FULL_BUS {

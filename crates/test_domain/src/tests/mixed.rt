@@ -5,8 +5,9 @@ use crate::tests::comparing::{Both, expect_same};
 use crate::tests::plans::plan_of;
 use crate::tests::seen::{Kind, kind_of};
 use crate::tests::texts::{FILTERED, LAST, WATCHED};
+use dds_base::NoMemory;
 use dds_match::Plan;
-use std::alloc::{AllocError, Global};
+use std::alloc::Global;
 use std::process::Abort;
 use std::test::Fail;
 use test_files::texts::{LOOP, SMALL};
@@ -41,7 +42,7 @@ fn expect_run(
     plan: &Plan,
     seed: u64,
     kinds: &mut Vec<Kind>,
-) -> Result<(), AllocError> {
+) -> Result<(), NoMemory> {
     let mut both = Both::open(alloc, plan)?;
     let mut chance = Chance::new(seed);
     for _ in 0..EVENTS {
@@ -60,7 +61,7 @@ fn over_seeds(
     alloc: Global,
     plan: &Plan,
     wanted: &[Kind],
-) -> Result<(), AllocError> {
+) -> Result<(), NoMemory> {
     let mut kinds: Vec<Kind> = Vec::new(alloc);
     for seed in &SEEDS {
         expect_run(rt, alloc, plan, *seed, &mut kinds)?;
@@ -77,7 +78,7 @@ fn expect_kinds(
     alloc: Global,
     text: &str,
     wanted: &[Kind],
-) -> Result<(), AllocError> {
+) -> Result<(), NoMemory> {
     let plan = plan_of(rt, alloc, text);
     let done = over_seeds(rt, alloc, &plan, wanted);
     drop(plan);

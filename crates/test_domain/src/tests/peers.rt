@@ -5,11 +5,11 @@ ghost use Rattle.dds_match.specs.Plan.{network_of};
 
 use crate::tests::speakers::{Accounts, Listener, Speaker};
 use dds_base::{
-    Arrival, Data, DataMsg, Event, GapMsg, Heartbeat, KeyNo, Packet, ReaderNo, Refusal, Reply,
-    RuleNo, WriterNo,
+    Arrival, Data, DataMsg, Event, GapMsg, Heartbeat, KeyNo, NoMemory, Packet, ReaderNo, Refusal,
+    Reply, RuleNo, WriterNo,
 };
 use dds_match::Plan;
-use std::alloc::{AllocError, Global};
+use std::alloc::Global;
 use test_model::empty_bus;
 
 /// Ledger, writers, readers and bus.
@@ -21,19 +21,19 @@ pub(crate) struct Peers {
     pub(crate) bus: Vec<Option<Packet>>,
 }
 
-fn speaker(alloc: Global, plan: &Plan, writer: WriterNo) -> Result<Speaker, AllocError>
+fn speaker(alloc: Global, plan: &Plan, writer: WriterNo) -> Result<Speaker, NoMemory>
     requires { writer < (network_of plan.now).writers }
 {
     Speaker::open(alloc, plan, writer, plan.writer_limits(writer))
 }
 
-fn listener(alloc: Global, plan: &Plan, reader: ReaderNo) -> Result<Listener, AllocError>
+fn listener(alloc: Global, plan: &Plan, reader: ReaderNo) -> Result<Listener, NoMemory>
     requires { reader < (network_of plan.now).readers }
 {
     Listener::open(alloc, plan, reader, plan.reader_limits(reader))
 }
 
-fn speakers(alloc: Global, plan: &Plan) -> Result<Vec<Speaker>, AllocError> {
+fn speakers(alloc: Global, plan: &Plan) -> Result<Vec<Speaker>, NoMemory> {
     let mut writers = Vec::new(alloc);
     for w in 0..plan.lists().writers() {
         writers.push(speaker(alloc, plan, WriterNo::new(w))?)?;
@@ -41,7 +41,7 @@ fn speakers(alloc: Global, plan: &Plan) -> Result<Vec<Speaker>, AllocError> {
     Ok(writers)
 }
 
-fn listeners(alloc: Global, plan: &Plan) -> Result<Vec<Listener>, AllocError> {
+fn listeners(alloc: Global, plan: &Plan) -> Result<Vec<Listener>, NoMemory> {
     let mut readers = Vec::new(alloc);
     for r in 0..plan.lists().readers() {
         readers.push(listener(alloc, plan, ReaderNo::new(r))?)?;
@@ -50,7 +50,7 @@ fn listeners(alloc: Global, plan: &Plan) -> Result<Vec<Listener>, AllocError> {
 }
 
 impl Peers {
-    pub(crate) fn open(alloc: Global, plan: &Plan) -> Result<Peers, AllocError> {
+    pub(crate) fn open(alloc: Global, plan: &Plan) -> Result<Peers, NoMemory> {
         Ok(Peers {
             accounts: Accounts::open(alloc, plan)?,
             writers: speakers(alloc, plan)?,
@@ -73,7 +73,7 @@ impl Peers {
         writer: WriterNo,
         key: KeyNo,
         payload: Data,
-    ) -> Result<Reply, AllocError> {
+    ) -> Result<Reply, NoMemory> {
         if !plan.writes_key(writer, key) {
             return Ok(Reply::Refused(Refusal::Foreign));
         }
@@ -166,28 +166,28 @@ impl Peers {
         self.send(packet)
     }
 
-    fn on_data(&mut self, data: &DataMsg) -> Result<Arrival, AllocError> {
+    fn on_data(&mut self, data: &DataMsg) -> Result<Arrival, NoMemory> {
         match self.readers.get_mut(data.reader.number()) {
             Some(listener) => listener.on_data(data),
             None => Ok(Arrival::Stranger),
         }
     }
 
-    fn on_gap(&mut self, gap: &GapMsg) -> Result<Arrival, AllocError> {
+    fn on_gap(&mut self, gap: &GapMsg) -> Result<Arrival, NoMemory> {
         match self.readers.get_mut(gap.reader.number()) {
             Some(listener) => listener.on_gap(gap),
             None => Ok(Arrival::Stranger),
         }
     }
 
-    fn on_heartbeat(&mut self, heartbeat: &Heartbeat) -> Result<Arrival, AllocError> {
+    fn on_heartbeat(&mut self, heartbeat: &Heartbeat) -> Result<Arrival, NoMemory> {
         match self.readers.get_mut(heartbeat.reader.number()) {
             Some(listener) => listener.on_heartbeat(heartbeat),
             None => Ok(Arrival::Stranger),
         }
     }
 
-    fn arrive(&mut self, packet: &Packet) -> Result<Reply, AllocError> {
+    fn arrive(&mut self, packet: &Packet) -> Result<Reply, NoMemory> {
         match packet {
             Packet::Data(data) => Ok(Reply::Arrived(self.on_data(data)?)),
             Packet::Gap(gap) => Ok(Reply::Arrived(self.on_gap(gap)?)),
@@ -207,7 +207,7 @@ impl Peers {
         }
     }
 
-    fn deliver(&mut self, place: usize, keep: bool) -> Result<Reply, AllocError> {
+    fn deliver(&mut self, place: usize, keep: bool) -> Result<Reply, NoMemory> {
         let Some(packet) = self.at(place) else {
             return Ok(Reply::Refused(Refusal::NoPacket));
         };
@@ -227,7 +227,7 @@ impl Peers {
     }
 
     /// Makes an event by calls of the parts.
-    pub(crate) fn enter(&mut self, plan: &Plan, event: &Event) -> Result<Reply, AllocError> {
+    pub(crate) fn enter(&mut self, plan: &Plan, event: &Event) -> Result<Reply, NoMemory> {
         match *event {
             Event::Write {
                 writer,

@@ -3,9 +3,9 @@
 ghost use Rattle.std.specs.Prelude.{◌<◌};
 ghost use Rattle.dds_match.specs.Plan.{network_of};
 
-use dds_base::{KeyNo, ReaderNo, RuleNo, WriterNo};
+use dds_base::{KeyNo, NoMemory, ReaderNo, RuleNo, WriterNo};
 use dds_match::Plan;
-use std::alloc::{AllocError, Global};
+use std::alloc::Global;
 use std::process::Abort;
 use test_model::{Layout, ReaderLayout, RuleLayout, WriterLayout};
 use test_plans::planned;
@@ -22,7 +22,7 @@ pub(crate) fn filter_of(
     alloc: Global,
     plan: &Plan,
     reader: ReaderNo,
-) -> Result<Vec<KeyNo>, AllocError> {
+) -> Result<Vec<KeyNo>, NoMemory> {
     let mut filter = Vec::new(alloc);
     for k in 0..KEYS {
         let key = KeyNo::new(k);
@@ -38,7 +38,7 @@ pub(crate) fn readers_of(
     alloc: Global,
     plan: &Plan,
     writer: WriterNo,
-) -> Result<Vec<ReaderNo>, AllocError> {
+) -> Result<Vec<ReaderNo>, NoMemory> {
     let readers = (0..plan.lists().readers()).map(|r| ReaderNo::new(r));
     readers.filter(|r| plan.matched(writer, *r)).collect(alloc)
 }
@@ -48,12 +48,12 @@ pub(crate) fn writers_of(
     alloc: Global,
     plan: &Plan,
     reader: ReaderNo,
-) -> Result<Vec<WriterNo>, AllocError> {
+) -> Result<Vec<WriterNo>, NoMemory> {
     let writers = (0..plan.lists().writers()).map(|w| WriterNo::new(w));
     writers.filter(|w| plan.matched(*w, reader)).collect(alloc)
 }
 
-fn writer_layout(alloc: Global, plan: &Plan, writer: WriterNo) -> Result<WriterLayout, AllocError>
+fn writer_layout(alloc: Global, plan: &Plan, writer: WriterNo) -> Result<WriterLayout, NoMemory>
     requires { writer < (network_of plan.now).writers }
 {
     let limits = plan.writer_limits(writer);
@@ -70,7 +70,7 @@ fn writer_layout(alloc: Global, plan: &Plan, writer: WriterNo) -> Result<WriterL
     })
 }
 
-fn reader_layout(alloc: Global, plan: &Plan, reader: ReaderNo) -> Result<ReaderLayout, AllocError>
+fn reader_layout(alloc: Global, plan: &Plan, reader: ReaderNo) -> Result<ReaderLayout, NoMemory>
     requires { reader < (network_of plan.now).readers }
 {
     let limits = plan.reader_limits(reader);
@@ -81,7 +81,7 @@ fn reader_layout(alloc: Global, plan: &Plan, reader: ReaderNo) -> Result<ReaderL
     })
 }
 
-fn rule_layout(alloc: Global, plan: &Plan, rule: RuleNo) -> Result<RuleLayout, AllocError>
+fn rule_layout(alloc: Global, plan: &Plan, rule: RuleNo) -> Result<RuleLayout, NoMemory>
     requires { rule < (network_of plan.now).rules }
 {
     let rule = plan.rule(rule);
@@ -92,7 +92,7 @@ fn rule_layout(alloc: Global, plan: &Plan, rule: RuleNo) -> Result<RuleLayout, A
     })
 }
 
-fn writer_layouts(alloc: Global, plan: &Plan) -> Result<Vec<WriterLayout>, AllocError> {
+fn writer_layouts(alloc: Global, plan: &Plan) -> Result<Vec<WriterLayout>, NoMemory> {
     let mut writers = Vec::new(alloc);
     for w in 0..plan.lists().writers() {
         writers.push(writer_layout(alloc, plan, WriterNo::new(w))?)?;
@@ -100,7 +100,7 @@ fn writer_layouts(alloc: Global, plan: &Plan) -> Result<Vec<WriterLayout>, Alloc
     Ok(writers)
 }
 
-fn reader_layouts(alloc: Global, plan: &Plan) -> Result<Vec<ReaderLayout>, AllocError> {
+fn reader_layouts(alloc: Global, plan: &Plan) -> Result<Vec<ReaderLayout>, NoMemory> {
     let mut readers = Vec::new(alloc);
     for r in 0..plan.lists().readers() {
         readers.push(reader_layout(alloc, plan, ReaderNo::new(r))?)?;
@@ -108,7 +108,7 @@ fn reader_layouts(alloc: Global, plan: &Plan) -> Result<Vec<ReaderLayout>, Alloc
     Ok(readers)
 }
 
-fn rule_layouts(alloc: Global, plan: &Plan) -> Result<Vec<RuleLayout>, AllocError> {
+fn rule_layouts(alloc: Global, plan: &Plan) -> Result<Vec<RuleLayout>, NoMemory> {
     let mut rules = Vec::new(alloc);
     for u in 0..plan.lists().rules() {
         rules.push(rule_layout(alloc, plan, RuleNo::new(u))?)?;
@@ -117,7 +117,7 @@ fn rule_layouts(alloc: Global, plan: &Plan) -> Result<Vec<RuleLayout>, AllocErro
 }
 
 /// The plan as plain lists.
-pub(crate) fn layout_of(alloc: Global, plan: &Plan) -> Result<Layout, AllocError> {
+pub(crate) fn layout_of(alloc: Global, plan: &Plan) -> Result<Layout, NoMemory> {
     Ok(Layout {
         writers: writer_layouts(alloc, plan)?,
         readers: reader_layouts(alloc, plan)?,

@@ -2,9 +2,10 @@
 
 use crate::tests::comparing::taken;
 use crate::tests::plans::{layout_of, plan_of};
+use dds_base::NoMemory;
 use dds_match::Plan;
 use dds_search::{Counterexample, Refutation, refute};
-use std::alloc::{AllocError, Global};
+use std::alloc::Global;
 use std::process::Abort;
 use std::test::Fail;
 use test_files::drawn::deployment;
@@ -20,7 +21,7 @@ fn expect_same_run(
     alloc: Global,
     plan: &Plan,
     run: &Counterexample,
-) -> Result<(), AllocError> {
+) -> Result<(), NoMemory> {
     let mut world = World::open(alloc, layout_of(alloc, plan)?)?;
     for (event, reply) in run.events.iter().zip(&run.replies) {
         match step_as(&mut world, event, &taken(reply)) {
@@ -32,7 +33,7 @@ fn expect_same_run(
 }
 
 /// Looks for a run of a deployment that loses a sample, and compares the one that is found. Tells whether there is one.
-fn expect_refuted(rt: &impl Abort, alloc: Global, text: &str) -> Result<bool, AllocError> {
+fn expect_refuted(rt: &impl Abort, alloc: Global, text: &str) -> Result<bool, NoMemory> {
     let Ok((refutation, plan)) = refute(alloc, plan_of(rt, alloc, text)) else {
         panic!(rt; "no memory for the search");
     };

@@ -4,15 +4,15 @@ ghost use Rattle.std.specs.Prelude.{◌≡◌, length, IfOk};
 
 use crate::tests::plans::{filter_of, readers_of, writers_of};
 use dds_base::{
-    AckNack, Arrival, Data, DataMsg, GapMsg, Heartbeat, KeyNo, Packet, ReaderNo, Refusal, Reply,
-    RuleNo, Sample, WriterNo,
+    AckNack, Arrival, Data, DataMsg, GapMsg, Heartbeat, KeyNo, NoMemory, Packet, ReaderNo, Refusal,
+    Reply, RuleNo, Sample, WriterNo,
 };
-use dds_match::{NoMemory, Plan};
+use dds_match::Plan;
 use dds_qos::{Due, ReaderLimits, WriterLimits};
 use dds_reader::Reader;
 use dds_rules::{FireRefused, Ledger};
 use dds_writer::{Proxy, WriteRefused, Writer};
-use std::alloc::{AllocError, Global};
+use std::alloc::Global;
 
 /// A ledger, and how many readers it has.
 #[derive(Drop)]
@@ -29,11 +29,11 @@ fn ledger_of(alloc: Global, plan: &Plan) -> Result<Ledger, NoMemory>
 }
 
 impl Accounts {
-    pub(crate) fn open(alloc: Global, plan: &Plan) -> Result<Accounts, AllocError> {
+    pub(crate) fn open(alloc: Global, plan: &Plan) -> Result<Accounts, NoMemory> {
         let readers = plan.lists().readers();
         match ledger_of(alloc, plan) {
             Ok(ledger) => Ok(Accounts { ledger, readers }),
-            Err(_) => Err(AllocError),
+            Err(_) => Err(NoMemory),
         }
     }
 
@@ -63,7 +63,7 @@ pub(crate) struct Speaker {
 }
 
 /// The readers that match a writer, with their filters.
-fn proxies_of(alloc: Global, plan: &Plan, writer: WriterNo) -> Result<Vec<Proxy>, AllocError> {
+fn proxies_of(alloc: Global, plan: &Plan, writer: WriterNo) -> Result<Vec<Proxy>, NoMemory> {
     let mut proxies = Vec::new(alloc);
     for reader in &readers_of(alloc, plan, writer)? {
         let filter = filter_of(alloc, plan, *reader)?;
@@ -82,21 +82,21 @@ impl Speaker {
         plan: &Plan,
         me: WriterNo,
         limits: WriterLimits,
-    ) -> Result<Speaker, AllocError> {
+    ) -> Result<Speaker, NoMemory> {
         let proxies = proxies_of(alloc, plan, me)?;
         let writer = Writer::new(alloc, me, limits, proxies)?;
         Ok(Speaker { writer })
     }
 
     /// A write of a key for which there is a permit.
-    pub(crate) fn write(&mut self, key: KeyNo, payload: Data) -> Result<Reply, AllocError> {
+    pub(crate) fn write(&mut self, key: KeyNo, payload: Data) -> Result<Reply, NoMemory> {
         match self.writer.write(key, payload) {
             Ok(sn) => Ok(Reply::Written(sn)),
             Err(WriteRefused::SequenceEnd) => Ok(Reply::Refused(Refusal::SequenceEnd)),
             Err(WriteRefused::InstanceLimit) => Ok(Reply::Refused(Refusal::InstanceLimit)),
             Err(WriteRefused::Full) => Ok(Reply::Refused(Refusal::Full)),
             Err(WriteRefused::InstanceFull) => Ok(Reply::Refused(Refusal::InstanceFull)),
-            Err(WriteRefused::NoMemory) => Err(AllocError),
+            Err(WriteRefused::NoMemory) => Err(NoMemory),
         }
     }
 
@@ -165,7 +165,7 @@ impl Listener {
         plan: &Plan,
         me: ReaderNo,
         limits: ReaderLimits,
-    ) -> Result<Listener, AllocError> {
+    ) -> Result<Listener, NoMemory> {
         let filter = filter_of(alloc, plan, me)?;
         let writers = writers_of(alloc, plan, me)?;
         let reader = if plan.watcher(me) {
@@ -176,21 +176,21 @@ impl Listener {
         Ok(Listener { me, reader })
     }
 
-    pub(crate) fn on_data(&mut self, data: &DataMsg) -> Result<Arrival, AllocError> {
+    pub(crate) fn on_data(&mut self, data: &DataMsg) -> Result<Arrival, NoMemory> {
         if data.reader != self.me {
             return Ok(Arrival::Stranger);
         }
         self.reader.on_data(data)
     }
 
-    pub(crate) fn on_gap(&mut self, gap: &GapMsg) -> Result<Arrival, AllocError> {
+    pub(crate) fn on_gap(&mut self, gap: &GapMsg) -> Result<Arrival, NoMemory> {
         if gap.reader != self.me {
             return Ok(Arrival::Stranger);
         }
         self.reader.on_gap(gap)
     }
 
-    pub(crate) fn on_heartbeat(&mut self, heartbeat: &Heartbeat) -> Result<Arrival, AllocError> {
+    pub(crate) fn on_heartbeat(&mut self, heartbeat: &Heartbeat) -> Result<Arrival, NoMemory> {
         if heartbeat.reader != self.me {
             return Ok(Arrival::Stranger);
         }

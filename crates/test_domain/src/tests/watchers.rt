@@ -7,10 +7,10 @@ use crate::tests::domains::{make, opened};
 use crate::tests::plans::{layout_of, plan_of};
 use crate::tests::seen::{Kind, kind_of};
 use crate::tests::texts::AGAIN;
-use dds_base::{Event, KeyNo, ReaderNo, WriterNo};
+use dds_base::{Event, KeyNo, NoMemory, ReaderNo, WriterNo};
 use dds_domain::Domain;
 use dds_match::Plan;
-use std::alloc::{AllocError, Global};
+use std::alloc::Global;
 use std::process::Abort;
 use std::test::Fail;
 use test_model::{World, step_as};
@@ -40,7 +40,7 @@ fn make_both(
     domain: &mut Domain,
     world: &mut World,
     event: Event,
-) -> Result<Kind, AllocError> {
+) -> Result<Kind, NoMemory> {
     let reply = make(rt, domain, event);
     match step_as(world, &event, &taken(&reply)) {
         Ok(other) => assert_eq!(rt; reply, other, "{event:?}"),
@@ -50,7 +50,7 @@ fn make_both(
 }
 
 /// Compares how many samples each writer keeps.
-fn expect_same_kept(rt: &impl Abort, domain: &Domain, world: &World) -> Result<(), AllocError> {
+fn expect_same_kept(rt: &impl Abort, domain: &Domain, world: &World) -> Result<(), NoMemory> {
     for w in 0..world.layout().writers.len() {
         let writer = WriterNo::new(w);
         let kept = world.kept(writer)?;
@@ -65,7 +65,7 @@ fn expect_same_unread(
     domain: &Domain,
     world: &World,
     reader: ReaderNo,
-) -> Result<(), AllocError> {
+) -> Result<(), NoMemory> {
     for k in 0..SOME_KEYS {
         let key = KeyNo::new(k);
         let unread = world.unread(reader, key)?;
@@ -75,7 +75,7 @@ fn expect_same_unread(
 }
 
 /// Compares how many samples each reader stores.
-fn expect_same_stored(rt: &impl Abort, domain: &Domain, world: &World) -> Result<(), AllocError> {
+fn expect_same_stored(rt: &impl Abort, domain: &Domain, world: &World) -> Result<(), NoMemory> {
     for r in 0..world.layout().readers.len() {
         let reader = ReaderNo::new(r);
         let stored = world.stored(reader)?;
@@ -96,7 +96,7 @@ fn expect_same_places(rt: &impl Abort, domain: &Domain, world: &World) {
 }
 
 /// Compares all that a domain shows.
-fn expect_same(rt: &impl Abort, domain: &Domain, world: &World) -> Result<(), AllocError> {
+fn expect_same(rt: &impl Abort, domain: &Domain, world: &World) -> Result<(), NoMemory> {
     expect_same_kept(rt, domain, world)?;
     expect_same_stored(rt, domain, world)?;
     expect_same_places(rt, domain, world);
@@ -109,7 +109,7 @@ fn kinds_of_run(
     alloc: Global,
     domain: &mut Domain,
     world: &mut World,
-) -> Result<Vec<Kind>, AllocError> {
+) -> Result<Vec<Kind>, NoMemory> {
     let mut chance = Chance::new(SEED);
     let mut kinds = Vec::new(alloc);
     for _ in 0..EVENTS {
@@ -126,7 +126,7 @@ fn expect_run(
     alloc: Global,
     domain: &mut Domain,
     world: &mut World,
-) -> Result<(), AllocError> {
+) -> Result<(), NoMemory> {
     let kinds = kinds_of_run(rt, alloc, domain, world)?;
     for kind in &WANTED {
         assert!(rt; kinds.iter().any(|k| *k == *kind), "{kind:?} never came");
@@ -134,16 +134,11 @@ fn expect_run(
     Ok(())
 }
 
-fn world_of(alloc: Global, plan: &Plan) -> Result<World, AllocError> {
+fn world_of(alloc: Global, plan: &Plan) -> Result<World, NoMemory> {
     World::open(alloc, layout_of(alloc, plan)?)
 }
 
-fn over_plan(
-    rt: &impl Abort,
-    alloc: Global,
-    plan: Plan,
-    mut world: World,
-) -> Result<(), AllocError> {
+fn over_plan(rt: &impl Abort, alloc: Global, plan: Plan, mut world: World) -> Result<(), NoMemory> {
     let mut domain = opened(rt, alloc, plan);
     let done = expect_run(rt, alloc, &mut domain, &mut world);
     drop(domain);

@@ -3,9 +3,8 @@
 
 use crate::tests::domains::{expect_replies, listed};
 use crate::tests::worked::text_of;
-use dds_base::{Event, KeyNo, ReaderNo, Reply, WriterNo};
+use dds_base::{Event, KeyNo, NoMemory, ReaderNo, Reply, WriterNo};
 use dds_domain::Domain;
-use dds_match::NoMemory;
 use std::alloc::Global;
 use std::process::Abort;
 use std::test::Fail;

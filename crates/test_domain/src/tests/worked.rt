@@ -2,9 +2,9 @@
 
 use crate::tests::comparing::{Both, expect_same};
 use crate::tests::plans::plan_of;
-use dds_base::{ReaderNo, Refusal};
+use dds_base::{NoMemory, ReaderNo, Refusal};
 use dds_match::Plan;
-use std::alloc::{AllocError, Global};
+use std::alloc::Global;
 use std::process::Abort;
 use std::test::Fail;
 use test_files::texts::{LOOP, SMALL};
@@ -89,7 +89,7 @@ fn edits_of(stage: Stage) -> &'static [Edit] {
 }
 
 /// The deployment of a stage. Each change has to find what it changes.
-pub(crate) fn text_of(rt: &impl Abort, alloc: Global, stage: Stage) -> Result<String, AllocError> {
+pub(crate) fn text_of(rt: &impl Abort, alloc: Global, stage: Stage) -> Result<String, NoMemory> {
     let first = if stage == Stage::Loop { LOOP } else { SMALL };
     let mut all = String::from_str(alloc, first)?;
     for (old, new) in edits_of(stage) {
@@ -123,14 +123,14 @@ fn answer(both: &Both, asked: Move) -> Told {
 }
 
 /// Makes a move on both sides, and tells what the parts reply.
-fn make(rt: &impl Abort, both: &mut Both, plan: &Plan, asked: Move) -> Result<Told, AllocError> {
+fn make(rt: &impl Abort, both: &mut Both, plan: &Plan, asked: Move) -> Result<Told, NoMemory> {
     match event_of(asked) {
         Some(event) => Ok(told_of(&both.enter_same(rt, plan, &event)?)),
         None => Ok(answer(both, asked)),
     }
 }
 
-fn over_plan(rt: &impl Abort, alloc: Global, plan: &Plan, run: &Run) -> Result<(), AllocError> {
+fn over_plan(rt: &impl Abort, alloc: Global, plan: &Plan, run: &Run) -> Result<(), NoMemory> {
     let mut both = Both::open(alloc, plan)?;
     for (asked, told) in run.moves {
         assert_eq!(rt;
@@ -145,7 +145,7 @@ fn over_plan(rt: &impl Abort, alloc: Global, plan: &Plan, run: &Run) -> Result<(
     Ok(())
 }
 
-fn expect(rt: &impl Abort, alloc: Global, run: &Run) -> Result<(), AllocError> {
+fn expect(rt: &impl Abort, alloc: Global, run: &Run) -> Result<(), NoMemory> {
     let text = text_of(rt, alloc, run.stage)?;
     let plan = plan_of(rt, alloc, text.as_str());
     let done = over_plan(rt, alloc, &plan, run);
@@ -167,13 +167,13 @@ fn expect_move(
     plan: &Plan,
     asked: Move,
     told: Told,
-) -> Result<(), AllocError> {
+) -> Result<(), NoMemory> {
     assert_eq!(rt; make(rt, both, plan, asked)?, told, "{asked:?}");
     Ok(())
 }
 
 /// Sends a HEARTBEAT to each place of the bus.
-fn fill(rt: &impl Abort, both: &mut Both, plan: &Plan) -> Result<(), AllocError> {
+fn fill(rt: &impl Abort, both: &mut Both, plan: &Plan) -> Result<(), NoMemory> {
     for place in 0..PLACES {
         expect_move(rt, both, plan, Move::SendHeartbeat(0, 0), Told::Sent(place))?;
     }
@@ -191,7 +191,7 @@ pub(crate) const ON_A_FULL_BUS: [(Move, Told); 4] = [
     ),
 ];
 
-fn over_full_bus(rt: &impl Abort, alloc: Global, plan: &Plan) -> Result<(), AllocError> {
+fn over_full_bus(rt: &impl Abort, alloc: Global, plan: &Plan) -> Result<(), NoMemory> {
     let mut both = Both::open(alloc, plan)?;
     fill(rt, &mut both, plan)?;
     for (asked, told) in &ON_A_FULL_BUS {
@@ -202,7 +202,7 @@ fn over_full_bus(rt: &impl Abort, alloc: Global, plan: &Plan) -> Result<(), Allo
     Ok(())
 }
 
-fn expect_full_bus(rt: &impl Abort, alloc: Global) -> Result<(), AllocError> {
+fn expect_full_bus(rt: &impl Abort, alloc: Global) -> Result<(), NoMemory> {
     let text = text_of(rt, alloc, Stage::Small(1))?;
     let plan = plan_of(rt, alloc, text.as_str());
     let done = over_full_bus(rt, alloc, &plan);

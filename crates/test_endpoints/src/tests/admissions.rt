@@ -10,10 +10,10 @@ mod later;
 
 use crate::tests::caches::Fed;
 use crate::tests::forms::CacheForm;
-use dds_base::{Rejection, Sample};
+use dds_base::{NoMemory, Rejection, Sample};
 use dds_cache::Cache;
 use dds_qos::{Admit, ReaderLimits};
-use std::alloc::{AllocError, Global};
+use std::alloc::Global;
 use std::process::Abort;
 use std::test::Fail;
 use test_forms::PlainCache;
@@ -37,7 +37,7 @@ struct Written {
 }
 
 /// The calls of a program.
-fn calls(alloc: Global, text: &str) -> Result<Vec<Written>, AllocError> {
+fn calls(alloc: Global, text: &str) -> Result<Vec<Written>, NoMemory> {
     let mut calls: Vec<Written> = Vec::new(alloc);
     for byte in text.as_bytes() {
         if byte.is_ascii_lowercase() {
@@ -56,6 +56,12 @@ fn calls(alloc: Global, text: &str) -> Result<Vec<Written>, AllocError> {
         }
     }
     Ok(calls)
+}
+
+impl Written {
+    fn is_take(&self) -> bool {
+        self.letter == b'T' || self.letter == b'E'
+    }
 }
 
 /// The answer that is wanted. `None` for a letter that none has.
@@ -97,8 +103,8 @@ fn make<C: CacheForm>(
     fed: &mut Fed<C>,
     call: &Written,
     next: u64,
-) -> Result<Option<Answer>, AllocError> {
-    if call.letter == b'T' || call.letter == b'E' {
+) -> Result<Option<Answer>, NoMemory> {
+    if call.is_take() {
         return Ok(Some(taken(fed.take(call.key))));
     }
     let answer = fed.admit(0, next, call.key)?;
@@ -106,49 +112,72 @@ fn make<C: CacheForm>(
     Ok(answer.map(admitted))
 }
 
-/// Makes the calls of a program, and answers how many there are.
-fn expect<C: CacheForm>(
-    rt: &impl Abort,
-    alloc: Global,
-    program: &str,
-) -> Result<usize, AllocError> {
+/// The limits of a program.
+fn limits(program: &str) -> ReaderLimits {
     let mut words = program.split(' ');
-    let limits = ReaderLimits {
+    ReaderLimits {
         keep_last: limit(words.next()),
         max_samples: limit(words.next()),
         max_instances: limit(words.next()),
         max_samples_per_instance: limit(words.next()),
+    }
+}
+
+/// Compares the answer to a call, at which the next sample has this number.
+fn expect_answer(
+    rt: &impl Abort,
+    program: &str,
+    call: &Written,
+    answer: Option<Answer>,
+    next: u64,
+) {
+    let Some(want) = wanted(call) else {
+        panic!(rt; "{program}");
     };
-    let calls = calls(alloc, words.next().unwrap_or(""))?;
-    let mut fed = Fed::<C>::new(alloc, limits)?;
+    assert_eq!(rt; answer, Some(want), "sample {next} of {program}");
+}
+
+/// Makes the calls of a program.
+fn expect<C: CacheForm>(
+    rt: &impl Abort,
+    alloc: Global,
+    program: &str,
+    calls: &[Written],
+) -> Result<(), NoMemory> {
+    let mut fed = Fed::<C>::new(alloc, limits(program))?;
     let mut next: u64 = 1;
-    for call in &calls {
-        let want = wanted(call);
-        assert!(rt; want.is_some(), "{program}");
-        assert_eq!(rt;
-            make(&mut fed, call, next)?,
-            want,
-            "sample {next} of {program}"
-        );
-        if !matches!(want, Some(Answer::Took(_) | Answer::Empty)) {
+    for call in calls {
+        let answer = make(&mut fed, call, next)?;
+        expect_answer(rt, program, call, answer, next);
+        if !call.is_take() {
             next = next.wrapping_add(1);
         }
     }
-    Ok(calls.len())
+    Ok(())
+}
+
+/// Makes the 40 calls of a program on both forms.
+fn expect_on_both(rt: &impl Abort, alloc: Global, program: &str) -> Result<(), NoMemory> {
+    let calls = calls(alloc, program.split(' ').nth(4).unwrap_or(""))?;
+    assert_eq!(rt; calls.len(), 40, "{program}");
+    expect::<Cache>(rt, alloc, program, &calls)?;
+    expect::<PlainCache>(rt, alloc, program, &calls)
+}
+
+/// Makes the programs of a text, and answers how many there are.
+fn expect_programs(rt: &impl Abort, alloc: Global, programs: &str) -> Result<u64, NoMemory> {
+    let mut count: u64 = 0;
+    for program in programs.lines() {
+        expect_on_both(rt, alloc, program)?;
+        count = count.wrapping_add(1);
+    }
+    Ok(count)
 }
 
 #[test]
 fn admits_as_elsewhere(rt: HostRuntime) -> Result<(), Fail> {
-    let mut programs: u64 = 0;
-    for program in earlier::PROGRAMS.lines().chain(later::PROGRAMS.lines()) {
-        assert_eq!(rt; expect::<Cache>(&rt, rt.alloc(), program)?, 40, "{program}");
-        assert_eq!(rt;
-            expect::<PlainCache>(&rt, rt.alloc(), program)?,
-            40,
-            "{program}"
-        );
-        programs = programs.wrapping_add(1);
-    }
-    assert_eq!(rt; programs, 1200);
+    let earlier = expect_programs(&rt, rt.alloc(), earlier::PROGRAMS)?;
+    let later = expect_programs(&rt, rt.alloc(), later::PROGRAMS)?;
+    assert_eq!(rt; earlier.wrapping_add(later), 1200);
     Ok(())
 }

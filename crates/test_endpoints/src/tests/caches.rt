@@ -5,10 +5,10 @@ ghost use Rattle.dds_qos.specs.Admission.{is_rejected};
 ghost use Rattle.dds_cache.specs.Released.{is_listed};
 
 use crate::tests::forms::CacheForm;
-use dds_base::{KeyNo, Rejection, Sample, WriterNo};
+use dds_base::{KeyNo, NoMemory, Rejection, Sample, WriterNo};
 use dds_cache::Cache;
 use dds_qos::{Admit, ReaderLimits};
-use std::alloc::{AllocError, Global};
+use std::alloc::Global;
 use std::process::Abort;
 use std::test::Fail;
 use test_forms::PlainCache;
@@ -43,7 +43,7 @@ fn last_after(answer: &Admit, last: u64, sn: u64) -> u64
 }
 
 impl<C: CacheForm> Fed<C> {
-    pub(crate) fn new(alloc: Global, limits: ReaderLimits) -> Result<Fed<C>, AllocError> {
+    pub(crate) fn new(alloc: Global, limits: ReaderLimits) -> Result<Fed<C>, NoMemory> {
         let cache = C::new(alloc, limits, &[WriterNo::new(0), WriterNo::new(1)])?;
         Ok(Fed {
             cache,
@@ -63,7 +63,7 @@ impl<C: CacheForm> Fed<C> {
         writer: usize,
         sn: u64,
         key: usize,
-    ) -> Result<Option<Admit>, AllocError> {
+    ) -> Result<Option<Admit>, NoMemory> {
         if writer >= 2 || sn <= self.last[writer] {
             return Ok(None);
         }
@@ -153,7 +153,7 @@ impl<C: CacheForm> Fed<C> {
     }
 
     /// Makes a call, and once more where no memory was left for it and it changed nothing.
-    fn call(&mut self, call: Call) -> Result<Answer, AllocError> {
+    fn call(&mut self, call: Call) -> Result<Answer, NoMemory> {
         let before = self.seen();
         match self.attempt(call) {
             Err(_) if self.seen() == before => self.attempt(call),
@@ -161,7 +161,7 @@ impl<C: CacheForm> Fed<C> {
         }
     }
 
-    fn attempt(&mut self, call: Call) -> Result<Answer, AllocError> {
+    fn attempt(&mut self, call: Call) -> Result<Answer, NoMemory> {
         match call {
             Call::Admit(sn, key) => Ok(admitted(self.admit(0, sn, key)?, key)),
             Call::Release(upto) => {
@@ -255,19 +255,30 @@ static RUNS: [Run; 3] = [
 ];
 
 /// A cache, made once more where no memory was left for it.
-fn cache_of<C: CacheForm>(alloc: Global, limits: ReaderLimits) -> Result<Fed<C>, AllocError> {
+fn cache_of<C: CacheForm>(alloc: Global, limits: ReaderLimits) -> Result<Fed<C>, NoMemory> {
     match Fed::new(alloc, limits) {
         Err(_) => Fed::new(alloc, limits),
         made => made,
     }
 }
 
-fn expect<C: CacheForm>(rt: &impl Abort, alloc: Global, run: &Run) -> Result<(), AllocError> {
+/// Compares what a call answered, and how many samples are stored and how many instances known then.
+fn expect_answer(
+    rt: &impl Abort,
+    about: &str,
+    call: &Call,
+    have: (Answer, usize, usize),
+    wanted: (Answer, usize, usize),
+) {
+    assert_eq!(rt; have, wanted, "{about}: {call:?}");
+}
+
+fn expect<C: CacheForm>(rt: &impl Abort, alloc: Global, run: &Run) -> Result<(), NoMemory> {
     let mut fed = cache_of::<C>(alloc, run.limits)?;
     for (call, answer, stored, known) in run.calls {
-        assert_eq!(rt; fed.call(*call)?, *answer, "{}: {call:?}", run.about);
-        assert_eq!(rt; fed.cache.stored(), *stored, "{}: {call:?}", run.about);
-        assert_eq!(rt; fed.cache.instances(), *known, "{}: {call:?}", run.about);
+        let answered = fed.call(*call)?;
+        let have = (answered, fed.cache.stored(), fed.cache.instances());
+        expect_answer(rt, run.about, call, have, (*answer, *stored, *known));
     }
     Ok(())
 }

@@ -11,8 +11,9 @@ mod told;
 mod writers;
 
 use crate::tests::drawn::told::{Call, Kind, Seen, Told};
+use dds_base::NoMemory;
 use dds_qos::ReaderLimits;
-use std::alloc::{AllocError, Global};
+use std::alloc::Global;
 use std::process::Abort;
 
 /// The limits of a reader: how many samples it keeps of a key, and how many samples, keys and samples of a key it may have.
@@ -32,7 +33,7 @@ fn reader_limits(row: [Option<u32>; 4]) -> ReaderLimits {
 }
 
 /// What draws numbers, by a linear congruential generator.
-#[derive(Drop)]
+#[derive(Clone, Copy)]
 struct Dice {
     state: u64,
 }
@@ -82,10 +83,26 @@ impl Dice {
 /// A form of a cache, a reader or a writer.
 trait Subject: Drop {
     /// Makes a drawn call, and gives its answer.
-    fn make(&mut self, dice: &mut Dice) -> Result<Told, AllocError>;
+    fn make(&mut self, dice: &mut Dice) -> Result<Told, NoMemory>;
 
     /// All that it shows.
     fn shown(&self) -> Seen;
+}
+
+/// Makes the next drawn call on both forms, and gives it with the kind of its answer. `None` where the answers differ, or what is seen then.
+fn make_both<F: Subject, P: Subject>(
+    fast: &mut F,
+    plain: &mut P,
+    fast_dice: &mut Dice,
+    plain_dice: &mut Dice,
+) -> Result<Option<(Call, Kind)>, NoMemory> {
+    let told = fast.make(fast_dice)?;
+    let plainly = plain.make(plain_dice)?;
+    if told == plainly && fast.shown() == plain.shown() {
+        Ok(Some((told.call(), told.kind())))
+    } else {
+        Ok(None)
+    }
 }
 
 /// The calls that were made, with the kinds of their answers.
@@ -109,18 +126,18 @@ impl Tally {
         plain: P,
         seed: u64,
         calls: usize,
-    ) -> Result<(), AllocError> {
+    ) -> Result<(), NoMemory> {
         let mut fast = fast;
         let mut plain = plain;
         let mut fast_dice = Dice::new(seed);
         let mut plain_dice = Dice::new(seed);
         for call in 0..calls {
-            let told = fast.make(&mut fast_dice)?;
-            let plainly = plain.make(&mut plain_dice)?;
-            assert!(rt; told == plainly, "the answer of call {call}, seed {seed}");
-            let same = fast.shown() == plain.shown();
-            assert!(rt; same, "after call {call}, seed {seed}");
-            self.answers.push((told.call(), told.kind()))?;
+            match make_both(&mut fast, &mut plain, &mut fast_dice, &mut plain_dice)? {
+                Some(answer) => self.answers.push(answer)?,
+                None => panic!(rt;
+                    "call {call}, seed {seed}: another answer, or something else is seen"
+                ),
+            }
         }
         Ok(())
     }

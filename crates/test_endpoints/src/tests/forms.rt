@@ -15,17 +15,17 @@ ghost use Rattle.dds_writer.specs.Proxies.{is_matched, proxy_of};
 ghost use Rattle.dds_writer.specs.Writer.{WriterState};
 
 use dds_base::{
-    AckNack, Arrival, Data, DataMsg, GapMsg, Heartbeat, KeyNo, ReaderNo, Sample, WriterNo,
+    AckNack, Arrival, Data, DataMsg, GapMsg, Heartbeat, KeyNo, NoMemory, ReaderNo, Sample, WriterNo,
 };
 use dds_qos::{Admit, Due, ReaderLimits, WriterLimits};
 use dds_writer::{Proxy, WriteRefused};
-use std::alloc::{AllocError, Global};
+use std::alloc::Global;
 
 /// A form of the cache.
 pub(crate) trait CacheForm: Drop {
     ghost state: { Self → CacheState };
 
-    fn new(alloc: Global, limits: ReaderLimits, writers: &[WriterNo]) -> Result<Self, AllocError>
+    fn new(alloc: Global, limits: ReaderLimits, writers: &[WriterNo]) -> Result<Self, NoMemory>
         ensures stored { IfOk result (λ c. (state c).stored ≡ []) }
         ensures writers { IfOk result (λ c. (state c).writers ≡ opened writers.now) };
 
@@ -37,7 +37,7 @@ pub(crate) trait CacheForm: Drop {
 
     fn admission(&self, sample: &Sample) -> Admit;
 
-    fn admit(&mut self, sample: Sample) -> Result<Admit, AllocError>
+    fn admit(&mut self, sample: Sample) -> Result<Admit, NoMemory>
         requires listed { IsTrue (is_listed sample.writer (state self.old).writers) }
         requires fresh { IsFresh (state self.old).stored sample }
         ensures stored { IfOk result (λ a. (state self.new).stored ≡ stored_after a (state self.old).stored sample) }
@@ -64,7 +64,7 @@ pub(crate) trait ReaderForm: Drop {
         limits: ReaderLimits,
         filter: &[KeyNo],
         writers: &[WriterNo],
-    ) -> Result<Self, AllocError>
+    ) -> Result<Self, NoMemory>
         ensures { IfOk result (λ r. (state r).me ≡ me) };
 
     fn watching(
@@ -73,7 +73,7 @@ pub(crate) trait ReaderForm: Drop {
         limits: ReaderLimits,
         filter: &[KeyNo],
         writers: &[WriterNo],
-    ) -> Result<Self, AllocError>
+    ) -> Result<Self, NoMemory>
         ensures { IfOk result (λ r. (state r).me ≡ me) };
 
     fn base(&self, writer: WriterNo) -> u64;
@@ -90,15 +90,15 @@ pub(crate) trait ReaderForm: Drop {
     fn take(&mut self, key: KeyNo) -> Option<Sample>
         ensures { (state self.new).me ≡ (state self.old).me };
 
-    fn on_data(&mut self, message: &DataMsg) -> Result<Arrival, AllocError>
+    fn on_data(&mut self, message: &DataMsg) -> Result<Arrival, NoMemory>
         requires { message.now.reader ≡ (state self.old).me }
         ensures { (state self.new).me ≡ (state self.old).me };
 
-    fn on_gap(&mut self, gap: &GapMsg) -> Result<Arrival, AllocError>
+    fn on_gap(&mut self, gap: &GapMsg) -> Result<Arrival, NoMemory>
         requires { gap.now.reader ≡ (state self.old).me }
         ensures { (state self.new).me ≡ (state self.old).me };
 
-    fn on_heartbeat(&mut self, heartbeat: &Heartbeat) -> Result<Arrival, AllocError>
+    fn on_heartbeat(&mut self, heartbeat: &Heartbeat) -> Result<Arrival, NoMemory>
         requires { heartbeat.now.reader ≡ (state self.old).me }
         ensures { (state self.new).me ≡ (state self.old).me };
 }
@@ -113,7 +113,7 @@ pub(crate) trait WriterForm: Drop {
         limits: WriterLimits,
         proxies: Vec<Proxy>,
         written: u64,
-    ) -> Result<Self, AllocError>
+    ) -> Result<Self, NoMemory>
         requires { written ≤ last_number };
 
     fn number(&self) -> WriterNo

@@ -5,12 +5,12 @@ ghost use Rattle.std.specs.Prelude.{◌≡◌};
 use crate::tests::caches::{is_sent, sample};
 use crate::tests::forms::ReaderForm;
 use dds_base::{
-    AckNack, Arrival, DataMsg, GapMsg, Heartbeat, KeyNo, ReaderNo, Rejection, Sample, SnSet,
-    WriterNo,
+    AckNack, Arrival, DataMsg, GapMsg, Heartbeat, KeyNo, NoMemory, ReaderNo, Rejection, Sample,
+    SnSet, WriterNo,
 };
 use dds_qos::ReaderLimits;
 use dds_reader::Reader;
-use std::alloc::{AllocError, Global};
+use std::alloc::Global;
 use std::process::Abort;
 use std::test::Fail;
 use test_forms::PlainReader;
@@ -145,7 +145,7 @@ impl<R: ReaderForm> Listener<R> {
         limits: ReaderLimits,
         filter: &[KeyNo],
         writers: &[WriterNo],
-    ) -> Result<Listener<R>, AllocError> {
+    ) -> Result<Listener<R>, NoMemory> {
         let me = ReaderNo::new(5);
         let reader = if watching {
             R::watching(alloc, me, limits, filter, writers)?
@@ -166,7 +166,7 @@ impl<R: ReaderForm> Listener<R> {
         writer: usize,
         sn: u64,
         key: usize,
-    ) -> Result<Option<Arrival>, AllocError> {
+    ) -> Result<Option<Arrival>, NoMemory> {
         let Some(data) = DataMsg::new(self.me, sample(writer, sn, key)) else {
             return Ok(None);
         };
@@ -180,7 +180,7 @@ impl<R: ReaderForm> Listener<R> {
         start: u64,
         base: u64,
         numbers: &[u64],
-    ) -> Result<Option<Arrival>, AllocError> {
+    ) -> Result<Option<Arrival>, NoMemory> {
         let Some(set) = SnSet::new(base, numbers) else {
             return Ok(None);
         };
@@ -196,7 +196,7 @@ impl<R: ReaderForm> Listener<R> {
         writer: usize,
         first: u64,
         last: u64,
-    ) -> Result<Option<Arrival>, AllocError> {
+    ) -> Result<Option<Arrival>, NoMemory> {
         let Some(heartbeat) = Heartbeat::new(WriterNo::new(writer), self.me, first, last) else {
             return Ok(None);
         };
@@ -229,7 +229,7 @@ impl<R: ReaderForm> Listener<R> {
     }
 
     /// Makes a call, and once more where no memory was left for it and it changed nothing.
-    fn call(&mut self, call: Call) -> Result<Answer, AllocError> {
+    fn call(&mut self, call: Call) -> Result<Answer, NoMemory> {
         let before = self.seen();
         match self.attempt(call) {
             Err(_) if self.seen() == before => self.attempt(call),
@@ -237,7 +237,7 @@ impl<R: ReaderForm> Listener<R> {
         }
     }
 
-    fn attempt(&mut self, call: Call) -> Result<Answer, AllocError> {
+    fn attempt(&mut self, call: Call) -> Result<Answer, NoMemory> {
         match call {
             Call::Data(sn, key) => Ok(arrived(self.data(0, sn, key)?, key)),
             Call::StrangeData => Ok(arrived(self.data(1, 1, 0)?, 0)),
@@ -568,7 +568,7 @@ const THREE_OF_A_KEY: ReaderLimits = ReaderLimits {
 };
 
 /// The reader of a run, which takes the first keys.
-fn reader_of<R: ReaderForm>(alloc: Global, run: &Run) -> Result<Listener<R>, AllocError> {
+fn reader_of<R: ReaderForm>(alloc: Global, run: &Run) -> Result<Listener<R>, NoMemory> {
     let both = [KeyNo::new(0), KeyNo::new(1)];
     let filter = if run.keys == 1 {
         &both[..1]
@@ -579,17 +579,22 @@ fn reader_of<R: ReaderForm>(alloc: Global, run: &Run) -> Result<Listener<R>, All
 }
 
 /// The reader of a run, made once more where no memory was left for it.
-fn made_for<R: ReaderForm>(alloc: Global, run: &Run) -> Result<Listener<R>, AllocError> {
+fn made_for<R: ReaderForm>(alloc: Global, run: &Run) -> Result<Listener<R>, NoMemory> {
     match reader_of(alloc, run) {
         Err(_) => reader_of(alloc, run),
         made => made,
     }
 }
 
-fn expect<R: ReaderForm>(rt: &impl Abort, alloc: Global, run: &Run) -> Result<(), AllocError> {
+fn expect_answer(rt: &impl Abort, about: &str, call: &Call, have: Answer, wanted: Answer) {
+    assert_eq!(rt; have, wanted, "{about}: {call:?}");
+}
+
+fn expect<R: ReaderForm>(rt: &impl Abort, alloc: Global, run: &Run) -> Result<(), NoMemory> {
     let mut listener = made_for::<R>(alloc, run)?;
     for (call, answer) in run.calls {
-        assert_eq!(rt; listener.call(*call)?, *answer, "{}: {call:?}", run.about);
+        let have = listener.call(*call)?;
+        expect_answer(rt, run.about, call, have, *answer);
     }
     Ok(())
 }

@@ -1,35 +1,17 @@
-//! A writer with two readers, of which the first takes key 0 alone, call by call; a writer with a watcher; and one at the end of its numbers.
+//! Writers call by call: what their limits refuse, what they send to a reader and to a watcher, what they keep, and the end of their numbers.
 //! Each run is made on both forms.
 
 ghost use Rattle.std.specs.Prelude.{◌≤◌};
 ghost use Rattle.dds_base.specs.Sets.{last_number};
 
 use crate::tests::forms::WriterForm;
-use dds_base::{AckNack, DataMsg, GapMsg, Heartbeat, KeyNo, ReaderNo, SnSet, WriterNo};
+use dds_base::{AckNack, DataMsg, GapMsg, Heartbeat, KeyNo, NoMemory, ReaderNo, SnSet, WriterNo};
 use dds_qos::{Due, WriterLimits};
 use dds_writer::{Proxy, WriteRefused, Writer};
-use std::alloc::{AllocError, Global};
+use std::alloc::Global;
 use std::process::Abort;
 use std::test::Fail;
 use test_forms::PlainWriter;
-
-const NO_LIMITS: WriterLimits = WriterLimits {
-    max_samples: None,
-    max_instances: None,
-    max_samples_per_instance: None,
-};
-
-const ONE_SAMPLE: WriterLimits = WriterLimits {
-    max_samples: Some(1),
-    max_instances: None,
-    max_samples_per_instance: None,
-};
-
-const TWO_SAMPLES: WriterLimits = WriterLimits {
-    max_samples: Some(2),
-    max_instances: None,
-    max_samples_per_instance: None,
-};
 
 /// A writer.
 #[derive(Drop)]
@@ -38,29 +20,17 @@ pub(crate) struct Speaker<W: WriterForm> {
 }
 
 impl<W: WriterForm> Speaker<W> {
-    fn new(
-        alloc: Global,
-        limits: WriterLimits,
-        proxies: Vec<Proxy>,
-    ) -> Result<Speaker<W>, AllocError> {
-        Speaker::starting(alloc, limits, proxies, 0)
-    }
-
     /// A writer of which so many samples are written.
     pub(crate) fn starting(
         alloc: Global,
         limits: WriterLimits,
         proxies: Vec<Proxy>,
         written: u64,
-    ) -> Result<Speaker<W>, AllocError>
+    ) -> Result<Speaker<W>, NoMemory>
         requires { written ≤ last_number }
     {
         let writer = W::starting(alloc, WriterNo::new(7), limits, proxies, written)?;
         Ok(Speaker { writer })
-    }
-
-    fn kept(&self) -> usize {
-        self.writer.kept()
     }
 
     /// How many samples are written and kept.
@@ -209,7 +179,7 @@ impl<W: WriterForm> Speaker<W> {
 }
 
 // The keys below this one.
-fn keys_below(alloc: Global, count: usize) -> Result<Vec<KeyNo>, AllocError> {
+fn keys_below(alloc: Global, count: usize) -> Result<Vec<KeyNo>, NoMemory> {
     let mut keys = Vec::new(alloc);
     for k in 0..count {
         keys.push(KeyNo::new(k))?;
@@ -223,7 +193,7 @@ pub(crate) fn proxy(
     reader: usize,
     keys: usize,
     watcher: bool,
-) -> Result<Proxy, AllocError> {
+) -> Result<Proxy, NoMemory> {
     Ok(Proxy {
         reader: ReaderNo::new(reader),
         filter: keys_below(alloc, keys)?,
@@ -231,185 +201,307 @@ pub(crate) fn proxy(
     })
 }
 
-fn two_readers<W: WriterForm>(alloc: Global) -> Result<Speaker<W>, AllocError> {
-    let limits = WriterLimits {
+/// One call of a writer.
+#[derive(Clone, Copy, Debug)]
+enum Call {
+    /// Writes a sample of this key.
+    Write(usize),
+    /// A reader's ACKNACK with this base, which asks for these numbers.
+    AckNack(usize, u64, &'static [u64]),
+    /// The DATA of this number was sent to a reader.
+    NoteSent(usize, u64),
+    /// The number of the DATA to a reader.
+    Data(usize, u64),
+    /// The GAP to a reader from this number on.
+    Gap(usize, u64),
+    Heartbeat(usize),
+    Due(usize),
+    Base(usize),
+    /// How many samples are kept.
+    Kept,
+    /// How many samples are written and kept.
+    Counts,
+}
+
+/// What is answered.
+#[derive(Clone, Copy, Debug, PartialEq, Eq)]
+enum Answer {
+    Wrote(Result<u64, WriteRefused>),
+    Heard,
+    Noted,
+    /// A number: of a DATA, or of a base.
+    Number(Option<u64>),
+    /// The start and the end of a GAP, and whether its set is empty.
+    Gap(Option<(u64, u64, bool)>),
+    /// The first and the last number of a HEARTBEAT.
+    Heartbeat(Option<(u64, u64)>),
+    Due(Option<Due>),
+    Kept(usize),
+    Counts(u64, usize),
+}
+
+impl<W: WriterForm> Speaker<W> {
+    fn call(&mut self, call: Call) -> Answer {
+        match call {
+            Call::Write(key) => Answer::Wrote(self.write(key)),
+            Call::AckNack(reader, base, numbers) => {
+                self.acknack(reader, base, numbers);
+                Answer::Heard
+            }
+            Call::NoteSent(reader, sn) => {
+                self.note_sent(reader, sn);
+                Answer::Noted
+            }
+            asked => self.answer(asked),
+        }
+    }
+
+    /// What a call answers that changes nothing.
+    fn answer(&self, asked: Call) -> Answer {
+        match asked {
+            Call::Data(reader, sn) => Answer::Number(self.data(reader, sn)),
+            Call::Gap(reader, start) => Answer::Gap(self.gap(reader, start)),
+            Call::Heartbeat(reader) => Answer::Heartbeat(self.heartbeat(reader)),
+            Call::Due(reader) => Answer::Due(self.due(reader)),
+            Call::Base(reader) => Answer::Number(self.base(reader)),
+            Call::Kept => Answer::Kept(self.writer.kept()),
+            _ => Answer::Counts(self.writer.written(), self.writer.kept()),
+        }
+    }
+}
+
+/// A writer with its readers, each with the count of its keys and whether it watches, and its calls in order with their answers.
+struct Run {
+    about: &'static str,
+    limits: WriterLimits,
+    readers: &'static [(usize, usize, bool)],
+    /// Whether all numbers but one are written.
+    at_the_end: bool,
+    calls: &'static [(Call, Answer)],
+}
+
+const NO_LIMITS: WriterLimits = WriterLimits {
+    max_samples: None,
+    max_instances: None,
+    max_samples_per_instance: None,
+};
+
+/// The last number of a writer.
+const LAST: u64 = (1 << 63) - 1;
+
+const OF_TWO_READERS: &[(Call, Answer)] = &[
+    (Call::Write(0), Answer::Wrote(Ok(1))),
+    (Call::Write(0), Answer::Wrote(Ok(2))),
+    (
+        Call::Write(0),
+        Answer::Wrote(Err(WriteRefused::InstanceFull)),
+    ),
+    (Call::Write(1), Answer::Wrote(Ok(3))),
+    (Call::Write(1), Answer::Wrote(Err(WriteRefused::Full))),
+    (
+        Call::Write(2),
+        Answer::Wrote(Err(WriteRefused::InstanceLimit)),
+    ),
+    (Call::Data(1, 3), Answer::Number(None)),
+    (Call::Data(2, 3), Answer::Number(Some(3))),
+    (Call::Gap(1, 3), Answer::Gap(Some((3, 4, true)))),
+    (Call::Heartbeat(1), Answer::Heartbeat(Some((1, 3)))),
+    (Call::Due(1), Answer::Due(Some(Due::Data(1)))),
+    (Call::NoteSent(1, 1), Answer::Noted),
+    (Call::Due(1), Answer::Due(Some(Due::Data(2)))),
+    (Call::AckNack(1, 1, &[1]), Answer::Heard),
+    (Call::Due(1), Answer::Due(Some(Due::Data(1)))),
+    (Call::AckNack(1, 4, &[]), Answer::Heard),
+    (Call::Kept, Answer::Kept(3)),
+    (Call::AckNack(2, 3, &[]), Answer::Heard),
+    (Call::Kept, Answer::Kept(1)),
+    (Call::Heartbeat(1), Answer::Heartbeat(Some((3, 3)))),
+    (Call::AckNack(2, 2, &[]), Answer::Heard),
+    (Call::Base(2), Answer::Number(Some(3))),
+    (Call::AckNack(2, 5, &[]), Answer::Heard),
+    (Call::Base(2), Answer::Number(Some(3))),
+    (Call::AckNack(2, 4, &[]), Answer::Heard),
+    (Call::Kept, Answer::Kept(0)),
+    (Call::Heartbeat(2), Answer::Heartbeat(Some((4, 3)))),
+    (Call::Write(0), Answer::Wrote(Ok(4))),
+];
+
+const OF_A_WATCHER: &[(Call, Answer)] = &[
+    (Call::Due(3), Answer::Due(None)),
+    (Call::Write(0), Answer::Wrote(Ok(1))),
+    (Call::Write(0), Answer::Wrote(Ok(2))),
+    (Call::Kept, Answer::Kept(0)),
+    (Call::Data(3, 1), Answer::Number(None)),
+    (Call::Data(3, 2), Answer::Number(Some(2))),
+    (Call::Gap(3, 1), Answer::Gap(None)),
+    (Call::Heartbeat(3), Answer::Heartbeat(None)),
+    (Call::Due(3), Answer::Due(Some(Due::Data(2)))),
+    (Call::NoteSent(3, 2), Answer::Noted),
+    (Call::Due(3), Answer::Due(None)),
+    (Call::AckNack(3, 1, &[2]), Answer::Heard),
+    (Call::Due(3), Answer::Due(None)),
+    (Call::AckNack(3, 3, &[]), Answer::Heard),
+    (Call::Base(3), Answer::Number(Some(1))),
+    (Call::Data(3, 2), Answer::Number(Some(2))),
+    (Call::Write(1), Answer::Wrote(Ok(3))),
+    (Call::Data(3, 2), Answer::Number(None)),
+    (Call::Data(3, 3), Answer::Number(None)),
+    (Call::Gap(3, 3), Answer::Gap(None)),
+    (Call::Due(3), Answer::Due(None)),
+    (Call::Write(0), Answer::Wrote(Ok(4))),
+    (Call::Due(3), Answer::Due(Some(Due::Data(4)))),
+];
+
+const OF_A_WATCHER_BESIDE: &[(Call, Answer)] = &[
+    (Call::Write(0), Answer::Wrote(Ok(1))),
+    (Call::Write(0), Answer::Wrote(Ok(2))),
+    (Call::Write(0), Answer::Wrote(Err(WriteRefused::Full))),
+    (Call::Data(3, 1), Answer::Number(Some(1))),
+    (Call::Due(3), Answer::Due(Some(Due::Data(1)))),
+    (Call::NoteSent(3, 1), Answer::Noted),
+    (Call::Due(3), Answer::Due(Some(Due::Data(2)))),
+    (Call::Due(1), Answer::Due(Some(Due::Data(1)))),
+    (Call::AckNack(3, 3, &[]), Answer::Heard),
+    (Call::Kept, Answer::Kept(2)),
+    (Call::Base(3), Answer::Number(Some(1))),
+    (Call::AckNack(1, 2, &[]), Answer::Heard),
+    (Call::Kept, Answer::Kept(1)),
+    (Call::Data(3, 1), Answer::Number(None)),
+    (Call::Heartbeat(1), Answer::Heartbeat(Some((2, 2)))),
+    (Call::Heartbeat(3), Answer::Heartbeat(None)),
+    (Call::AckNack(1, 3, &[]), Answer::Heard),
+    (Call::Kept, Answer::Kept(0)),
+    (Call::Data(3, 2), Answer::Number(Some(2))),
+    (Call::Due(3), Answer::Due(Some(Due::Data(2)))),
+    (Call::Heartbeat(1), Answer::Heartbeat(Some((3, 2)))),
+];
+
+/// The first of the two takes key 0 alone.
+static TWO_READERS: Run = Run {
+    about: "two readers",
+    limits: WriterLimits {
         max_samples: Some(3),
         max_instances: Some(2),
         max_samples_per_instance: Some(2),
-    };
+    },
+    readers: &[(1, 1, false), (2, 2, false)],
+    at_the_end: false,
+    calls: OF_TWO_READERS,
+};
+
+/// One sample may be kept, and the watcher is one of key 0.
+static A_WATCHER: Run = Run {
+    about: "a watcher",
+    limits: WriterLimits {
+        max_samples: Some(1),
+        ..NO_LIMITS
+    },
+    readers: &[(3, 1, true)],
+    at_the_end: false,
+    calls: OF_A_WATCHER,
+};
+
+/// Two samples may be kept.
+static A_WATCHER_BESIDE: Run = Run {
+    about: "a reliable reader and a watcher",
+    limits: WriterLimits {
+        max_samples: Some(2),
+        ..NO_LIMITS
+    },
+    readers: &[(1, 1, false), (3, 1, true)],
+    at_the_end: false,
+    calls: OF_A_WATCHER_BESIDE,
+};
+
+static NO_READER: Run = Run {
+    about: "no reader",
+    limits: NO_LIMITS,
+    readers: &[],
+    at_the_end: false,
+    calls: &[
+        (Call::Write(0), Answer::Wrote(Ok(1))),
+        (Call::Kept, Answer::Kept(0)),
+    ],
+};
+
+static AN_END: Run = Run {
+    about: "the last number",
+    limits: NO_LIMITS,
+    readers: &[],
+    at_the_end: true,
+    calls: &[
+        (Call::Write(0), Answer::Wrote(Ok(LAST))),
+        (
+            Call::Write(0),
+            Answer::Wrote(Err(WriteRefused::SequenceEnd)),
+        ),
+        (Call::Counts, Answer::Counts(LAST, 0)),
+    ],
+};
+
+/// The writer of a run.
+fn writer_of<W: WriterForm>(alloc: Global, run: &Run) -> Result<Speaker<W>, NoMemory> {
     let mut proxies = Vec::new(alloc);
-    proxies.push(proxy(alloc, 1, 1, false)?)?;
-    proxies.push(proxy(alloc, 2, 2, false)?)?;
-    Speaker::new(alloc, limits, proxies)
+    for (reader, keys, watcher) in run.readers {
+        proxies.push(proxy(alloc, *reader, *keys, *watcher)?)?;
+    }
+    let written = if run.at_the_end { LAST - 1 } else { 0 };
+    Speaker::starting(alloc, run.limits, proxies, written)
 }
 
-fn expect_of_two_readers<W: WriterForm>(rt: &impl Abort, alloc: Global) -> Result<(), AllocError> {
-    let made = match two_readers::<W>(alloc) {
-        Err(_) => two_readers::<W>(alloc),
+/// The writer of a run, made once more where no memory was left for it.
+fn made_for<W: WriterForm>(alloc: Global, run: &Run) -> Result<Speaker<W>, NoMemory> {
+    match writer_of(alloc, run) {
+        Err(_) => writer_of(alloc, run),
         made => made,
-    };
-    let mut writer = made?;
-    assert_eq!(rt; writer.write(0), Ok(1));
-    assert_eq!(rt; writer.write(0), Ok(2));
-    assert_eq!(rt; writer.write(0), Err(WriteRefused::InstanceFull));
-    assert_eq!(rt; writer.write(1), Ok(3));
-    assert_eq!(rt; writer.write(1), Err(WriteRefused::Full));
-    assert_eq!(rt; writer.write(2), Err(WriteRefused::InstanceLimit));
-    assert_eq!(rt; writer.data(1, 3), None);
-    assert_eq!(rt; writer.data(2, 3), Some(3));
-    assert_eq!(rt; writer.gap(1, 3), Some((3, 4, true)));
-    assert_eq!(rt; writer.heartbeat(1), Some((1, 3)));
-    assert_eq!(rt; writer.due(1), Some(Due::Data(1)));
-    writer.note_sent(1, 1);
-    assert_eq!(rt; writer.due(1), Some(Due::Data(2)));
-    writer.acknack(1, 1, &[1]);
-    assert_eq!(rt; writer.due(1), Some(Due::Data(1)));
-    writer.acknack(1, 4, &[]);
-    assert_eq!(rt; writer.kept(), 3);
-    writer.acknack(2, 3, &[]);
-    assert_eq!(rt; writer.kept(), 1);
-    assert_eq!(rt; writer.heartbeat(1), Some((3, 3)));
-    writer.acknack(2, 2, &[]);
-    assert_eq!(rt; writer.base(2), Some(3));
-    writer.acknack(2, 5, &[]);
-    assert_eq!(rt; writer.base(2), Some(3));
-    writer.acknack(2, 4, &[]);
-    assert_eq!(rt; writer.kept(), 0);
-    assert_eq!(rt; writer.heartbeat(2), Some((4, 3)));
-    assert_eq!(rt; writer.write(0), Ok(4));
+    }
+}
+
+fn expect_answer(rt: &impl Abort, about: &str, call: &Call, have: Answer, wanted: Answer) {
+    assert_eq!(rt; have, wanted, "{about}: {call:?}");
+}
+
+fn expect<W: WriterForm>(rt: &impl Abort, alloc: Global, run: &Run) -> Result<(), NoMemory> {
+    let mut writer = made_for::<W>(alloc, run)?;
+    for (call, answer) in run.calls {
+        let have = writer.call(*call);
+        expect_answer(rt, run.about, call, have, *answer);
+    }
     Ok(())
 }
 
-// It passes also where any one allocation is refused.
+fn expect_on_both(rt: &impl Abort, alloc: Global, run: &Run) -> Result<(), NoMemory> {
+    expect::<Writer>(rt, alloc, run)?;
+    expect::<PlainWriter>(rt, alloc, run)
+}
+
+// This test and the two below pass also where any one allocation is refused.
 #[test]
 fn two_readers_call_by_call(rt: HostRuntime) -> Result<(), Fail> {
-    expect_of_two_readers::<Writer>(&rt, rt.alloc())?;
-    expect_of_two_readers::<PlainWriter>(&rt, rt.alloc())?;
+    expect_on_both(&rt, rt.alloc(), &TWO_READERS)?;
     Ok(())
 }
 
-// A writer that may keep one sample, and a watcher of key 0.
-fn watcher_alone<W: WriterForm>(alloc: Global) -> Result<Speaker<W>, AllocError> {
-    let mut proxies = Vec::new(alloc);
-    proxies.push(proxy(alloc, 3, 1, true)?)?;
-    Speaker::new(alloc, ONE_SAMPLE, proxies)
-}
-
-fn expect_of_a_watcher<W: WriterForm>(rt: &impl Abort, alloc: Global) -> Result<(), AllocError> {
-    let made = match watcher_alone::<W>(alloc) {
-        Err(_) => watcher_alone::<W>(alloc),
-        made => made,
-    };
-    let mut writer = made?;
-    assert_eq!(rt; writer.due(3), None);
-    assert_eq!(rt; writer.write(0), Ok(1));
-    assert_eq!(rt; writer.write(0), Ok(2));
-    assert_eq!(rt; writer.kept(), 0);
-    assert_eq!(rt; writer.data(3, 1), None);
-    assert_eq!(rt; writer.data(3, 2), Some(2));
-    assert_eq!(rt; writer.gap(3, 1), None);
-    assert_eq!(rt; writer.heartbeat(3), None);
-    assert_eq!(rt; writer.due(3), Some(Due::Data(2)));
-    writer.note_sent(3, 2);
-    assert_eq!(rt; writer.due(3), None);
-    writer.acknack(3, 1, &[2]);
-    assert_eq!(rt; writer.due(3), None);
-    writer.acknack(3, 3, &[]);
-    assert_eq!(rt; writer.base(3), Some(1));
-    assert_eq!(rt; writer.data(3, 2), Some(2));
-    assert_eq!(rt; writer.write(1), Ok(3));
-    assert_eq!(rt; writer.data(3, 2), None);
-    assert_eq!(rt; writer.data(3, 3), None);
-    assert_eq!(rt; writer.gap(3, 3), None);
-    assert_eq!(rt; writer.due(3), None);
-    assert_eq!(rt; writer.write(0), Ok(4));
-    assert_eq!(rt; writer.due(3), Some(Due::Data(4)));
-    Ok(())
-}
-
-// It passes also where any one allocation is refused.
 #[test]
 fn a_watcher_call_by_call(rt: HostRuntime) -> Result<(), Fail> {
-    expect_of_a_watcher::<Writer>(&rt, rt.alloc())?;
-    expect_of_a_watcher::<PlainWriter>(&rt, rt.alloc())?;
+    expect_on_both(&rt, rt.alloc(), &A_WATCHER)?;
     Ok(())
 }
 
-// A writer that may keep two samples, a reliable reader and a watcher.
-fn watcher_beside<W: WriterForm>(alloc: Global) -> Result<Speaker<W>, AllocError> {
-    let mut proxies = Vec::new(alloc);
-    proxies.push(proxy(alloc, 1, 1, false)?)?;
-    proxies.push(proxy(alloc, 3, 1, true)?)?;
-    Speaker::new(alloc, TWO_SAMPLES, proxies)
-}
-
-fn expect_of_a_watcher_beside<W: WriterForm>(
-    rt: &impl Abort,
-    alloc: Global,
-) -> Result<(), AllocError> {
-    let made = match watcher_beside::<W>(alloc) {
-        Err(_) => watcher_beside::<W>(alloc),
-        made => made,
-    };
-    let mut writer = made?;
-    assert_eq!(rt; writer.write(0), Ok(1));
-    assert_eq!(rt; writer.write(0), Ok(2));
-    assert_eq!(rt; writer.write(0), Err(WriteRefused::Full));
-    assert_eq!(rt; writer.data(3, 1), Some(1));
-    assert_eq!(rt; writer.due(3), Some(Due::Data(1)));
-    writer.note_sent(3, 1);
-    assert_eq!(rt; writer.due(3), Some(Due::Data(2)));
-    assert_eq!(rt; writer.due(1), Some(Due::Data(1)));
-    writer.acknack(3, 3, &[]);
-    assert_eq!(rt; writer.kept(), 2);
-    assert_eq!(rt; writer.base(3), Some(1));
-    writer.acknack(1, 2, &[]);
-    assert_eq!(rt; writer.kept(), 1);
-    assert_eq!(rt; writer.data(3, 1), None);
-    assert_eq!(rt; writer.heartbeat(1), Some((2, 2)));
-    assert_eq!(rt; writer.heartbeat(3), None);
-    writer.acknack(1, 3, &[]);
-    assert_eq!(rt; writer.kept(), 0);
-    assert_eq!(rt; writer.data(3, 2), Some(2));
-    assert_eq!(rt; writer.due(3), Some(Due::Data(2)));
-    assert_eq!(rt; writer.heartbeat(1), Some((3, 2)));
-    Ok(())
-}
-
-// It passes also where any one allocation is refused.
 #[test]
 fn a_watcher_beside_a_reader(rt: HostRuntime) -> Result<(), Fail> {
-    expect_of_a_watcher_beside::<Writer>(&rt, rt.alloc())?;
-    expect_of_a_watcher_beside::<PlainWriter>(&rt, rt.alloc())?;
-    Ok(())
-}
-
-fn expect_of_no_reader<W: WriterForm>(rt: &impl Abort, alloc: Global) -> Result<(), AllocError> {
-    let mut writer = Speaker::<W>::new(alloc, NO_LIMITS, Vec::new(alloc))?;
-    assert_eq!(rt; writer.write(0), Ok(1));
-    assert_eq!(rt; writer.kept(), 0);
+    expect_on_both(&rt, rt.alloc(), &A_WATCHER_BESIDE)?;
     Ok(())
 }
 
 #[test]
 fn no_reader_keeps_nothing(rt: HostRuntime) -> Result<(), Fail> {
-    expect_of_no_reader::<Writer>(&rt, rt.alloc())?;
-    expect_of_no_reader::<PlainWriter>(&rt, rt.alloc())?;
-    Ok(())
-}
-
-fn expect_an_end<W: WriterForm>(rt: &impl Abort, alloc: Global) -> Result<(), AllocError> {
-    let last = (1 << 63) - 1;
-    let mut writer = Speaker::<W>::starting(alloc, NO_LIMITS, Vec::new(alloc), last - 1)?;
-    assert_eq!(rt; writer.write(0), Ok(last));
-    assert_eq!(rt; writer.write(0), Err(WriteRefused::SequenceEnd));
-    assert_eq!(rt; writer.counts(), (last, 0));
+    expect_on_both(&rt, rt.alloc(), &NO_READER)?;
     Ok(())
 }
 
 #[test]
 fn the_numbers_end(rt: HostRuntime) -> Result<(), Fail> {
-    expect_an_end::<Writer>(&rt, rt.alloc())?;
-    expect_an_end::<PlainWriter>(&rt, rt.alloc())?;
+    expect_on_both(&rt, rt.alloc(), &AN_END)?;
     Ok(())
 }

@@ -7,12 +7,11 @@ use crate::tests::answers::{expect_answered, steady};
 use crate::tests::plans::ping;
 use crate::tests::runs::{Fault, LIMITS, Told, circle, run_through};
 use crossbeam_channel::{Receiver, Sender, bounded};
-use dds_base::{AppNo, Fate};
+use dds_base::{AppNo, Fate, NoMemory};
 use dds_book::{Gauge, GaugeSeat};
 use dds_check::Checked;
-use dds_match::NoMemory;
 use dds_peers::{App, Fates, Gate};
-use std::alloc::{AllocError, Global};
+use std::alloc::Global;
 use std::process::Abort;
 use std::sync::Wait;
 use std::test::Fail;
@@ -31,7 +30,7 @@ struct Bell {
 }
 
 impl Bell {
-    fn new(alloc: Global) -> Result<Bell, AllocError> {
+    fn new(alloc: Global) -> Result<Bell, NoMemory> {
         let (rope, ear) = bounded(alloc, 1)?;
         Ok(Bell { rope, ear })
     }
@@ -65,7 +64,7 @@ struct Side {
 }
 
 impl Side {
-    fn new(rt: &impl Wait, alloc: Global) -> Result<Side, AllocError> {
+    fn new(rt: &impl Wait, alloc: Global) -> Result<Side, NoMemory> {
         let side = Side {
             first: Bell::new(alloc)?,
             came: Bell::new(alloc)?,
@@ -107,14 +106,14 @@ impl<'a, R: Wait + Clock + Sync> Gate for Meeting<'a, R> {
 fn watched_gauge(
     alloc: Global,
     apps: usize,
-) -> Result<(Gauge, Vec<GaugeSeat>, Option<GaugeSeat>), AllocError>
+) -> Result<(Gauge, Vec<GaugeSeat>, Option<GaugeSeat>), NoMemory>
     ensures apps { IfOk result (λ r. r.0.apps ≡ apps) }
     ensures owners { IfOk result (λ r. AreOwners r.0 apps r.1.items) }
     ensures monitor { IfOk result (λ r. IfSome r.2 (λ m. m.table ≡ r.0.table)) }
 {
     let (gauge, mut seats) = match Gauge::open(alloc, apps, 1) {
         Ok(both) => both,
-        Err(NoMemory) => return Err(AllocError),
+        Err(NoMemory) => return Err(NoMemory),
     };
     let monitor = seats.pop();
     Ok((gauge, seats, monitor))

@@ -2,12 +2,11 @@
 ghost use Rattle.std.specs.Prelude.{◌≡◌, ◌≤◌, length, IfOk};
 ghost use Rattle.dds_peers.specs.Kept.{AreOwners};
 
-use dds_base::{AppNo, Event, Fate, Reply};
+use dds_base::{AppNo, Event, Fate, NoMemory, Reply};
 use dds_book::{Gauge, GaugeSeat, Journal};
 use dds_check::Checked;
-use dds_match::NoMemory;
 use dds_peers::{App, AppEnd, Fates, Gate, Limits, Outcome, RunFault, run_peers};
-use std::alloc::{AllocError, Global};
+use std::alloc::Global;
 use std::process::Abort;
 use std::sync::Wait;
 use std::thread::Threads;
@@ -68,7 +67,7 @@ pub(crate) fn gauge(alloc: Global, apps: usize) -> Result<(Gauge, Vec<GaugeSeat>
 }
 
 /// The diaries of the applications.
-fn diaries_of<A: App>(alloc: Global, apps: &[A]) -> Result<Vec<Vec<(Event, Reply)>>, AllocError> {
+fn diaries_of<A: App>(alloc: Global, apps: &[A]) -> Result<Vec<Vec<(Event, Reply)>>, NoMemory> {
     let mut diaries = Vec::new(alloc);
     for app in apps {
         diaries.push(Vec::from_slice(alloc, app.diary().entries())?)?;

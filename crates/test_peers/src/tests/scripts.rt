@@ -1,7 +1,6 @@
 //! Applications that want one event over and over.
 
-use dds_base::{Event, KeyNo, ReaderNo, Reply, WriterNo};
-use dds_match::NoMemory;
+use dds_base::{Event, KeyNo, NoMemory, ReaderNo, Reply, WriterNo};
 use dds_peers::{Act, App, Diary};
 use std::alloc::Global;
 

@@ -4,14 +4,15 @@ use crate::tests::caches::Fed;
 use crate::tests::drawn::told::{Call, Kind, Seen, Told};
 use crate::tests::drawn::{Dice, Subject, Tally, reader_limits};
 use crate::tests::forms::CacheForm;
-use dds_base::Rejection;
+use dds_base::{NoMemory, Rejection};
 use dds_cache::Cache;
-use std::alloc::AllocError;
+use std::alloc::Global;
+use std::process::Abort;
 use std::test::Fail;
 use test_forms::PlainCache;
 
 impl<C: CacheForm> Subject for Fed<C> {
-    fn make(&mut self, dice: &mut Dice) -> Result<Told, AllocError> {
+    fn make(&mut self, dice: &mut Dice) -> Result<Told, NoMemory> {
         let writer = dice.place(2);
         let key = dice.place(4);
         let last = self.last(writer);
@@ -55,15 +56,19 @@ const KINDS: [(Call, Kind); 7] = [
     (Call::Take, Kind::Nothing),
 ];
 
+/// Compares caches of the limits that a seed has.
+fn compare(rt: &impl Abort, alloc: Global, tally: &mut Tally, seed: usize) -> Result<(), NoMemory> {
+    let limits = reader_limits(LIMITS[seed % 3]);
+    let fast = Fed::<Cache>::new(alloc, limits)?;
+    let plain = Fed::<PlainCache>::new(alloc, limits)?;
+    tally.compare(rt, fast, plain, seed as u64, 2000)
+}
+
 #[test]
 fn drawn_calls_of_caches(rt: HostRuntime) -> Result<(), Fail> {
-    let alloc = rt.alloc();
-    let mut tally = Tally::new(alloc);
+    let mut tally = Tally::new(rt.alloc());
     for seed in 0..9 {
-        let limits = reader_limits(LIMITS[seed % 3]);
-        let fast = Fed::<Cache>::new(alloc, limits)?;
-        let plain = Fed::<PlainCache>::new(alloc, limits)?;
-        tally.compare(&rt, fast, plain, seed as u64, 2000)?;
+        compare(&rt, rt.alloc(), &mut tally, seed)?;
     }
     tally.expect(&rt, &CALLS, &KINDS);
     Ok(())

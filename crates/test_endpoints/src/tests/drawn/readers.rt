@@ -5,15 +5,15 @@ use crate::tests::drawn::told::{Call, Kind, Seen, Told};
 use crate::tests::drawn::{Dice, Subject, Tally, reader_limits};
 use crate::tests::forms::ReaderForm;
 use crate::tests::readers::Listener;
-use dds_base::{KeyNo, Rejection, WriterNo};
+use dds_base::{KeyNo, NoMemory, Rejection, WriterNo};
 use dds_reader::Reader;
-use std::alloc::{AllocError, Global};
+use std::alloc::Global;
 use std::process::Abort;
 use std::test::Fail;
 use test_forms::PlainReader;
 
 impl<R: ReaderForm> Subject for Listener<R> {
-    fn make(&mut self, dice: &mut Dice) -> Result<Told, AllocError> {
+    fn make(&mut self, dice: &mut Dice) -> Result<Told, NoMemory> {
         let writer = if dice.below(16) == 0 {
             2
         } else {
@@ -84,17 +84,28 @@ const RELIABLE: [(Call, Kind); 4] = [
     (Call::AckNack, Kind::Something),
 ];
 
-/// Compares readers of each of the limits, and gives the calls that were made. A plain reader grows slow with all that it ever marked, so
-/// each reader gets few calls.
-fn compared(rt: &impl Abort, alloc: Global, watching: bool) -> Result<Tally, AllocError> {
+/// Compares readers of the limits that a seed has.
+fn compare(
+    rt: &impl Abort,
+    alloc: Global,
+    tally: &mut Tally,
+    watching: bool,
+    seed: usize,
+) -> Result<(), NoMemory> {
     let filter = [KeyNo::new(0), KeyNo::new(1), KeyNo::new(2)];
     let writers = [WriterNo::new(0), WriterNo::new(1)];
+    let limits = reader_limits(LIMITS[seed % 3]);
+    let fast = Listener::<Reader>::new(alloc, watching, limits, &filter, &writers)?;
+    let plain = Listener::<PlainReader>::new(alloc, watching, limits, &filter, &writers)?;
+    tally.compare(rt, fast, plain, seed as u64, 100)
+}
+
+/// Compares readers of each of the limits, and gives the calls that were made. A plain reader grows slow with all that it ever marked, so
+/// each reader gets few calls.
+fn compared(rt: &impl Abort, alloc: Global, watching: bool) -> Result<Tally, NoMemory> {
     let mut tally = Tally::new(alloc);
     for seed in 0..180 {
-        let limits = reader_limits(LIMITS[seed % 3]);
-        let fast = Listener::<Reader>::new(alloc, watching, limits, &filter, &writers)?;
-        let plain = Listener::<PlainReader>::new(alloc, watching, limits, &filter, &writers)?;
-        tally.compare(rt, fast, plain, seed as u64, 100)?;
+        compare(rt, alloc, &mut tally, watching, seed)?;
     }
     Ok(tally)
 }

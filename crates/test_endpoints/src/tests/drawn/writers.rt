@@ -5,9 +5,11 @@ use crate::tests::drawn::told::{Call, Kind, Seen, Told};
 use crate::tests::drawn::{Dice, Subject, Tally};
 use crate::tests::forms::WriterForm;
 use crate::tests::writers::{Speaker, proxy};
+use dds_base::NoMemory;
 use dds_qos::{Due, WriterLimits};
 use dds_writer::{Proxy, WriteRefused, Writer};
-use std::alloc::{AllocError, Global};
+use std::alloc::Global;
+use std::process::Abort;
 use std::test::Fail;
 use test_forms::PlainWriter;
 
@@ -15,7 +17,7 @@ use test_forms::PlainWriter;
 const NEAR_THE_END: u64 = (1 << 63) - 201;
 
 impl<W: WriterForm> Subject for Speaker<W> {
-    fn make(&mut self, dice: &mut Dice) -> Result<Told, AllocError> {
+    fn make(&mut self, dice: &mut Dice) -> Result<Told, NoMemory> {
         let key = dice.place(4);
         let reader = dice.place(4).wrapping_add(1);
         let base = self.base(reader).unwrap_or(1);
@@ -96,7 +98,7 @@ const KINDS: [(Call, Kind); 14] = [
     (Call::Heartbeat, Kind::Nothing),
 ];
 
-fn three_readers(alloc: Global) -> Result<Vec<Proxy>, AllocError> {
+fn three_readers(alloc: Global) -> Result<Vec<Proxy>, NoMemory> {
     let mut proxies = Vec::new(alloc);
     proxies.push(proxy(alloc, 1, 3, false)?)?;
     proxies.push(proxy(alloc, 2, 1, false)?)?;
@@ -104,21 +106,20 @@ fn three_readers(alloc: Global) -> Result<Vec<Proxy>, AllocError> {
     Ok(proxies)
 }
 
+/// Compares writers of the limits that a seed has. Those of the last seeds begin near the end of the numbers.
+fn compare(rt: &impl Abort, alloc: Global, tally: &mut Tally, seed: usize) -> Result<(), NoMemory> {
+    let limits = LIMITS[seed % 2];
+    let written = if seed < 9 { 0 } else { NEAR_THE_END };
+    let fast = Speaker::<Writer>::starting(alloc, limits, three_readers(alloc)?, written)?;
+    let plain = Speaker::<PlainWriter>::starting(alloc, limits, three_readers(alloc)?, written)?;
+    tally.compare(rt, fast, plain, seed as u64, 2000)
+}
+
 #[test]
 fn drawn_calls_of_writers(rt: HostRuntime) -> Result<(), Fail> {
-    let alloc = rt.alloc();
-    let mut tally = Tally::new(alloc);
+    let mut tally = Tally::new(rt.alloc());
     for seed in 0..12 {
-        let limits = LIMITS[seed % 2];
-        let written = if seed < 9 { 0 } else { NEAR_THE_END };
-        let fast = Speaker::<Writer>::starting(alloc, limits, three_readers(alloc)?, written)?;
-        let plain = Speaker::<PlainWriter>::starting(
-            alloc,
-            limits,
-            three_readers(alloc)?,
-            written,
-        )?;
-        tally.compare(&rt, fast, plain, seed as u64, 2000)?;
+        compare(&rt, rt.alloc(), &mut tally, seed)?;
     }
     tally.expect(&rt, &CALLS, &KINDS);
     Ok(())

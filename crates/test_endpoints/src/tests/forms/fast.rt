@@ -2,18 +2,18 @@
 
 use crate::tests::forms::{CacheForm, ReaderForm, WriterForm};
 use dds_base::{
-    AckNack, Arrival, Data, DataMsg, GapMsg, Heartbeat, KeyNo, ReaderNo, Sample, WriterNo,
+    AckNack, Arrival, Data, DataMsg, GapMsg, Heartbeat, KeyNo, NoMemory, ReaderNo, Sample, WriterNo,
 };
 use dds_cache::Cache;
 use dds_qos::{Admit, Due, ReaderLimits, WriterLimits};
 use dds_reader::Reader;
 use dds_writer::{Proxy, WriteRefused, Writer};
-use std::alloc::{AllocError, Global};
+use std::alloc::Global;
 
 impl CacheForm for Cache {
     ghost state = { λ c. c };
 
-    fn new(alloc: Global, limits: ReaderLimits, writers: &[WriterNo]) -> Result<Cache, AllocError> {
+    fn new(alloc: Global, limits: ReaderLimits, writers: &[WriterNo]) -> Result<Cache, NoMemory> {
         Cache::new(alloc, limits, writers)
     }
 
@@ -33,7 +33,7 @@ impl CacheForm for Cache {
         self.admission(sample)
     }
 
-    fn admit(&mut self, sample: Sample) -> Result<Admit, AllocError> {
+    fn admit(&mut self, sample: Sample) -> Result<Admit, NoMemory> {
         self.admit(sample)
     }
 
@@ -55,7 +55,7 @@ impl ReaderForm for Reader {
         limits: ReaderLimits,
         filter: &[KeyNo],
         writers: &[WriterNo],
-    ) -> Result<Reader, AllocError> {
+    ) -> Result<Reader, NoMemory> {
         Reader::new(alloc, me, limits, filter, writers)
     }
 
@@ -65,7 +65,7 @@ impl ReaderForm for Reader {
         limits: ReaderLimits,
         filter: &[KeyNo],
         writers: &[WriterNo],
-    ) -> Result<Reader, AllocError> {
+    ) -> Result<Reader, NoMemory> {
         Reader::watching(alloc, me, limits, filter, writers)
     }
 
@@ -93,15 +93,15 @@ impl ReaderForm for Reader {
         self.take(key)
     }
 
-    fn on_data(&mut self, message: &DataMsg) -> Result<Arrival, AllocError> {
+    fn on_data(&mut self, message: &DataMsg) -> Result<Arrival, NoMemory> {
         self.on_data(message)
     }
 
-    fn on_gap(&mut self, gap: &GapMsg) -> Result<Arrival, AllocError> {
+    fn on_gap(&mut self, gap: &GapMsg) -> Result<Arrival, NoMemory> {
         self.on_gap(gap)
     }
 
-    fn on_heartbeat(&mut self, heartbeat: &Heartbeat) -> Result<Arrival, AllocError> {
+    fn on_heartbeat(&mut self, heartbeat: &Heartbeat) -> Result<Arrival, NoMemory> {
         self.on_heartbeat(heartbeat)
     }
 }
@@ -115,7 +115,7 @@ impl WriterForm for Writer {
         limits: WriterLimits,
         proxies: Vec<Proxy>,
         written: u64,
-    ) -> Result<Writer, AllocError> {
+    ) -> Result<Writer, NoMemory> {
         Writer::starting(alloc, me, limits, proxies, written)
     }
 

@@ -2,11 +2,11 @@
 
 use crate::tests::forms::{CacheForm, ReaderForm, WriterForm};
 use dds_base::{
-    AckNack, Arrival, Data, DataMsg, GapMsg, Heartbeat, KeyNo, ReaderNo, Sample, WriterNo,
+    AckNack, Arrival, Data, DataMsg, GapMsg, Heartbeat, KeyNo, NoMemory, ReaderNo, Sample, WriterNo,
 };
 use dds_qos::{Admit, Due, ReaderLimits, WriterLimits};
 use dds_writer::{Proxy, WriteRefused};
-use std::alloc::{AllocError, Global};
+use std::alloc::Global;
 use test_forms::{PlainCache, PlainReader, PlainWriter};
 
 impl CacheForm for PlainCache {
@@ -16,7 +16,7 @@ impl CacheForm for PlainCache {
         alloc: Global,
         limits: ReaderLimits,
         writers: &[WriterNo],
-    ) -> Result<PlainCache, AllocError> {
+    ) -> Result<PlainCache, NoMemory> {
         PlainCache::new(alloc, limits, writers)
     }
 
@@ -36,7 +36,7 @@ impl CacheForm for PlainCache {
         self.admission(sample)
     }
 
-    fn admit(&mut self, sample: Sample) -> Result<Admit, AllocError> {
+    fn admit(&mut self, sample: Sample) -> Result<Admit, NoMemory> {
         self.admit(sample)
     }
 
@@ -58,7 +58,7 @@ impl ReaderForm for PlainReader {
         limits: ReaderLimits,
         filter: &[KeyNo],
         writers: &[WriterNo],
-    ) -> Result<PlainReader, AllocError> {
+    ) -> Result<PlainReader, NoMemory> {
         PlainReader::new(alloc, me, limits, filter, writers)
     }
 
@@ -68,7 +68,7 @@ impl ReaderForm for PlainReader {
         limits: ReaderLimits,
         filter: &[KeyNo],
         writers: &[WriterNo],
-    ) -> Result<PlainReader, AllocError> {
+    ) -> Result<PlainReader, NoMemory> {
         PlainReader::watching(alloc, me, limits, filter, writers)
     }
 
@@ -96,15 +96,15 @@ impl ReaderForm for PlainReader {
         self.take(key)
     }
 
-    fn on_data(&mut self, message: &DataMsg) -> Result<Arrival, AllocError> {
+    fn on_data(&mut self, message: &DataMsg) -> Result<Arrival, NoMemory> {
         self.on_data(message)
     }
 
-    fn on_gap(&mut self, gap: &GapMsg) -> Result<Arrival, AllocError> {
+    fn on_gap(&mut self, gap: &GapMsg) -> Result<Arrival, NoMemory> {
         self.on_gap(gap)
     }
 
-    fn on_heartbeat(&mut self, heartbeat: &Heartbeat) -> Result<Arrival, AllocError> {
+    fn on_heartbeat(&mut self, heartbeat: &Heartbeat) -> Result<Arrival, NoMemory> {
         self.on_heartbeat(heartbeat)
     }
 }
@@ -118,7 +118,7 @@ impl WriterForm for PlainWriter {
         limits: WriterLimits,
         proxies: Vec<Proxy>,
         written: u64,
-    ) -> Result<PlainWriter, AllocError> {
+    ) -> Result<PlainWriter, NoMemory> {
         PlainWriter::starting(alloc, me, limits, proxies, written)
     }
 
