@@ -12,12 +12,20 @@ use std::process::Abort;
 use std::test::Fail;
 use test_files::texts::{LOOP, LOOP_CERT, PING, PING_CERT, SMALL, SMALL_CERT, TWO, TWO_CERT};
 
+/// The weights of a row, as readers or writers, keys and weights.
+#[derive(Clone, Copy)]
+struct WantedLists {
+    samples: &'static [PlainWeight],
+    takes: &'static [PlainWeight],
+    permits: &'static [PlainWeight],
+}
+
 /// A row that is expected.
 enum WantedRow {
     /// A name, and weights that the samples, the takes and the permits share.
     Even(&'static str, &'static [PlainWeight]),
-    /// A name, and the weights of the samples, the takes and the permits.
-    Uneven(&'static str, [&'static [PlainWeight]; 3]),
+    /// A name, and weights of each kind.
+    Uneven(&'static str, WantedLists),
 }
 
 impl WantedRow {
@@ -27,10 +35,13 @@ impl WantedRow {
         }
     }
 
-    /// The weights of the samples, the takes and the permits.
-    fn lists(&self) -> [&'static [PlainWeight]; 3] {
+    fn lists(&self) -> WantedLists {
         match self {
-            WantedRow::Even(_, all) => [all, all, all],
+            WantedRow::Even(_, all) => WantedLists {
+                samples: all,
+                takes: all,
+                permits: all,
+            },
             WantedRow::Uneven(_, lists) => *lists,
         }
     }
@@ -64,11 +75,10 @@ fn expect_row(
     Ok(())
 }
 
-fn expect_weights(rt: &impl Abort, have: &PlainRow, wanted: [&'static [PlainWeight]; 3]) {
-    let [samples, takes, permits] = wanted;
-    assert_eq!(rt; have.samples.as_slice(), samples);
-    assert_eq!(rt; have.takes.as_slice(), takes);
-    assert_eq!(rt; have.permits.as_slice(), permits);
+fn expect_weights(rt: &impl Abort, have: &PlainRow, wanted: WantedLists) {
+    assert_eq!(rt; have.samples.as_slice(), wanted.samples);
+    assert_eq!(rt; have.takes.as_slice(), wanted.takes);
+    assert_eq!(rt; have.permits.as_slice(), wanted.permits);
 }
 
 fn expect_rows(
@@ -261,11 +271,11 @@ static TWO_FILES: [File; 4] = [
         wanted: Wanted {
             rows: &[WantedRow::Uneven(
                 "m",
-                [
-                    &[(0, 0, 1), (0, 1, 1)],
-                    &[(0, 0, 2), (0, 1, 1)],
-                    &[(0, 0, 1), (0, 1, 1)],
-                ],
+                WantedLists {
+                    samples: &[(0, 0, 1), (0, 1, 1)],
+                    takes: &[(0, 0, 2), (0, 1, 1)],
+                    permits: &[(0, 0, 1), (0, 1, 1)],
+                },
             )],
             bounds: &[(0, 0, 0, 2), (0, 1, 0, 2)],
             totals: &[],
@@ -320,15 +330,22 @@ takes = [{ reader = "r", key = "c", weight = 9 }]
 /// What is read of `MIXED`.
 const MIXED_WANTED: Wanted = Wanted {
     rows: &[
-        WantedRow::Uneven("first", [&[], &[], &[(1, 0, 3), (0, 2, 16)]]),
+        WantedRow::Uneven(
+            "first",
+            WantedLists {
+                samples: &[],
+                takes: &[],
+                permits: &[(1, 0, 3), (0, 2, 16)],
+            },
+        ),
         WantedRow::Even("none", &[]),
         WantedRow::Uneven(
             "last",
-            [
-                &[(1, 2, 2), (2, 0, 0), (1, 0, 1000), (0, 1, 5)],
-                &[(0, 2, 9)],
-                &[],
-            ],
+            WantedLists {
+                samples: &[(1, 2, 2), (2, 0, 0), (1, 0, 1000), (0, 1, 5)],
+                takes: &[(0, 2, 9)],
+                permits: &[],
+            },
         ),
     ],
     bounds: &[(1, 2, 2, 7), (0, 1, 0, 0), (1, 0, 2, 6)],
@@ -383,13 +400,20 @@ static FILTERS_FILES: [File; 3] = [
             rows: &[
                 WantedRow::Uneven(
                     "m",
-                    [
-                        &[(1, 2, 2), (1, 0, 2), (0, 1, 5), (2, 0, 0)],
-                        &[(0, 0, 7), (0, 1, 7), (0, 2, 7)],
-                        &[(1, 0, 3), (0, 0, 4), (0, 1, 4), (0, 2, 4)],
-                    ],
+                    WantedLists {
+                        samples: &[(1, 2, 2), (1, 0, 2), (0, 1, 5), (2, 0, 0)],
+                        takes: &[(0, 0, 7), (0, 1, 7), (0, 2, 7)],
+                        permits: &[(1, 0, 3), (0, 0, 4), (0, 1, 4), (0, 2, 4)],
+                    },
                 ),
-                WantedRow::Uneven("n", [&[], &[], &[(0, 2, 1), (1, 0, 1), (0, 0, 2)]]),
+                WantedRow::Uneven(
+                    "n",
+                    WantedLists {
+                        samples: &[],
+                        takes: &[],
+                        permits: &[(0, 2, 1), (1, 0, 1), (0, 0, 2)],
+                    },
+                ),
             ],
             bounds: &[
                 (2, 0, 0, 1),
