@@ -1,7 +1,7 @@
 pub mod Telling
 pub mod FileEnds
 pub mod Unread
-mod Proposals
+pub mod Proposals
 mod Migrations
 pub mod Opened
 pub mod Columns

@@ -5,7 +5,6 @@ pub mod Reading
 pub mod Matches
 pub mod Outcome
 pub mod Proposals
-pub mod Searches
 pub mod Migrations
 pub mod Report
 pub mod Answers

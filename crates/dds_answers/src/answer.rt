@@ -145,11 +145,7 @@ pub fn show_answer(alloc: Global, deployment: &[u8], format: Format) -> Result<A
 
 /// The answer with the text of a certificate that was proposed.
 #[tactic(auto, unfolding(crate::specs::Report::output_of, crate::specs::Report::status_of))]
-pub(crate) fn certified(
-    alloc: Global,
-    plan: &Plan,
-    certificate: &Certificate,
-) -> Result<Answer, ToolFault>
+pub fn certified(alloc: Global, plan: &Plan, certificate: &Certificate) -> Result<Answer, ToolFault>
     ensures gives { Gives result (proposed plan.now (certificate_view certificate.now)) }
     ensures fault { IfErr result IsAnswerFault }
 {

@@ -6,7 +6,6 @@ ghost use Rattle.dds_answers.specs.Opened.{Opens, OpensAll};
 ghost use Rattle.dds_answers.specs.Outcome.{Outcome, check_file_outcome, draw_file_outcome, match_file_outcome, show_file_outcome};
 ghost use Rattle.dds_answers.specs.Migrations.{MayMigrateFor};
 ghost use Rattle.dds_answers.specs.Proposals.{MayProposeFor};
-ghost use Rattle.dds_answers.specs.Searches.{MayFindFor};
 ghost use Rattle.dds_answers.specs.Reading.{IsReadingFault};
 ghost use Rattle.dds_answers.specs.Syntax.{IsFaultTold};
 
@@ -20,7 +19,6 @@ use crate::format::Format;
 use crate::reading::read_all;
 use crate::report::Detail;
 use crate::sources::Sources;
-use crate::thorough::thorough_answer;
 use std::alloc::Global;
 
 /// The bytes of the file at a path. `Read` comes only where the file has failed. The file is given back before the answer.
@@ -111,22 +109,6 @@ pub fn propose_file<S: Sources>(
 {
     match read_file(alloc, files, deployment) {
         Ok(bytes) => propose_answer(alloc, bytes.as_slice()),
-        Err(fault) => Err(fault),
-    }
-}
-
-/// The answer of `propose --thorough` to a file, which is read whole before it is parsed.
-pub fn thorough_file<S: Sources>(
-    alloc: Global,
-    deployment: &str,
-    files: &mut S,
-) -> Result<Answer, ToolFault>
-    ensures gives { (d : List ℕ) → S.holds files.old deployment.now ≡ Some d → (end : Outcome) × MayFindFor d end × Gives result end }
-    ensures causes { IfErr result (IsFileFault (S.has_failed files.new)) }
-    ensures opened { OpensAll (S.opened files.old) (S.opened files.new) (deployment.now ∷ []) }
-{
-    match read_file(alloc, files, deployment) {
-        Ok(bytes) => thorough_answer(alloc, bytes.as_slice()),
         Err(fault) => Err(fault),
     }
 }

@@ -20,11 +20,10 @@ mod report;
 mod sources;
 mod structure;
 mod syntax;
-mod thorough;
 
 pub use answer::{
-    Answer, answered, check_answer, match_answer, migrate_answer, propose_answer, reported,
-    show_answer,
+    Answer, answered, certified, check_answer, match_answer, migrate_answer, propose_answer,
+    reported, show_answer,
 };
 pub use counted::Counted;
 pub use disk::Disk;
@@ -33,7 +32,7 @@ pub use exit::Exit;
 pub use fault::{ToolFault, exit_of, fault_text};
 pub use files::{
     check_files, draw_file, draw_files, match_file, migrate_file, propose_file, read_file,
-    read_files, show_file, thorough_file,
+    read_files, show_file,
 };
 pub use format::Format;
 pub use giving::{give, print, tell_fault};
@@ -48,4 +47,3 @@ pub use report::{
 pub use sources::Sources;
 pub use structure::structure_text;
 pub use syntax::SyntaxError;
-pub use thorough::thorough_answer;

@@ -25,7 +25,7 @@ use Rattle.dds_answers.specs.Proposals.{MayProposeFor}
 use Rattle.dds_tool.specs.Refuting.{MayRefuteFor}
 use Rattle.dds_tool.specs.Replaying.{MayReplayFor}
 use Rattle.dds_tool.specs.RunEnds.{GivesRun, MayRun}
-use Rattle.dds_answers.specs.Searches.{MayFindFor}
+use Rattle.dds_tool.specs.Searches.{MayFindFor}
 use Rattle.dds_answers.specs.Syntax.{IsFaultTold}
 use Rattle.dds_answers.specs.Report.{output_of, status_of}
 use Rattle.dds_answers.specs.Fault.{fault_status}

@@ -7,3 +7,4 @@ pub mod Asking
 pub mod Causes
 pub mod Refuting
 pub mod Replaying
+pub mod Searches

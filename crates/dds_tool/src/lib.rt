@@ -13,6 +13,7 @@ mod run_document;
 mod running;
 mod styled;
 mod telling;
+mod thorough;
 mod wishes;
 
 pub use commands::tool;
@@ -20,4 +21,5 @@ pub use refuting::refute_answer;
 pub use replaying::replay_answer;
 pub use request::{NoRequest, Request, read_request};
 pub use running::run_answer;
+pub use thorough::{thorough_answer, thorough_file};
 pub use wishes::Wishes;

@@ -5,13 +5,12 @@ ghost use Rattle.dds_answers.specs.Causes.{IsFileFault};
 ghost use Rattle.dds_answers.specs.Opened.{Opens, OpensAll};
 ghost use Rattle.dds_answers.specs.Outcome.{Outcome, check_file_outcome, match_file_outcome};
 ghost use Rattle.dds_answers.specs.Proposals.{MayProposeFor};
-ghost use Rattle.dds_answers.specs.Searches.{MayFindFor};
 ghost use Rattle.dds_answers.specs.Syntax.{IsFaultTold};
 ghost use Rattle.dds_json.specs.Ends.{EndsProposal, in_style};
+ghost use Rattle.dds_tool.specs.Searches.{MayFindFor};
 
-use dds_answers::{
-    Answer, Detail, Sources, ToolFault, check_files, match_file, propose_file, thorough_file,
-};
+use crate::thorough::thorough_file;
+use dds_answers::{Answer, Detail, Sources, ToolFault, check_files, match_file, propose_file};
 use dds_json::{Style, check_files_in_json, match_file_in_json, proposed_in_json};
 use std::alloc::Global;
 

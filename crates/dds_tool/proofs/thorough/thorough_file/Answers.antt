@@ -1,9 +1,9 @@
 use Rattle.std.proofs.Common.{◌<◌, ap, Err, length}
 use Rattle.dds_deploy_file.specs.Document.{read}
-use Rattle.dds_answers.specs.Searches.{IsFound}
+use Rattle.dds_tool.specs.Searches.{IsFound}
 use Rattle.dds_answers.proofs.FileEnds.{held}
 use Rattle.dds_answers.proofs.Proposals.{unread_file_seeks}
-use Rattle.dds_answers.proofs.files.thorough_file.Goals as goal
+use Rattle.dds_tool.proofs.thorough.thorough_file.Goals as goal
 
 pub returns-in-Err-clause-gives : goal.returns-in-Err-clause-gives
 returns-in-Err-clause-gives g c = λ d is.

@@ -1,15 +1,14 @@
 //! What `propose --thorough` answers to the bytes of a deployment.
-ghost use Rattle.std.specs.Prelude.{◌≡◌, ◌≤◌, IfErr, IfOk, Ok};
+ghost use Rattle.std.specs.Prelude.{◌≡◌, ◌∷◌, ℕ, List, [], IfErr, Ok, Some};
 ghost use Rattle.dds_answers.specs.Answers.{Gives};
+ghost use Rattle.dds_answers.specs.Causes.{IsFileFault};
 ghost use Rattle.dds_answers.specs.Fault.{IsAnswerFault};
+ghost use Rattle.dds_answers.specs.Opened.{OpensAll};
 ghost use Rattle.dds_answers.specs.Outcome.{Outcome, unproposed};
-ghost use Rattle.dds_answers.specs.Searches.{MayFind};
 ghost use Rattle.dds_deploy_file.specs.Document.{read as deployment_read};
+ghost use Rattle.dds_tool.specs.Searches.{MayFind, MayFindFor};
 
-use crate::answer::{Answer, certified};
-use crate::fault::ToolFault;
-use crate::planning::read_plan;
-use crate::structure::structure_text;
+use dds_answers::{Answer, Sources, ToolFault, certified, read_file, read_plan, structure_text};
 use dds_base::{NoMemory, ReaderNo};
 use dds_cert::naming::{name_at, reader_key};
 use dds_check::No;
@@ -93,7 +92,7 @@ fn missing_text(alloc: Global, plan: &Plan, missing: Missing) -> Result<String, 
 }
 
 /// The answer where no certificate was found: why is told to the user.
-#[tactic(auto, unfolding(crate::specs::Report::output_of, crate::specs::Report::status_of))]
+#[tactic(auto, unfolding(dds_answers::specs::Report::output_of, dds_answers::specs::Report::status_of))]
 fn unfound(alloc: Global, plan: &Plan, missing: Missing) -> Result<Answer, ToolFault>
     ensures gives { Gives result unproposed }
     ensures fault { IfErr result IsAnswerFault }
@@ -145,4 +144,20 @@ pub fn thorough_answer(alloc: Global, deployment: &[u8]) -> Result<Answer, ToolF
     let answer = sought(alloc, &plan);
     drop(plan);
     answer
+}
+
+/// The answer of `propose --thorough` to a file, which is read whole before it is parsed.
+pub fn thorough_file<S: Sources>(
+    alloc: Global,
+    deployment: &str,
+    files: &mut S,
+) -> Result<Answer, ToolFault>
+    ensures gives { (d : List ℕ) → S.holds files.old deployment.now ≡ Some d → (end : Outcome) × MayFindFor d end × Gives result end }
+    ensures causes { IfErr result (IsFileFault (S.has_failed files.new)) }
+    ensures opened { OpensAll (S.opened files.old) (S.opened files.new) (deployment.now ∷ []) }
+{
+    match read_file(alloc, files, deployment) {
+        Ok(bytes) => thorough_answer(alloc, bytes.as_slice()),
+        Err(fault) => Err(fault),
+    }
 }

@@ -1,7 +1,7 @@
 use Rattle.dds_deploy_file.specs.Document.{read}
-use Rattle.dds_answers.specs.Searches.{IsFound}
+use Rattle.dds_tool.specs.Searches.{IsFound}
 use Rattle.dds_answers.proofs.Proposals.{sought_of, unread_seeks}
-use Rattle.dds_answers.proofs.thorough.thorough_answer.Goals as goal
+use Rattle.dds_tool.proofs.thorough.thorough_answer.Goals as goal
 
 pub returns-clause-gives : goal.returns-clause-gives
 returns-clause-gives c = sought_of IsFound (read c.args.deployment.now) c.in_ok-plan.plan c.sought-answer.result c.in_ok-plan.ensures.plan c.sought-answer.ensures.gives
