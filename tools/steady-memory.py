@@ -5,7 +5,7 @@
 
 One thread drives examples/ping in a domain: 1,000 round trips, and then 1,000,000 (or TRIPS), with an acknowledgement after each sample and after each third. The
 longer run has to do with 256 KiB of address space more than the least in which the shorter one is made, and both end with nothing kept and nothing stored. That a domain which
-grows would be seen is tried too, by one in which nothing is acknowledged until the end, so that writers keep all: it has to need more. The program is that of crates/bench_domain, which is built where it
+grows would be seen is tried too, by one in which nothing is acknowledged until the end, so that writers keep all: it has to need more. The program is that of crates/bench_ping, which is built where it
 isn't there or a source is newer. The last line is 'N passed, M failed'; the status is 1 if one failed.
 """
 import os
@@ -14,8 +14,8 @@ import subprocess
 import sys
 
 HERE = os.path.dirname(os.path.dirname(os.path.abspath(__file__)))
-CRATE = os.path.join(HERE, "crates", "bench_domain")
-PROGRAM = os.path.join(CRATE, "out", "bench_domain")
+CRATE = os.path.join(HERE, "crates", "bench_ping")
+PROGRAM = os.path.join(CRATE, "out", "bench_ping")
 SHORT = 1_000
 UNACKNOWLEDGED = 100_000
 MARGIN = 256
@@ -33,7 +33,7 @@ def newest_source():
 def build():
     if os.path.exists(PROGRAM) and os.path.getmtime(PROGRAM) >= newest_source():
         return
-    made = subprocess.run(["rt", "run", "--", "1", "1"], cwd=CRATE, capture_output=True, text=True)
+    made = subprocess.run(["rt", "run", "--", "1", "1", "0", "0"], cwd=CRATE, capture_output=True, text=True)
     if made.returncode != 0:
         sys.exit(f"{CRATE} was not built:\n{made.stdout[-2000:]}{made.stderr[-2000:]}")
     os.utime(PROGRAM)
@@ -42,7 +42,7 @@ def build():
 def answers(trips, every, room):
     """Whether the program makes so many round trips within so many KiB of address space, and keeps and stores nothing at the end."""
     limit = lambda: resource.setrlimit(resource.RLIMIT_AS, (room << 10, room << 10))
-    done = subprocess.run([PROGRAM, str(trips), str(every)], stdin=subprocess.DEVNULL, capture_output=True, preexec_fn=limit)
+    done = subprocess.run([PROGRAM, str(trips), str(every), "0", "0"], stdin=subprocess.DEVNULL, capture_output=True, preexec_fn=limit)
     return (done.stdout.decode(), done.returncode) == (f"{trips} round trips; kept 0 and 0, stored 0 and 0\n", 0)
 
 

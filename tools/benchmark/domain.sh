@@ -1,16 +1,16 @@
 #!/bin/sh
 # Round trips of examples/ping in a domain that one thread drives, with an acknowledgement after each sample and after each third: how long 10,000 and 1,000,000
 # take and how much memory the process has at most; beside them, where idlc and Cyclone DDS's library are installed (Debian's cyclonedds-dev), samples within
-# one process by Cyclone DDS. The program is built by 'rt run' in crates/bench_domain.
+# one process by Cyclone DDS. The program is built by 'rt run' in crates/bench_ping.
 here=$(CDPATH='' cd -- "$(dirname -- "$0")/../.." && pwd)
-domain=$here/crates/bench_domain/out/bench_domain
+domain=$here/crates/bench_ping/out/bench_ping
 room=$(mktemp -d) || exit 1
 trap 'rm -rf "$room"' EXIT
 
-[ -x "$domain" ] || { echo "there is no program at $domain: run 'rt run' in crates/bench_domain" >&2 && exit 1; }
+[ -x "$domain" ] || { echo "there is no program at $domain: run 'rt run' in crates/bench_ping" >&2 && exit 1; }
 for every in 1 3; do
     for trips in 1000 10000 1000000; do
-        memory=$(/usr/bin/time -f '%M KiB at most' "$domain" $trips $every 2>&1 | tr '\n' ' ')
+        memory=$(/usr/bin/time -f '%M KiB at most' "$domain" $trips $every 0 0 2>&1 | tr '\n' ' ')
         echo "acknowledged after $every: $memory"
     done
 done

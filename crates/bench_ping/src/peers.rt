@@ -1,24 +1,16 @@
-//! The deployment of `examples/ping`, run by its peers until each application has written and taken so many samples. It prints how many were written and
-//! taken, and to the error output how many entries the journal has, how long it took, and how long half of the round trips and 99 of 100 took at most. The words are the number of samples of each application, and how
-//! many of each 64 packets are lost.
-#![tactic(auto)]
+//! The deployment of `examples/ping`, run by its peers until each application has written and taken so many samples.
 
 ghost use Rattle.std.specs.Prelude.{◌≡◌, IfOk};
 ghost use Rattle.dds_peers.specs.Kept.{AreOwners};
-
-mod trips;
 
 use crate::trips::{Timed, Times, Watch};
 use dds_base::{AppNo, Fate, NoMemory, Reply};
 use dds_book::{Gauge, GaugeSeat};
 use dds_peers::{App, AppEnd, Fates, Limits, Outcome, RunFault, Steady, run_peers};
 use std::alloc::Global;
-use std::env::{self, Env};
-use std::io;
-use std::process::ExitCode;
 use std::sync::{Arc, Wait};
 use std::thread::Threads;
-use std::time::{Clock, Instant};
+use std::time::{Clock, Duration, Instant};
 use test_files::texts::{PING, PING_CERT};
 use test_plans::checked;
 
@@ -50,11 +42,11 @@ fn gauge(alloc: Global, apps: usize) -> Result<(Gauge, Vec<GaugeSeat>), NoMemory
 
 /// What a run came to: how many entries its journal has, how many samples were written and taken, and whether each application stopped.
 #[derive(Clone, Copy)]
-struct Told {
-    entries: usize,
-    written: usize,
-    taken: usize,
-    stopped: bool,
+pub(crate) struct Told {
+    pub entries: usize,
+    pub written: usize,
+    pub taken: usize,
+    pub stopped: bool,
 }
 
 /// Runs the deployment until each application has written and taken so many samples.
@@ -116,46 +108,33 @@ fn ran<R: Threads + Wait + Clock + Sync>(
     }
 }
 
-fn number(words: &[String], at: usize) -> Option<usize> {
-    words.get(at)?.as_str().parse::<usize>().ok()
+/// What a run came to, how long it took, and within how many microseconds half of the round trips and 99 of 100 were made.
+#[derive(Clone, Copy)]
+pub(crate) struct Peered {
+    pub told: Told,
+    pub took: Duration,
+    pub half: u64,
+    pub most: u64,
 }
 
-fn main(rt: HostRuntime) -> ExitCode {
-    let alloc = rt.alloc();
-    let Ok(words) = env::args(&rt) else {
-        return ExitCode::from(3);
-    };
-    let Ok(words) = words.collect::<Vec<String>>(alloc) else {
-        return ExitCode::from(3);
-    };
-    let (Some(samples), Some(lost)) = (number(words.as_slice(), 1), number(words.as_slice(), 2))
-    else {
-        return ExitCode::from(4);
-    };
-    let (Some(fates), Ok(began)) = (fates(lost), Instant::now(&rt)) else {
-        return ExitCode::from(4);
-    };
-    let Ok(times) = Arc::new(alloc, Times::new()) else {
-        return ExitCode::from(3);
-    };
-    let watch = Watch {
-        rt: &rt,
-        began,
-        times,
-    };
-    let told = ran(&rt, alloc, samples as u64, &fates, &watch);
-    let (Some(told), Ok(took)) = (told, began.elapsed(&rt)) else {
-        return ExitCode::from(3);
-    };
+/// Runs the deployment, with so many of each 64 packets lost. `None` where there was no memory or no thread, or the clock failed.
+pub(crate) fn measure<R: Threads + Wait + Clock + Sync>(
+    rt: &R,
+    alloc: Global,
+    samples: usize,
+    lost: usize,
+) -> Option<Peered> {
+    let fates = fates(lost)?;
+    let began = Instant::now(rt).ok()?;
+    let times = Arc::new(alloc, Times::new()).ok()?;
+    let watch = Watch { rt, began, times };
+    let told = ran(rt, alloc, samples as u64, &fates, &watch)?;
+    let took = began.elapsed(rt).ok()?;
     let (half, most) = watch.times.microseconds();
-    let _ = println!(rt;
-        "{} written, {} taken, all stopped: {}",
-        told.written, told.taken, told.stopped
-    );
-    let _ = eprintln!(rt;
-        "{} entries, {} ms, half of the round trips within {half} us, 99 of 100 within {most} us",
-        told.entries,
-        took.as_millis()
-    );
-    ExitCode::from(0)
+    Some(Peered {
+        told,
+        took,
+        half,
+        most,
+    })
 }

@@ -4,7 +4,7 @@ use Rattle.std.specs.Prelude.{Result, Ok, Err}
 use Rattle.dds_book.specs.Gauge.{GaugeState, GaugeSeatState, fresh_seat}
 use Rattle.dds_peers.specs.Kept.{AreOwners, claim_of}
 use Rattle.dds_peers.proofs.Owners.{all_are_owners}
-use Rattle.bench_peers.proofs.gauge.Goals as goal
+use Rattle.bench_ping.proofs.peers.gauge.Goals as goal
 
 -- what follows from two facts of a value
 from_both : {T E : Type 0} (r : Result T E) (P Q R : T → Type 0) → ((x : T) → P x → Q x → R x) → IfOk r P → IfOk r Q → IfOk r R

@@ -1,14 +1,8 @@
-//! The deployment of `examples/ping` in a domain that one thread drives: a sample goes to the other side and another one comes back, so many times. The words are
-//! the number of these round trips, and after how many samples a reader acknowledges. It prints what is kept and stored at the end, and to the error output how
-//! long it took.
-#![tactic(auto)]
+//! The deployment of `examples/ping` in a domain that one thread drives: a sample goes to the other side and another one comes back, so many times.
 
 use dds_base::{Arrival, Event, KeyNo, ReaderNo, Reply, RuleNo, WriterNo};
 use dds_domain::Domain;
 use std::alloc::Global;
-use std::env::{self, Env};
-use std::io;
-use std::process::ExitCode;
 use std::time::{Clock, Duration, Instant};
 use test_files::texts::{PING, PING_CERT};
 use test_plans::checked;
@@ -115,39 +109,28 @@ fn timed<R: Clock>(rt: &R, domain: &mut Domain, trips: usize, every: usize) -> O
     began.elapsed(rt).ok()
 }
 
-fn number(words: &[String], at: usize) -> Option<usize> {
-    words.get(at)?.as_str().parse::<usize>().ok()
+/// What is kept and stored of each of the two writers and readers after the round trips, and how long these took.
+#[derive(Clone, Copy)]
+pub(crate) struct Driven {
+    pub kept: [usize; 2],
+    pub stored: [usize; 2],
+    pub took: Duration,
 }
 
-fn main(rt: HostRuntime) -> ExitCode {
-    let alloc = rt.alloc();
-    let Ok(words) = env::args(&rt) else {
-        return ExitCode::from(3);
-    };
-    let Ok(words) = words.collect::<Vec<String>>(alloc) else {
-        return ExitCode::from(3);
-    };
-    let (Some(trips), Some(every)) = (number(words.as_slice(), 1), number(words.as_slice(), 2))
-    else {
-        return ExitCode::from(4);
-    };
-    let Some(mut domain) = opened(alloc) else {
-        return ExitCode::from(3);
-    };
-    let took = timed(&rt, &mut domain, trips, every);
+/// Makes so many round trips, with an acknowledgement after each `every` samples of a writer. `None` where there was no memory for the domain, an event did
+/// something else than it is for, or the clock failed.
+pub(crate) fn drive<R: Clock>(rt: &R, alloc: Global, trips: usize, every: usize) -> Option<Driven> {
+    let mut domain = opened(alloc)?;
+    let took = timed(rt, &mut domain, trips, every);
     let kept = [domain.kept(WriterNo::new(0)), domain.kept(WriterNo::new(1))];
     let stored = [
         domain.stored(ReaderNo::new(0)),
         domain.stored(ReaderNo::new(1)),
     ];
     drop(domain);
-    let Some(took) = took else {
-        return ExitCode::from(3);
-    };
-    let _ = println!(rt;
-        "{trips} round trips; kept {} and {}, stored {} and {}",
-        kept[0], kept[1], stored[0], stored[1]
-    );
-    let _ = eprintln!(rt; "{} ms", took.as_millis());
-    ExitCode::from(0)
+    Some(Driven {
+        kept,
+        stored,
+        took: took?,
+    })
 }
