@@ -1,12 +1,8 @@
 //! The deployment of `examples/ping`, run by its peers until each application has written and taken so many samples.
 
-ghost use Rattle.std.specs.Prelude.{◌≡◌, IfOk};
-ghost use Rattle.dds_peers.specs.Kept.{AreOwners};
-
 use crate::trips::{Timed, Times, Watch};
-use dds_base::{AppNo, Fate, NoMemory, Reply};
-use dds_book::{Gauge, GaugeSeat};
-use dds_peers::{App, AppEnd, Fates, Limits, Outcome, RunFault, Steady, run_peers};
+use dds_base::{AppNo, Fate, Reply};
+use dds_peers::{App, AppEnd, Fates, Limits, Outcome, RunFault, Steady, gauge_of, run_peers};
 use std::alloc::Global;
 use std::sync::{Arc, Wait};
 use std::thread::Threads;
@@ -30,14 +26,6 @@ fn fates(lost: usize) -> Option<Fates> {
         }
     }
     Fates::new(&all)
-}
-
-/// A gauge of so many applications, and the seats of its owners.
-fn gauge(alloc: Global, apps: usize) -> Result<(Gauge, Vec<GaugeSeat>), NoMemory>
-    ensures apps { IfOk result (λ r. r.0.apps ≡ apps) }
-    ensures owners { IfOk result (λ r. AreOwners r.0 apps r.1.items) }
-{
-    Gauge::open(alloc, apps, 0)
 }
 
 /// What a run came to: how many entries its journal has, how many samples were written and taken, and whether each application stopped.
@@ -79,7 +67,7 @@ fn ran<R: Threads + Wait + Clock + Sync>(
             return None;
         }
     }
-    let Ok((gauge, seats)) = gauge(alloc, count) else {
+    let Ok((gauge, seats)) = gauge_of(alloc, count) else {
         drop(checked);
         return None;
     };

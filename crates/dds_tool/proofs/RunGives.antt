@@ -1,6 +1,5 @@
 -- What a run of files gives.
 use Rattle.std.proofs.Common.{◌≡◌, ◌≤◌, ◌<◌, ◌⊎◌, ◌+◌, ◌∙◌, ℕ, List, length, map, Result, Ok, Err, refl, sym, ap, inl, inr, string_bytes, subst}
-use Rattle.std.specs.List.{range_with_len}
 use Rattle.std.specs.Result.{IsErrAnd}
 use Rattle.std.proofs.lemmas.List.{length-map}
 use Rattle.std.proofs.lemmas.List.FromFn.{length-map-range_with_len}
@@ -11,11 +10,8 @@ use Rattle.dds_cert.specs.Lists.{Certificate}
 use Rattle.dds_cert.specs.Naming.{name_at}
 use Rattle.dds_check.specs.declared.verdict.No.{No}
 use Rattle.dds_book.specs.declared.entry.Entry.{Entry}
-use Rattle.dds_book.specs.Gauge.{GaugeSeatState, GaugeState, fresh_seat}
 use Rattle.dds_book.specs.Journal.{IsJournal}
 use Rattle.dds_peers.specs.declared.player.AppEnd.{AppEnd}
-use Rattle.dds_peers.specs.Kept.{AreOwners}
-use Rattle.dds_peers.proofs.Owners.{all_are_owners}
 use Rattle.dds_answers.specs.declared.answer.Answer.{Answer}
 use Rattle.dds_answers.specs.declared.fault.ToolFault.{ToolFault}
 use Rattle.dds_answers.specs.declared.fault.ToolFault.TheVariants as fault
@@ -31,11 +27,6 @@ use Rattle.dds_json.specs.Ends.{in_style}
 use Rattle.dds_json.specs.declared.style.Style.{Style}
 use Rattle.dds_json.specs.declared.style.Style.TheVariants.{Text, Json}
 use Rattle.dds_tool.specs.RunDocument.{told_run}
-
--- the seats of a new gauge of so many applications are its owners'
-pub owners : (gauge : GaugeState) (apps : ℕ) (seats : List GaugeSeatState) → gauge.apps ≡ apps → seats ≡ map (fresh_seat gauge.table apps) (range_with_len 0 (apps + 0))
-    → AreOwners gauge apps seats
-owners gauge apps seats is made = rw (made, ← is) (all_are_owners gauge)
 
 -- there is a name for each application
 pub names_len : {X : Type 0} (text : X → List ℕ) (names : List X) (d : Lists) → map text names ≡ app_names d → length names ≡ length d.applications.entries

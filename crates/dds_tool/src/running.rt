@@ -2,7 +2,7 @@
 ghost use Rattle.std.specs.Prelude.{◌≡◌, ◌⊎◌, IfErr, IfOk, length, map, string_bytes};
 ghost use Rattle.std.specs.List.{count_by};
 ghost use Rattle.dds_book.specs.Journal.{IsJournal};
-ghost use Rattle.dds_peers.specs.Kept.{AreOwners, entries_of};
+ghost use Rattle.dds_peers.specs.Kept.{entries_of};
 ghost use Rattle.dds_answers.specs.Answers.{Gives};
 ghost use Rattle.dds_answers.specs.Fault.{IsAnswerFault};
 ghost use Rattle.dds_answers.specs.Outcome.{accepted, outcome};
@@ -16,13 +16,13 @@ use crate::run_document::run_line;
 use crate::wishes::Wishes;
 use dds_answers::{Answer, Detail, Report, ToolFault, answer_check, reported};
 use dds_base::{AppNo, NoMemory, Reply};
-use dds_book::{Entry, Gauge, GaugeSeat, Journal};
+use dds_book::{Entry, Journal};
 use dds_cert::naming::name_at;
 use dds_check::Checked;
 use dds_deploy::Deployment;
 use dds_json::{Style, reported_in_json};
 use dds_match::Plan;
-use dds_peers::{App, AppEnd, Gate, Limits, Outcome, RunFault, Steady, run_peers};
+use dds_peers::{App, AppEnd, Gate, Limits, Outcome, RunFault, Steady, gauge_of, run_peers};
 use std::alloc::Global;
 use std::sync::Wait;
 use std::thread::Threads;
@@ -166,14 +166,6 @@ fn steadies(alloc: Global, plan: &Plan, wishes: &Wishes) -> Result<Vec<Steady>, 
         apps.push(steady)?;
     }
     Ok(apps)
-}
-
-/// Counts of 0 for so many applications, and the seats of their owners.
-fn gauge_of(alloc: Global, apps: usize) -> Result<(Gauge, Vec<GaugeSeat>), NoMemory>
-    ensures apps { IfOk result (λ r. r.0.apps ≡ apps) }
-    ensures seats { IfOk result (λ r. AreOwners r.0 apps r.1.items) }
-{
-    Gauge::open(alloc, apps, 0)
 }
 
 /// Runs a checked plan with these applications, one for each of its own. It gives the journal, and how the thread of each ended.

@@ -1,11 +1,11 @@
 //! Runs, and what they tell.
-ghost use Rattle.std.specs.Prelude.{◌≡◌, ◌≤◌, length, IfOk};
+ghost use Rattle.std.specs.Prelude.{◌≡◌, ◌≤◌, length};
 ghost use Rattle.dds_peers.specs.Kept.{AreOwners};
 
 use dds_base::{AppNo, Event, Fate, NoMemory, Reply};
 use dds_book::{Gauge, GaugeSeat, Journal};
 use dds_check::Checked;
-use dds_peers::{App, AppEnd, Fates, Gate, Limits, Outcome, RunFault, run_peers};
+use dds_peers::{App, AppEnd, Fates, Gate, Limits, Outcome, RunFault, gauge_of, run_peers};
 use std::alloc::Global;
 use std::process::Abort;
 use std::sync::Wait;
@@ -56,14 +56,6 @@ pub(crate) fn circle(rt: &impl Abort, fates: &[Fate]) -> Fates {
         Some(fates) => fates,
         None => panic!(rt; "no fates"),
     }
-}
-
-/// A gauge of so many applications, and the seats of its owners.
-pub(crate) fn gauge(alloc: Global, apps: usize) -> Result<(Gauge, Vec<GaugeSeat>), NoMemory>
-    ensures apps { IfOk result (λ r. r.0.apps ≡ apps) }
-    ensures owners { IfOk result (λ r. AreOwners r.0 apps r.1.items) }
-{
-    Gauge::open(alloc, apps, 0)
 }
 
 /// The diaries of the applications.
@@ -139,7 +131,7 @@ pub(crate) fn run<R: Threads + Wait + Clock + Sync + Abort>(
     limits: Limits,
 ) -> Result<Told, Fault> {
     let fates = circle(rt, fates);
-    let (gauge, seats) = match gauge(alloc, checked.plan().lists().applications()) {
+    let (gauge, seats) = match gauge_of(alloc, checked.plan().lists().applications()) {
         Ok(both) => both,
         Err(NoMemory) => {
             drop(checked);
