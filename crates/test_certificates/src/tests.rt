@@ -1,3 +1,4 @@
+mod bounds;
 mod longest;
 mod plans;
 mod read;
