@@ -121,25 +121,25 @@ impl<'a> Totals<'a> {
     }
 }
 
-/// The bound of a key of a reader in a list of bounds, if there is one: the first that the list names.
-pub(crate) fn find_bound(bounds: &[Bound], reader: ReaderNo, key: KeyNo) -> Option<u64>
+/// The bound of a key of a reader in a list of bounds, if there is one: the first that the list names. Each call goes over the list.
+pub fn find_bound(bounds: &[Bound], reader: ReaderNo, key: KeyNo) -> Option<u32>
     ensures { result ≡ bound_of bounds.now reader key }
 {
     for b in bounds {
         if b.reader == reader && b.key == key {
-            return Some(u64::from(b.bound));
+            return Some(b.bound);
         }
     }
     None
 }
 
-/// The total of a reader in a list of totals, if there is one: the first that the list names.
-pub(crate) fn find_total(totals: &[Total], reader: ReaderNo) -> Option<u64>
+/// The total of a reader in a list of totals, if there is one: the first that the list names. Each call goes over the list.
+pub fn find_total(totals: &[Total], reader: ReaderNo) -> Option<u32>
     ensures { result ≡ total_of totals.now reader }
 {
     for t in totals {
         if t.reader == reader {
-            return Some(u64::from(t.bound));
+            return Some(t.bound);
         }
     }
     None

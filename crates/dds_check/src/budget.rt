@@ -11,7 +11,8 @@ use dds_base::RuleNo;
 use dds_deploy::Rule;
 use dds_match::Plan;
 
-fn rule_at(plan: &Plan, u: RuleNo) -> &Rule
+/// The rule of the plan with this number, which writes at most 16 keys.
+pub fn rule_at(plan: &Plan, u: RuleNo) -> &Rule
     requires { u < (network_of plan.now).rules }
     ensures value { (network_of plan.now).rule u ≡ rule_view result.now }
     ensures short { length result.now.writes.items ≤ 16 }

@@ -57,7 +57,10 @@ impl Checked {
         ensures value { result ≡ bound_of self.now.certificate.bounds reader key }
         ensures least { IfSome result (IsLeastBound self.now.certificate reader key) }
     {
-        find_bound(&self.certificate.bounds, reader, key)
+        match find_bound(&self.certificate.bounds, reader, key) {
+            Some(bound) => Some(u64::from(bound)),
+            None => None,
+        }
     }
 
     /// At most so many samples are stored at the reader, where the certificate gives a total: 0 to 4,294,967,295, and the
@@ -66,7 +69,10 @@ impl Checked {
         ensures value { result ≡ total_of self.now.certificate.totals reader }
         ensures least { IfSome result (IsLeastTotal self.now.certificate reader) }
     {
-        find_total(&self.certificate.totals, reader)
+        match find_total(&self.certificate.totals, reader) {
+            Some(total) => Some(u64::from(total)),
+            None => None,
+        }
     }
 
     /// What `bound` answers, as a table: it is made in one pass over the certificate, and each look-up takes constant time. It takes no

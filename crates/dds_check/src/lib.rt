@@ -18,6 +18,8 @@ mod spreads;
 mod tables;
 pub mod verdict;
 
-pub use bounds::{Bounds, Totals};
+pub use bounds::{Bounds, Totals, find_bound, find_total};
+pub use budget::rule_at;
 pub use checked::{Checked, check};
+pub use limits::{instance_limit, reached, written};
 pub use verdict::{No, Number, Subject};

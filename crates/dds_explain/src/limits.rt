@@ -1,36 +1,24 @@
 //! Why numbers 20 to 24 refuse an endpoint: how much can come, and the limit that is too small for it.
 ghost use Rattle.std.specs.Prelude.{◌≡◌, ◌<◌, ◌^◌, IfOk, string_bytes};
-ghost use Rattle.dds_base.specs.Sums.{count_below, total};
-ghost use Rattle.dds_match.specs.Network.{is_written, reach};
+ghost use Rattle.dds_base.specs.Sums.{total};
 ghost use Rattle.dds_match.specs.Plan.{network_of};
 ghost use Rattle.dds_cert.specs.Text.{each_below};
 ghost use Rattle.dds_cert.specs.Views.{certificate_view};
 ghost use Rattle.dds_check.specs.Limits.{is_bounded, reached_bound};
-ghost use Rattle.dds_check.specs.Tables.{bound_of, total_of};
 ghost use Rattle.dds_explain.specs.Limits.{bound_line, bound_over_line, bound_text, no_bound_line, no_total_lines, reached_bound_line, reached_key, reader_instances_lines, samples_over_lines, total_line, unbounded_key, writer_instances_lines, written_key};
 
 use crate::pieces::{
-    instance_limit, instance_limit_name, key_line, limit_text, reader_limits, reader_name,
-    writer_limits, writer_name,
+    instance_limit_name, key_line, limit_text, reader_limits, reader_name, writer_limits,
+    writer_name,
 };
 use dds_base::grid::KEYS;
 use dds_base::{KeyNo, ReaderNo, WriterNo};
 use dds_cert::naming::{reader_key, writer_key};
-use dds_cert::{Bound, Certificate, Total};
+use dds_cert::{Bound, Certificate};
+use dds_check::{find_bound, find_total, instance_limit, reached, written};
 use dds_match::Plan;
 use dds_show::texts::{TextResult, number_or, text_below};
 use std::alloc::Global;
-
-/// How many keys can reach a reader.
-fn reached(plan: &Plan, reader: ReaderNo) -> u64
-    ensures { result ≡ count_below (network_of plan.now).keys (reach (network_of plan.now) reader) }
-{
-    let mut count: u64 = 0;
-    for k in 0..KEYS {
-        count += u64::from(plan.reaches(reader, KeyNo::new(k)));
-    }
-    count
-}
 
 /// A key in a line of its own, if it can reach the reader.
 fn reached_key(alloc: Global, plan: &Plan, reader: ReaderNo, key: KeyNo) -> TextResult
@@ -67,17 +55,6 @@ pub(crate) fn reader_instances_lines(alloc: Global, plan: &Plan, reader: ReaderN
     format!(in alloc;
         "because {count} keys can reach {name}, and its max_instances is {limit}\n{keys}"
     )
-}
-
-/// How many keys rules write at a writer.
-fn written(plan: &Plan, writer: WriterNo) -> u64
-    ensures { result ≡ count_below (network_of plan.now).keys (is_written (network_of plan.now) writer) }
-{
-    let mut count: u64 = 0;
-    for k in 0..KEYS {
-        count += u64::from(plan.is_written(writer, KeyNo::new(k)));
-    }
-    count
 }
 
 /// A key in a line of its own, if a rule writes it at the writer.
@@ -131,35 +108,11 @@ pub(crate) fn no_bound_line(alloc: Global, plan: &Plan, reader: ReaderNo, key: K
     )
 }
 
-/// The bound of a key of a reader, if there is one: the first that the list names.
-fn bound_of(bounds: &[Bound], reader: ReaderNo, key: KeyNo) -> Option<u32>
-    ensures { result ≡ bound_of bounds.now reader key }
-{
-    for b in bounds {
-        if b.reader == reader && b.key == key {
-            return Some(b.bound);
-        }
-    }
-    None
-}
-
-/// The total of a reader, if there is one: the first that the list names.
-fn total_of(totals: &[Total], reader: ReaderNo) -> Option<u32>
-    ensures { result ≡ total_of totals.now reader }
-{
-    for t in totals {
-        if t.reader == reader {
-            return Some(t.bound);
-        }
-    }
-    None
-}
-
 /// Whether a key can't reach the reader or has a bound.
 fn is_bounded(plan: &Plan, bounds: &[Bound], reader: ReaderNo, key: KeyNo) -> bool
     ensures { result ≡ is_bounded (network_of plan.now) bounds.now reader key }
 {
-    !plan.reaches(reader, key) || bound_of(bounds, reader, key).is_some()
+    !plan.reaches(reader, key) || find_bound(bounds, reader, key).is_some()
 }
 
 /// A key in a line of its own, if it can reach the reader and has no bound.
@@ -227,7 +180,10 @@ pub(crate) fn bound_over_line(
     ensures { IfOk result (λ text. string_bytes text ≡ bound_over_line plan.now (certificate_view certificate.now) reader key) }
 {
     let limits = reader_limits(plan, reader);
-    let bound = bound_text(alloc, bound_of(certificate.bounds.as_slice(), reader, key))?;
+    let bound = bound_text(
+        alloc,
+        find_bound(certificate.bounds.as_slice(), reader, key),
+    )?;
     let key = reader_key(plan.lists(), reader, key);
     let name = reader_name(plan, reader);
     let policy = instance_limit_name(&limits);
@@ -268,7 +224,7 @@ fn reached_bound_line(
     ensures { IfOk result (λ text. string_bytes text ≡ reached_bound_line plan.now bounds.now reader key) }
 {
     if plan.reaches(reader, key) {
-        let bound = bound_of(bounds, reader, key);
+        let bound = find_bound(bounds, reader, key);
         bound_line(alloc, reader_key(plan.lists(), reader, key), bound)
     } else {
         Ok(String::new(alloc))
@@ -293,7 +249,7 @@ fn reached_bound(plan: &Plan, bounds: &[Bound], reader: ReaderNo, key: KeyNo) ->
     ensures small { result < 2 ^ 32 }
 {
     if plan.reaches(reader, key) {
-        u64::from(bound_of(bounds, reader, key).unwrap_or(0))
+        u64::from(find_bound(bounds, reader, key).unwrap_or(0))
     } else {
         0
     }
@@ -321,7 +277,7 @@ pub(crate) fn samples_over_lines(
 {
     let name = reader_name(plan, reader);
     let limit = limit_text(alloc, reader_limits(plan, reader).max_samples)?;
-    let total = total_line(alloc, total_of(certificate.totals.as_slice(), reader))?;
+    let total = total_line(alloc, find_total(certificate.totals.as_slice(), reader))?;
     let bounds = reached_bound_lines(alloc, plan, certificate.bounds.as_slice(), reader)?;
     let sum = sum_of_bounds(plan, certificate.bounds.as_slice(), reader);
     format!(in alloc; "because {name} has max_samples {limit}\n{total}{bounds}  sum {sum}\n")

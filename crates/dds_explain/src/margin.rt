@@ -3,12 +3,13 @@ ghost use Rattle.std.specs.Prelude.{◌≡◌, IfOk, string_bytes};
 ghost use Rattle.dds_cert.specs.Views.{certificate_view, row_view};
 ghost use Rattle.dds_explain.specs.Margin.{bound_line, bound_margin, bound_words, margin_lines, margin_text, named_instance_limit, named_limit, total_line, total_margin, total_words};
 
-use crate::pieces::{instance_limit, instance_limit_name, reader_limits, reader_name, text_of_row};
+use crate::pieces::{instance_limit_name, reader_limits, reader_name, text_of_row};
 use crate::shown::shown_text;
 use crate::weights::{budget, sample_weight};
 use dds_base::ReaderNo;
 use dds_cert::naming::reader_key;
 use dds_cert::{Bound, Certificate, Row, Total};
+use dds_check::instance_limit;
 use dds_match::Plan;
 use dds_show::texts::{TextResult, text_of_each};
 use std::alloc::Global;

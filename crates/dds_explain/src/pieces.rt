@@ -3,7 +3,6 @@ ghost use Rattle.std.specs.Prelude.{◌≡◌, ℕ, List, [], IfOk, option_map, 
 ghost use Rattle.std.specs.Option.{option_map_or};
 ghost use Rattle.dds_match.specs.Plan.{network_of};
 ghost use Rattle.dds_cert.specs.Views.{certificate_view, row_view};
-ghost use Rattle.dds_check.specs.Accepted.{instance_limit};
 ghost use Rattle.dds_events.specs.Naming.{reader_name, writer_name};
 ghost use Rattle.dds_explain.specs.Pieces.{instance_limit_name, key_line, limit_text, weighed_term};
 
@@ -63,16 +62,6 @@ pub(crate) fn limit_text(alloc: Global, limit: Option<u32>) -> TextResult
     ensures { IfOk result (λ text. string_bytes text ≡ limit_text limit) }
 {
     number_or(alloc, limit, "unlimited")
-}
-
-/// The most samples of one instance that a reader may store.
-pub(crate) fn instance_limit(limits: &ReaderLimits) -> Option<u32>
-    ensures { result ≡ instance_limit limits.now }
-{
-    match limits.keep_last {
-        Some(depth) => Some(depth),
-        None => limits.max_samples_per_instance,
-    }
 }
 
 /// The policy that the limit of an instance comes from.

@@ -11,6 +11,7 @@ ghost use Rattle.dds_check.specs.Tables.{weighed_by};
 
 use dds_base::{Endpoint, KeyNo, Portion, ReaderNo, RuleNo, WriterNo};
 use dds_cert::{Row, Weight};
+use dds_check::rule_at;
 use dds_deploy::Rule;
 use dds_match::Plan;
 
@@ -101,16 +102,6 @@ pub(crate) fn spread(plan: &Plan, row: &Row, writer: WriterNo, key: KeyNo) -> u1
         total += heard(plan, row, ReaderNo::new(r), writer, key);
     }
     total
-}
-
-fn rule_at(plan: &Plan, u: RuleNo) -> &Rule
-    requires { u < (network_of plan.now).rules }
-    ensures value { (network_of plan.now).rule u ≡ rule_view result.now }
-    ensures short { length result.now.writes.items ≤ 16 }
-{
-    // What is known of every plan: a rule writes at most 16 keys.
-    let _lists = plan.lists();
-    plan.rule(u)
 }
 
 fn opened_by(row: &Row, rule: &Rule) -> u128

@@ -15,7 +15,7 @@ returns c =
     let key : c.reader_key-key.result.now ≡ reader_key c.args.plan.now c.args.reader c.args.key =
     c.reader_key-key.ensures ∙ ap (λ (d : Lists). reader_key d c.args.reader c.args.key) c.lists.ensures.value in
     let bound : string_bytes c.in_ok-bound.bound ≡ bound_text (bound_of c.args.certificate.now.bounds.items c.args.reader c.args.key) =
-    c.in_ok-bound.ensures ∙ (ap bound_text c.bound_of.ensures ∙ ap (λ (bs : List Bound). bound_text (bound_of bs c.args.reader c.args.key)) c.as_slice.ensures.value) in
+    c.in_ok-bound.ensures ∙ (ap bound_text c.find_bound.ensures ∙ ap (λ (bs : List Bound). bound_text (bound_of bs c.args.reader c.args.key)) c.as_slice.ensures.value) in
     let policy : c.instance_limit_name-policy.result.now ≡ instance_limit_name ((network_of c.args.plan.now).reader_limits c.args.reader) =
     c.instance_limit_name-policy.ensures ∙ ap instance_limit_name c.reader_limits-limits.ensures in
     let limit : string_bytes c.in_ok-limit.limit ≡ limit_text (instance_limit ((network_of c.args.plan.now).reader_limits c.args.reader)) =

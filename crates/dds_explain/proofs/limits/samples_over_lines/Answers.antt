@@ -16,7 +16,7 @@ returns c =
     let limit : string_bytes c.in_ok-limit.limit ≡ limit_text ((network_of c.args.plan.now).reader_limits c.args.reader).max_samples =
     c.in_ok-limit.ensures ∙ ap (λ (x : ReaderLimits). limit_text x.max_samples) c.reader_limits.ensures in
     let total : string_bytes c.in_ok-total.total ≡ total_line (total_of c.args.certificate.now.totals.items c.args.reader) =
-    c.in_ok-total.ensures ∙ (ap total_line c.total_of.ensures ∙ ap (λ (ts : List Total). total_line (total_of ts c.args.reader)) c.as_slice.ensures.value) in
+    c.in_ok-total.ensures ∙ (ap total_line c.find_total.ensures ∙ ap (λ (ts : List Total). total_line (total_of ts c.args.reader)) c.as_slice.ensures.value) in
     let bounds : string_bytes c.in_ok-bounds.bounds ≡ each_below 64 (reached_bound_line c.args.plan.now c.args.certificate.now.bounds.items c.args.reader) =
     c.in_ok-bounds.ensures ∙ ap (λ (bs : List Bound). each_below 64 (reached_bound_line c.args.plan.now bs c.args.reader)) c.as_slice-2.ensures.value in
     let sum : c.sum_of_bounds-sum.result ≡ sums.total 64 (reached_bound (network_of c.args.plan.now) c.args.certificate.now.bounds.items c.args.reader) =

@@ -1,11 +1,11 @@
-use Rattle.std.proofs.Common.{ap, ◌∙◌}
+use Rattle.std.proofs.Common.{ap, ◌∙◌, Some}
 use Rattle.dds_match.specs.Plan.{network_of}
 use Rattle.dds_cert.specs.Views.{certificate_view}
 use Rattle.dds_check.specs.Tables.{total_of}
 use Rattle.dds_check.proofs.Least.{least_total}
 use Rattle.dds_check.proofs.checked.Checked.total.Goals as goal
 
-pub returns-clause-least : goal.returns-clause-least
-returns-clause-least c =
-    rw (← c.self.view_is) (least_total (network_of c.self.inside.plan) (certificate_view c.self.inside.certificate) c.args.reader _ c.self.invariant.fits
-    (c.find_total.ensures ∙ ap (λ xs. total_of xs c.args.reader) c.deref.ensures.value))
+pub returns-in-Some-clause-least : goal.returns-in-Some-clause-least
+returns-in-Some-clause-least c =
+    rw (← c.self.view_is) (least_total (network_of c.self.inside.plan) (certificate_view c.self.inside.certificate) c.args.reader (Some c.from.result) c.self.invariant.fits
+    (ap Some c.from.ensures ∙ (c.in-Some.ensures ∙ ap (λ xs. total_of xs c.args.reader) c.deref.ensures.value)))

@@ -1,8 +1,0 @@
-use Rattle.std.proofs.Common.{◌≤◌, length, subst, sym}
-use Rattle.dds_deploy.specs.Lists.{Rule}
-use Rattle.dds_check.proofs.Plans.{writes_few}
-use Rattle.dds_explain.proofs.weights.rule_at.Goals as goal
-
-pub returns-clause-short : goal.returns-clause-short
-returns-clause-short c =
-    subst (λ (x : Rule). length x.writes ≤ 16) (sym c.rule.ensures) (writes_few c.args.plan.now c.args.u c.lists-lists.ensures.well_formed)
