@@ -1,6 +1,6 @@
 //! The section `applications`: their names, participants, and the writers and readers that each owns. Together they own
 //! each writer and each reader of the file once.
-ghost use Rattle.std.specs.Prelude.{◌≡◌, ◌<◌, List, ℕ, [], length, option_map, slice_get, unwrap_or};
+ghost use Rattle.std.specs.Prelude.{◌≡◌, ◌<◌, List, ℕ, [], length, map, option_map, slice_get, unwrap_or};
 ghost use Rattle.std.specs.List.{list_any};
 ghost use Rattle.toml.specs.View.{view, table_view};
 ghost use Rattle.dds_fields.specs.Gives.{Gives};
@@ -15,7 +15,7 @@ use crate::entries::{Entries, section};
 use dds_base::{ParticipantNo, Section};
 use dds_deploy::{Application, Participant, Reader, Writer};
 use dds_fields::fault::{FaultKind, ReadFault, refuse};
-use dds_fields::field::{entry, known_name_field, known_name_of};
+use dds_fields::field::{known_name_field, known_name_of};
 use dds_fields::items::{Items, optional_list};
 use dds_fields::place::Place;
 use std::alloc::Global;
@@ -142,14 +142,10 @@ impl Entries for ApplicationEntries<'_> {
 
     ghost fields = { λ it. application_fields (listed participant_view it.participants.now) (listed writer_view it.writers.now) (listed reader_view it.readers.now) };
 
-    fn table<'a>(
-        &self,
-        alloc: Global,
-        path: &Place,
-        value: &'a Value,
-    ) -> Result<&'a Table, ReadFault> {
-        let keys = ["name", "participant", "writers", "readers"];
-        entry(alloc, &keys, path, value)
+    fn keys() -> &'static [&'static str]
+        ensures { map (λ key. key.now) result.now ≡ application_keys }
+    {
+        &["name", "participant", "writers", "readers"]
     }
 
     fn fields(

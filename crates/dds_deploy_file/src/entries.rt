@@ -1,16 +1,16 @@
 //! Sections of entries under names.
-ghost use Rattle.std.specs.Prelude.{List, ℕ};
+ghost use Rattle.std.specs.Prelude.{◌≡◌, List, ℕ, map};
 ghost use Rattle.toml.specs.Data.{Members};
-ghost use Rattle.toml.specs.View.{view as data_of, table_view};
+ghost use Rattle.toml.specs.View.{table_view};
 ghost use Rattle.dds_base.specs.Section.{Listed, listed, nothing};
 ghost use Rattle.dds_fields.specs.Gives.{Gives};
 ghost use Rattle.dds_fields.specs.Places.{place_text};
-ghost use Rattle.dds_fields.specs.Reading.{Read as Reading, entry, a_section};
+ghost use Rattle.dds_fields.specs.Reading.{Read as Reading, a_section};
 ghost use Rattle.dds_deploy_file.specs.Entries.{one_more};
 
 use dds_base::Section;
 use dds_fields::fault::ReadFault;
-use dds_fields::field::new_name_field;
+use dds_fields::field::{entry, new_name_field};
 use dds_fields::items::{Items, section_of};
 use dds_fields::place::Place;
 use std::alloc::Global;
@@ -32,14 +32,9 @@ pub(crate) trait Entries {
     // what the fields but the name give, after the entries before
     ghost fields: { Self → Listed View → List ℕ → Members → Reading View };
 
-    /// The table of an entry, with no other keys than it may have.
-    fn table<'a>(
-        &self,
-        alloc: Global,
-        path: &Place,
-        value: &'a Value,
-    ) -> Result<&'a Table, ReadFault>
-        ensures { Gives (λ t. table_view t.now) result (entry keys (place_text path.now) (data_of value.now)) };
+    /// The keys that an entry may have.
+    fn keys() -> &'static [&'static str]
+        ensures { map (λ key. key.now) result.now ≡ keys };
 
     /// The fields of an entry but its name, after the entries before it.
     fn fields(
@@ -75,7 +70,7 @@ impl<E: Entries> Items for EntryItems<'_, E> {
         path: &Place,
         value: &Value,
     ) -> Result<(), ReadFault> {
-        let table = self.entries.table(alloc, path, value)?;
+        let table = entry(alloc, E::keys(), path, value)?;
         let name = new_name_field(alloc, &all.names, path, table, "name")?;
         let entry = self.entries.fields(alloc, all, path, table)?;
         all.push(alloc, name, entry)?;

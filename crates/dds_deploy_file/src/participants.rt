@@ -12,10 +12,10 @@ use crate::entries::{Entries, section};
 use dds_base::Section;
 use dds_deploy::Participant;
 use dds_fields::fault::ReadFault;
-use dds_fields::field::{entry, number_field};
+use dds_fields::field::number_field;
 use dds_fields::place::Place;
 use std::alloc::Global;
-use toml::{Table, Value};
+use toml::Table;
 
 // What reads the participants of a file.
 #[derive(Clone, Copy)]
@@ -32,13 +32,8 @@ impl Entries for ParticipantEntries {
 
     ghost fields = { λ _ _. participant_fields };
 
-    fn table<'a>(
-        &self,
-        alloc: Global,
-        path: &Place,
-        value: &'a Value,
-    ) -> Result<&'a Table, ReadFault> {
-        entry(alloc, &["name", "domain"], path, value)
+    fn keys() -> &'static [&'static str] {
+        &["name", "domain"]
     }
 
     #[tactic(auto, unfolding(crate::specs::Participants::participant_fields))]

@@ -1,16 +1,15 @@
 //! The policy fields of a writer or a reader (OMG DDS 1.4, clause 2.2.3). An absent field has its default; only the
 //! default of RELIABILITY differs between the two, and the caller names it.
-ghost use Rattle.std.specs.Prelude.{codes, ◌≡◌, ◌∷◌, map, string_bytes, if◌then◌else◌, Option, List, ℕ};
+ghost use Rattle.std.specs.Prelude.{◌≡◌, map, string_bytes, Option, List, ℕ};
 ghost use Rattle.std.specs.List.{list_all};
-ghost use Rattle.toml.specs.View.{view, table_view};
+ghost use Rattle.toml.specs.View.{table_view};
 ghost use Rattle.dds_fields.specs.Gives.{Gives};
 ghost use Rattle.dds_fields.specs.Places.{place_text};
-ghost use Rattle.dds_fields.specs.Reading.{entry};
-ghost use Rattle.dds_deploy_file.specs.Policies.{endpoint_keys, durability, access_scope, coherent, ordered, presentation, duration_of, duration, deadline, latency_budget, ownership, liveliness_kind, lease, liveliness, reliability, destination_order, history_kind, depth, history, max_samples, max_instances, max_samples_per_instance, resource_limits, timing, delivery, policies, is_partition_byte, is_partition_name, partition, partitions};
+ghost use Rattle.dds_deploy_file.specs.Policies.{durability, access_scope, coherent, ordered, presentation, duration_of, duration, deadline, latency_budget, ownership, liveliness_kind, lease, liveliness, reliability, destination_order, history_kind, depth, history, max_samples, max_instances, max_samples_per_instance, resource_limits, timing, delivery, policies, is_partition_byte, is_partition_name, partition, partitions};
 
 use dds_base::is_name_byte;
 use dds_fields::fault::{FaultKind, ReadFault, refuse};
-use dds_fields::field::{entry, optional_number, text_of};
+use dds_fields::field::{optional_number, text_of};
 use dds_fields::items::{Items, optional_list};
 use dds_fields::place::Place;
 use dds_fields::words::{optional_duration, optional_flag, optional_limit, optional_word};
@@ -403,41 +402,27 @@ pub(crate) fn partitions(
     optional_list(alloc, 16, &PartitionNames, none, path, table, "partitions")
 }
 
-/// The table of an entry for an endpoint, with no other keys than an endpoint's, and `filter` if it is a reader.
-pub(crate) fn endpoint_table<'a>(
-    alloc: Global,
-    is_reader: bool,
-    path: &Place,
-    value: &'a Value,
-) -> Result<&'a Table, ReadFault>
-    ensures { Gives (λ t. table_view t.now) result (entry (if is_reader then codes "filter" ∷ endpoint_keys else endpoint_keys) (place_text path.now) (view value.now)) }
-{
-    let keys = [
-        "filter",
-        "name",
-        "participant",
-        "topic",
-        "durability",
-        "access_scope",
-        "coherent",
-        "ordered",
-        "deadline",
-        "latency_budget",
-        "ownership",
-        "liveliness",
-        "lease",
-        "reliability",
-        "destination_order",
-        "history",
-        "depth",
-        "max_samples",
-        "max_instances",
-        "max_samples_per_instance",
-        "partitions",
-    ];
-    if is_reader {
-        entry(alloc, &keys, path, value)
-    } else {
-        entry(alloc, &keys[1..], path, value)
-    }
-}
+/// The keys that the entry of a reader may have. But for `filter`, the first, they are those of a writer.
+pub(crate) const READER_KEYS: [&str; 21] = [
+    "filter",
+    "name",
+    "participant",
+    "topic",
+    "durability",
+    "access_scope",
+    "coherent",
+    "ordered",
+    "deadline",
+    "latency_budget",
+    "ownership",
+    "liveliness",
+    "lease",
+    "reliability",
+    "destination_order",
+    "history",
+    "depth",
+    "max_samples",
+    "max_instances",
+    "max_samples_per_instance",
+    "partitions",
+];

@@ -1,5 +1,5 @@
 //! The section `readers`: their names, participants, topics, filters and policies.
-ghost use Rattle.std.specs.Prelude.{codes, ◌≡◌, ◌<◌, ◌∷◌, List, ℕ, length, IfOk};
+ghost use Rattle.std.specs.Prelude.{codes, ◌≡◌, ◌<◌, ◌∷◌, List, ℕ, length, map, IfOk};
 ghost use Rattle.toml.specs.View.{table_view};
 ghost use Rattle.dds_fields.specs.Gives.{Gives};
 ghost use Rattle.dds_base.specs.Section.{listed};
@@ -11,7 +11,7 @@ ghost use Rattle.dds_deploy_file.specs.Readers.{filter_key, filter, reader_field
 ghost use Rattle.dds_deploy.specs.Views.{participant_view, topic_view, reader_view};
 
 use crate::entries::{Entries, section};
-use crate::policies::{endpoint_table, partitions, policies};
+use crate::policies::{READER_KEYS, partitions, policies};
 use dds_base::{KeyNo, Names, NoMemory, ParticipantNo, Section, TopicNo};
 use dds_deploy::{Participant, Reader, Topic};
 use dds_fields::fault::{FaultKind, ReadFault, refuse};
@@ -146,13 +146,10 @@ impl Entries for ReaderEntries<'_> {
 
     ghost fields = { λ it _. consistent (λ x. x.qos.requested) (reader_fields (listed participant_view it.participants.now) (listed topic_view it.topics.now)) };
 
-    fn table<'a>(
-        &self,
-        alloc: Global,
-        path: &Place,
-        value: &'a Value,
-    ) -> Result<&'a Table, ReadFault> {
-        endpoint_table(alloc, true, path, value)
+    fn keys() -> &'static [&'static str]
+        ensures { map (λ key. key.now) result.now ≡ codes "filter" ∷ endpoint_keys }
+    {
+        &READER_KEYS
     }
 
     #[tactic(auto, unfolding(crate::specs::Policies::consistent))]

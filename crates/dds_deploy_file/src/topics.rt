@@ -13,7 +13,7 @@ use crate::entries::{Entries, section};
 use dds_base::{Names, Section};
 use dds_deploy::Topic;
 use dds_fields::fault::{FaultKind, ReadFault, refuse};
-use dds_fields::field::{array_of_limit, entry, name_field, new_name_of, required};
+use dds_fields::field::{array_of_limit, name_field, new_name_of, required};
 use dds_fields::items::{Items, each};
 use dds_fields::place::Place;
 use std::alloc::Global;
@@ -81,13 +81,8 @@ impl Entries for TopicEntries {
 
     ghost fields = { λ _ _. topic_fields };
 
-    fn table<'a>(
-        &self,
-        alloc: Global,
-        path: &Place,
-        value: &'a Value,
-    ) -> Result<&'a Table, ReadFault> {
-        entry(alloc, &["name", "type", "keys"], path, value)
+    fn keys() -> &'static [&'static str] {
+        &["name", "type", "keys"]
     }
 
     #[tactic(auto, unfolding(crate::specs::Topics::topic_fields))]

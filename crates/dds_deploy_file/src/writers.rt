@@ -1,5 +1,5 @@
 //! The section `writers`: their names, participants, topics and policies.
-ghost use Rattle.std.specs.Prelude.{◌≡◌};
+ghost use Rattle.std.specs.Prelude.{◌≡◌, map};
 ghost use Rattle.toml.specs.View.{table_view};
 ghost use Rattle.dds_fields.specs.Gives.{Gives};
 ghost use Rattle.dds_base.specs.Section.{listed};
@@ -10,7 +10,7 @@ ghost use Rattle.dds_deploy_file.specs.Writers.{writer_fields, writers};
 ghost use Rattle.dds_deploy.specs.Views.{participant_view, topic_view, writer_view};
 
 use crate::entries::{Entries, section};
-use crate::policies::{endpoint_table, partitions, policies};
+use crate::policies::{READER_KEYS, partitions, policies};
 use dds_base::{ParticipantNo, Section, TopicNo};
 use dds_deploy::{Participant, Topic, Writer};
 use dds_fields::fault::{FaultKind, ReadFault, refuse};
@@ -18,7 +18,7 @@ use dds_fields::field::known_name_field;
 use dds_fields::place::Place;
 use dds_qos::{Reliability, WriterQos, consistent_writer};
 use std::alloc::Global;
-use toml::{Table, Value};
+use toml::Table;
 
 #[tactic(auto, unfolding(crate::specs::Writers::writer_fields))]
 fn writer_fields(
@@ -60,13 +60,10 @@ impl Entries for WriterEntries<'_> {
 
     ghost fields = { λ it _. consistent (λ x. x.qos.offered) (writer_fields (listed participant_view it.participants.now) (listed topic_view it.topics.now)) };
 
-    fn table<'a>(
-        &self,
-        alloc: Global,
-        path: &Place,
-        value: &'a Value,
-    ) -> Result<&'a Table, ReadFault> {
-        endpoint_table(alloc, false, path, value)
+    fn keys() -> &'static [&'static str]
+        ensures { map (λ key. key.now) result.now ≡ endpoint_keys }
+    {
+        &READER_KEYS[1..]
     }
 
     #[tactic(auto, unfolding(crate::specs::Policies::consistent))]
