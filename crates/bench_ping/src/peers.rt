@@ -1,7 +1,11 @@
 //! The deployment of `examples/ping`, run by its peers until each application has written and taken so many samples.
 
+ghost use Rattle.std.specs.Prelude.{◌<◌, length};
+
 use crate::trips::{Timed, Times, Watch};
 use dds_base::{AppNo, Fate, Reply};
+use dds_check::Checked;
+use dds_match::Plan;
 use dds_peers::{App, AppEnd, Fates, Limits, Outcome, RunFault, Steady, gauge_of, run_peers};
 use std::alloc::Global;
 use std::sync::{Arc, Wait};
@@ -37,6 +41,83 @@ pub(crate) struct Told {
     pub stopped: bool,
 }
 
+/// A steady application that is timed.
+fn timed<R: Threads + Wait + Clock + Sync>(
+    alloc: Global,
+    plan: &Plan,
+    app: AppNo,
+    samples: u64,
+    watch: &Watch<R>,
+) -> Option<Box<dyn App + Send>>
+    requires { app < length plan.now.applications.entries }
+{
+    let steady = Steady::new(alloc, plan, app, samples, samples).ok()?;
+    let times = Arc::try_clone(&watch.times).ok()?;
+    let boxed = Box::new(alloc, Timed::new(alloc, app, steady, times)).ok()?;
+    Some(boxed)
+}
+
+/// A timed application for each of the plan's.
+fn all_timed<R: Threads + Wait + Clock + Sync>(
+    alloc: Global,
+    plan: &Plan,
+    samples: u64,
+    watch: &Watch<R>,
+) -> Option<Vec<Box<dyn App + Send>>> {
+    let mut apps: Vec<Box<dyn App + Send>> = Vec::new(alloc);
+    for app in 0..plan.lists().applications() {
+        let boxed = timed(alloc, plan, AppNo::new(app), samples, watch)?;
+        apps.push(boxed).ok()?;
+    }
+    Some(apps)
+}
+
+/// What a run came to.
+fn told(outcome: &Outcome<Box<dyn App + Send>>) -> Told {
+    let entries = outcome.journal.entries();
+    Told {
+        entries: entries.len(),
+        written: entries
+            .iter()
+            .filter(|e| matches!(e.reply, Reply::Written(_)))
+            .count(),
+        taken: entries
+            .iter()
+            .filter(|e| matches!(e.reply, Reply::Took(_)))
+            .count(),
+        stopped: outcome.ends.iter().all(|end| *end == AppEnd::Stopped),
+    }
+}
+
+/// Runs the deployment with these applications.
+fn ran_with<R: Threads + Wait + Clock + Sync>(
+    rt: &R,
+    alloc: Global,
+    checked: Checked,
+    apps: Vec<Box<dyn App + Send>>,
+    fates: &Fates,
+    watch: &Watch<R>,
+) -> Option<Told> {
+    let count = checked.plan().lists().applications();
+    let Ok((gauge, seats)) = gauge_of(alloc, count) else {
+        drop(checked);
+        return None;
+    };
+    match run_peers(
+        rt, alloc, checked, apps, fates, watch, &gauge, seats, LIMITS,
+    ) {
+        Ok(outcome) => {
+            let told = told(&outcome);
+            drop(outcome);
+            Some(told)
+        }
+        Err(fault) => {
+            drop(fault);
+            None
+        }
+    }
+}
+
 /// Runs the deployment until each application has written and taken so many samples.
 fn ran<R: Threads + Wait + Clock + Sync>(
     rt: &R,
@@ -46,51 +127,10 @@ fn ran<R: Threads + Wait + Clock + Sync>(
     watch: &Watch<R>,
 ) -> Option<Told> {
     let checked = checked(alloc, PING, PING_CERT)?;
-    let mut apps: Vec<Box<dyn App + Send>> = Vec::new(alloc);
-    let count = checked.plan().lists().applications();
-    for app in 0..count {
-        let Ok(steady) = Steady::new(alloc, checked.plan(), AppNo::new(app), samples, samples)
-        else {
+    match all_timed(alloc, checked.plan(), samples, watch) {
+        Some(apps) => ran_with(rt, alloc, checked, apps, fates, watch),
+        None => {
             drop(checked);
-            return None;
-        };
-        let Ok(times) = Arc::try_clone(&watch.times) else {
-            drop(checked);
-            return None;
-        };
-        let Ok(boxed) = Box::new(alloc, Timed::new(alloc, AppNo::new(app), steady, times)) else {
-            drop(checked);
-            return None;
-        };
-        if apps.push(boxed).is_err() {
-            drop(checked);
-            return None;
-        }
-    }
-    let Ok((gauge, seats)) = gauge_of(alloc, count) else {
-        drop(checked);
-        return None;
-    };
-    match run_peers(
-        rt, alloc, checked, apps, fates, watch, &gauge, seats, LIMITS,
-    ) {
-        Ok(Outcome { ends, journal, .. }) => {
-            let entries = journal.entries();
-            Some(Told {
-                entries: entries.len(),
-                written: entries
-                    .iter()
-                    .filter(|e| matches!(e.reply, Reply::Written(_)))
-                    .count(),
-                taken: entries
-                    .iter()
-                    .filter(|e| matches!(e.reply, Reply::Took(_)))
-                    .count(),
-                stopped: ends.iter().all(|end| *end == AppEnd::Stopped),
-            })
-        }
-        Err(fault) => {
-            drop(fault);
             None
         }
     }

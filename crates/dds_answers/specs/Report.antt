@@ -1,6 +1,5 @@
--- What a check answers, and the lines that tell it.
+-- What a check answers, and what commands write of that and of other answers.
 use Rattle.std.specs.Prelude.{ℕ, List, [], ◌++◌, ◌≡◌, length, if◌then◌else◌, codes, flat_map, string_bytes, None, Result, Ok, Err}
-use Rattle.std.specs.Fmt.{decimal}
 use Rattle.dds_fields.specs.Reading.{Read}
 use Rattle.dds_fields.specs.declared.fault.ReadFault.{ReadFault}
 use Rattle.dds_fields.specs.declared.fault.ReadFault.TheVariants as unread
@@ -10,21 +9,16 @@ use Rattle.dds_cert_file.specs.declared.fault.CertFault.TheVariants as uncertifi
 use Rattle.dds_cert_file.specs.Faults.{kind_of}
 use Rattle.dds_cert.specs.Lists.{Certificate}
 use Rattle.dds_cert.specs.Views.{certificate_view}
-use Rattle.dds_cert.specs.declared.certificate.Bound.{Bound}
-use Rattle.dds_cert.specs.declared.certificate.Total.{Total}
-use Rattle.dds_check.specs.Verdict.{number_of, name_of}
 use Rattle.dds_check.specs.declared.verdict.No.{No}
-use Rattle.dds_check.specs.declared.verdict.Subject.{Subject}
-use Rattle.dds_check.specs.declared.verdict.Subject.TheVariants as subject
 use Rattle.dds_match.specs.Plan.{network_of}
 use Rattle.dds_answers.specs.Matches.{is_as_intended, lines_of}
-use Rattle.dds_cert.specs.Naming.{name_at, reader_key, writer_key, row_name}
 use Rattle.dds_cert.specs.Text.{certificate_text}
 use Rattle.dds_show.specs.Json.{deployment_json}
-use Rattle.dds_events.specs.Naming.{rule_text, three_words, two_words}
 use Rattle.dds_xml.specs.Document.{deployment_xml}
 use Rattle.dds_draw.specs.Picture.{drawing}
 use Rattle.dds_explain.specs.Explanation.{margins, reason}
+use Rattle.dds_verdict.specs.Acceptance.{acceptance_lines}
+use Rattle.dds_verdict.specs.Refusal.{refusal_line}
 use Rattle.dds_answers.specs.declared.format.Format.{Format}
 use Rattle.dds_answers.specs.declared.format.Format.TheVariants.{Json, DdsXml}
 use Rattle.dds_answers.specs.Outcome.{Outcome, accepted, refused, accepted_because, refused_because, bad_deployment, bad_certificate, too_large, compared, proposed, unproposed, migrated, shown, drawn, said, bad_events}
@@ -50,34 +44,6 @@ Tells (Err fault.TooLarge) end = ⊥
 Tells (Err fault.Read) end = ⊥
 Tells (Err fault.Write) end = ⊥
 Tells (Err fault.Run) end = ⊥
-
--- the names of what a condition speaks of
-abbrev pub subject_text : Lists → Certificate → Subject → List ℕ
-subject_text d c (subject.Pair w r) = two_words (name_at d.writers.names w) (name_at d.readers.names r)
-subject_text d c (subject.Instance r k) = two_words (name_at d.readers.names r) (reader_key d r k)
-subject_text d c (subject.Reader r) = name_at d.readers.names r
-subject_text d c (subject.Writer w) = name_at d.writers.names w
-subject_text d c (subject.RowInstance n r k) = three_words (row_name c n) (name_at d.readers.names r) (reader_key d r k)
-subject_text d c (subject.RowRule n u) = two_words (row_name c n) (rule_text d u)
-subject_text d c (subject.RowWriterKey n w k) = three_words (row_name c n) (name_at d.writers.names w) (writer_key d w k)
-
--- the line of a refusal
-abbrev pub refusal_line : Lists → Certificate → No → List ℕ
-refusal_line d c first =
-    codes "no " ++ (decimal (number_of first.number) ++ (codes " " ++ (name_of first.number ++ (codes " " ++ (subject_text d c first.subject ++ codes "\n")))))
-
--- the line of a bound
-abbrev pub bound_line : Lists → Bound → List ℕ
-bound_line d b =
-    codes "bound " ++ (name_at d.readers.names b.reader ++ (codes " " ++ (reader_key d b.reader b.key ++ (codes " " ++ (decimal b.bound ++ codes "\n")))))
-
--- the line of a total
-abbrev pub total_line : Lists → Total → List ℕ
-total_line d t = codes "total " ++ (name_at d.readers.names t.reader ++ (codes " " ++ (decimal t.bound ++ codes "\n")))
-
--- the lines of an acceptance: yes, each bound, each total
-abbrev pub acceptance_lines : Lists → Certificate → List ℕ
-acceptance_lines d c = (codes "yes\n" ++ flat_map (bound_line d) c.bounds) ++ flat_map (total_line d) c.totals
 
 -- a deployment in a format
 abbrev pub shown_text : Format → Lists → List ℕ

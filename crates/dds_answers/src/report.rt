@@ -6,23 +6,21 @@ ghost use Rattle.dds_cert.specs.Views.{certificate_view};
 ghost use Rattle.dds_check.specs.Accepts.{first_no};
 ghost use Rattle.dds_answers.specs.Outcome.{Outcome, judged, outcome, told, verdict};
 ghost use Rattle.dds_cert_file.specs.Document.{read as certificate_read};
-ghost use Rattle.dds_answers.specs.Report.{IsCertificateFault, IsDeploymentFault, Tells, acceptance_lines, because_lines, bound_line, refusal_line, outcome_of, output_of, report_text_of, subject_text, total_line};
+ghost use Rattle.dds_answers.specs.Report.{IsCertificateFault, IsDeploymentFault, Tells, because_lines, outcome_of, output_of, report_text_of};
 ghost use Rattle.dds_answers.specs.Syntax.{IsFaultTold};
 
 use crate::fault::ToolFault;
 use crate::planning::read_plan;
 use crate::syntax::syntax_told;
 use dds_base::NoMemory;
-use dds_cert::naming::{name_at, reader_key, row_name, writer_key};
-use dds_cert::{Bound, Certificate, Total};
+use dds_cert::Certificate;
 use dds_cert_file::{CertFault, CertKind, read_certificate};
-use dds_check::{Checked, No, Subject, check};
-use dds_deploy::Deployment;
+use dds_check::{Checked, No, check};
 use dds_deploy_file::DeployFault;
-use dds_events::rule_text;
 use dds_explain::{margins, reason};
 use dds_fields::fault::FaultKind;
 use dds_match::Plan;
+use dds_verdict::{acceptance_text, refusal_text};
 use std::alloc::Global;
 
 /// How much is told of a report.
@@ -147,106 +145,6 @@ pub fn detailed_check(
         Ok(report) => Ok(report),
         Err(fault) => Err(detailed_fault(alloc, fault, deployment, certificate, detail)),
     }
-}
-
-/// The names of what a condition speaks of, with blanks between them.
-fn subject_text(
-    alloc: Global,
-    lists: &Deployment,
-    certificate: &Certificate,
-    subject: Subject,
-) -> Result<String, NoMemory>
-    ensures { IfOk result (λ text. string_bytes text ≡ subject_text lists.now (certificate_view certificate.now) subject) }
-{
-    match subject {
-        Subject::Pair { writer, reader } => {
-            let writer = name_at(lists.writer_names(), writer.number());
-            let reader = name_at(lists.reader_names(), reader.number());
-            format!(in alloc; "{writer} {reader}")
-        }
-        Subject::Instance { reader, key } => {
-            let key = reader_key(lists, reader, key);
-            let reader = name_at(lists.reader_names(), reader.number());
-            format!(in alloc; "{reader} {key}")
-        }
-        Subject::Reader(reader) => String::from_str(
-            alloc,
-            name_at(lists.reader_names(), reader.number()),
-        ),
-        Subject::Writer(writer) => String::from_str(
-            alloc,
-            name_at(lists.writer_names(), writer.number()),
-        ),
-        Subject::RowInstance { row, reader, key } => {
-            let row = row_name(certificate, row);
-            let key = reader_key(lists, reader, key);
-            let reader = name_at(lists.reader_names(), reader.number());
-            format!(in alloc; "{row} {reader} {key}")
-        }
-        Subject::RowRule { row, rule } => {
-            let row = row_name(certificate, row);
-            let rule = rule_text(alloc, lists, rule)?;
-            format!(in alloc; "{row} {rule}")
-        }
-        Subject::RowWriterKey { row, writer, key } => {
-            let row = row_name(certificate, row);
-            let key = writer_key(lists, writer, key);
-            let writer = name_at(lists.writer_names(), writer.number());
-            format!(in alloc; "{row} {writer} {key}")
-        }
-    }
-}
-
-/// The line of a refusal.
-pub(crate) fn refusal_text(
-    alloc: Global,
-    no: No,
-    lists: &Deployment,
-    certificate: &Certificate,
-) -> Result<String, NoMemory>
-    ensures { IfOk result (λ text. string_bytes text ≡ refusal_line lists.now (certificate_view certificate.now) no) }
-{
-    let subject = subject_text(alloc, lists, certificate, no.subject)?;
-    let number = no.number.number();
-    let name = no.number.name();
-    format!(in alloc; "no {number} {name} {subject}\n")
-}
-
-/// The line of a bound.
-fn bound_text(alloc: Global, lists: &Deployment, bound: &Bound) -> Result<String, NoMemory>
-    ensures { IfOk result (λ text. string_bytes text ≡ bound_line lists.now bound.now) }
-{
-    let reader = name_at(lists.reader_names(), bound.reader.number());
-    let key = reader_key(lists, bound.reader, bound.key);
-    let number = bound.bound;
-    format!(in alloc; "bound {reader} {key} {number}\n")
-}
-
-/// The line of a total.
-fn total_text(alloc: Global, lists: &Deployment, total: &Total) -> Result<String, NoMemory>
-    ensures { IfOk result (λ text. string_bytes text ≡ total_line lists.now total.now) }
-{
-    let reader = name_at(lists.reader_names(), total.reader.number());
-    let number = total.bound;
-    format!(in alloc; "total {reader} {number}\n")
-}
-
-/// The lines of an acceptance.
-fn acceptance_text(
-    alloc: Global,
-    lists: &Deployment,
-    certificate: &Certificate,
-) -> Result<String, NoMemory>
-    ensures { IfOk result (λ text. string_bytes text ≡ acceptance_lines lists.now (certificate_view certificate.now)) }
-{
-    let mut text = String::from_str(alloc, "yes\n")?;
-    for bound in certificate.bounds.as_slice() {
-        text.push_str(bound_text(alloc, lists, bound)?.as_str())?;
-    }
-    for total in certificate.totals.as_slice() {
-        text.push_str(total_text(alloc, lists, total)?.as_str())?;
-    }
-    Ok(text)
 }
 
 /// The lines of the reason of a report. Only want of memory is an error.

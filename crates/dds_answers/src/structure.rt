@@ -1,13 +1,13 @@
 //! The line of a condition that fails whatever the certificate.
 ghost use Rattle.std.specs.Prelude.{◌≡◌, IfOk, string_bytes};
-ghost use Rattle.dds_answers.specs.Report.{refusal_line};
 ghost use Rattle.dds_answers.specs.Structure.{nothing};
+ghost use Rattle.dds_verdict.specs.Refusal.{refusal_line};
 
-use crate::report::refusal_text;
 use dds_base::NoMemory;
 use dds_cert::Certificate;
 use dds_check::No;
 use dds_deploy::Deployment;
+use dds_verdict::refusal_text;
 use std::alloc::Global;
 
 /// The line of a refusal, as `check` prints it, where there is no certificate. Only want of memory is an error.

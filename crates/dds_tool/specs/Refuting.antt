@@ -24,7 +24,7 @@ use Rattle.dds_search.specs.declared.refuting.Unknown.TheVariants as unknown
 use Rattle.dds_search.specs.Refutations.{IsCounterexample}
 use Rattle.dds_answers.specs.Outcome.{MayOfFile, Outcome, bad_deployment, said}
 use Rattle.dds_answers.specs.Structure.{nothing}
-use Rattle.dds_answers.specs.Report.{refusal_line}
+use Rattle.dds_verdict.specs.Refusal.{refusal_line}
 use Rattle.serde_json.specs.Data.{Data, member, no_members, object, string}
 use Rattle.dds_json.specs.Checking.{refusal_document}
 use Rattle.dds_json.specs.Line.{line_of}

@@ -1,9 +1,9 @@
 //! The bounds and totals of a checked deployment: both those that are searched in its certificate and those of its tables.
 
+use crate::tests::plans::NO_MEMORY;
 use dds_base::{KeyNo, ReaderNo};
 use dds_check::Checked;
 use std::process::Abort;
-use std::test::Fail;
 use test_files::texts::{PING, PING_CERT};
 use test_plans::checked;
 
@@ -58,9 +58,9 @@ fn expect_totals(rt: &impl Abort, checked: &Checked) {
 }
 
 #[test]
-fn tells_bounds_and_totals(rt: HostRuntime) -> Result<(), Fail> {
+fn tells_bounds_and_totals(rt: HostRuntime) {
     let alloc = rt.alloc();
-    let certificate = format!(in alloc; "{PING_CERT}{TOTAL}")?;
+    let certificate = format!(in alloc; "{PING_CERT}{TOTAL}").expect(&rt, NO_MEMORY);
     let checked = checked(alloc, PING, certificate.as_str()).expect(
         &rt,
         "the certificate is accepted",
@@ -68,5 +68,4 @@ fn tells_bounds_and_totals(rt: HostRuntime) -> Result<(), Fail> {
     expect_bounds(&rt, &checked);
     expect_totals(&rt, &checked);
     drop(checked);
-    Ok(())
 }

@@ -2,11 +2,14 @@
 //! tests run, and nothing of it is to be proved.
 
 use dds_cert::Certificate;
-use dds_cert_file::{CertFault, read_certificate};
+use dds_cert_file::read_certificate;
 use dds_match::Plan;
 use std::alloc::Global;
-use std::test::Fail;
+use std::process::Abort;
 use test_plans::planned;
+
+/// What is told where memory is refused, which ends a test.
+pub(crate) const NO_MEMORY: &str = "no memory";
 
 /// Two topics, of the keys `a`, `b`, `c` and of the key `d`, each with a writer. The reader `r` takes all keys of the first, `s` two of them, which
 /// it names in another order, `o` is of the second topic, and `e` takes no key.
@@ -24,18 +27,16 @@ applications = [{ name = "x", participant = "p", writers = ["w", "v"], readers =
 "#;
 
 /// The plan of a deployment without a fault.
-pub(crate) fn plan_of(alloc: Global, text: &str) -> Result<Plan, Fail> {
-    match planned(alloc, text) {
-        Some(plan) => Ok(plan),
-        None => Err(Fail::new("no plan of the deployment")),
-    }
+pub(crate) fn plan_of(rt: &impl Abort, alloc: Global, text: &str) -> Plan {
+    planned(alloc, text).expect(rt, "no plan of the deployment")
 }
 
-/// Reads a certificate for a plan.
+/// Reads a certificate without a fault for a plan.
 pub(crate) fn certificate_of(
+    rt: &impl Abort,
     alloc: Global,
     plan: &Plan,
-    bytes: &[u8],
-) -> Result<Certificate, CertFault> {
-    read_certificate(alloc, plan, bytes)
+    text: &str,
+) -> Certificate {
+    read_certificate(alloc, plan, text.as_bytes()).expect(rt, "no certificate")
 }

@@ -1,15 +1,13 @@
 //! Certificate files without a fault: the rows, bounds and totals that are read.
 
-use crate::tests::plans::{FILTERS, certificate_of, plan_of};
+use crate::tests::plans::{FILTERS, NO_MEMORY, certificate_of, plan_of};
 use crate::tests::weights::{
     PlainBound, PlainRow, PlainTotal, PlainWeight, plain_bounds, plain_row, plain_totals,
 };
-use dds_base::NoMemory;
 use dds_cert::{Certificate, Row};
 use dds_match::Plan;
 use std::alloc::Global;
 use std::process::Abort;
-use std::test::Fail;
 use test_files::texts::{LOOP, LOOP_CERT, PING, PING_CERT, SMALL, SMALL_CERT, TWO, TWO_CERT};
 
 /// The weights of a row, as readers or writers, keys and weights.
@@ -63,16 +61,10 @@ struct File {
 }
 
 /// Compares a row, also the order of its lists.
-fn expect_row(
-    rt: &impl Abort,
-    alloc: Global,
-    have: &Row,
-    wanted: &WantedRow,
-) -> Result<(), NoMemory> {
+fn expect_row(rt: &impl Abort, alloc: Global, have: &Row, wanted: &WantedRow) {
     assert_eq!(rt; have.name.as_str(), wanted.name());
-    let weights = plain_row(alloc, have)?;
+    let weights = plain_row(rt, alloc, have);
     expect_weights(rt, &weights, wanted.lists());
-    Ok(())
 }
 
 fn expect_weights(rt: &impl Abort, have: &PlainRow, wanted: WantedLists) {
@@ -81,78 +73,53 @@ fn expect_weights(rt: &impl Abort, have: &PlainRow, wanted: WantedLists) {
     assert_eq!(rt; have.permits.as_slice(), wanted.permits);
 }
 
-fn expect_rows(
-    rt: &impl Abort,
-    alloc: Global,
-    rows: &[Row],
-    wanted: &[WantedRow],
-) -> Result<(), NoMemory> {
+fn expect_rows(rt: &impl Abort, alloc: Global, rows: &[Row], wanted: &[WantedRow]) {
     assert_eq!(rt; rows.len(), wanted.len());
     for (have, want) in rows.iter().zip(wanted) {
-        expect_row(rt, alloc, have, want)?;
+        expect_row(rt, alloc, have, want);
     }
-    Ok(())
 }
 
 /// Compares a certificate, also the order of its lists.
-fn expect_certificate(
-    rt: &impl Abort,
-    alloc: Global,
-    have: &Certificate,
-    wanted: &Wanted,
-) -> Result<(), NoMemory> {
-    expect_rows(rt, alloc, &have.rows, wanted.rows)?;
-    let bounds = plain_bounds(alloc, &have.bounds)?;
-    let totals = plain_totals(alloc, &have.totals)?;
+fn expect_certificate(rt: &impl Abort, alloc: Global, have: &Certificate, wanted: &Wanted) {
+    expect_rows(rt, alloc, &have.rows, wanted.rows);
+    let bounds = plain_bounds(rt, alloc, &have.bounds);
     assert_eq!(rt; bounds.as_slice(), wanted.bounds);
+    let totals = plain_totals(rt, alloc, &have.totals);
     assert_eq!(rt; totals.as_slice(), wanted.totals);
-    Ok(())
 }
 
 /// A text with one part of it replaced, which has to be there.
-fn replaced(
-    rt: &impl Abort,
-    alloc: Global,
-    text: &str,
-    old: &str,
-    new: &str,
-) -> Result<String, NoMemory> {
-    let all = text.replace(alloc, old, new)?;
-    assert!(rt; all.as_str() != text, "{old}");
-    Ok(all)
+fn replaced(rt: &impl Abort, alloc: Global, text: &str, old: &str, new: &str) -> String {
+    assert!(rt; text.contains(old), "{old}");
+    text.replace(alloc, old, new).expect(rt, NO_MEMORY)
 }
 
 /// The text of a file with its changes.
-fn text_of(rt: &impl Abort, alloc: Global, file: &File) -> Result<String, NoMemory> {
-    let mut text = String::from_str(alloc, file.text)?;
+fn text_of(rt: &impl Abort, alloc: Global, file: &File) -> String {
+    let mut text = String::from_str(alloc, file.text).expect(rt, NO_MEMORY);
     for (old, new) in file.edits {
-        text = replaced(rt, alloc, text.as_str(), old, new)?;
+        text = replaced(rt, alloc, text.as_str(), old, new);
     }
-    Ok(text)
+    text
 }
 
-/// Reads each file for the plan, and compares what is read.
-fn over_files(rt: &impl Abort, alloc: Global, plan: &Plan, files: &[File]) -> Result<(), Fail> {
-    for file in files {
-        let text = text_of(rt, alloc, file)?;
-        let found = certificate_of(alloc, plan, text.as_bytes())?;
-        assert!(rt; found.fits(plan), "{}", file.about);
-        expect_certificate(rt, alloc, &found, &file.wanted)?;
-    }
-    Ok(())
+/// Reads a file for the plan, and compares what is read.
+fn expect_file(rt: &impl Abort, alloc: Global, plan: &Plan, file: &File) {
+    let text = text_of(rt, alloc, file);
+    let found = certificate_of(rt, alloc, plan, text.as_str());
+    assert!(rt; found.fits(plan), "{}", file.about);
+    expect_certificate(rt, alloc, &found, &file.wanted);
+    drop(found);
 }
 
 /// Reads files for the plan of a deployment, and compares what is read.
-fn expect_files(
-    rt: &impl Abort,
-    alloc: Global,
-    deployment: &str,
-    files: &[File],
-) -> Result<(), Fail> {
-    let plan = plan_of(alloc, deployment)?;
-    let done = over_files(rt, alloc, &plan, files);
+fn expect_files(rt: &impl Abort, alloc: Global, deployment: &str, files: &[File]) {
+    let plan = plan_of(rt, alloc, deployment);
+    for file in files {
+        expect_file(rt, alloc, &plan, file);
+    }
     drop(plan);
-    done
 }
 
 static PING_FILES: [File; 2] = [
@@ -429,18 +396,18 @@ static FILTERS_FILES: [File; 3] = [
 ];
 
 #[test]
-fn reads_certificates_of_applications_that_answer(rt: HostRuntime) -> Result<(), Fail> {
-    expect_files(&rt, rt.alloc(), PING, &PING_FILES)?;
-    expect_files(&rt, rt.alloc(), LOOP, &LOOP_FILES)
+fn reads_certificates_of_applications_that_answer(rt: HostRuntime) {
+    expect_files(&rt, rt.alloc(), PING, &PING_FILES);
+    expect_files(&rt, rt.alloc(), LOOP, &LOOP_FILES);
 }
 
 #[test]
-fn reads_certificates_of_one_writer(rt: HostRuntime) -> Result<(), Fail> {
-    expect_files(&rt, rt.alloc(), SMALL, &SMALL_FILES)?;
-    expect_files(&rt, rt.alloc(), TWO, &TWO_FILES)
+fn reads_certificates_of_one_writer(rt: HostRuntime) {
+    expect_files(&rt, rt.alloc(), SMALL, &SMALL_FILES);
+    expect_files(&rt, rt.alloc(), TWO, &TWO_FILES);
 }
 
 #[test]
-fn reads_rows_bounds_and_totals_in_their_order(rt: HostRuntime) -> Result<(), Fail> {
-    expect_files(&rt, rt.alloc(), FILTERS, &FILTERS_FILES)
+fn reads_rows_bounds_and_totals_in_their_order(rt: HostRuntime) {
+    expect_files(&rt, rt.alloc(), FILTERS, &FILTERS_FILES);
 }

@@ -1,8 +1,10 @@
 //! The lists of a certificate as plain numbers.
 
-use dds_base::{Endpoint, NoMemory, ReaderNo, WriterNo};
+use crate::tests::plans::NO_MEMORY;
+use dds_base::{Endpoint, ReaderNo, WriterNo};
 use dds_cert::{Bound, Row, Total, Weight};
 use std::alloc::Global;
+use std::process::Abort;
 
 /// The place of an endpoint, the place of a key in its topic, and the weight.
 pub(crate) type PlainWeight = (usize, usize, u32);
@@ -38,38 +40,38 @@ impl Placed for WriterNo {
     }
 }
 
-fn plain<E: Endpoint>(alloc: Global, list: &[Weight<E>]) -> Result<Vec<PlainWeight>, NoMemory> {
+fn plain<E: Endpoint>(rt: &impl Abort, alloc: Global, list: &[Weight<E>]) -> Vec<PlainWeight> {
     let mut all = Vec::new(alloc);
     for entry in list {
-        all.push((entry.endpoint.place(), entry.key.number(), entry.weight))?;
+        let weight = (entry.endpoint.place(), entry.key.number(), entry.weight);
+        all.push(weight).expect(rt, NO_MEMORY);
     }
-    Ok(all)
+    all
 }
 
-pub(crate) fn plain_row(alloc: Global, row: &Row) -> Result<PlainRow, NoMemory> {
-    let samples = plain(alloc, &row.samples)?;
-    let takes = plain(alloc, &row.takes)?;
-    let permits = plain(alloc, &row.permits)?;
-    Ok(PlainRow {
-        samples,
-        takes,
-        permits,
-    })
+pub(crate) fn plain_row(rt: &impl Abort, alloc: Global, row: &Row) -> PlainRow {
+    PlainRow {
+        samples: plain(rt, alloc, &row.samples),
+        takes: plain(rt, alloc, &row.takes),
+        permits: plain(rt, alloc, &row.permits),
+    }
 }
 
-pub(crate) fn plain_bounds(alloc: Global, list: &[Bound]) -> Result<Vec<PlainBound>, NoMemory> {
+pub(crate) fn plain_bounds(rt: &impl Abort, alloc: Global, list: &[Bound]) -> Vec<PlainBound> {
     let mut all = Vec::new(alloc);
     for entry in list {
         let (reader, key) = (entry.reader.number(), entry.key.number());
-        all.push((reader, key, entry.row, entry.bound))?;
+        all.push((reader, key, entry.row, entry.bound))
+            .expect(rt, NO_MEMORY);
     }
-    Ok(all)
+    all
 }
 
-pub(crate) fn plain_totals(alloc: Global, list: &[Total]) -> Result<Vec<PlainTotal>, NoMemory> {
+pub(crate) fn plain_totals(rt: &impl Abort, alloc: Global, list: &[Total]) -> Vec<PlainTotal> {
     let mut all = Vec::new(alloc);
     for entry in list {
-        all.push((entry.reader.number(), entry.row, entry.bound))?;
+        let total = (entry.reader.number(), entry.row, entry.bound);
+        all.push(total).expect(rt, NO_MEMORY);
     }
-    Ok(all)
+    all
 }

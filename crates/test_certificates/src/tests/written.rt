@@ -1,13 +1,12 @@
-//! The text of certificates, byte for byte, and what is read of it again.
+//! The text of certificates, byte for byte.
 
-use crate::tests::plans::{FILTERS, certificate_of, plan_of};
-use crate::tests::weights::{Placed, PlainWeight};
-use dds_base::{KeyNo, NoMemory, ReaderNo};
+use crate::tests::plans::{FILTERS, NO_MEMORY, plan_of};
+use crate::tests::weights::{Placed, PlainBound, PlainTotal, PlainWeight};
+use dds_base::{KeyNo, ReaderNo};
 use dds_cert::{Bound, Certificate, Row, Total, Weight, certificate_text};
 use dds_match::Plan;
 use std::alloc::Global;
 use std::process::Abort;
-use std::test::Fail;
 use test_files::proposed::{PING_PROPOSED, SMALL_PROPOSED};
 use test_files::texts::{PING, SMALL, TWO};
 
@@ -84,49 +83,80 @@ bound = 1
 "#;
 
 /// The weights of endpoints.
-fn weights<E: Placed>(alloc: Global, list: &[PlainWeight]) -> Result<Vec<Weight<E>>, NoMemory> {
+fn weights<E: Placed>(rt: &impl Abort, alloc: Global, list: &[PlainWeight]) -> Vec<Weight<E>> {
     let mut all = Vec::new(alloc);
     for (place, key, weight) in list {
-        all.push(Weight {
+        let weight = Weight {
             endpoint: E::at(*place),
             key: KeyNo::new(*key),
             weight: *weight,
-        })?;
+        };
+        all.push(weight).expect(rt, NO_MEMORY);
     }
-    Ok(all)
+    all
 }
 
-/// A row of the weights of samples, takes and permits.
-fn row(
-    alloc: Global,
-    name: &str,
-    samples: &[PlainWeight],
-    takes: &[PlainWeight],
-    permits: &[PlainWeight],
-) -> Result<Row, NoMemory> {
-    Ok(Row {
-        name: String::from_str(alloc, name)?,
-        samples: weights(alloc, samples)?,
-        takes: weights(alloc, takes)?,
-        permits: weights(alloc, permits)?,
-    })
-}
+/// The name of a row, and the weights of its samples, takes and permits.
+type PlainRow = (
+    &'static str,
+    &'static [PlainWeight],
+    &'static [PlainWeight],
+    &'static [PlainWeight],
+);
 
-fn bound(reader: usize, key: usize, row: usize, bound: u32) -> Bound {
-    Bound {
-        reader: ReaderNo::new(reader),
-        key: KeyNo::new(key),
-        row,
-        bound,
+fn row(rt: &impl Abort, alloc: Global, wanted: &PlainRow) -> Row {
+    let (name, samples, takes, permits) = *wanted;
+    Row {
+        name: String::from_str(alloc, name).expect(rt, NO_MEMORY),
+        samples: weights(rt, alloc, samples),
+        takes: weights(rt, alloc, takes),
+        permits: weights(rt, alloc, permits),
     }
 }
 
-fn total(reader: usize, row: usize, bound: u32) -> Total {
-    Total {
-        reader: ReaderNo::new(reader),
-        row,
-        bound,
+fn rows(rt: &impl Abort, alloc: Global, wanted: &[PlainRow]) -> Vec<Row> {
+    let mut all = Vec::new(alloc);
+    for each in wanted {
+        all.push(row(rt, alloc, each)).expect(rt, NO_MEMORY);
     }
+    all
+}
+
+/// A certificate, the deployment that it is for, and the text that is expected.
+struct Written {
+    about: &'static str,
+    deployment: &'static str,
+    rows: &'static [PlainRow],
+    bounds: &'static [PlainBound],
+    totals: &'static [PlainTotal],
+    text: &'static str,
+}
+
+fn bounds(rt: &impl Abort, alloc: Global, wanted: &[PlainBound]) -> Vec<Bound> {
+    let mut all = Vec::new(alloc);
+    for (reader, key, row, bound) in wanted {
+        let bound = Bound {
+            reader: ReaderNo::new(*reader),
+            key: KeyNo::new(*key),
+            row: *row,
+            bound: *bound,
+        };
+        all.push(bound).expect(rt, NO_MEMORY);
+    }
+    all
+}
+
+fn totals(rt: &impl Abort, alloc: Global, wanted: &[PlainTotal]) -> Vec<Total> {
+    let mut all = Vec::new(alloc);
+    for (reader, row, bound) in wanted {
+        let total = Total {
+            reader: ReaderNo::new(*reader),
+            row: *row,
+            bound: *bound,
+        };
+        all.push(total).expect(rt, NO_MEMORY);
+    }
+    all
 }
 
 /// Compares the text of a certificate that fits the plan.
@@ -135,107 +165,110 @@ fn expect_text(
     alloc: Global,
     plan: &Plan,
     certificate: &Certificate,
-    wanted: &str,
-) -> Result<(), Fail> {
-    assert!(rt; certificate.fits(plan));
-    let text = certificate_text(alloc, plan, certificate)?;
-    assert_eq!(rt; text.as_str(), wanted);
-    Ok(())
+    wanted: &Written,
+) {
+    assert!(rt; certificate.fits(plan), "{}", wanted.about);
+    let text = certificate_text(alloc, plan, certificate).expect(rt, NO_MEMORY);
+    assert_eq!(rt; text.as_str(), wanted.text, "{}", wanted.about);
 }
 
-/// Compares the text of a certificate for the plan of a deployment.
-fn expect_text_for(
-    rt: &impl Abort,
-    alloc: Global,
-    deployment: &str,
-    certificate: &Certificate,
-    wanted: &str,
-) -> Result<(), Fail> {
-    let plan = plan_of(alloc, deployment)?;
-    let done = expect_text(rt, alloc, &plan, certificate, wanted);
+/// Writes a certificate for the plan of its deployment, and compares the text.
+fn expect_written(rt: &impl Abort, alloc: Global, wanted: &Written) {
+    let plan = plan_of(rt, alloc, wanted.deployment);
+    let certificate = Certificate {
+        rows: rows(rt, alloc, wanted.rows),
+        bounds: bounds(rt, alloc, wanted.bounds),
+        totals: totals(rt, alloc, wanted.totals),
+    };
+    expect_text(rt, alloc, &plan, &certificate, wanted);
+    drop(certificate);
     drop(plan);
-    done
 }
 
-#[test]
-fn writes_a_certificate_of_two_rows(rt: HostRuntime) -> Result<(), Fail> {
-    let alloc = rt.alloc();
-    let all = [(0, 0, 5040), (1, 0, 5040)];
-    let mut rows = Vec::new(alloc);
-    rows.push(row(alloc, "w0", &all, &all, &all)?)?;
-    rows.push(row(alloc, "w1", &all, &all, &all)?)?;
-    let certificate = Certificate {
-        rows,
-        bounds: vec![in alloc; bound(0, 0, 0, 3), bound(1, 0, 1, 3)]?,
-        totals: Vec::new(alloc),
-    };
-    expect_text_for(&rt, alloc, PING, &certificate, PING_PROPOSED)
-}
+/// Each reader and writer of PING, with the same weight.
+const BOTH: &[PlainWeight] = &[(0, 0, 5040), (1, 0, 5040)];
+
+const ONE: &[PlainWeight] = &[(0, 0, 5040)];
+
+/// Samples of FILTERS from the last reader and key to the first.
+const SAMPLES: &[PlainWeight] = &[
+    (2, 0, 6),
+    (1, 2, 5),
+    (1, 0, 4),
+    (0, 2, 3),
+    (0, 1, 0),
+    (0, 0, 1),
+];
+
+const TAKES: &[PlainWeight] = &[(1, 2, 0), (0, 0, 0)];
+
+const PERMITS: &[PlainWeight] = &[(1, 0, 9), (0, 2, 0), (0, 1, 8), (0, 0, 7)];
+
+static CASES: [Written; 7] = [
+    Written {
+        about: "two rows",
+        deployment: PING,
+        rows: &[("w0", BOTH, BOTH, BOTH), ("w1", BOTH, BOTH, BOTH)],
+        bounds: &[(0, 0, 0, 3), (1, 0, 1, 3)],
+        totals: &[],
+        text: PING_PROPOSED,
+    },
+    Written {
+        about: "an empty list",
+        deployment: SMALL,
+        rows: &[("w0", ONE, &[], ONE)],
+        bounds: &[(0, 0, 0, 2)],
+        totals: &[],
+        text: SMALL_PROPOSED,
+    },
+    Written {
+        about: "a list that weighs nothing",
+        deployment: SMALL,
+        rows: &[("w0", ONE, &[(0, 0, 0)], ONE)],
+        bounds: &[(0, 0, 0, 2)],
+        totals: &[],
+        text: SMALL_PROPOSED,
+    },
+    Written {
+        about: "totals after bounds",
+        deployment: TWO,
+        rows: &[
+            ("m", &[(0, 1, 4294967295), (0, 0, 1)], &[], &[(0, 0, 0)]),
+            ("n", &[], &[], &[]),
+        ],
+        bounds: &[(0, 1, 1, 0)],
+        totals: &[(0, 0, 4294967295)],
+        text: TWO_TEXT,
+    },
+    Written {
+        about: "endpoints and keys in file order",
+        deployment: FILTERS,
+        rows: &[("m", SAMPLES, TAKES, PERMITS)],
+        bounds: &[(2, 0, 0, 2), (1, 2, 0, 1)],
+        totals: &[(1, 0, 2), (0, 0, 1)],
+        text: FILTERS_TEXT,
+    },
+    Written {
+        about: "the version alone",
+        deployment: PING,
+        rows: &[],
+        bounds: &[],
+        totals: &[],
+        text: "version = 1\n",
+    },
+    Written {
+        about: "the version alone, of a deployment without endpoints",
+        deployment: "version = 1",
+        rows: &[],
+        bounds: &[],
+        totals: &[],
+        text: "version = 1\n",
+    },
+];
 
 #[test]
-fn writes_empty_lists(rt: HostRuntime) -> Result<(), Fail> {
-    let alloc = rt.alloc();
-    let one = [(0, 0, 5040)];
-    let none = [(0, 0, 0)];
-    for takes in [&none[..0], none.as_slice()] {
-        let mut rows = Vec::new(alloc);
-        rows.push(row(alloc, "w0", &one, takes, &one)?)?;
-        let certificate = Certificate {
-            rows,
-            bounds: vec![in alloc; bound(0, 0, 0, 2)]?,
-            totals: Vec::new(alloc),
-        };
-        expect_text_for(&rt, alloc, SMALL, &certificate, SMALL_PROPOSED)?;
+fn writes_certificates(rt: HostRuntime) {
+    for case in &CASES {
+        expect_written(&rt, rt.alloc(), case);
     }
-    Ok(())
-}
-
-#[test]
-fn writes_totals_after_bounds(rt: HostRuntime) -> Result<(), Fail> {
-    let alloc = rt.alloc();
-    let samples = [(0, 1, 4294967295), (0, 0, 1)];
-    let mut rows = Vec::new(alloc);
-    rows.push(row(alloc, "m", &samples, &[], &[(0, 0, 0)])?)?;
-    rows.push(row(alloc, "n", &[], &[], &[])?)?;
-    let certificate = Certificate {
-        rows,
-        bounds: vec![in alloc; bound(0, 1, 1, 0)]?,
-        totals: vec![in alloc; total(0, 0, 4294967295)]?,
-    };
-    expect_text_for(&rt, alloc, TWO, &certificate, TWO_TEXT)
-}
-
-#[test]
-fn writes_endpoints_and_keys_in_file_order(rt: HostRuntime) -> Result<(), Fail> {
-    let alloc = rt.alloc();
-    let samples = [
-        (2, 0, 6),
-        (1, 2, 5),
-        (1, 0, 4),
-        (0, 2, 3),
-        (0, 1, 0),
-        (0, 0, 1),
-    ];
-    let takes = [(1, 2, 0), (0, 0, 0)];
-    let permits = [(1, 0, 9), (0, 2, 0), (0, 1, 8), (0, 0, 7)];
-    let mut rows = Vec::new(alloc);
-    rows.push(row(alloc, "m", &samples, &takes, &permits)?)?;
-    let certificate = Certificate {
-        rows,
-        bounds: vec![in alloc; bound(2, 0, 0, 2), bound(1, 2, 0, 1)]?,
-        totals: vec![in alloc; total(1, 0, 2), total(0, 0, 1)]?,
-    };
-    expect_text_for(&rt, alloc, FILTERS, &certificate, FILTERS_TEXT)
-}
-
-#[test]
-fn writes_the_version_alone(rt: HostRuntime) -> Result<(), Fail> {
-    let alloc = rt.alloc();
-    let certificate = Certificate {
-        rows: Vec::new(alloc),
-        bounds: Vec::new(alloc),
-        totals: Vec::new(alloc),
-    };
-    expect_text_for(&rt, alloc, PING, &certificate, "version = 1\n")?;
-    expect_text_for(&rt, alloc, "version = 1", &certificate, "version = 1\n")
 }

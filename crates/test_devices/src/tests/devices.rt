@@ -1,13 +1,12 @@
 //! Files that are as large as they may be or too large, every beginning of a file, readers that are slow or fail, and an output that fails, by
 //! each command.
-use crate::tests::files::{Pair, readable, text_of};
+use crate::tests::files::{NO_MEMORY, Pair, answered, expect, readable, text_of};
 use dds_answers::{Exit, MAX_FILE, Stream};
 use dds_tool::tool;
-use std::alloc::{AllocError, Global};
+use std::alloc::Global;
 use std::io::{self, ErrorKind, Write};
 use std::process::Abort;
 use std::sync::Wait;
-use std::test::Fail;
 use std::thread::Threads;
 use std::time::Clock;
 use test_files::proposed::PING_PROPOSED;
@@ -36,24 +35,6 @@ static COMMANDS: [Command; 3] = [
     },
 ];
 
-/// Compares the status and what is written.
-fn expect<R: Threads + Wait + Clock + Sync + Abort>(
-    rt: &R,
-    alloc: Global,
-    words: &[&str],
-    mut files: Pair,
-    status: u8,
-    output: &str,
-    errors: &str,
-) {
-    let mut out = Stream::new(Vec::new(alloc));
-    let mut err = Stream::new(Vec::new(alloc));
-    let answer = tool(rt, alloc, words, &mut files, &mut out, &mut err);
-    assert_eq!(rt; text_of(out.writer.as_slice()), output, "{words:?}");
-    assert_eq!(rt; text_of(err.writer.as_slice()), errors, "{words:?}");
-    assert_eq!(rt; answer.status(), status, "{words:?}");
-}
-
 /// Each command answers these files as it answers PING.
 fn expect_answers<R: Threads + Wait + Clock + Sync + Abort>(rt: &R, alloc: Global, files: Pair) {
     for command in &COMMANDS {
@@ -75,39 +56,32 @@ fn expect_fault<R: Threads + Wait + Clock + Sync + Abort>(
 }
 
 /// PING with lines of comment, so many bytes in all.
-fn padded(alloc: Global, size: usize) -> Result<String, AllocError> {
-    let mut text = String::from_str(alloc, PING)?;
-    let room = size.saturating_sub(text.len());
-    for _ in 0..room / 64 {
-        text.push_str("###############################################################\n")?;
-    }
-    for _ in 0..room % 64 {
-        text.push_str("#")?;
-    }
-    Ok(text)
+fn padded(rt: &impl Abort, alloc: Global, size: usize) -> String {
+    let room = size.saturating_sub(PING.len());
+    let line = "###############################################################\n";
+    let lines = line.repeat(alloc, room / 64).expect(rt, NO_MEMORY);
+    let rest = "#".repeat(alloc, room % 64).expect(rt, NO_MEMORY);
+    format!(in alloc; "{PING}{lines}{rest}").expect(rt, NO_MEMORY)
 }
 
 #[test]
-fn takes_the_largest_file(rt: HostRuntime) -> Result<(), Fail> {
-    let alloc = rt.alloc();
-    let largest = padded(alloc, MAX_FILE)?;
+fn takes_the_largest_file(rt: HostRuntime) {
+    let largest = padded(&rt, rt.alloc(), MAX_FILE);
     assert_eq!(rt; largest.len(), MAX_FILE);
     let files = readable(largest.as_bytes(), PING_CERT.as_bytes());
-    expect_answers(&rt, alloc, files);
-    Ok(())
+    expect_answers(&rt, rt.alloc(), files);
 }
 
 #[test]
-fn tells_a_file_that_is_too_large(rt: HostRuntime) -> Result<(), Fail> {
+fn tells_a_file_that_is_too_large(rt: HostRuntime) {
     let alloc = rt.alloc();
-    let larger = padded(alloc, MAX_FILE + 1)?;
+    let larger = padded(&rt, alloc, MAX_FILE + 1);
     assert_eq!(rt; larger.len(), MAX_FILE + 1);
     let too_large = "ddscheck: 4 TooLarge\n";
     let first = readable(larger.as_bytes(), PING_CERT.as_bytes());
     expect_fault(&rt, alloc, first, 2, too_large);
     let second = readable(b"", larger.as_bytes());
     expect(&rt, alloc, CHECK.as_slice(), second, 2, "", too_large);
-    Ok(())
 }
 
 /// PING in files that are interrupted so often, give at most so many bytes at a time, and fail after so many.
@@ -125,7 +99,7 @@ fn rough(interruptions: u32, chunk: usize, fails_after: usize) -> Pair<'static> 
 }
 
 #[test]
-fn reads_slow_files(rt: HostRuntime) -> Result<(), Fail> {
+fn reads_slow_files(rt: HostRuntime) {
     let rows: [(u32, usize); 6] = [
         (0, 1),
         (0, 2),
@@ -138,11 +112,10 @@ fn reads_slow_files(rt: HostRuntime) -> Result<(), Fail> {
         let files = rough(interruptions, chunk, usize::MAX);
         expect_answers(&rt, rt.alloc(), files);
     }
-    Ok(())
 }
 
 #[test]
-fn tells_failed_reads(rt: HostRuntime) -> Result<(), Fail> {
+fn tells_failed_reads(rt: HostRuntime) {
     let rows: [(u32, usize, usize); 6] = [
         (1001, usize::MAX, usize::MAX),
         (1001, 1, usize::MAX),
@@ -155,7 +128,6 @@ fn tells_failed_reads(rt: HostRuntime) -> Result<(), Fail> {
         let files = rough(interruptions, chunk, fails_after);
         expect_fault(&rt, rt.alloc(), files, 3, "ddscheck: 5 Read\n");
     }
-    Ok(())
 }
 
 /// How many files are opened for the words.
@@ -166,16 +138,14 @@ fn expect_opened<R: Threads + Wait + Clock + Sync + Abort>(
     opened: u64,
 ) {
     let mut files = readable(PING.as_bytes(), PING_CERT.as_bytes());
-    let mut out = Stream::new(Vec::new(alloc));
-    let mut err = Stream::new(Vec::new(alloc));
-    tool(rt, alloc, words, &mut files, &mut out, &mut err);
+    drop(answered(rt, alloc, words, &mut files));
     assert_eq!(rt; files.opened, opened, "{words:?}");
     assert_eq!(rt; files.closed, opened, "{words:?}");
     assert!(rt; !files.has_failed, "{words:?}");
 }
 
 #[test]
-fn opens_and_closes_each_file_once(rt: HostRuntime) -> Result<(), Fail> {
+fn opens_and_closes_each_file_once(rt: HostRuntime) {
     let rows: [(&[&str], u64); 9] = [
         (&["ddscheck", "check", "d", "c"], 2),
         (&["ddscheck", "match", "d"], 1),
@@ -190,7 +160,6 @@ fn opens_and_closes_each_file_once(rt: HostRuntime) -> Result<(), Fail> {
     for (words, opened) in rows {
         expect_opened(&rt, rt.alloc(), words, opened);
     }
-    Ok(())
 }
 
 /// An output that takes so many bytes, and then none.
@@ -237,29 +206,27 @@ fn expect_write_fault<R: Threads + Wait + Clock + Sync + Abort>(
 }
 
 #[test]
-fn tells_a_failed_write(rt: HostRuntime) -> Result<(), Fail> {
+fn tells_a_failed_write(rt: HostRuntime) {
     for command in &COMMANDS {
         for room in [0, 1, 5] {
             expect_write_fault(&rt, rt.alloc(), command.words, PING.as_bytes(), room);
         }
     }
-    Ok(())
 }
 
 // The document of an answer, and that of a fault, which then isn't told.
 #[test]
-fn tells_a_document_that_was_not_written(rt: HostRuntime) -> Result<(), Fail> {
+fn tells_a_document_that_was_not_written(rt: HostRuntime) {
     let words = ["ddscheck", "check", "d", "c", "--format", "json"];
     for room in [0, 1, 5] {
         expect_write_fault(&rt, rt.alloc(), words.as_slice(), PING.as_bytes(), room);
         expect_write_fault(&rt, rt.alloc(), words.as_slice(), b"", room);
     }
-    Ok(())
 }
 
 // Where the error output takes nothing, the status is told alone.
 #[test]
-fn answers_the_status_without_an_error_output(rt: HostRuntime) -> Result<(), Fail> {
+fn answers_the_status_without_an_error_output(rt: HostRuntime) {
     let alloc = rt.alloc();
     for command in &COMMANDS {
         let mut files = readable(b"", PING_CERT.as_bytes());
@@ -270,7 +237,6 @@ fn answers_the_status_without_an_error_output(rt: HostRuntime) -> Result<(), Fai
         assert_eq!(rt; out.writer.len(), 0, "{:?}", command.words);
         assert!(rt; err.has_failed, "{:?}", command.words);
     }
-    Ok(())
 }
 
 /// Runs a command on two files, whatever it answers of them.
@@ -281,10 +247,8 @@ fn expect_an_answer<R: Threads + Wait + Clock + Sync + Abort>(
     mut files: Pair,
     end: usize,
 ) {
-    let mut out = Stream::new(Vec::new(alloc));
-    let mut err = Stream::new(Vec::new(alloc));
-    let exit = tool(rt, alloc, words, &mut files, &mut out, &mut err);
-    assert!(rt; exit.status() <= 2, "{words:?} {end}");
+    let answer = answered(rt, alloc, words, &mut files);
+    assert!(rt; answer.status <= 2, "{words:?} {end}");
 }
 
 /// A command reads every beginning of a deployment.
@@ -301,29 +265,25 @@ fn over_beginnings<R: Threads + Wait + Clock + Sync + Abort>(
 }
 
 #[test]
-fn reads_every_beginning_by_check(rt: HostRuntime) -> Result<(), Fail> {
+fn reads_every_beginning_by_check(rt: HostRuntime) {
     over_beginnings(&rt, rt.alloc(), CHECK.as_slice());
-    Ok(())
 }
 
 #[test]
-fn reads_every_beginning_by_match(rt: HostRuntime) -> Result<(), Fail> {
+fn reads_every_beginning_by_match(rt: HostRuntime) {
     over_beginnings(&rt, rt.alloc(), &["ddscheck", "match", "d"]);
-    Ok(())
 }
 
 #[test]
-fn reads_every_beginning_by_propose(rt: HostRuntime) -> Result<(), Fail> {
+fn reads_every_beginning_by_propose(rt: HostRuntime) {
     over_beginnings(&rt, rt.alloc(), &["ddscheck", "propose", "d"]);
-    Ok(())
 }
 
 #[test]
-fn reads_every_beginning_of_a_certificate(rt: HostRuntime) -> Result<(), Fail> {
+fn reads_every_beginning_of_a_certificate(rt: HostRuntime) {
     let (deployment, certificate) = (PING.as_bytes(), PING_CERT.as_bytes());
     for end in 0..certificate.len() {
         let files = readable(deployment, &certificate[..end]);
         expect_an_answer(&rt, rt.alloc(), CHECK.as_slice(), files, end);
     }
-    Ok(())
 }

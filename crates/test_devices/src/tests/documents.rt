@@ -1,7 +1,5 @@
 //! The documents that commands print with `--format json`, read again, and an output that doesn't take one.
-use crate::tests::files::{readable, text_of};
-use dds_answers::Stream;
-use dds_tool::tool;
+use crate::tests::files::{answered, readable};
 use serde_json::Value;
 use std::alloc::Global;
 use std::process::Abort;
@@ -99,15 +97,13 @@ static CASES: [Case; 7] = [
 /// Reads the document of a case again.
 fn expect_document<R: Threads + Wait + Clock + Sync + Abort>(rt: &R, alloc: Global, case: &Case) {
     let mut files = readable(case.deployment.as_bytes(), case.certificate.as_bytes());
-    let mut out = Stream::new(Vec::new(alloc));
-    let mut err = Stream::new(Vec::new(alloc));
-    let exit = tool(rt, alloc, case.words, &mut files, &mut out, &mut err);
-    let document = Value::from_str(alloc, text_of(out.writer.as_slice())).unwrap_or(Value::Null);
-    let answer = document.get("answer").and_then(Value::as_str);
-    assert_eq!(rt; answer, Some(case.answer), "{:?}", case.words);
+    let answer = answered(rt, alloc, case.words, &mut files);
+    let document = Value::from_str(alloc, answer.out()).unwrap_or(Value::Null);
+    let told = document.get("answer").and_then(Value::as_str);
+    assert_eq!(rt; told, Some(case.answer), "{:?}", case.words);
     let text = document.pointer(case.place).and_then(Value::as_str);
     assert_eq!(rt; text, Some(case.text), "{:?}", case.words);
-    assert_eq!(rt; exit.status(), case.status, "{:?}", case.words);
+    assert_eq!(rt; answer.status, case.status, "{:?}", case.words);
 }
 
 #[test]

@@ -1,14 +1,23 @@
-//! Files in memory, and readers that fail.
+//! Files in memory, readers that fail, and what commands answer to two such files.
 ghost use Rattle.std.specs.Prelude.{◌≡◌, ◌||◌};
 ghost use Rattle.dds_answers.specs.Reading.{is_worn};
 
-use dds_answers::{Counted, Sources};
+use dds_answers::{Counted, Sources, Stream};
+use dds_tool::tool;
+use std::alloc::Global;
 use std::io::{self, ErrorKind, Read};
+use std::process::Abort;
 use std::str;
+use std::sync::Wait;
+use std::thread::Threads;
+use std::time::Clock;
+
+/// What is told where memory is refused, which ends a test.
+pub(crate) const NO_MEMORY: &str = "no memory";
 
 /// A file that is interrupted for a while before it gives its bytes, gives at most `chunk` of them at a time, and fails after some.
 #[derive(Drop)]
-pub struct Rough<'a> {
+pub(crate) struct Rough<'a> {
     pub bytes: &'a [u8],
     pub interruptions: u32,
     pub chunk: usize,
@@ -43,7 +52,7 @@ impl<'a> Read for Rough<'a> {
 /// A deployment at the path `d` and a certificate at the path `c`, and no other file. It counts the files that were opened, those that
 /// were given back, and notes whether one has failed.
 #[derive(Clone, Copy)]
-pub struct Pair<'a> {
+pub(crate) struct Pair<'a> {
     pub deployment: &'a [u8],
     pub certificate: &'a [u8],
     pub interruptions: u32,
@@ -55,7 +64,7 @@ pub struct Pair<'a> {
 }
 
 /// Two files that are read without a fault.
-pub fn readable<'a>(deployment: &'a [u8], certificate: &'a [u8]) -> Pair<'a> {
+pub(crate) fn readable<'a>(deployment: &'a [u8], certificate: &'a [u8]) -> Pair<'a> {
     Pair {
         deployment,
         certificate,
@@ -102,9 +111,61 @@ impl<'a> Sources for Pair<'a> {
 }
 
 /// The text of what was written, to be compared.
-pub fn text_of(bytes: &[u8]) -> &str {
+pub(crate) fn text_of(bytes: &[u8]) -> &str {
     match str::from_utf8(bytes) {
         Ok(text) => text,
         Err(_) => "(bytes that are no text)",
     }
+}
+
+/// What words answer to two files.
+#[derive(Drop)]
+pub(crate) struct Answer {
+    pub(crate) status: u8,
+    out: Vec<u8>,
+    err: Vec<u8>,
+}
+
+impl Answer {
+    /// What was written to the output.
+    pub(crate) fn out(&self) -> &str {
+        text_of(self.out.as_slice())
+    }
+
+    /// What was written to the error output.
+    pub(crate) fn err(&self) -> &str {
+        text_of(self.err.as_slice())
+    }
+}
+
+pub(crate) fn answered<R: Threads + Wait + Clock + Sync>(
+    rt: &R,
+    alloc: Global,
+    words: &[&str],
+    files: &mut Pair,
+) -> Answer {
+    let mut out = Stream::new(Vec::new(alloc));
+    let mut err = Stream::new(Vec::new(alloc));
+    let exit = tool(rt, alloc, words, files, &mut out, &mut err);
+    Answer {
+        status: exit.status(),
+        out: out.writer,
+        err: err.writer,
+    }
+}
+
+/// Compares the status and what is written.
+pub(crate) fn expect<R: Threads + Wait + Clock + Sync + Abort>(
+    rt: &R,
+    alloc: Global,
+    words: &[&str],
+    mut files: Pair,
+    status: u8,
+    output: &str,
+    errors: &str,
+) {
+    let answer = answered(rt, alloc, words, &mut files);
+    assert_eq!(rt; answer.out(), output, "{words:?}");
+    assert_eq!(rt; answer.err(), errors, "{words:?}");
+    assert_eq!(rt; answer.status, status, "{words:?}");
 }

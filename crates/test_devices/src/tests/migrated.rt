@@ -1,11 +1,8 @@
 //! A file of version 1 and what `migrate` prints of it have the same answers: of worked files, and of drawn ones.
-use crate::tests::files::{readable, text_of};
-use dds_answers::Stream;
-use dds_tool::tool;
-use std::alloc::{AllocError, Global};
+use crate::tests::files::{Answer, NO_MEMORY, answered, readable};
+use std::alloc::Global;
 use std::process::Abort;
 use std::sync::Wait;
-use std::test::Fail;
 use std::thread::Threads;
 use std::time::Clock;
 use test_files::drawn::deployment;
@@ -28,15 +25,8 @@ readers = [{ name = "r", participant = "q", topic = "t" }, { name = "s", partici
 applications = [{ name = "x", participant = "p", writers = ["w"], readers = ["s"] }, { name = "y", participant = "q", writers = ["v"], readers = ["r"] }]
 "#;
 
-/// What words answer to two files.
-#[derive(Drop)]
-struct Answer {
-    status: u8,
-    out: Vec<u8>,
-    err: Vec<u8>,
-}
-
-fn answered<R: Threads + Wait + Clock + Sync>(
+/// What words answer to the texts of two files.
+fn told<R: Threads + Wait + Clock + Sync>(
     rt: &R,
     alloc: Global,
     words: &[&str],
@@ -44,14 +34,7 @@ fn answered<R: Threads + Wait + Clock + Sync>(
     certificate: &str,
 ) -> Answer {
     let mut files = readable(deployment.as_bytes(), certificate.as_bytes());
-    let mut out = Stream::new(Vec::new(alloc));
-    let mut err = Stream::new(Vec::new(alloc));
-    let exit = tool(rt, alloc, words, &mut files, &mut out, &mut err);
-    Answer {
-        status: exit.status(),
-        out: out.writer,
-        err: err.writer,
-    }
+    answered(rt, alloc, words, &mut files)
 }
 
 /// The words answer both deployments alike.
@@ -63,18 +46,10 @@ fn expect_same<R: Threads + Wait + Clock + Sync + Abort>(
     two: &str,
     certificate: &str,
 ) {
-    let first = answered(rt, alloc, words, one, certificate);
-    let second = answered(rt, alloc, words, two, certificate);
-    assert_eq!(rt;
-        text_of(second.out.as_slice()),
-        text_of(first.out.as_slice()),
-        "{words:?} of {one}"
-    );
-    assert_eq!(rt;
-        text_of(second.err.as_slice()),
-        text_of(first.err.as_slice()),
-        "{words:?} of {one}"
-    );
+    let first = told(rt, alloc, words, one, certificate);
+    let second = told(rt, alloc, words, two, certificate);
+    assert_eq!(rt; second.out(), first.out(), "{words:?} of {one}");
+    assert_eq!(rt; second.err(), first.err(), "{words:?} of {one}");
     assert_eq!(rt; second.status, first.status, "{words:?} of {one}");
 }
 
@@ -84,58 +59,48 @@ fn expect_migrated<R: Threads + Wait + Clock + Sync + Abort>(
     alloc: Global,
     text: &str,
     certificate: &str,
-) -> Result<(), AllocError> {
-    let printed = answered(rt, alloc, MIGRATE, text, "");
-    assert_eq!(rt; text_of(printed.err.as_slice()), "", "{text}");
+) {
+    let printed = told(rt, alloc, MIGRATE, text, "");
+    assert_eq!(rt; printed.err(), "", "{text}");
     assert_eq!(rt; printed.status, 0, "{text}");
-    let new = String::from_str(alloc, text_of(printed.out.as_slice()))?;
-    assert!(rt; new.as_str().contains("version = 2\n"), "{new}");
-    let again = answered(rt, alloc, MIGRATE, new.as_str(), "");
+    let new = printed.out();
+    assert!(rt; new.contains("version = 2\n"), "{new}");
+    let again = told(rt, alloc, MIGRATE, new, "");
     assert_eq!(rt;
-        text_of(again.err.as_slice()),
+        again.err(),
         "ddscheck: deployment 2 WrongVersion version\n"
     );
-    expect_same(rt, alloc, MATCH, text, new.as_str(), "");
-    expect_same(rt, alloc, PROPOSE, text, new.as_str(), "");
-    expect_same(rt, alloc, CHECK, text, new.as_str(), certificate);
-    Ok(())
+    expect_same(rt, alloc, MATCH, text, new, "");
+    expect_same(rt, alloc, PROPOSE, text, new, "");
+    expect_same(rt, alloc, CHECK, text, new, certificate);
 }
+
+/// Deployments with a certificate.
+static WORKED: [(&str, &str); 5] = [
+    (PING, PING_CERT),
+    (LOOP, LOOP_CERT),
+    (SMALL, SMALL_CERT),
+    (TWO, TWO_CERT),
+    (INLINE, "version = 1"),
+];
 
 #[test]
-fn migrates_worked_files(rt: HostRuntime) -> Result<(), Fail> {
-    let alloc = rt.alloc();
-    expect_migrated(&rt, alloc, PING, PING_CERT)?;
-    expect_migrated(&rt, alloc, LOOP, LOOP_CERT)?;
-    expect_migrated(&rt, alloc, SMALL, SMALL_CERT)?;
-    expect_migrated(&rt, alloc, TWO, TWO_CERT)?;
-    expect_migrated(&rt, alloc, INLINE, "version = 1")?;
-    Ok(())
-}
-
-/// The certificate that is proposed for a deployment, or `none`.
-fn proposed<R: Threads + Wait + Clock + Sync>(
-    rt: &R,
-    alloc: Global,
-    text: &str,
-) -> Result<String, AllocError> {
-    let answer = answered(rt, alloc, PROPOSE, text, "");
-    String::from_str(alloc, text_of(answer.out.as_slice()))
-}
-
-fn expect_drawn<R: Threads + Wait + Clock + Sync + Abort>(
-    rt: &R,
-    alloc: Global,
-    seed: u32,
-) -> Result<(), AllocError> {
-    let text = deployment(alloc, seed)?;
-    let certificate = proposed(rt, alloc, text.as_str())?;
-    expect_migrated(rt, alloc, text.as_str(), certificate.as_str())
-}
-
-#[test]
-fn migrates_drawn_files(rt: HostRuntime) -> Result<(), Fail> {
-    for seed in 0..50u32 {
-        expect_drawn(&rt, rt.alloc(), seed)?;
+fn migrates_worked_files(rt: HostRuntime) {
+    for (text, certificate) in &WORKED {
+        expect_migrated(&rt, rt.alloc(), text, certificate);
     }
-    Ok(())
+}
+
+/// The certificate of a drawn deployment is the one that is proposed for it, or `none`.
+fn expect_drawn<R: Threads + Wait + Clock + Sync + Abort>(rt: &R, alloc: Global, seed: u32) {
+    let text = deployment(alloc, seed).expect(rt, NO_MEMORY);
+    let proposed = told(rt, alloc, PROPOSE, text.as_str(), "");
+    expect_migrated(rt, alloc, text.as_str(), proposed.out());
+}
+
+#[test]
+fn migrates_drawn_files(rt: HostRuntime) {
+    for seed in 0..50u32 {
+        expect_drawn(&rt, rt.alloc(), seed);
+    }
 }

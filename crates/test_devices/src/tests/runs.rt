@@ -1,7 +1,5 @@
 //! The printed text of a run whose applications all stop, however its threads are scheduled.
-use crate::tests::files::{readable, text_of};
-use dds_answers::Stream;
-use dds_tool::tool;
+use crate::tests::files::{expect, readable};
 use std::alloc::Global;
 use std::process::Abort;
 use std::sync::Wait;
@@ -15,14 +13,9 @@ const ANSWERED: &str = "app a1 written 10 taken 10 stopped\napp a2 written 10 ta
 /// Runs PING fifty times with these fates, and compares what is printed.
 fn expect_fifty<R: Threads + Wait + Clock + Sync + Abort>(rt: &R, alloc: Global, fates: &str) {
     let words = ["ddscheck", "run", "d", "c", "--fates", fates];
-    for time in 0..50 {
-        let mut files = readable(PING.as_bytes(), PING_CERT.as_bytes());
-        let mut out = Stream::new(Vec::new(alloc));
-        let mut err = Stream::new(Vec::new(alloc));
-        let answer = tool(rt, alloc, words.as_slice(), &mut files, &mut out, &mut err);
-        assert_eq!(rt; text_of(out.writer.as_slice()), ANSWERED, "{fates}, {time}");
-        assert_eq!(rt; text_of(err.writer.as_slice()), "", "{fates}, {time}");
-        assert_eq!(rt; answer.status(), 0, "{fates}, {time}");
+    for _ in 0..50 {
+        let files = readable(PING.as_bytes(), PING_CERT.as_bytes());
+        expect(rt, alloc, words.as_slice(), files, 0, ANSWERED, "");
     }
 }
 

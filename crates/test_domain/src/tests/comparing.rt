@@ -1,8 +1,8 @@
 //! Both sides of a comparison: the parts of a plan, and the plain world.
 
 use crate::tests::peers::Peers;
-use crate::tests::plans::layout_of;
-use dds_base::{Event, KeyNo, NoMemory, ReaderNo, Reply, Sample, WriterNo};
+use crate::tests::plans::{NO_MEMORY, world_of};
+use dds_base::{Event, KeyNo, ReaderNo, Reply, Sample, WriterNo};
 use dds_match::Plan;
 use std::alloc::Global;
 use std::process::Abort;
@@ -22,36 +22,33 @@ pub(crate) struct Both {
 }
 
 /// What a take gave.
-pub(crate) fn taken(reply: &Reply) -> Option<Sample> {
+fn taken(reply: &Reply) -> Option<Sample> {
     match reply {
         Reply::Took(sample) => Some(*sample),
         _ => None,
     }
 }
 
+/// Makes an event in the plain world, which has to reply the same. Which writer's sample a take gives is free, so the world is asked for the
+/// one that was given.
+pub(crate) fn expect_step(rt: &impl Abort, world: &mut World, event: &Event, reply: &Reply) {
+    let other = step_as(world, event, &taken(reply)).expect(rt, NO_MEMORY);
+    assert_eq!(rt; *reply, other, "{event:?}");
+}
+
 impl Both {
-    pub(crate) fn open(alloc: Global, plan: &Plan) -> Result<Both, NoMemory> {
-        let layout = layout_of(alloc, plan)?;
-        Ok(Both {
-            peers: Peers::open(alloc, plan)?,
-            world: World::open(alloc, layout)?,
-        })
+    pub(crate) fn open(rt: &impl Abort, alloc: Global, plan: &Plan) -> Both {
+        Both {
+            peers: Peers::open(rt, alloc, plan),
+            world: world_of(rt, alloc, plan),
+        }
     }
 
-    /// Makes an event on both sides, and compares the replies. Which writer's sample a take gives is free, so the world is asked for the
-    /// one that the parts gave.
-    pub(crate) fn enter_same(
-        &mut self,
-        rt: &impl Abort,
-        plan: &Plan,
-        event: &Event,
-    ) -> Result<Reply, NoMemory> {
-        let reply = self.peers.enter(plan, event)?;
-        match step_as(&mut self.world, event, &taken(&reply)) {
-            Ok(other) => assert_eq!(rt; reply, other, "{event:?}"),
-            Err(error) => return Err(error),
-        }
-        Ok(reply)
+    /// Makes an event on both sides, and compares the replies.
+    pub(crate) fn enter_same(&mut self, rt: &impl Abort, plan: &Plan, event: &Event) -> Reply {
+        let reply = self.peers.enter(plan, event).expect(rt, NO_MEMORY);
+        expect_step(rt, &mut self.world, event, &reply);
+        reply
     }
 }
 
@@ -103,7 +100,7 @@ fn expect_same_permits(rt: &impl Abort, both: &Both, writer: WriterNo) {
 }
 
 /// Compares what is seen of each writer.
-fn expect_same_writers(rt: &impl Abort, both: &Both) -> Result<(), NoMemory> {
+fn expect_same_writers(rt: &impl Abort, both: &Both) {
     for (w, speaker) in both.peers.writers.iter().enumerate() {
         let writer = WriterNo::new(w);
         assert_eq!(rt;
@@ -111,16 +108,15 @@ fn expect_same_writers(rt: &impl Abort, both: &Both) -> Result<(), NoMemory> {
             both.world.written(writer),
             "written"
         );
-        let kept = both.world.kept(writer)?;
+        let kept = both.world.kept(writer).expect(rt, NO_MEMORY);
         assert_eq!(rt; speaker.writer.kept(), kept.len(), "kept");
         expect_same_permits(rt, both, writer);
         expect_same_pairs(rt, both, writer);
     }
-    Ok(())
 }
 
 /// Compares the unread samples and the unspent takes of a reader, of the first keys.
-fn expect_same_keys(rt: &impl Abort, both: &Both, r: usize) -> Result<(), NoMemory> {
+fn expect_same_keys(rt: &impl Abort, both: &Both, r: usize) {
     let reader = ReaderNo::new(r);
     for k in 0..SOME_KEYS {
         let key = KeyNo::new(k);
@@ -133,22 +129,20 @@ fn expect_same_keys(rt: &impl Abort, both: &Both, r: usize) -> Result<(), NoMemo
         if let Some(listener) = both.peers.readers.get(r) {
             assert_eq!(rt;
                 listener.reader.unread(key),
-                both.world.unread(reader, key)?,
+                both.world.unread(reader, key).expect(rt, NO_MEMORY),
                 "unread"
             );
         }
     }
-    Ok(())
 }
 
 /// Compares what is seen of each reader.
-fn expect_same_readers(rt: &impl Abort, both: &Both) -> Result<(), NoMemory> {
+fn expect_same_readers(rt: &impl Abort, both: &Both) {
     for (r, listener) in both.peers.readers.iter().enumerate() {
-        let stored = both.world.stored(ReaderNo::new(r))?;
+        let stored = both.world.stored(ReaderNo::new(r)).expect(rt, NO_MEMORY);
         assert_eq!(rt; listener.reader.stored(), stored.len(), "stored");
-        expect_same_keys(rt, both, r)?;
+        expect_same_keys(rt, both, r);
     }
-    Ok(())
 }
 
 /// Compares the packets at the first places.
@@ -162,9 +156,8 @@ fn expect_same_bus(rt: &impl Abort, both: &Both) {
 }
 
 /// Compares all that can be seen.
-pub(crate) fn expect_same(rt: &impl Abort, both: &Both) -> Result<(), NoMemory> {
-    expect_same_writers(rt, both)?;
-    expect_same_readers(rt, both)?;
+pub(crate) fn expect_same(rt: &impl Abort, both: &Both) {
+    expect_same_writers(rt, both);
+    expect_same_readers(rt, both);
     expect_same_bus(rt, both);
-    Ok(())
 }

@@ -1,13 +1,12 @@
 //! The worked runs, made by a domain of a plan whose certificate is accepted.
 
-use crate::tests::plans::plan_of;
+use crate::tests::plans::{NO_MEMORY, plan_of};
 use crate::tests::worked::{ON_A_FULL_BUS, text_of};
 use dds_base::{Arrival, Event, KeyNo, NoMemory, ReaderNo, Refusal, Reply, WriterNo};
 use dds_domain::Domain;
 use dds_match::Plan;
 use std::alloc::Global;
 use std::process::Abort;
-use std::test::Fail;
 use test_model::PLACES;
 use test_model::worked::{Move, RUNS, Run, Stage, Told, event_of, told_of, told_of_packet};
 use test_plans::proposed;
@@ -22,10 +21,10 @@ pub(crate) fn opened(rt: &impl Abort, alloc: Global, plan: Plan) -> Domain {
 }
 
 /// The domain of a stage, before the first event.
-fn domain_of(rt: &impl Abort, alloc: Global, stage: Stage) -> Result<Domain, NoMemory> {
-    let text = text_of(rt, alloc, stage)?;
+fn domain_of(rt: &impl Abort, alloc: Global, stage: Stage) -> Domain {
+    let text = text_of(rt, alloc, stage).expect(rt, NO_MEMORY);
     let plan = plan_of(rt, alloc, text.as_str());
-    Ok(opened(rt, alloc, plan))
+    opened(rt, alloc, plan)
 }
 
 /// What the domain answers to a question, after so many samples were written; none where it isn't asked for that. Each worked run that asks for
@@ -45,10 +44,7 @@ fn answer(domain: &Domain, written: u64, asked: Move) -> Option<Told> {
 
 /// Makes an event, which has to find memory.
 pub(crate) fn make(rt: &impl Abort, domain: &mut Domain, event: Event) -> Reply {
-    match domain.step(event) {
-        Ok(reply) => reply,
-        Err(NoMemory) => panic!(rt; "no memory for the event"),
-    }
+    domain.step(event).expect(rt, NO_MEMORY)
 }
 
 /// Makes a move, after so many samples were written.
@@ -69,8 +65,8 @@ fn expect_move(
     }
 }
 
-fn expect(rt: &impl Abort, alloc: Global, run: &Run) -> Result<(), NoMemory> {
-    let mut domain = domain_of(rt, alloc, run.stage)?;
+fn expect(rt: &impl Abort, alloc: Global, run: &Run) {
+    let mut domain = domain_of(rt, alloc, run.stage);
     let mut written = 0;
     for (asked, told) in run.moves {
         expect_move(rt, &mut domain, written, *asked, *told, run.about);
@@ -79,15 +75,13 @@ fn expect(rt: &impl Abort, alloc: Global, run: &Run) -> Result<(), NoMemory> {
         }
     }
     drop(domain);
-    Ok(())
 }
 
 #[test]
-fn a_domain_makes_the_worked_runs(rt: HostRuntime) -> Result<(), Fail> {
+fn a_domain_makes_the_worked_runs(rt: HostRuntime) {
     for run in &RUNS {
-        expect(&rt, rt.alloc(), run)?;
+        expect(&rt, rt.alloc(), run);
     }
-    Ok(())
 }
 
 /// Three writes, and their DATA on the bus.
@@ -135,21 +129,19 @@ fn expect_three_sent(rt: &impl Abort, domain: &mut Domain) {
     }
 }
 
-fn expect_ten_times(rt: &impl Abort, alloc: Global, order: &[usize; 30]) -> Result<(), NoMemory> {
-    let mut domain = domain_of(rt, alloc, Stage::Small(3))?;
+fn expect_ten_times(rt: &impl Abort, alloc: Global, order: &[usize; 30]) {
+    let mut domain = domain_of(rt, alloc, Stage::Small(3));
     expect_three_sent(rt, &mut domain);
     deliver_all(rt, &mut domain, order);
     assert_eq!(rt; domain.stored(ReaderNo::new(0)), 3);
     drop(domain);
-    Ok(())
 }
 
 #[test]
-fn each_packet_ten_times(rt: HostRuntime) -> Result<(), Fail> {
+fn each_packet_ten_times(rt: HostRuntime) {
     for order in &ORDERS {
-        expect_ten_times(&rt, rt.alloc(), order)?;
+        expect_ten_times(&rt, rt.alloc(), order);
     }
-    Ok(())
 }
 
 /// A list of moves: writes, sends, losses, deliveries, takes and refusals.
@@ -191,23 +183,17 @@ pub(crate) fn expect_replies(rt: &impl Abort, replies: &[Reply], from: usize) {
     }
 }
 
-fn expect_list(rt: &impl Abort, alloc: Global) -> Result<(), NoMemory> {
-    let events = listed(alloc)?;
-    let mut domain = domain_of(rt, alloc, Stage::Small(3))?;
+#[test]
+fn a_list_of_events(rt: HostRuntime) {
+    let events = listed(rt.alloc()).expect(&rt, NO_MEMORY);
+    let mut domain = domain_of(&rt, rt.alloc(), Stage::Small(3));
     let replies = match domain.run(&events) {
         Ok(replies) => replies,
         Err(_) => panic!(rt; "no memory for the events"),
     };
     assert_eq!(rt; replies.len(), LIST.len());
-    expect_replies(rt, &replies, 0);
+    expect_replies(&rt, &replies, 0);
     drop(domain);
-    Ok(())
-}
-
-#[test]
-fn a_list_of_events(rt: HostRuntime) -> Result<(), Fail> {
-    expect_list(&rt, rt.alloc())?;
-    Ok(())
 }
 
 /// Sends a HEARTBEAT to each place of the bus.
@@ -224,18 +210,12 @@ fn fill(rt: &impl Abort, domain: &mut Domain) {
     }
 }
 
-fn expect_full_bus(rt: &impl Abort, alloc: Global) -> Result<(), NoMemory> {
-    let mut domain = domain_of(rt, alloc, Stage::Small(1))?;
-    fill(rt, &mut domain);
+#[test]
+fn a_full_bus_of_a_domain_loses_what_is_sent(rt: HostRuntime) {
+    let mut domain = domain_of(&rt, rt.alloc(), Stage::Small(1));
+    fill(&rt, &mut domain);
     for (asked, told) in &ON_A_FULL_BUS {
-        expect_move(rt, &mut domain, 0, *asked, *told, "a full bus");
+        expect_move(&rt, &mut domain, 0, *asked, *told, "a full bus");
     }
     drop(domain);
-    Ok(())
-}
-
-#[test]
-fn a_full_bus_of_a_domain_loses_what_is_sent(rt: HostRuntime) -> Result<(), Fail> {
-    expect_full_bus(&rt, rt.alloc())?;
-    Ok(())
 }

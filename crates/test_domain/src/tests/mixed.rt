@@ -2,14 +2,12 @@
 
 use crate::tests::chance::Chance;
 use crate::tests::comparing::{Both, expect_same};
-use crate::tests::plans::plan_of;
+use crate::tests::plans::{NO_MEMORY, plan_of};
 use crate::tests::seen::{Kind, kind_of};
 use crate::tests::texts::{FILTERED, LAST, WATCHED};
-use dds_base::NoMemory;
 use dds_match::Plan;
 use std::alloc::Global;
 use std::process::Abort;
-use std::test::Fail;
 use test_files::texts::{LOOP, SMALL};
 
 /// How many events a run has.
@@ -36,94 +34,72 @@ static ALWAYS: [Kind; 13] = [
 ];
 
 /// Makes a run on both sides, and adds the kinds of its replies.
-fn expect_run(
-    rt: &impl Abort,
-    alloc: Global,
-    plan: &Plan,
-    seed: u64,
-    kinds: &mut Vec<Kind>,
-) -> Result<(), NoMemory> {
-    let mut both = Both::open(alloc, plan)?;
+fn expect_run(rt: &impl Abort, alloc: Global, plan: &Plan, seed: u64, kinds: &mut Vec<Kind>) {
+    let mut both = Both::open(rt, alloc, plan);
     let mut chance = Chance::new(seed);
     for _ in 0..EVENTS {
         let event = chance.event(&both.world);
-        let reply = both.enter_same(rt, plan, &event)?;
-        expect_same(rt, &both)?;
-        kinds.push(kind_of(&reply))?;
+        let reply = both.enter_same(rt, plan, &event);
+        expect_same(rt, &both);
+        kinds.push(kind_of(&reply)).expect(rt, NO_MEMORY);
     }
     drop(both);
-    Ok(())
 }
 
 /// Makes a run for each seed, and sees that each kind of reply came in one of them.
-fn over_seeds(
-    rt: &impl Abort,
-    alloc: Global,
-    plan: &Plan,
-    wanted: &[Kind],
-) -> Result<(), NoMemory> {
+fn over_seeds(rt: &impl Abort, alloc: Global, plan: &Plan, wanted: &[Kind]) {
     let mut kinds: Vec<Kind> = Vec::new(alloc);
     for seed in &SEEDS {
-        expect_run(rt, alloc, plan, *seed, &mut kinds)?;
+        expect_run(rt, alloc, plan, *seed, &mut kinds);
     }
     for kind in ALWAYS.iter().chain(wanted) {
         assert!(rt; kinds.iter().any(|k| *k == *kind), "{kind:?} never came");
     }
-    Ok(())
 }
 
 /// Makes the runs of a deployment, in which each of these kinds of replies comes beside those that always do.
-fn expect_kinds(
-    rt: &impl Abort,
-    alloc: Global,
-    text: &str,
-    wanted: &[Kind],
-) -> Result<(), NoMemory> {
+fn expect_kinds(rt: &impl Abort, alloc: Global, text: &str, wanted: &[Kind]) {
     let plan = plan_of(rt, alloc, text);
-    let done = over_seeds(rt, alloc, &plan, wanted);
+    over_seeds(rt, alloc, &plan, wanted);
     drop(plan);
-    done
 }
 
 // The reader takes 2 samples of an instance, and there are 200 permits.
 #[test]
-fn one_writer_and_one_reader(rt: HostRuntime) -> Result<(), Fail> {
+fn one_writer_and_one_reader(rt: HostRuntime) {
     let alloc = rt.alloc();
     let limit = "max_samples_per_instance = 2";
-    let text = SMALL.replace(alloc, "max_samples_per_instance = 3", limit)?;
-    let text = text.as_str().replace(alloc, "start = 3", "start = 200")?;
-    expect_kinds(&rt, alloc, text.as_str(), &[Kind::SamplesPerInstanceLimit])?;
-    Ok(())
+    let text = SMALL.replace(alloc, "max_samples_per_instance = 3", limit);
+    let text = text.expect(&rt, NO_MEMORY);
+    let text = text.as_str().replace(alloc, "start = 3", "start = 200");
+    let text = text.expect(&rt, NO_MEMORY);
+    expect_kinds(&rt, alloc, text.as_str(), &[Kind::SamplesPerInstanceLimit]);
 }
 
 #[test]
-fn a_filter_and_one_instance(rt: HostRuntime) -> Result<(), Fail> {
+fn a_filter_and_one_instance(rt: HostRuntime) {
     let wanted = [
         Kind::Irrelevant,
         Kind::InstancesLimit,
         Kind::Full,
         Kind::InstanceFull,
     ];
-    expect_kinds(&rt, rt.alloc(), FILTERED, &wanted)?;
-    Ok(())
+    expect_kinds(&rt, rt.alloc(), FILTERED, &wanted);
 }
 
 #[test]
-fn the_last_one_or_two(rt: HostRuntime) -> Result<(), Fail> {
+fn the_last_one_or_two(rt: HostRuntime) {
     let wanted = [Kind::Overwrote, Kind::SamplesLimit, Kind::InstanceLimit];
-    expect_kinds(&rt, rt.alloc(), LAST, &wanted)?;
-    Ok(())
+    expect_kinds(&rt, rt.alloc(), LAST, &wanted);
 }
 
 #[test]
-fn a_reader_and_two_watchers(rt: HostRuntime) -> Result<(), Fail> {
+fn a_reader_and_two_watchers(rt: HostRuntime) {
     let wanted = [Kind::Overwrote, Kind::SamplesLimit, Kind::Full];
-    expect_kinds(&rt, rt.alloc(), WATCHED, &wanted)?;
-    Ok(())
+    expect_kinds(&rt, rt.alloc(), WATCHED, &wanted);
 }
 
 #[test]
-fn two_that_answer_each_other(rt: HostRuntime) -> Result<(), Fail> {
-    expect_kinds(&rt, rt.alloc(), LOOP, &[Kind::Fired, Kind::NoPermit])?;
-    Ok(())
+fn two_that_answer_each_other(rt: HostRuntime) {
+    expect_kinds(&rt, rt.alloc(), LOOP, &[Kind::Fired, Kind::NoPermit]);
 }

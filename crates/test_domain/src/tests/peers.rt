@@ -3,6 +3,7 @@
 ghost use Rattle.std.specs.Prelude.{◌<◌};
 ghost use Rattle.dds_match.specs.Plan.{network_of};
 
+use crate::tests::plans::NO_MEMORY;
 use crate::tests::speakers::{Accounts, Listener, Speaker};
 use dds_base::{
     Arrival, Data, DataMsg, Event, GapMsg, Heartbeat, KeyNo, NoMemory, Packet, ReaderNo, Refusal,
@@ -10,6 +11,7 @@ use dds_base::{
 };
 use dds_match::Plan;
 use std::alloc::Global;
+use std::process::Abort;
 use test_model::empty_bus;
 
 /// Ledger, writers, readers and bus.
@@ -21,42 +23,44 @@ pub(crate) struct Peers {
     pub(crate) bus: Vec<Option<Packet>>,
 }
 
-fn speaker(alloc: Global, plan: &Plan, writer: WriterNo) -> Result<Speaker, NoMemory>
+fn speaker(rt: &impl Abort, alloc: Global, plan: &Plan, writer: WriterNo) -> Speaker
     requires { writer < (network_of plan.now).writers }
 {
-    Speaker::open(alloc, plan, writer, plan.writer_limits(writer))
+    Speaker::open(rt, alloc, plan, writer, plan.writer_limits(writer))
 }
 
-fn listener(alloc: Global, plan: &Plan, reader: ReaderNo) -> Result<Listener, NoMemory>
+fn listener(rt: &impl Abort, alloc: Global, plan: &Plan, reader: ReaderNo) -> Listener
     requires { reader < (network_of plan.now).readers }
 {
-    Listener::open(alloc, plan, reader, plan.reader_limits(reader))
+    Listener::open(rt, alloc, plan, reader, plan.reader_limits(reader))
 }
 
-fn speakers(alloc: Global, plan: &Plan) -> Result<Vec<Speaker>, NoMemory> {
+fn speakers(rt: &impl Abort, alloc: Global, plan: &Plan) -> Vec<Speaker> {
     let mut writers = Vec::new(alloc);
     for w in 0..plan.lists().writers() {
-        writers.push(speaker(alloc, plan, WriterNo::new(w))?)?;
+        let opened = speaker(rt, alloc, plan, WriterNo::new(w));
+        writers.push(opened).expect(rt, NO_MEMORY);
     }
-    Ok(writers)
+    writers
 }
 
-fn listeners(alloc: Global, plan: &Plan) -> Result<Vec<Listener>, NoMemory> {
+fn listeners(rt: &impl Abort, alloc: Global, plan: &Plan) -> Vec<Listener> {
     let mut readers = Vec::new(alloc);
     for r in 0..plan.lists().readers() {
-        readers.push(listener(alloc, plan, ReaderNo::new(r))?)?;
+        let opened = listener(rt, alloc, plan, ReaderNo::new(r));
+        readers.push(opened).expect(rt, NO_MEMORY);
     }
-    Ok(readers)
+    readers
 }
 
 impl Peers {
-    pub(crate) fn open(alloc: Global, plan: &Plan) -> Result<Peers, NoMemory> {
-        Ok(Peers {
-            accounts: Accounts::open(alloc, plan)?,
-            writers: speakers(alloc, plan)?,
-            readers: listeners(alloc, plan)?,
-            bus: empty_bus(alloc)?,
-        })
+    pub(crate) fn open(rt: &impl Abort, alloc: Global, plan: &Plan) -> Peers {
+        Peers {
+            accounts: Accounts::open(rt, alloc, plan),
+            writers: speakers(rt, alloc, plan),
+            readers: listeners(rt, alloc, plan),
+            bus: empty_bus(alloc).expect(rt, NO_MEMORY),
+        }
     }
 
     /// The packet at a place, if there is one.

@@ -1,14 +1,17 @@
-//! Plans of the deployments, and the same as plain lists.
+//! Plans of the deployments, and the same as plain lists and a plain world of these.
 
 ghost use Rattle.std.specs.Prelude.{◌<◌};
 ghost use Rattle.dds_match.specs.Plan.{network_of};
 
-use dds_base::{KeyNo, NoMemory, ReaderNo, RuleNo, WriterNo};
+use dds_base::{KeyNo, ReaderNo, RuleNo, WriterNo};
 use dds_match::Plan;
 use std::alloc::Global;
 use std::process::Abort;
-use test_model::{Layout, ReaderLayout, RuleLayout, WriterLayout};
+use test_model::{Layout, ReaderLayout, RuleLayout, World, WriterLayout};
 use test_plans::planned;
+
+/// What is told where memory is refused, which ends a test.
+pub(crate) const NO_MEMORY: &str = "no memory";
 
 /// No topic has more keys.
 pub(crate) const KEYS: usize = 64;
@@ -19,41 +22,41 @@ pub(crate) fn plan_of(rt: &impl Abort, alloc: Global, text: &str) -> Plan {
 
 /// The keys that a reader takes.
 pub(crate) fn filter_of(
+    rt: &impl Abort,
     alloc: Global,
     plan: &Plan,
     reader: ReaderNo,
-) -> Result<Vec<KeyNo>, NoMemory> {
-    let mut filter = Vec::new(alloc);
-    for k in 0..KEYS {
-        let key = KeyNo::new(k);
-        if plan.hears(reader, key) {
-            filter.push(key)?;
-        }
-    }
-    Ok(filter)
+) -> Vec<KeyNo> {
+    let keys = (0..KEYS).map(|k| KeyNo::new(k));
+    let filter = keys.filter(|k| plan.hears(reader, *k)).collect(alloc);
+    filter.expect(rt, NO_MEMORY)
 }
 
 /// The readers that match a writer.
 pub(crate) fn readers_of(
+    rt: &impl Abort,
     alloc: Global,
     plan: &Plan,
     writer: WriterNo,
-) -> Result<Vec<ReaderNo>, NoMemory> {
+) -> Vec<ReaderNo> {
     let readers = (0..plan.lists().readers()).map(|r| ReaderNo::new(r));
-    readers.filter(|r| plan.matched(writer, *r)).collect(alloc)
+    let matched = readers.filter(|r| plan.matched(writer, *r)).collect(alloc);
+    matched.expect(rt, NO_MEMORY)
 }
 
 /// The writers that match a reader.
 pub(crate) fn writers_of(
+    rt: &impl Abort,
     alloc: Global,
     plan: &Plan,
     reader: ReaderNo,
-) -> Result<Vec<WriterNo>, NoMemory> {
+) -> Vec<WriterNo> {
     let writers = (0..plan.lists().writers()).map(|w| WriterNo::new(w));
-    writers.filter(|w| plan.matched(*w, reader)).collect(alloc)
+    let matched = writers.filter(|w| plan.matched(*w, reader)).collect(alloc);
+    matched.expect(rt, NO_MEMORY)
 }
 
-fn writer_layout(alloc: Global, plan: &Plan, writer: WriterNo) -> Result<WriterLayout, NoMemory>
+fn writer_layout(rt: &impl Abort, alloc: Global, plan: &Plan, writer: WriterNo) -> WriterLayout
     requires { writer < (network_of plan.now).writers }
 {
     let limits = plan.writer_limits(writer);
@@ -63,64 +66,68 @@ fn writer_layout(alloc: Global, plan: &Plan, writer: WriterNo) -> Result<WriterL
             keys = k + 1;
         }
     }
-    Ok(WriterLayout {
+    WriterLayout {
         keys,
         limits,
-        readers: readers_of(alloc, plan, writer)?,
-    })
+        readers: readers_of(rt, alloc, plan, writer),
+    }
 }
 
-fn reader_layout(alloc: Global, plan: &Plan, reader: ReaderNo) -> Result<ReaderLayout, NoMemory>
+fn reader_layout(rt: &impl Abort, alloc: Global, plan: &Plan, reader: ReaderNo) -> ReaderLayout
     requires { reader < (network_of plan.now).readers }
 {
     let limits = plan.reader_limits(reader);
-    Ok(ReaderLayout {
-        filter: filter_of(alloc, plan, reader)?,
+    ReaderLayout {
+        filter: filter_of(rt, alloc, plan, reader),
         limits,
         watcher: plan.watcher(reader),
-    })
+    }
 }
 
-fn rule_layout(alloc: Global, plan: &Plan, rule: RuleNo) -> Result<RuleLayout, NoMemory>
+fn rule_layout(rt: &impl Abort, alloc: Global, plan: &Plan, rule: RuleNo) -> RuleLayout
     requires { rule < (network_of plan.now).rules }
 {
     let rule = plan.rule(rule);
-    Ok(RuleLayout {
-        needs: Vec::from_slice(alloc, &rule.takes)?,
-        gives: Vec::from_slice(alloc, &rule.writes)?,
+    RuleLayout {
+        needs: Vec::from_slice(alloc, &rule.takes).expect(rt, NO_MEMORY),
+        gives: Vec::from_slice(alloc, &rule.writes).expect(rt, NO_MEMORY),
         start: rule.start,
-    })
+    }
 }
 
-fn writer_layouts(alloc: Global, plan: &Plan) -> Result<Vec<WriterLayout>, NoMemory> {
+fn writer_layouts(rt: &impl Abort, alloc: Global, plan: &Plan) -> Vec<WriterLayout> {
     let mut writers = Vec::new(alloc);
     for w in 0..plan.lists().writers() {
-        writers.push(writer_layout(alloc, plan, WriterNo::new(w))?)?;
+        let layout = writer_layout(rt, alloc, plan, WriterNo::new(w));
+        writers.push(layout).expect(rt, NO_MEMORY);
     }
-    Ok(writers)
+    writers
 }
 
-fn reader_layouts(alloc: Global, plan: &Plan) -> Result<Vec<ReaderLayout>, NoMemory> {
+fn reader_layouts(rt: &impl Abort, alloc: Global, plan: &Plan) -> Vec<ReaderLayout> {
     let mut readers = Vec::new(alloc);
     for r in 0..plan.lists().readers() {
-        readers.push(reader_layout(alloc, plan, ReaderNo::new(r))?)?;
+        let layout = reader_layout(rt, alloc, plan, ReaderNo::new(r));
+        readers.push(layout).expect(rt, NO_MEMORY);
     }
-    Ok(readers)
+    readers
 }
 
-fn rule_layouts(alloc: Global, plan: &Plan) -> Result<Vec<RuleLayout>, NoMemory> {
+fn rule_layouts(rt: &impl Abort, alloc: Global, plan: &Plan) -> Vec<RuleLayout> {
     let mut rules = Vec::new(alloc);
     for u in 0..plan.lists().rules() {
-        rules.push(rule_layout(alloc, plan, RuleNo::new(u))?)?;
+        let layout = rule_layout(rt, alloc, plan, RuleNo::new(u));
+        rules.push(layout).expect(rt, NO_MEMORY);
     }
-    Ok(rules)
+    rules
 }
 
-/// The plan as plain lists.
-pub(crate) fn layout_of(alloc: Global, plan: &Plan) -> Result<Layout, NoMemory> {
-    Ok(Layout {
-        writers: writer_layouts(alloc, plan)?,
-        readers: reader_layouts(alloc, plan)?,
-        rules: rule_layouts(alloc, plan)?,
-    })
+/// The plain world of a plan, before the first event.
+pub(crate) fn world_of(rt: &impl Abort, alloc: Global, plan: &Plan) -> World {
+    let layout = Layout {
+        writers: writer_layouts(rt, alloc, plan),
+        readers: reader_layouts(rt, alloc, plan),
+        rules: rule_layouts(rt, alloc, plan),
+    };
+    World::open(alloc, layout).expect(rt, NO_MEMORY)
 }

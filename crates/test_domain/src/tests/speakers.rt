@@ -2,7 +2,7 @@
 
 ghost use Rattle.std.specs.Prelude.{◌≡◌, length, IfOk};
 
-use crate::tests::plans::{filter_of, readers_of, writers_of};
+use crate::tests::plans::{NO_MEMORY, filter_of, readers_of, writers_of};
 use dds_base::{
     AckNack, Arrival, Data, DataMsg, GapMsg, Heartbeat, KeyNo, NoMemory, Packet, ReaderNo, Refusal,
     Reply, RuleNo, Sample, WriterNo,
@@ -13,6 +13,7 @@ use dds_reader::Reader;
 use dds_rules::{FireRefused, Ledger};
 use dds_writer::{Proxy, WriteRefused, Writer};
 use std::alloc::Global;
+use std::process::Abort;
 
 /// A ledger, and how many readers it has.
 #[derive(Drop)]
@@ -29,12 +30,10 @@ fn ledger_of(alloc: Global, plan: &Plan) -> Result<Ledger, NoMemory>
 }
 
 impl Accounts {
-    pub(crate) fn open(alloc: Global, plan: &Plan) -> Result<Accounts, NoMemory> {
+    pub(crate) fn open(rt: &impl Abort, alloc: Global, plan: &Plan) -> Accounts {
         let readers = plan.lists().readers();
-        match ledger_of(alloc, plan) {
-            Ok(ledger) => Ok(Accounts { ledger, readers }),
-            Err(_) => Err(NoMemory),
-        }
+        let ledger = ledger_of(alloc, plan).expect(rt, NO_MEMORY);
+        Accounts { ledger, readers }
     }
 
     pub(crate) fn note_take(&mut self, reader: ReaderNo, key: KeyNo) {
@@ -63,29 +62,30 @@ pub(crate) struct Speaker {
 }
 
 /// The readers that match a writer, with their filters.
-fn proxies_of(alloc: Global, plan: &Plan, writer: WriterNo) -> Result<Vec<Proxy>, NoMemory> {
+fn proxies_of(rt: &impl Abort, alloc: Global, plan: &Plan, writer: WriterNo) -> Vec<Proxy> {
     let mut proxies = Vec::new(alloc);
-    for reader in &readers_of(alloc, plan, writer)? {
-        let filter = filter_of(alloc, plan, *reader)?;
-        proxies.push(Proxy {
+    for reader in &readers_of(rt, alloc, plan, writer) {
+        let proxy = Proxy {
             reader: *reader,
-            filter,
+            filter: filter_of(rt, alloc, plan, *reader),
             watcher: plan.watcher(*reader),
-        })?;
+        };
+        proxies.push(proxy).expect(rt, NO_MEMORY);
     }
-    Ok(proxies)
+    proxies
 }
 
 impl Speaker {
     pub(crate) fn open(
+        rt: &impl Abort,
         alloc: Global,
         plan: &Plan,
         me: WriterNo,
         limits: WriterLimits,
-    ) -> Result<Speaker, NoMemory> {
-        let proxies = proxies_of(alloc, plan, me)?;
-        let writer = Writer::new(alloc, me, limits, proxies)?;
-        Ok(Speaker { writer })
+    ) -> Speaker {
+        let proxies = proxies_of(rt, alloc, plan, me);
+        let writer = Writer::new(alloc, me, limits, proxies).expect(rt, NO_MEMORY);
+        Speaker { writer }
     }
 
     /// A write of a key for which there is a permit.
@@ -161,19 +161,23 @@ pub(crate) struct Listener {
 
 impl Listener {
     pub(crate) fn open(
+        rt: &impl Abort,
         alloc: Global,
         plan: &Plan,
         me: ReaderNo,
         limits: ReaderLimits,
-    ) -> Result<Listener, NoMemory> {
-        let filter = filter_of(alloc, plan, me)?;
-        let writers = writers_of(alloc, plan, me)?;
-        let reader = if plan.watcher(me) {
-            Reader::watching(alloc, me, limits, &filter, &writers)?
+    ) -> Listener {
+        let filter = filter_of(rt, alloc, plan, me);
+        let writers = writers_of(rt, alloc, plan, me);
+        let opened = if plan.watcher(me) {
+            Reader::watching(alloc, me, limits, &filter, &writers)
         } else {
-            Reader::new(alloc, me, limits, &filter, &writers)?
+            Reader::new(alloc, me, limits, &filter, &writers)
         };
-        Ok(Listener { me, reader })
+        Listener {
+            me,
+            reader: opened.expect(rt, NO_MEMORY),
+        }
     }
 
     pub(crate) fn on_data(&mut self, data: &DataMsg) -> Result<Arrival, NoMemory> {

@@ -9,7 +9,6 @@ use dds_base::{
 use dds_domain::Domain;
 use std::alloc::Global;
 use std::process::Abort;
-use std::test::Fail;
 use test_files::texts::PING;
 
 /// So many samples are taken at each side before the run ends.
@@ -130,17 +129,12 @@ fn rounds(rt: &impl Abort, domain: &mut Domain, first: &mut Side, second: &mut S
     TURNS
 }
 
-fn expect_end(rt: &impl Abort, alloc: Global) {
-    let plan = plan_of(rt, alloc, PING);
-    let mut domain = opened(rt, alloc, plan);
+#[test]
+fn the_schedule_brings_a_hundred_samples_to_each_side(rt: HostRuntime) {
+    let plan = plan_of(&rt, rt.alloc(), PING);
+    let mut domain = opened(&rt, rt.alloc(), plan);
     let mut first = Side::new(0, 1);
     let mut second = Side::new(1, 0);
-    assert!(rt; rounds(rt, &mut domain, &mut first, &mut second) < TURNS);
+    assert!(rt; rounds(&rt, &mut domain, &mut first, &mut second) < TURNS);
     drop(domain);
-}
-
-#[test]
-fn the_schedule_brings_a_hundred_samples_to_each_side(rt: HostRuntime) -> Result<(), Fail> {
-    expect_end(&rt, rt.alloc());
-    Ok(())
 }

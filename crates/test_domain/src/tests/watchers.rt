@@ -2,18 +2,16 @@
 //! event.
 
 use crate::tests::chance::Chance;
-use crate::tests::comparing::{SOME_KEYS, SOME_PLACES, taken};
+use crate::tests::comparing::{SOME_KEYS, SOME_PLACES, expect_step};
 use crate::tests::domains::{make, opened};
-use crate::tests::plans::{layout_of, plan_of};
+use crate::tests::plans::{NO_MEMORY, plan_of, world_of};
 use crate::tests::seen::{Kind, kind_of};
 use crate::tests::texts::AGAIN;
-use dds_base::{Event, KeyNo, NoMemory, ReaderNo, WriterNo};
+use dds_base::{Event, KeyNo, ReaderNo, WriterNo};
 use dds_domain::Domain;
-use dds_match::Plan;
 use std::alloc::Global;
 use std::process::Abort;
-use std::test::Fail;
-use test_model::{World, step_as};
+use test_model::World;
 
 /// How many events the run has.
 const EVENTS: usize = 2000;
@@ -33,56 +31,39 @@ static WANTED: [Kind; 9] = [
     Kind::Acked,
 ];
 
-/// Makes an event on both sides, compares the replies, and answers their kind. Which writer's sample a take gives is free, so the world is
-/// asked for the one that the domain gave.
-fn make_both(
-    rt: &impl Abort,
-    domain: &mut Domain,
-    world: &mut World,
-    event: Event,
-) -> Result<Kind, NoMemory> {
+/// Makes an event on both sides, compares the replies, and answers their kind.
+fn make_both(rt: &impl Abort, domain: &mut Domain, world: &mut World, event: Event) -> Kind {
     let reply = make(rt, domain, event);
-    match step_as(world, &event, &taken(&reply)) {
-        Ok(other) => assert_eq!(rt; reply, other, "{event:?}"),
-        Err(error) => return Err(error),
-    }
-    Ok(kind_of(&reply))
+    expect_step(rt, world, &event, &reply);
+    kind_of(&reply)
 }
 
 /// Compares how many samples each writer keeps.
-fn expect_same_kept(rt: &impl Abort, domain: &Domain, world: &World) -> Result<(), NoMemory> {
+fn expect_same_kept(rt: &impl Abort, domain: &Domain, world: &World) {
     for w in 0..world.layout().writers.len() {
         let writer = WriterNo::new(w);
-        let kept = world.kept(writer)?;
+        let kept = world.kept(writer).expect(rt, NO_MEMORY);
         assert_eq!(rt; domain.kept(writer), kept.len(), "kept");
     }
-    Ok(())
 }
 
 /// Compares how many samples of the first keys a reader stores.
-fn expect_same_unread(
-    rt: &impl Abort,
-    domain: &Domain,
-    world: &World,
-    reader: ReaderNo,
-) -> Result<(), NoMemory> {
+fn expect_same_unread(rt: &impl Abort, domain: &Domain, world: &World, reader: ReaderNo) {
     for k in 0..SOME_KEYS {
         let key = KeyNo::new(k);
-        let unread = world.unread(reader, key)?;
+        let unread = world.unread(reader, key).expect(rt, NO_MEMORY);
         assert_eq!(rt; domain.unread(reader, key), unread, "unread");
     }
-    Ok(())
 }
 
 /// Compares how many samples each reader stores.
-fn expect_same_stored(rt: &impl Abort, domain: &Domain, world: &World) -> Result<(), NoMemory> {
+fn expect_same_stored(rt: &impl Abort, domain: &Domain, world: &World) {
     for r in 0..world.layout().readers.len() {
         let reader = ReaderNo::new(r);
-        let stored = world.stored(reader)?;
+        let stored = world.stored(reader).expect(rt, NO_MEMORY);
         assert_eq!(rt; domain.stored(reader), stored.len(), "stored");
-        expect_same_unread(rt, domain, world, reader)?;
+        expect_same_unread(rt, domain, world, reader);
     }
-    Ok(())
 }
 
 /// Compares the packets at the first places.
@@ -96,11 +77,10 @@ fn expect_same_places(rt: &impl Abort, domain: &Domain, world: &World) {
 }
 
 /// Compares all that a domain shows.
-fn expect_same(rt: &impl Abort, domain: &Domain, world: &World) -> Result<(), NoMemory> {
-    expect_same_kept(rt, domain, world)?;
-    expect_same_stored(rt, domain, world)?;
+fn expect_same(rt: &impl Abort, domain: &Domain, world: &World) {
+    expect_same_kept(rt, domain, world);
+    expect_same_stored(rt, domain, world);
     expect_same_places(rt, domain, world);
-    Ok(())
 }
 
 /// Makes the run on both sides, and answers the kinds of its replies.
@@ -109,52 +89,32 @@ fn kinds_of_run(
     alloc: Global,
     domain: &mut Domain,
     world: &mut World,
-) -> Result<Vec<Kind>, NoMemory> {
+) -> Vec<Kind> {
     let mut chance = Chance::new(SEED);
     let mut kinds = Vec::new(alloc);
     for _ in 0..EVENTS {
         let event = chance.lively_event(world);
-        kinds.push(make_both(rt, domain, world, event)?)?;
-        expect_same(rt, domain, world)?;
+        let kind = make_both(rt, domain, world, event);
+        kinds.push(kind).expect(rt, NO_MEMORY);
+        expect_same(rt, domain, world);
     }
-    Ok(kinds)
+    kinds
 }
 
 /// Makes the run, and sees that each kind of reply came.
-fn expect_run(
-    rt: &impl Abort,
-    alloc: Global,
-    domain: &mut Domain,
-    world: &mut World,
-) -> Result<(), NoMemory> {
-    let kinds = kinds_of_run(rt, alloc, domain, world)?;
+fn expect_run(rt: &impl Abort, alloc: Global, domain: &mut Domain, world: &mut World) {
+    let kinds = kinds_of_run(rt, alloc, domain, world);
     for kind in &WANTED {
         assert!(rt; kinds.iter().any(|k| *k == *kind), "{kind:?} never came");
     }
-    Ok(())
-}
-
-fn world_of(alloc: Global, plan: &Plan) -> Result<World, NoMemory> {
-    World::open(alloc, layout_of(alloc, plan)?)
-}
-
-fn over_plan(rt: &impl Abort, alloc: Global, plan: Plan, mut world: World) -> Result<(), NoMemory> {
-    let mut domain = opened(rt, alloc, plan);
-    let done = expect_run(rt, alloc, &mut domain, &mut world);
-    drop(domain);
-    drop(world);
-    done
 }
 
 #[test]
-fn a_domain_with_watchers(rt: HostRuntime) -> Result<(), Fail> {
+fn a_domain_with_watchers(rt: HostRuntime) {
     let plan = plan_of(&rt, rt.alloc(), AGAIN);
-    match world_of(rt.alloc(), &plan) {
-        Ok(world) => over_plan(&rt, rt.alloc(), plan, world)?,
-        Err(error) => {
-            drop(plan);
-            return Err(error.into());
-        }
-    }
-    Ok(())
+    let mut world = world_of(&rt, rt.alloc(), &plan);
+    let mut domain = opened(&rt, rt.alloc(), plan);
+    expect_run(&rt, rt.alloc(), &mut domain, &mut world);
+    drop(domain);
+    drop(world);
 }

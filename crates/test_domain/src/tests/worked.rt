@@ -1,12 +1,11 @@
 //! The worked runs, made by the parts of a plan and in the plain world.
 
 use crate::tests::comparing::{Both, expect_same};
-use crate::tests::plans::plan_of;
+use crate::tests::plans::{NO_MEMORY, plan_of};
 use dds_base::{NoMemory, ReaderNo, Refusal};
 use dds_match::Plan;
 use std::alloc::Global;
 use std::process::Abort;
-use std::test::Fail;
 use test_files::texts::{LOOP, SMALL};
 use test_model::PLACES;
 use test_model::worked::{Move, RUNS, Run, Stage, Told, event_of, told_of, told_of_packet};
@@ -123,42 +122,11 @@ fn answer(both: &Both, asked: Move) -> Told {
 }
 
 /// Makes a move on both sides, and tells what the parts reply.
-fn make(rt: &impl Abort, both: &mut Both, plan: &Plan, asked: Move) -> Result<Told, NoMemory> {
+fn make(rt: &impl Abort, both: &mut Both, plan: &Plan, asked: Move) -> Told {
     match event_of(asked) {
-        Some(event) => Ok(told_of(&both.enter_same(rt, plan, &event)?)),
-        None => Ok(answer(both, asked)),
+        Some(event) => told_of(&both.enter_same(rt, plan, &event)),
+        None => answer(both, asked),
     }
-}
-
-fn over_plan(rt: &impl Abort, alloc: Global, plan: &Plan, run: &Run) -> Result<(), NoMemory> {
-    let mut both = Both::open(alloc, plan)?;
-    for (asked, told) in run.moves {
-        assert_eq!(rt;
-            make(rt, &mut both, plan, *asked)?,
-            *told,
-            "{}: {asked:?}",
-            run.about
-        );
-        expect_same(rt, &both)?;
-    }
-    drop(both);
-    Ok(())
-}
-
-fn expect(rt: &impl Abort, alloc: Global, run: &Run) -> Result<(), NoMemory> {
-    let text = text_of(rt, alloc, run.stage)?;
-    let plan = plan_of(rt, alloc, text.as_str());
-    let done = over_plan(rt, alloc, &plan, run);
-    drop(plan);
-    done
-}
-
-#[test]
-fn worked_runs(rt: HostRuntime) -> Result<(), Fail> {
-    for run in &RUNS {
-        expect(&rt, rt.alloc(), run)?;
-    }
-    Ok(())
 }
 
 fn expect_move(
@@ -167,17 +135,47 @@ fn expect_move(
     plan: &Plan,
     asked: Move,
     told: Told,
-) -> Result<(), NoMemory> {
-    assert_eq!(rt; make(rt, both, plan, asked)?, told, "{asked:?}");
-    Ok(())
+    about: &str,
+) {
+    assert_eq!(rt; make(rt, both, plan, asked), told, "{about}: {asked:?}");
+}
+
+/// The plan of a stage's deployment.
+fn stage_of(rt: &impl Abort, alloc: Global, stage: Stage) -> Plan {
+    let text = text_of(rt, alloc, stage).expect(rt, NO_MEMORY);
+    plan_of(rt, alloc, text.as_str())
+}
+
+fn expect(rt: &impl Abort, alloc: Global, run: &Run) {
+    let plan = stage_of(rt, alloc, run.stage);
+    let mut both = Both::open(rt, alloc, &plan);
+    for (asked, told) in run.moves {
+        expect_move(rt, &mut both, &plan, *asked, *told, run.about);
+        expect_same(rt, &both);
+    }
+    drop(both);
+    drop(plan);
+}
+
+#[test]
+fn worked_runs(rt: HostRuntime) {
+    for run in &RUNS {
+        expect(&rt, rt.alloc(), run);
+    }
 }
 
 /// Sends a HEARTBEAT to each place of the bus.
-fn fill(rt: &impl Abort, both: &mut Both, plan: &Plan) -> Result<(), NoMemory> {
+fn fill(rt: &impl Abort, both: &mut Both, plan: &Plan) {
     for place in 0..PLACES {
-        expect_move(rt, both, plan, Move::SendHeartbeat(0, 0), Told::Sent(place))?;
+        expect_move(
+            rt,
+            both,
+            plan,
+            Move::SendHeartbeat(0, 0),
+            Told::Sent(place),
+            "a bus that fills",
+        );
     }
-    Ok(())
 }
 
 /// What is asked of a full bus, and what is told.
@@ -191,27 +189,15 @@ pub(crate) const ON_A_FULL_BUS: [(Move, Told); 4] = [
     ),
 ];
 
-fn over_full_bus(rt: &impl Abort, alloc: Global, plan: &Plan) -> Result<(), NoMemory> {
-    let mut both = Both::open(alloc, plan)?;
-    fill(rt, &mut both, plan)?;
-    for (asked, told) in &ON_A_FULL_BUS {
-        expect_move(rt, &mut both, plan, *asked, *told)?;
-    }
-    expect_same(rt, &both)?;
-    drop(both);
-    Ok(())
-}
-
-fn expect_full_bus(rt: &impl Abort, alloc: Global) -> Result<(), NoMemory> {
-    let text = text_of(rt, alloc, Stage::Small(1))?;
-    let plan = plan_of(rt, alloc, text.as_str());
-    let done = over_full_bus(rt, alloc, &plan);
-    drop(plan);
-    done
-}
-
 #[test]
-fn a_full_bus_loses_what_is_sent(rt: HostRuntime) -> Result<(), Fail> {
-    expect_full_bus(&rt, rt.alloc())?;
-    Ok(())
+fn a_full_bus_loses_what_is_sent(rt: HostRuntime) {
+    let plan = stage_of(&rt, rt.alloc(), Stage::Small(1));
+    let mut both = Both::open(&rt, rt.alloc(), &plan);
+    fill(&rt, &mut both, &plan);
+    for (asked, told) in &ON_A_FULL_BUS {
+        expect_move(&rt, &mut both, &plan, *asked, *told, "a full bus");
+    }
+    expect_same(&rt, &both);
+    drop(both);
+    drop(plan);
 }

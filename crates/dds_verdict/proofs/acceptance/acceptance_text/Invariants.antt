@@ -1,6 +1,6 @@
 use Rattle.std.proofs.Common.{◌≡◌, ◌++◌, codes, flat_map, string_bytes, take}
-use Rattle.dds_answers.specs.Report.{bound_line, total_line}
-use Rattle.dds_answers.proofs.report.acceptance_text.Given as goal
+use Rattle.dds_verdict.specs.Acceptance.{bound_line, total_line}
+use Rattle.dds_verdict.proofs.acceptance.acceptance_text.Given as goal
 
 -- the lines of the bounds so far
 abbrev pub invariant-loop-bound : goal.invariant-loop-bound

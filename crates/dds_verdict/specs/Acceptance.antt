@@ -1,0 +1,21 @@
+-- The lines that tell an acceptance.
+use Rattle.std.specs.Prelude.{List, ◌++◌, codes, flat_map, ℕ}
+use Rattle.std.specs.Fmt.{decimal}
+use Rattle.dds_deploy.specs.Lists.{Lists}
+use Rattle.dds_cert.specs.Lists.{Certificate}
+use Rattle.dds_cert.specs.declared.certificate.Bound.{Bound}
+use Rattle.dds_cert.specs.declared.certificate.Total.{Total}
+use Rattle.dds_cert.specs.Naming.{name_at, reader_key}
+
+-- the line of a bound
+abbrev pub bound_line : Lists → Bound → List ℕ
+bound_line d b =
+    codes "bound " ++ (name_at d.readers.names b.reader ++ (codes " " ++ (reader_key d b.reader b.key ++ (codes " " ++ (decimal b.bound ++ codes "\n")))))
+
+-- the line of a total
+abbrev pub total_line : Lists → Total → List ℕ
+total_line d t = codes "total " ++ (name_at d.readers.names t.reader ++ (codes " " ++ (decimal t.bound ++ codes "\n")))
+
+-- the lines of an acceptance: yes, each bound, each total
+abbrev pub acceptance_lines : Lists → Certificate → List ℕ
+acceptance_lines d c = (codes "yes\n" ++ flat_map (bound_line d) c.bounds) ++ flat_map (total_line d) c.totals

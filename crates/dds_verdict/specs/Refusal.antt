@@ -1,0 +1,26 @@
+-- The line that tells a refusal.
+use Rattle.std.specs.Prelude.{ℕ, List, ◌++◌, codes}
+use Rattle.std.specs.Fmt.{decimal}
+use Rattle.dds_deploy.specs.Lists.{Lists}
+use Rattle.dds_cert.specs.Lists.{Certificate}
+use Rattle.dds_cert.specs.Naming.{name_at, reader_key, writer_key, row_name}
+use Rattle.dds_check.specs.Verdict.{number_of, name_of}
+use Rattle.dds_check.specs.declared.verdict.No.{No}
+use Rattle.dds_check.specs.declared.verdict.Subject.{Subject}
+use Rattle.dds_check.specs.declared.verdict.Subject.TheVariants as subject
+use Rattle.dds_events.specs.Naming.{rule_text, three_words, two_words}
+
+-- the names of what a condition speaks of
+abbrev pub subject_text : Lists → Certificate → Subject → List ℕ
+subject_text d c (subject.Pair w r) = two_words (name_at d.writers.names w) (name_at d.readers.names r)
+subject_text d c (subject.Instance r k) = two_words (name_at d.readers.names r) (reader_key d r k)
+subject_text d c (subject.Reader r) = name_at d.readers.names r
+subject_text d c (subject.Writer w) = name_at d.writers.names w
+subject_text d c (subject.RowInstance n r k) = three_words (row_name c n) (name_at d.readers.names r) (reader_key d r k)
+subject_text d c (subject.RowRule n u) = two_words (row_name c n) (rule_text d u)
+subject_text d c (subject.RowWriterKey n w k) = three_words (row_name c n) (name_at d.writers.names w) (writer_key d w k)
+
+-- the line of a refusal
+abbrev pub refusal_line : Lists → Certificate → No → List ℕ
+refusal_line d c first =
+    codes "no " ++ (decimal (number_of first.number) ++ (codes " " ++ (name_of first.number ++ (codes " " ++ (subject_text d c first.subject ++ codes "\n")))))
