@@ -56,15 +56,35 @@ fn endpoints(alloc: Global, table: &Table) -> Result<Ends, DeployFault>
     ensures { Gives (λ e. (listed participant_view e.participants, listed topic_view e.topics, listed writer_view e.writers, listed reader_view e.readers)) result (endpoints (table_view table.now)) }
 {
     let participants = participants(alloc, table)?;
-    let topics = topics(alloc, table)?;
-    let writers = writers(alloc, &participants, &topics, table)?;
-    let readers = readers(alloc, &participants, &topics, table)?;
-    Ok(Ends {
-        participants,
-        topics,
-        writers,
-        readers,
-    })
+    let topics = match topics(alloc, table) {
+        Ok(topics) => topics,
+        Err(fault) => {
+            drop(participants);
+            return Err(fault);
+        }
+    };
+    let writers = match writers(alloc, &participants, &topics, table) {
+        Ok(writers) => writers,
+        Err(fault) => {
+            drop(participants);
+            drop(topics);
+            return Err(fault);
+        }
+    };
+    match readers(alloc, &participants, &topics, table) {
+        Ok(readers) => Ok(Ends {
+            participants,
+            topics,
+            writers,
+            readers,
+        }),
+        Err(fault) => {
+            drop(participants);
+            drop(topics);
+            drop(writers);
+            Err(fault)
+        }
+    }
 }
 
 #[tactic(auto, unfolding(crate::specs::Document::lists))]
@@ -73,24 +93,52 @@ fn lists(alloc: Global, version: u32, table: &Table) -> Result<Deployment, Deplo
 {
     let ends = endpoints(alloc, table)?;
     let (writers, readers) = (&ends.writers, &ends.readers);
-    let applications = applications(alloc, &ends.participants, writers, readers, table)?;
+    let applications = match applications(alloc, &ends.participants, writers, readers, table) {
+        Ok(applications) => applications,
+        Err(fault) => {
+            drop(ends);
+            return Err(fault);
+        }
+    };
     let known = Known {
         topics: &ends.topics,
         writers,
         readers,
         applications: &applications,
     };
-    let rules = rules(alloc, version, &known, table)?;
-    let connections = connections(alloc, writers, readers, table)?;
-    Ok(Deployment::new(
-        ends.participants,
-        ends.topics,
-        ends.writers,
-        ends.readers,
-        applications,
-        rules,
-        connections,
-    ))
+    let rules = match rules(alloc, version, &known, table) {
+        Ok(rules) => rules,
+        Err(fault) => {
+            drop(applications);
+            drop(ends);
+            return Err(fault);
+        }
+    };
+    match connections(alloc, writers, readers, table) {
+        Ok(connections) => {
+            let Ends {
+                participants,
+                topics,
+                writers,
+                readers,
+            } = ends;
+            Ok(Deployment::new(
+                participants,
+                topics,
+                writers,
+                readers,
+                applications,
+                rules,
+                connections,
+            ))
+        }
+        Err(fault) => {
+            drop(rules);
+            drop(applications);
+            drop(ends);
+            Err(fault)
+        }
+    }
 }
 
 #[tactic(auto, unfolding(crate::specs::Document::deployment))]
