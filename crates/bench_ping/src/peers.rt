@@ -4,15 +4,18 @@ ghost use Rattle.std.specs.Prelude.{◌<◌, length};
 
 use crate::trips::{Timed, Times, Watch};
 use dds_base::{AppNo, Fate, Reply};
-use dds_check::Checked;
 use dds_match::Plan;
 use dds_peers::{App, AppEnd, Fates, Limits, Outcome, RunFault, Steady, gauge_of, run_peers};
 use std::alloc::Global;
+use std::process::Abort;
 use std::sync::{Arc, Wait};
 use std::thread::Threads;
 use std::time::{Clock, Duration, Instant};
 use test_files::texts::{PING, PING_CERT};
 use test_plans::checked;
+
+/// What is told where memory is refused, which ends the program.
+const NO_MEMORY: &str = "no memory";
 
 /// No limit ends a run before the journal is full.
 const LIMITS: Limits = Limits {
@@ -42,38 +45,23 @@ pub(crate) struct Told {
 }
 
 /// A steady application that is timed.
-fn timed<R: Threads + Wait + Clock + Sync>(
+fn timed<R: Clock + Abort>(
+    rt: &R,
     alloc: Global,
     plan: &Plan,
     app: AppNo,
     samples: u64,
     watch: &Watch<R>,
-) -> Option<Box<dyn App + Send>>
+) -> Timed
     requires { app < length plan.now.applications.entries }
 {
-    let steady = Steady::new(alloc, plan, app, samples, samples).ok()?;
-    let times = Arc::try_clone(&watch.times).ok()?;
-    let boxed = Box::new(alloc, Timed::new(alloc, app, steady, times)).ok()?;
-    Some(boxed)
-}
-
-/// A timed application for each of the plan's.
-fn all_timed<R: Threads + Wait + Clock + Sync>(
-    alloc: Global,
-    plan: &Plan,
-    samples: u64,
-    watch: &Watch<R>,
-) -> Option<Vec<Box<dyn App + Send>>> {
-    let mut apps: Vec<Box<dyn App + Send>> = Vec::new(alloc);
-    for app in 0..plan.lists().applications() {
-        let boxed = timed(alloc, plan, AppNo::new(app), samples, watch)?;
-        apps.push(boxed).ok()?;
-    }
-    Some(apps)
+    let steady = Steady::new(alloc, plan, app, samples, samples).expect(rt, NO_MEMORY);
+    let times = Arc::try_clone(&watch.times).expect(rt, NO_MEMORY);
+    Timed::new(alloc, app, steady, times)
 }
 
 /// What a run came to.
-fn told(outcome: &Outcome<Box<dyn App + Send>>) -> Told {
+fn came_to(outcome: &Outcome<Box<dyn App + Send>>) -> Told {
     let entries = outcome.journal.entries();
     Told {
         entries: entries.len(),
@@ -89,48 +77,33 @@ fn told(outcome: &Outcome<Box<dyn App + Send>>) -> Told {
     }
 }
 
-/// Runs the deployment with these applications.
-fn ran_with<R: Threads + Wait + Clock + Sync>(
-    rt: &R,
-    alloc: Global,
-    checked: Checked,
-    apps: Vec<Box<dyn App + Send>>,
-    fates: &Fates,
-    watch: &Watch<R>,
-) -> Option<Told> {
-    let count = checked.plan().lists().applications();
-    let Ok((gauge, seats)) = gauge_of(alloc, count) else {
-        drop(checked);
-        return None;
-    };
-    match run_peers(
-        rt, alloc, checked, apps, fates, watch, &gauge, seats, LIMITS,
-    ) {
-        Ok(outcome) => {
-            let told = told(&outcome);
-            drop(outcome);
-            Some(told)
-        }
-        Err(fault) => {
-            drop(fault);
-            None
-        }
-    }
-}
-
-/// Runs the deployment until each application has written and taken so many samples.
-fn ran<R: Threads + Wait + Clock + Sync>(
+/// Runs the deployment until each application has written and taken so many samples. `None` where there was no memory or no thread for the run.
+fn ran<R: Threads + Wait + Clock + Sync + Abort>(
     rt: &R,
     alloc: Global,
     samples: u64,
     fates: &Fates,
     watch: &Watch<R>,
 ) -> Option<Told> {
-    let checked = checked(alloc, PING, PING_CERT)?;
-    match all_timed(alloc, checked.plan(), samples, watch) {
-        Some(apps) => ran_with(rt, alloc, checked, apps, fates, watch),
-        None => {
-            drop(checked);
+    let checked = checked(alloc, PING, PING_CERT).expect(rt, "no checked deployment");
+    let count = checked.plan().lists().applications();
+    let mut apps: Vec<Box<dyn App + Send>> = Vec::new(alloc);
+    for app in 0..count {
+        let timed = timed(rt, alloc, checked.plan(), AppNo::new(app), samples, watch);
+        let boxed = Box::new(alloc, timed).expect(rt, NO_MEMORY);
+        apps.push(boxed).expect(rt, NO_MEMORY);
+    }
+    let (gauge, seats) = gauge_of(alloc, count).expect(rt, NO_MEMORY);
+    match run_peers(
+        rt, alloc, checked, apps, fates, watch, &gauge, seats, LIMITS,
+    ) {
+        Ok(outcome) => {
+            let told = came_to(&outcome);
+            drop(outcome);
+            Some(told)
+        }
+        Err(fault) => {
+            drop(fault);
             None
         }
     }
@@ -146,7 +119,7 @@ pub(crate) struct Peered {
 }
 
 /// Runs the deployment, with so many of each 64 packets lost. `None` where there was no memory or no thread, or the clock failed.
-pub(crate) fn measure<R: Threads + Wait + Clock + Sync>(
+pub(crate) fn measure<R: Threads + Wait + Clock + Sync + Abort>(
     rt: &R,
     alloc: Global,
     samples: usize,

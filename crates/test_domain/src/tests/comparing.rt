@@ -5,6 +5,7 @@ use crate::tests::plans::{NO_MEMORY, world_of};
 use dds_base::{Event, KeyNo, ReaderNo, Reply, Sample, WriterNo};
 use dds_match::Plan;
 use std::alloc::Global;
+use std::fmt::Debug;
 use std::process::Abort;
 use test_model::{World, step_as};
 
@@ -52,27 +53,35 @@ impl Both {
     }
 }
 
+/// Compares what is seen on one side with what is seen on the other. A comparison that stands in a function of its own is proved once.
+pub(crate) fn expect_equal<T: Copy + Debug + PartialEq>(
+    rt: &impl Abort,
+    have: T,
+    wanted: T,
+    about: &str,
+) {
+    assert_eq!(rt; have, wanted, "{about}");
+}
+
 /// Compares what is seen of a writer and a reader that match. The base that a watcher acknowledged is 1 throughout.
 fn expect_same_pair(rt: &impl Abort, both: &Both, writer: WriterNo, reader: ReaderNo) {
     if let Some(speaker) = both.peers.writers.get(writer.number()) {
-        assert_eq!(rt;
-            speaker.base(reader),
-            Some(both.world.acked(writer, reader)),
-            "acknowledged base"
+        let acked = Some(both.world.acked(writer, reader));
+        expect_equal(rt, speaker.base(reader), acked, "acknowledged base");
+        expect_equal(
+            rt,
+            speaker.due(reader),
+            both.world.due(writer, reader),
+            "due",
         );
-        assert_eq!(rt; speaker.due(reader), both.world.due(writer, reader), "due");
     }
     if let Some(listener) = both.peers.readers.get(reader.number()) {
-        assert_eq!(rt;
-            listener.reader.base(writer),
+        let (base, owes) = (
             both.world.base(reader, writer),
-            "base"
-        );
-        assert_eq!(rt;
-            listener.reader.owes(writer),
             both.world.owes(reader, writer),
-            "owes"
         );
+        expect_equal(rt, listener.reader.base(writer), base, "base");
+        expect_equal(rt, listener.reader.owes(writer), owes, "owes");
     }
 }
 
@@ -90,12 +99,8 @@ fn expect_same_pairs(rt: &impl Abort, both: &Both, writer: WriterNo) {
 fn expect_same_permits(rt: &impl Abort, both: &Both, writer: WriterNo) {
     for k in 0..SOME_KEYS {
         let key = KeyNo::new(k);
-        let permits = both.peers.accounts.ledger.permits(writer, key);
-        assert_eq!(rt;
-            u128::from(permits),
-            both.world.permits(writer, key),
-            "permits"
-        );
+        let permits = u128::from(both.peers.accounts.ledger.permits(writer, key));
+        expect_equal(rt, permits, both.world.permits(writer, key), "permits");
     }
 }
 
@@ -103,13 +108,14 @@ fn expect_same_permits(rt: &impl Abort, both: &Both, writer: WriterNo) {
 fn expect_same_writers(rt: &impl Abort, both: &Both) {
     for (w, speaker) in both.peers.writers.iter().enumerate() {
         let writer = WriterNo::new(w);
-        assert_eq!(rt;
+        expect_equal(
+            rt,
             speaker.writer.written(),
             both.world.written(writer),
-            "written"
+            "written",
         );
         let kept = both.world.kept(writer).expect(rt, NO_MEMORY);
-        assert_eq!(rt; speaker.writer.kept(), kept.len(), "kept");
+        expect_equal(rt, speaker.writer.kept(), kept.len(), "kept");
         expect_same_permits(rt, both, writer);
         expect_same_pairs(rt, both, writer);
     }
@@ -120,18 +126,11 @@ fn expect_same_keys(rt: &impl Abort, both: &Both, r: usize) {
     let reader = ReaderNo::new(r);
     for k in 0..SOME_KEYS {
         let key = KeyNo::new(k);
-        let unspent = both.peers.accounts.ledger.spare(reader, key);
-        assert_eq!(rt;
-            u128::from(unspent),
-            both.world.unspent(reader, key),
-            "unspent"
-        );
+        let unspent = u128::from(both.peers.accounts.ledger.spare(reader, key));
+        expect_equal(rt, unspent, both.world.unspent(reader, key), "unspent");
         if let Some(listener) = both.peers.readers.get(r) {
-            assert_eq!(rt;
-                listener.reader.unread(key),
-                both.world.unread(reader, key).expect(rt, NO_MEMORY),
-                "unread"
-            );
+            let unread = both.world.unread(reader, key).expect(rt, NO_MEMORY);
+            expect_equal(rt, listener.reader.unread(key), unread, "unread");
         }
     }
 }
@@ -140,7 +139,7 @@ fn expect_same_keys(rt: &impl Abort, both: &Both, r: usize) {
 fn expect_same_readers(rt: &impl Abort, both: &Both) {
     for (r, listener) in both.peers.readers.iter().enumerate() {
         let stored = both.world.stored(ReaderNo::new(r)).expect(rt, NO_MEMORY);
-        assert_eq!(rt; listener.reader.stored(), stored.len(), "stored");
+        expect_equal(rt, listener.reader.stored(), stored.len(), "stored");
         expect_same_keys(rt, both, r);
     }
 }

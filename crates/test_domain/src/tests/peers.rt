@@ -137,22 +137,30 @@ impl Peers {
     /// What a writer sends by this event.
     fn spoken(&mut self, event: &Event) -> Option<Packet> {
         match *event {
-            Event::SendData { writer, reader, sn } => {
-                self.writers.get_mut(writer.number())?.data(reader, sn)
-            }
+            Event::SendData { writer, reader, sn } => self.data(writer, reader, sn),
             Event::SendGap {
                 writer,
                 reader,
                 start,
-            } => self.writers.get_mut(writer.number())?.gap(reader, start),
+            } => self.gap(writer, reader, start),
             Event::SendHeartbeat { writer, reader } => {
                 self.writers.get(writer.number())?.heartbeat(reader)
             }
-            Event::SendAckNack { reader, writer } => {
-                self.readers.get_mut(reader.number())?.acknack(writer)
-            }
+            Event::SendAckNack { reader, writer } => self.acknack(reader, writer),
             _ => None,
         }
+    }
+
+    fn data(&mut self, writer: WriterNo, reader: ReaderNo, sn: u64) -> Option<Packet> {
+        self.writers.get_mut(writer.number())?.data(reader, sn)
+    }
+
+    fn gap(&mut self, writer: WriterNo, reader: ReaderNo, start: u64) -> Option<Packet> {
+        self.writers.get_mut(writer.number())?.gap(reader, start)
+    }
+
+    fn acknack(&mut self, reader: ReaderNo, writer: WriterNo) -> Option<Packet> {
+        self.readers.get_mut(reader.number())?.acknack(writer)
     }
 
     /// A send between these two. A watcher is sent DATA alone, and sends nothing.

@@ -27,9 +27,14 @@ pub(crate) fn filter_of(
     plan: &Plan,
     reader: ReaderNo,
 ) -> Vec<KeyNo> {
-    let keys = (0..KEYS).map(|k| KeyNo::new(k));
-    let filter = keys.filter(|k| plan.hears(reader, *k)).collect(alloc);
-    filter.expect(rt, NO_MEMORY)
+    let mut filter = Vec::new(alloc);
+    for k in 0..KEYS {
+        let key = KeyNo::new(k);
+        if plan.hears(reader, key) {
+            filter.push(key).expect(rt, NO_MEMORY);
+        }
+    }
+    filter
 }
 
 /// The readers that match a writer.
@@ -39,9 +44,14 @@ pub(crate) fn readers_of(
     plan: &Plan,
     writer: WriterNo,
 ) -> Vec<ReaderNo> {
-    let readers = (0..plan.lists().readers()).map(|r| ReaderNo::new(r));
-    let matched = readers.filter(|r| plan.matched(writer, *r)).collect(alloc);
-    matched.expect(rt, NO_MEMORY)
+    let mut readers = Vec::new(alloc);
+    for r in 0..plan.lists().readers() {
+        let reader = ReaderNo::new(r);
+        if plan.matched(writer, reader) {
+            readers.push(reader).expect(rt, NO_MEMORY);
+        }
+    }
+    readers
 }
 
 /// The writers that match a reader.
@@ -51,9 +61,14 @@ pub(crate) fn writers_of(
     plan: &Plan,
     reader: ReaderNo,
 ) -> Vec<WriterNo> {
-    let writers = (0..plan.lists().writers()).map(|w| WriterNo::new(w));
-    let matched = writers.filter(|w| plan.matched(*w, reader)).collect(alloc);
-    matched.expect(rt, NO_MEMORY)
+    let mut writers = Vec::new(alloc);
+    for w in 0..plan.lists().writers() {
+        let writer = WriterNo::new(w);
+        if plan.matched(writer, reader) {
+            writers.push(writer).expect(rt, NO_MEMORY);
+        }
+    }
+    writers
 }
 
 fn writer_layout(rt: &impl Abort, alloc: Global, plan: &Plan, writer: WriterNo) -> WriterLayout

@@ -2,7 +2,7 @@
 //! event.
 
 use crate::tests::chance::Chance;
-use crate::tests::comparing::{SOME_KEYS, SOME_PLACES, expect_step};
+use crate::tests::comparing::{SOME_KEYS, SOME_PLACES, expect_equal, expect_step};
 use crate::tests::domains::{make, opened};
 use crate::tests::plans::{NO_MEMORY, plan_of, world_of};
 use crate::tests::seen::{Kind, kind_of};
@@ -43,7 +43,7 @@ fn expect_same_kept(rt: &impl Abort, domain: &Domain, world: &World) {
     for w in 0..world.layout().writers.len() {
         let writer = WriterNo::new(w);
         let kept = world.kept(writer).expect(rt, NO_MEMORY);
-        assert_eq!(rt; domain.kept(writer), kept.len(), "kept");
+        expect_equal(rt, domain.kept(writer), kept.len(), "kept");
     }
 }
 
@@ -52,7 +52,7 @@ fn expect_same_unread(rt: &impl Abort, domain: &Domain, world: &World, reader: R
     for k in 0..SOME_KEYS {
         let key = KeyNo::new(k);
         let unread = world.unread(reader, key).expect(rt, NO_MEMORY);
-        assert_eq!(rt; domain.unread(reader, key), unread, "unread");
+        expect_equal(rt, domain.unread(reader, key), unread, "unread");
     }
 }
 
@@ -61,7 +61,7 @@ fn expect_same_stored(rt: &impl Abort, domain: &Domain, world: &World) {
     for r in 0..world.layout().readers.len() {
         let reader = ReaderNo::new(r);
         let stored = world.stored(reader).expect(rt, NO_MEMORY);
-        assert_eq!(rt; domain.stored(reader), stored.len(), "stored");
+        expect_equal(rt, domain.stored(reader), stored.len(), "stored");
         expect_same_unread(rt, domain, world, reader);
     }
 }
