@@ -4,18 +4,15 @@ ghost use Rattle.std.specs.Prelude.{◌<◌, length};
 
 use crate::trips::{Timed, Times, Watch};
 use dds_base::{AppNo, Fate, Reply};
+use dds_check::Checked;
 use dds_match::Plan;
 use dds_peers::{App, AppEnd, Fates, Limits, Outcome, RunFault, Steady, gauge_of, run_peers};
 use std::alloc::Global;
-use std::process::Abort;
 use std::sync::{Arc, Wait};
 use std::thread::Threads;
 use std::time::{Clock, Duration, Instant};
 use test_files::texts::{PING, PING_CERT};
 use test_plans::checked;
-
-/// What is told where memory is refused, which ends the program.
-const NO_MEMORY: &str = "no memory";
 
 /// No limit ends a run before the journal is full.
 const LIMITS: Limits = Limits {
@@ -44,20 +41,34 @@ pub(crate) struct Told {
     pub stopped: bool,
 }
 
-/// A steady application that is timed.
-fn timed<R: Clock + Abort>(
-    rt: &R,
+/// A steady application that is timed. `None` where there was no memory.
+fn timed<R: Clock>(
     alloc: Global,
     plan: &Plan,
     app: AppNo,
     samples: u64,
     watch: &Watch<R>,
-) -> Timed
+) -> Option<Timed>
     requires { app < length plan.now.applications.entries }
 {
-    let steady = Steady::new(alloc, plan, app, samples, samples).expect(rt, NO_MEMORY);
-    let times = Arc::try_clone(&watch.times).expect(rt, NO_MEMORY);
-    Timed::new(alloc, app, steady, times)
+    let steady = Steady::new(alloc, plan, app, samples, samples).ok()?;
+    let times = Arc::try_clone(&watch.times).ok()?;
+    Some(Timed::new(alloc, app, steady, times))
+}
+
+/// A timed application for each of the plan's. `None` where there was no memory.
+fn all_timed<R: Clock>(
+    alloc: Global,
+    plan: &Plan,
+    samples: u64,
+    watch: &Watch<R>,
+) -> Option<Vec<Timed>> {
+    let mut all = Vec::new(alloc);
+    for app in 0..plan.lists().applications() {
+        all.push(timed(alloc, plan, AppNo::new(app), samples, watch)?)
+            .ok()?;
+    }
+    Some(all)
 }
 
 /// What a run came to.
@@ -77,23 +88,20 @@ fn came_to(outcome: &Outcome<Box<dyn App + Send>>) -> Told {
     }
 }
 
-/// Runs the deployment until each application has written and taken so many samples. `None` where there was no memory or no thread for the run.
-fn ran<R: Threads + Wait + Clock + Sync + Abort>(
+/// Runs a checked deployment with these applications. `None` where there was no memory or no thread for the run.
+fn ran_with<R: Threads + Wait + Clock + Sync>(
     rt: &R,
     alloc: Global,
-    samples: u64,
+    checked: Checked,
+    apps: Vec<Box<dyn App + Send>>,
     fates: &Fates,
     watch: &Watch<R>,
 ) -> Option<Told> {
-    let checked = checked(alloc, PING, PING_CERT).expect(rt, "no checked deployment");
     let count = checked.plan().lists().applications();
-    let mut apps: Vec<Box<dyn App + Send>> = Vec::new(alloc);
-    for app in 0..count {
-        let timed = timed(rt, alloc, checked.plan(), AppNo::new(app), samples, watch);
-        let boxed = Box::new(alloc, timed).expect(rt, NO_MEMORY);
-        apps.push(boxed).expect(rt, NO_MEMORY);
-    }
-    let (gauge, seats) = gauge_of(alloc, count).expect(rt, NO_MEMORY);
+    let Ok((gauge, seats)) = gauge_of(alloc, count) else {
+        drop(checked);
+        return None;
+    };
     match run_peers(
         rt, alloc, checked, apps, fates, watch, &gauge, seats, LIMITS,
     ) {
@@ -109,6 +117,33 @@ fn ran<R: Threads + Wait + Clock + Sync + Abort>(
     }
 }
 
+/// Runs the deployment until each application has written and taken so many samples. `None` where there was no memory or no thread for the run.
+fn ran<R: Threads + Wait + Clock + Sync>(
+    rt: &R,
+    alloc: Global,
+    samples: u64,
+    fates: &Fates,
+    watch: &Watch<R>,
+) -> Option<Told> {
+    let checked = checked(alloc, PING, PING_CERT)?;
+    let Some(all) = all_timed(alloc, checked.plan(), samples, watch) else {
+        drop(checked);
+        return None;
+    };
+    let mut apps: Vec<Box<dyn App + Send>> = Vec::new(alloc);
+    for timed in all {
+        let Ok(boxed) = Box::new(alloc, timed) else {
+            drop(checked);
+            return None;
+        };
+        if apps.push(boxed).is_err() {
+            drop(checked);
+            return None;
+        }
+    }
+    ran_with(rt, alloc, checked, apps, fates, watch)
+}
+
 /// What a run came to, how long it took, and within how many microseconds half of the round trips and 99 of 100 were made.
 #[derive(Clone, Copy)]
 pub(crate) struct Peered {
@@ -119,7 +154,7 @@ pub(crate) struct Peered {
 }
 
 /// Runs the deployment, with so many of each 64 packets lost. `None` where there was no memory or no thread, or the clock failed.
-pub(crate) fn measure<R: Threads + Wait + Clock + Sync + Abort>(
+pub(crate) fn measure<R: Threads + Wait + Clock + Sync>(
     rt: &R,
     alloc: Global,
     samples: usize,
