@@ -1,7 +1,7 @@
 #!/bin/sh
 # Tries the wrong bodies that the merge gate leaves out: lays the edits of tools/more-edits over a copy of the tree in place of those of the crates, has the gate's
 # command prove those crates there and what is below them, and sees that the prover refuses each edit. With names of crates it tries theirs alone. What a
-# run came to is kept on the machine, so that a later one tries only what has changed since. From nothing it takes more than two hours on four cores, so it
+# run came to is kept on the machine, so that a later one tries only what has changed since. From nothing it takes hours, so it
 # is run by hand before a release.
 # The last line is 'N passed, M failed'; the status is 1 if one failed.
 here=$(CDPATH='' cd -- "$(dirname -- "$0")/.." && pwd)
