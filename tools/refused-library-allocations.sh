@@ -71,7 +71,7 @@ build_tests() {
 
 build_tests test_endpoints
 build_tests test_domain
-build_tests test_book
+build_tests test_threads
 if ! build_library; then
     fail "no compiler built tools/refuse.c"
     finish
@@ -83,5 +83,5 @@ sweep test_endpoints tests::writers::a_watcher_call_by_call
 sweep test_endpoints tests::writers::a_watcher_beside_a_reader
 sweep test_domain tests::without_memory::each_event_without_memory
 sweep test_domain tests::without_memory::a_list_without_memory
-sweep test_book tests::without_memory::calls_without_memory
+sweep test_threads tests::without_memory::calls_without_memory
 finish

@@ -4,7 +4,7 @@ use Rattle.dds_deploy.specs.Lists.{Lists}
 use Rattle.dds_match.specs.Matching.{why_not}
 use Rattle.dds_match.specs.Network.{Network}
 use Rattle.dds_match.specs.declared.matching.WhyNot.{WhyNot}
-use Rattle.dds_check.specs.First.{all_below}
+use Rattle.dds_runs.specs.First.{all_below}
 use Rattle.dds_cert.specs.Naming.{name_at}
 use Rattle.dds_cert.specs.Text.{each_below}
 use Rattle.dds_show.specs.Reasons.{reason_words}

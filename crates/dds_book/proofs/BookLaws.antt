@@ -9,12 +9,12 @@ use Rattle.atomic_table.specs.Seated.{TableId}
 use Rattle.dds_deploy.specs.Lists.{Lists}
 use Rattle.dds_match.specs.Plan.{network_of}
 use Rattle.dds_check.specs.Checked.{Judged}
-use Rattle.dds_check.specs.World.{World}
+use Rattle.dds_runs.specs.World.{World}
 use Rattle.dds_base.specs.declared.events.Event.TheVariants.{Write, Fire, Take, SendData, SendGap, SendHeartbeat, SendAckNack, Deliver, Lose}
-use Rattle.dds_check.specs.Certified.{IsGood}
-use Rattle.dds_check.specs.Runs.{brought, is_watchers}
-use Rattle.dds_check.specs.Runs.Move.{Do}
-use Rattle.dds_check.specs.Steps.{Event, Reply, May, after}
+use Rattle.dds_runs.specs.Certified.{IsGood}
+use Rattle.dds_runs.specs.Runs.{brought, is_watchers}
+use Rattle.dds_runs.specs.Runs.Move.{Do}
+use Rattle.dds_runs.specs.Steps.{Event, Reply, May, after}
 use Rattle.dds_domain.specs.Noted.{Noted, noted_after}
 use Rattle.dds_domain.specs.Standing.{DomainState, IsAt, IsGoodAt, StepsTo}
 use Rattle.dds_domain.specs.Standing as domain

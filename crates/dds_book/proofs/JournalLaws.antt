@@ -6,9 +6,9 @@ use Rattle.std.proofs.lemmas.List.Sums.{sum_by-append}
 use Rattle.dds_deploy.specs.Lists.{Lists}
 use Rattle.dds_match.specs.Network.{Network}
 use Rattle.dds_match.specs.Plan.{network_of}
-use Rattle.dds_check.specs.World.{World, opening}
-use Rattle.dds_check.specs.Steps.{Event, Reply, May, after}
-use Rattle.dds_check.specs.Runs.{IsRunFrom, as_moves, replay}
+use Rattle.dds_runs.specs.World.{World, opening}
+use Rattle.dds_runs.specs.Steps.{Event, Reply, May, after}
+use Rattle.dds_runs.specs.Runs.{IsRunFrom, as_moves, replay}
 use Rattle.dds_domain.specs.Noted.{Noted, noted_after, noted_by, opening_notes}
 use Rattle.dds_book.specs.declared.entry.Entry.{Entry}
 use Rattle.dds_book.specs.Journal.{IsCall, IsFront, IsJournal, calls_by, changes_in, entry_of, is_refused, most_entries, notes_after, pairs_of, world_after}

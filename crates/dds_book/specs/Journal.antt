@@ -6,8 +6,8 @@ use Rattle.dds_base.specs.declared.events.Reply.{Reply}
 use Rattle.dds_base.specs.declared.events.Reply.TheVariants.{Refused}
 use Rattle.dds_deploy.specs.Lists.{Lists}
 use Rattle.dds_match.specs.Plan.{network_of}
-use Rattle.dds_check.specs.World.{World, opening}
-use Rattle.dds_check.specs.Runs.{IsRun, as_moves, replay}
+use Rattle.dds_runs.specs.World.{World, opening}
+use Rattle.dds_runs.specs.Runs.{IsRun, as_moves, replay}
 use Rattle.dds_domain.specs.Noted.{Noted, noted_by, opening_notes}
 use Rattle.dds_book.specs.declared.entry.Entry.{Entry}
 use Rattle.dds_book.specs.Halves.{entries_by}

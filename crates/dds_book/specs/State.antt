@@ -6,10 +6,10 @@ use Rattle.dds_base.specs.declared.events.Fate.{Fate}
 use Rattle.dds_base.specs.declared.events.Reply.{Reply}
 use Rattle.dds_deploy.specs.Lists.{Lists}
 use Rattle.dds_match.specs.Plan.{network_of}
-use Rattle.dds_check.specs.Certified.{IsGood}
-use Rattle.dds_check.specs.Runs.{brought, is_watchers}
-use Rattle.dds_check.specs.Runs.Move.{Do}
-use Rattle.dds_check.specs.Steps.{May}
+use Rattle.dds_runs.specs.Certified.{IsGood}
+use Rattle.dds_runs.specs.Runs.{brought, is_watchers}
+use Rattle.dds_runs.specs.Runs.Move.{Do}
+use Rattle.dds_runs.specs.Steps.{May}
 use Rattle.dds_domain.specs.Schedule.{due}
 use Rattle.dds_domain.specs.Standing.{DomainState, IsAt}
 use Rattle.dds_book.specs.declared.entry.Entry.{Entry}

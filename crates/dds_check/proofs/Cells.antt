@@ -2,9 +2,9 @@
 use Rattle.std.proofs.Common.{ℕ, ◌≡◌, ◌+◌, ◌*◌, ◌<◌, ◌≤◌, replicate, slice_index, sym, ◌∙◌, arith}
 use Rattle.std.proofs.lemmas.List.{get_or-replicate, length-replicate}
 use Rattle.dds_match.specs.Network.{Network}
-use Rattle.dds_check.specs.Accepted.{Row}
+use Rattle.dds_runs.specs.Accepted.{Row}
 use Rattle.dds_check.specs.Spreads.{heard, ShowsHeard}
-use Rattle.dds_check.proofs.Sums.{total_start}
+use Rattle.dds_runs.proofs.Sums.{total_start}
 
 -- each place of empty cells has 0
 empty : (n w k : ℕ) → n ≡ 16384 → w < 256 → k < 64 → slice_index (replicate n 0) (w * 64 + k) ≡ 0

@@ -2,7 +2,7 @@
 use Rattle.std.proofs.Common.{ℕ, Bool, true, false, ◌||◌, ◌≡◌, ◌+◌, ◌<◌, ◌≤◌, List, slice_get, Some, refl, sym, ap, ◌∙◌, subst, ⊎_elim, arith}
 use Rattle.std.proofs.lemmas.Bool.{cases_lt}
 use Rattle.std.proofs.lemmas.Option.{same_Some}
-use Rattle.dds_check.specs.First.{NoneBefore, IsFirstBefore}
+use Rattle.dds_runs.specs.First.{NoneBefore, IsFirstBefore}
 
 pub none_at_start : {X : Type 0} (xs : List X) (passes : X → Bool) → NoneBefore xs passes 0
 none_at_start xs passes i x l at = absurd (omega arith)

@@ -4,7 +4,7 @@ use Rattle.std.proofs.Common.{List, length, slice_get}
 use Rattle.std.proofs.lemmas.Bool.{cases_lt}
 use Rattle.std.proofs.lemmas.Option.{none-some, slice_get_within}
 use Rattle.std.specs.Option.{option_map_or}
-use Rattle.dds_check.specs.First.{◌orElse◌, first_below, at_item, first_in, all_below}
+use Rattle.dds_runs.specs.First.{◌orElse◌, first_below, at_item, first_in, all_below}
 
 pub first_below_start : {A : Type 0} (f : ℕ → Option A) → first_below 0 f ≡ None
 unfolding first_below

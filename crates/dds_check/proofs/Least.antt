@@ -10,7 +10,7 @@ use Rattle.dds_cert.specs.Lists as lists
 use Rattle.dds_cert.specs.declared.certificate.Bound.{Bound as BoundEntry}
 use Rattle.dds_cert.specs.declared.certificate.Total.{Total as TotalEntry}
 use Rattle.dds_cert.specs.Fits.{is_distinct, same_bound_place, rows_fit, bounds_fit, totals_fit, fits}
-use Rattle.dds_check.specs.Accepted.{Bound, Total, bound_with, total_with}
+use Rattle.dds_runs.specs.Accepted.{Bound, Total, bound_with, total_with}
 use Rattle.dds_check.specs.Checked.{IsLeastBound, IsLeastTotal}
 use Rattle.dds_check.specs.Tables.{bound_of, total_of}
 use Rattle.dds_check.proofs.FirstLemmas.{both_first, both_second}

@@ -6,8 +6,8 @@ use Rattle.dds_deploy.specs.WellFormed.{IsWellFormed}
 use Rattle.dds_match.specs.Plan.{network_of}
 use Rattle.dds_cert.specs.Lists.{Certificate}
 use Rattle.dds_check.specs.declared.verdict.No.{No}
-use Rattle.dds_check.specs.First.{◌orElse◌, first_below}
-use Rattle.dds_check.specs.Accepted.{certificate_of}
+use Rattle.dds_runs.specs.First.{◌orElse◌, first_below}
+use Rattle.dds_runs.specs.Accepted.{certificate_of}
 use Rattle.dds_check.specs.Pairs.{pairs_no}
 use Rattle.dds_check.specs.Profile.{profile_no}
 use Rattle.dds_check.specs.Limits.{of_reliable, reader_instances, no_bounds, reader_bound_over, samples_over, writer_instances, limits_no}

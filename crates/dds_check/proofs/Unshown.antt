@@ -9,9 +9,9 @@ use Rattle.dds_cert.specs.Lists as lists
 use Rattle.dds_cert.specs.declared.certificate.Bound.{Bound}
 use Rattle.dds_check.specs.declared.verdict.Number.TheVariants.{BoundNotShown}
 use Rattle.dds_check.specs.declared.verdict.Subject.TheVariants.{Instance}
-use Rattle.dds_check.specs.First.{first_in, at_item, IsFirstBefore}
+use Rattle.dds_runs.specs.First.{first_in, at_item, IsFirstBefore}
 use Rattle.dds_check.specs.Verdict.{fails}
-use Rattle.dds_check.specs.Accepted.{row_of}
+use Rattle.dds_runs.specs.Accepted.{row_of}
 use Rattle.dds_check.specs.Shown.{shows, is_unshown, is_unshown_by, names_no_row, bound_not_shown}
 use Rattle.dds_check.proofs.FirstLemmas.{first_in_found, first_below_all}
 use Rattle.dds_check.proofs.FirstBefore.{first_of_same, first_of_either}

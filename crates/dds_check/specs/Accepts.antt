@@ -4,7 +4,7 @@ use Rattle.dds_deploy.specs.Lists.{Lists}
 use Rattle.dds_match.specs.Plan.{network_of}
 use Rattle.dds_cert.specs.Lists.{Certificate}
 use Rattle.dds_check.specs.declared.verdict.No.{No}
-use Rattle.dds_check.specs.First.{◌orElse◌}
+use Rattle.dds_runs.specs.First.{◌orElse◌}
 use Rattle.dds_check.specs.Pairs.{pairs_no}
 use Rattle.dds_check.specs.Profile.{profile_no}
 use Rattle.dds_check.specs.Limits.{limits_no}

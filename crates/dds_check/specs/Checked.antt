@@ -4,9 +4,9 @@ use Rattle.dds_deploy.specs.Lists.{Lists}
 use Rattle.dds_match.specs.Plan.{network_of}
 use Rattle.dds_cert.specs.Fits.{fits}
 use Rattle.dds_cert.specs.Lists.{Certificate}
-use Rattle.dds_check.specs.Accepted.{Accepted, certificate_of, IsBound, IsTotal}
+use Rattle.dds_runs.specs.Accepted.{Accepted, certificate_of, IsBound, IsTotal}
 use Rattle.dds_check.specs.Accepts.{first_no}
-use Rattle.dds_check.specs.Certified.{Safe}
+use Rattle.dds_runs.specs.Certified.{Safe}
 
 -- the lists of a plan, and a certificate for it
 pub record Judged : Type 0 where

@@ -5,11 +5,11 @@ use Rattle.dds_deploy.specs.Lists.{Lists}
 use Rattle.dds_match.specs.Network.{Network, reach}
 use Rattle.dds_match.specs.Plan.{network_of}
 use Rattle.dds_check.specs.declared.verdict.No.{No}
-use Rattle.dds_check.specs.First.{◌orElse◌, first_below}
+use Rattle.dds_runs.specs.First.{◌orElse◌, first_below}
 use Rattle.dds_check.specs.Pairs.{pairs_no}
 use Rattle.dds_check.specs.Profile.{profile_no}
 use Rattle.dds_check.specs.Limits.{of_reliable, reader_instances, writer_instances}
-use Rattle.dds_check.specs.Accepted.{Row, Bound, Total, Certificate, RowHolds, Shows}
+use Rattle.dds_runs.specs.Accepted.{Row, Bound, Total, Certificate, RowHolds, Shows}
 
 -- no event raises the weighted sum of any row, and each bound and each total is shown by its row
 pub record IsShown (net : Network) (cert : Certificate) : Type 0 where

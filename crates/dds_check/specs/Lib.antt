@@ -1,6 +1,4 @@
-pub mod First
 pub mod Verdict
-pub mod Accepted
 pub mod Pairs
 pub mod Profile
 pub mod Tables
@@ -11,11 +9,3 @@ pub mod Shown
 pub mod Accepts
 pub mod Claims
 pub mod Checked
-pub mod World
-pub mod Steps
-pub mod Runs
-pub mod Certified
-pub mod Facts
-pub mod Laws
-pub mod Unsafe
-pub mod CountRuns

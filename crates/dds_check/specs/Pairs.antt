@@ -4,7 +4,7 @@ use Rattle.dds_match.specs.Network.{Network}
 use Rattle.dds_check.specs.declared.verdict.No.{No}
 use Rattle.dds_check.specs.declared.verdict.Number.TheVariants.{IntendedNotMatched, UnintendedMatch}
 use Rattle.dds_check.specs.declared.verdict.Subject.TheVariants.{Pair}
-use Rattle.dds_check.specs.First.{◌orElse◌, first_below}
+use Rattle.dds_runs.specs.First.{◌orElse◌, first_below}
 use Rattle.dds_check.specs.Verdict.{fails}
 
 -- an intended pair doesn't match

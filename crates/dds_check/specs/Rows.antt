@@ -5,9 +5,9 @@ use Rattle.dds_cert.specs.Lists as lists
 use Rattle.dds_check.specs.declared.verdict.No.{No}
 use Rattle.dds_check.specs.declared.verdict.Number.TheVariants.{TakeRaises, RuleRaises, WriteRaises}
 use Rattle.dds_check.specs.declared.verdict.Subject.TheVariants.{RowInstance, RowRule, RowWriterKey}
-use Rattle.dds_check.specs.First.{◌orElse◌, first_below, first_in}
+use Rattle.dds_runs.specs.First.{◌orElse◌, first_below, first_in}
 use Rattle.dds_check.specs.Verdict.{fails}
-use Rattle.dds_check.specs.Accepted.{Row, row_of, spread}
+use Rattle.dds_runs.specs.Accepted.{Row, row_of, spread}
 
 -- an unspent take of the key weighs more than a sample in flight, so that a take raises the sum of row n
 abbrev pub take_raises : Network → Row → ℕ → ℕ → ℕ → Option No

@@ -8,9 +8,9 @@ use Rattle.dds_cert.specs.Lists as lists
 use Rattle.dds_check.specs.declared.verdict.No.{No}
 use Rattle.dds_check.specs.declared.verdict.Number.TheVariants.{BoundNotShown}
 use Rattle.dds_check.specs.declared.verdict.Subject.TheVariants.{Instance, Reader}
-use Rattle.dds_check.specs.First.{◌orElse◌, first_in, all_below}
+use Rattle.dds_runs.specs.First.{◌orElse◌, first_in, all_below}
 use Rattle.dds_check.specs.Verdict.{fails}
-use Rattle.dds_check.specs.Accepted.{Row, row_of, budget}
+use Rattle.dds_runs.specs.Accepted.{Row, row_of, budget}
 
 -- a sample in flight weighs something, and the bound and one sample more weigh more than the permits at the opening
 abbrev pub shows : Network → Row → ℕ → ℕ → ℕ → Bool

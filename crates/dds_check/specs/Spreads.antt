@@ -2,7 +2,7 @@
 use Rattle.std.specs.Prelude.{ℕ, ◌≡◌, ◌+◌, ◌*◌, ◌^◌, ◌<◌, ◌≤◌, ◌&&◌, List, length, slice_index, if◌then◌else◌}
 use Rattle.dds_base.specs.Sums.{total}
 use Rattle.dds_match.specs.Network.{Network}
-use Rattle.dds_check.specs.Accepted.{Row}
+use Rattle.dds_runs.specs.Accepted.{Row}
 
 -- each key of each writer below n has a place, with as much more in it as the function says
 pub record Adds (n : ℕ) (more : ℕ → ℕ → ℕ) (old new : List ℕ) : Type 0 where

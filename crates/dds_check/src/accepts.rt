@@ -5,9 +5,9 @@ ghost use Rattle.dds_deploy.specs.WellFormed.{IsWellFormed};
 ghost use Rattle.dds_match.specs.Plan.{network_of};
 ghost use Rattle.dds_cert.specs.Fits.{fits};
 ghost use Rattle.dds_cert.specs.Views.{certificate_view};
-ghost use Rattle.dds_check.specs.Accepted.{Accepted, certificate_of};
+ghost use Rattle.dds_runs.specs.Accepted.{Accepted, certificate_of};
 ghost use Rattle.dds_check.specs.Accepts.{first_no};
-ghost use Rattle.dds_check.specs.Certified.{Safe};
+ghost use Rattle.dds_runs.specs.Certified.{Safe};
 ghost use Rattle.dds_check.specs.Tables.{IsTabled};
 
 use crate::limits::limits_no;

@@ -3,7 +3,7 @@ ghost use Rattle.std.specs.Prelude.{◌≡◌, ◌≤◌, ◌<◌, ◌*◌, ◌^
 ghost use Rattle.dds_deploy.specs.Views.{rule_view};
 ghost use Rattle.dds_match.specs.Network.{weighed};
 ghost use Rattle.dds_match.specs.Plan.{network_of};
-ghost use Rattle.dds_check.specs.Accepted.{row_of, budget};
+ghost use Rattle.dds_runs.specs.Accepted.{row_of, budget};
 
 use crate::sizes::rules_of;
 use crate::tables::Tables;

@@ -3,9 +3,9 @@ ghost use Rattle.std.specs.Prelude.{◌≡◌, ℕ, true, Some, None, IfSome, If
 ghost use Rattle.dds_match.specs.Plan.{network_of};
 ghost use Rattle.dds_cert.specs.Fits.{fits};
 ghost use Rattle.dds_cert.specs.Views.{certificate_view};
-ghost use Rattle.dds_check.specs.Accepted.{Accepted, certificate_of};
+ghost use Rattle.dds_runs.specs.Accepted.{Accepted, certificate_of};
 ghost use Rattle.dds_check.specs.Accepts.{first_no};
-ghost use Rattle.dds_check.specs.Certified.{Safe};
+ghost use Rattle.dds_runs.specs.Certified.{Safe};
 ghost use Rattle.dds_check.specs.Checked.{IsAccepted, IsLeastBound, IsLeastTotal};
 ghost use Rattle.dds_check.specs.Tables.{bound_of, total_of};
 

@@ -4,7 +4,7 @@ ghost use Rattle.dds_match.specs.Plan.{network_of};
 ghost use Rattle.dds_cert.specs.Lists.{Certificate as CertificateLists};
 ghost use Rattle.dds_cert.specs.Fits.{fits};
 ghost use Rattle.dds_cert.specs.Views.{certificate_view};
-ghost use Rattle.dds_check.specs.Accepted.{certificate_of};
+ghost use Rattle.dds_runs.specs.Accepted.{certificate_of};
 ghost use Rattle.dds_check.specs.Accepts.{first_no};
 ghost use Rattle.dds_check.specs.Claims.{IsShown, structure_no};
 

@@ -1,6 +1,6 @@
 //! The first of several that is there.
 ghost use Rattle.std.specs.Prelude.{◌≡◌, ◌<◌, ℕ, Option};
-ghost use Rattle.dds_check.specs.First.{first_below};
+ghost use Rattle.dds_runs.specs.First.{first_below};
 
 /// The first answer of `at` that is there, of the numbers below `n` in order.
 pub(crate) fn first_below<T, F: Fn(usize) -> Option<T>>(n: usize, at: F) -> Option<T>

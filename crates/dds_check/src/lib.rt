@@ -1,5 +1,5 @@
 //! The checker of a certificate against a plan: whether it is accepted, and else the first condition that fails.
-#![tactic(auto, using(crate::proofs::FirstLemmas::first_below_start, crate::proofs::FirstLemmas::first_below_more, crate::proofs::FirstLemmas::first_below_found, crate::proofs::Sums::total_start, crate::proofs::Sums::total_more, crate::proofs::FirstLemmas::all_below_start, crate::proofs::FirstLemmas::all_below_more))]
+#![tactic(auto, using(crate::proofs::FirstLemmas::first_below_start, crate::proofs::FirstLemmas::first_below_more, crate::proofs::FirstLemmas::first_below_found, dds_runs::proofs::Sums::total_start, dds_runs::proofs::Sums::total_more, crate::proofs::FirstLemmas::all_below_start, crate::proofs::FirstLemmas::all_below_more))]
 
 pub mod accepts;
 pub mod bounds;
@@ -7,7 +7,6 @@ mod budget;
 pub mod checked;
 pub mod claims;
 mod first;
-pub mod laws;
 mod limits;
 mod pairs;
 mod profile;

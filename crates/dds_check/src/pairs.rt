@@ -1,7 +1,7 @@
 //! Numbers 10 and 11: exactly the intended pairs match.
 ghost use Rattle.std.specs.Prelude.{◌≡◌};
 ghost use Rattle.dds_match.specs.Plan.{network_of};
-ghost use Rattle.dds_check.specs.First.{first_below};
+ghost use Rattle.dds_runs.specs.First.{first_below};
 ghost use Rattle.dds_check.specs.Pairs.{not_matched, not_intended, first_pair, pairs_no};
 
 use crate::first::first_below;

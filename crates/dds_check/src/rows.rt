@@ -2,8 +2,8 @@
 ghost use Rattle.std.specs.Prelude.{◌≡◌, ◌<◌, ◌≤◌};
 ghost use Rattle.dds_match.specs.Plan.{network_of};
 ghost use Rattle.dds_cert.specs.Views.{certificate_view};
-ghost use Rattle.dds_check.specs.First.{◌orElse◌, first_below, first_in};
-ghost use Rattle.dds_check.specs.Accepted.{row_of};
+ghost use Rattle.dds_runs.specs.First.{◌orElse◌, first_below, first_in};
+ghost use Rattle.dds_runs.specs.Accepted.{row_of};
 ghost use Rattle.dds_check.specs.Tables.{IsTabled};
 ghost use Rattle.dds_check.specs.Rows.{take_raises, row_take_raises, rule_raises, row_rule_raises, write_raises, row_write_raises, rows_no, ShowsSpreads};
 

@@ -4,8 +4,8 @@ ghost use Rattle.std.specs.Option.{option_map_or};
 ghost use Rattle.dds_match.specs.Network.{reach};
 ghost use Rattle.dds_match.specs.Plan.{network_of};
 ghost use Rattle.dds_cert.specs.Views.{row_view, certificate_view};
-ghost use Rattle.dds_check.specs.First.{first_in, IsFirstBefore};
-ghost use Rattle.dds_check.specs.Accepted.{row_of, budget};
+ghost use Rattle.dds_runs.specs.First.{first_in, IsFirstBefore};
+ghost use Rattle.dds_runs.specs.Accepted.{row_of, budget};
 ghost use Rattle.dds_check.specs.Tables.{IsTabled};
 ghost use Rattle.dds_check.specs.Shown.{shows, is_unshown, is_unshown_by, names_no_row, bound_not_shown, shows_all, total_not_shown, HasBudgets, shown_no};
 

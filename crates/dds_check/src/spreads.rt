@@ -1,7 +1,7 @@
 //! What a write puts in flight, weighed by a row: for each key of each writer, accumulated over the samples that the row weighs.
 ghost use Rattle.std.specs.Prelude.{ℕ, ◌<◌, ◌+◌, ◌*◌, ◌^◌, ◌==◌, ◌&&◌, if◌then◌else◌, slice_index};
 ghost use Rattle.dds_match.specs.Plan.{network_of};
-ghost use Rattle.dds_check.specs.Accepted.{row_of};
+ghost use Rattle.dds_runs.specs.Accepted.{row_of};
 ghost use Rattle.dds_check.specs.Rows.{ShowsSpreads};
 ghost use Rattle.dds_check.specs.Spreads.{Adds, ShowsHeard};
 

@@ -2,7 +2,7 @@
 ghost use Rattle.std.specs.Prelude.{◌≡◌, ◌<◌, ◌≤◌, ◌*◌, ◌^◌, length, slice_get, Some, vec_len};
 ghost use Rattle.dds_match.specs.Network.{weighed};
 ghost use Rattle.dds_cert.specs.Views.{row_view, certificate_view};
-ghost use Rattle.dds_check.specs.Accepted.{row_of};
+ghost use Rattle.dds_runs.specs.Accepted.{row_of};
 ghost use Rattle.dds_cert.specs.Weighing.{weight_by};
 ghost use Rattle.dds_check.specs.Tables.{weighed_by, IsWithin, IsRowWithin, IsTabled};
 

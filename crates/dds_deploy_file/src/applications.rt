@@ -237,7 +237,18 @@ pub(crate) fn applications(
     ensures { Gives (listed application_view) result (applications (listed participant_view participants.now) (listed writer_view writers.now) (listed reader_view readers.now) (table_view table.now)) }
 {
     let all = application_list(alloc, participants, writers, readers, table)?;
-    are_owned::<Section<Writer>>(alloc, "writers", &all, writers.entries.len())?;
-    are_owned::<Section<Reader>>(alloc, "readers", &all, readers.entries.len())?;
-    Ok(all)
+    match are_owned::<Section<Writer>>(alloc, "writers", &all, writers.entries.len()) {
+        Ok(()) => {}
+        Err(fault) => {
+            drop(all);
+            return Err(fault);
+        }
+    }
+    match are_owned::<Section<Reader>>(alloc, "readers", &all, readers.entries.len()) {
+        Ok(()) => Ok(all),
+        Err(fault) => {
+            drop(all);
+            Err(fault)
+        }
+    }
 }

@@ -101,20 +101,25 @@ pub(crate) fn each_rule(
         endpoints: known.writers,
         own: owned_at::<Section<Writer>>(known.applications, application),
     };
-    let writes = optional_list(
-        alloc,
-        16,
-        &of_writers,
-        Vec::new(alloc),
-        path,
-        table,
-        "writes",
-    )?;
-    let start = optional_short_number(alloc, 0, 65_535, 0, path, table, "start")?;
-    Ok(EachRule {
-        application: AppNo::new(application),
-        takes,
-        writes,
-        start,
-    })
+    let none = Vec::new(alloc);
+    let writes = match optional_list(alloc, 16, &of_writers, none, path, table, "writes") {
+        Ok(writes) => writes,
+        Err(fault) => {
+            drop(takes);
+            return Err(fault);
+        }
+    };
+    match optional_short_number(alloc, 0, 65_535, 0, path, table, "start") {
+        Ok(start) => Ok(EachRule {
+            application: AppNo::new(application),
+            takes,
+            writes,
+            start,
+        }),
+        Err(fault) => {
+            drop(takes);
+            drop(writes);
+            Err(fault)
+        }
+    }
 }

@@ -117,15 +117,26 @@ fn reader_fields(
     let participant = known_name_field(alloc, &participants.names, path, table, "participant")?;
     let topic = known_name_field(alloc, &topics.names, path, table, "topic")?;
     let filter = filter_field(alloc, topic_keys(topics, topic), path, table, "filter")?;
-    let requested = policies(alloc, Reliability::BestEffort, path, table)?;
-    let partitions = partitions(alloc, path, table)?;
-    Ok(Reader {
-        participant: ParticipantNo::new(participant),
-        topic: TopicNo::new(topic),
-        filter,
-        qos: ReaderQos { requested },
-        partitions,
-    })
+    let requested = match policies(alloc, Reliability::BestEffort, path, table) {
+        Ok(requested) => requested,
+        Err(fault) => {
+            drop(filter);
+            return Err(fault);
+        }
+    };
+    match partitions(alloc, path, table) {
+        Ok(partitions) => Ok(Reader {
+            participant: ParticipantNo::new(participant),
+            topic: TopicNo::new(topic),
+            filter,
+            qos: ReaderQos { requested },
+            partitions,
+        }),
+        Err(fault) => {
+            drop(filter);
+            Err(fault)
+        }
+    }
 }
 
 // What reads the readers of a file.

@@ -9,7 +9,7 @@ use Rattle.std.proofs.lemmas.List.Quantifiers.{position-Some}
 use Rattle.std.proofs.lemmas.List.Sums.{prefix_len_is, prefix_len_passes}
 use Rattle.std.proofs.lemmas.Option.{none-some}
 use Rattle.dds_base.specs.declared.messages.Packet.{Packet}
-use Rattle.dds_check.specs.Steps.{places}
+use Rattle.dds_runs.specs.Steps.{places}
 use Rattle.dds_domain.specs.Bus.{at_place, IsLastPlace}
 
 -- the counts of the blocks tell by q whether some place of a block passes p

@@ -9,8 +9,8 @@ use Rattle.dds_base.specs.declared.events.Refusal.TheVariants.{NoPacket}
 use Rattle.dds_base.proofs.SumLaws.{least_passes, least_le}
 use Rattle.dds_deploy.specs.Lists.{Lists}
 use Rattle.dds_match.specs.Network.{Network}
-use Rattle.dds_check.specs.World.{World}
-use Rattle.dds_check.specs.Steps.{places, is_none_of, refusal}
+use Rattle.dds_runs.specs.World.{World}
+use Rattle.dds_runs.specs.Steps.{places, is_none_of, refusal}
 use Rattle.dds_domain.specs.Noted.{Noted}
 use Rattle.dds_domain.specs.Schedule.{is_taken, load, lowest, highest, by_fate, is_bus_turn, due, send_due, sending_of}
 use Rattle.dds_domain.proofs.Counting.{count_found}

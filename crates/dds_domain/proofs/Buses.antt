@@ -8,8 +8,8 @@ use Rattle.std.proofs.lemmas.List.{get_or-set_same, get_or-set_other}
 use Rattle.dds_base.specs.Sums.{put, least}
 use Rattle.dds_base.proofs.SumLaws.{put_at, put_other, least_same}
 use Rattle.dds_base.specs.declared.messages.Packet.{Packet}
-use Rattle.dds_check.specs.World.{World}
-use Rattle.dds_check.specs.Steps.{places, free_place, sent_place, put_packet, is_none_of}
+use Rattle.dds_runs.specs.World.{World}
+use Rattle.dds_runs.specs.Steps.{places, free_place, sent_place, put_packet, is_none_of}
 use Rattle.dds_domain.specs.Bus.{at_place, free_above, last_taken, sent_to, taken_count, with_packet}
 use Rattle.dds_domain.specs.Schedule.{is_taken, load, lowest, highest}
 use Rattle.dds_domain.specs.Standing.{BusStands}

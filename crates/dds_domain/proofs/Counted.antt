@@ -7,7 +7,7 @@ use Rattle.std.proofs.lemmas.List.Quantifiers.{position-Some}
 use Rattle.dds_base.specs.Sums.{least}
 use Rattle.dds_base.proofs.SumLaws.{least_le, least_least}
 use Rattle.dds_base.specs.declared.messages.Packet.{Packet}
-use Rattle.dds_check.specs.Steps.{places}
+use Rattle.dds_runs.specs.Steps.{places}
 use Rattle.dds_domain.specs.Bus.{at_place, sent_to, free_above, last_taken, taken_from, taken_count, IsCounted, IsLastPlace}
 use Rattle.dds_domain.proofs.Counting.{count_same, count_le, count_none, count_all, count_zero, count_full, count_some, count_more}
 use Rattle.dds_domain.proofs.Blocks.{Tells}

@@ -18,9 +18,9 @@ use Rattle.dds_qos.specs.Writing as writing
 use Rattle.dds_deploy.specs.Lists.{Lists}
 use Rattle.dds_match.specs.Network.{Network, follows}
 use Rattle.dds_match.specs.Plan.{matched, network_of}
-use Rattle.dds_check.specs.First.{◌orElse◌, first_below}
-use Rattle.dds_check.specs.World.{World, is_kept, is_at_hand, is_relevant, opening}
-use Rattle.dds_check.specs.Steps.{after, refusal}
+use Rattle.dds_runs.specs.First.{◌orElse◌, first_below}
+use Rattle.dds_runs.specs.World.{World, is_kept, is_at_hand, is_relevant, opening}
+use Rattle.dds_runs.specs.Steps.{after, refusal}
 use Rattle.dds_domain.specs.Noted.{Noted, noted_after, noted_by, noted_changed, noted_packet, opening_notes, put_notes, put_owes}
 use Rattle.dds_domain.specs.Schedule.{acknack_due, as_data, as_gap, due_to, first_by_reader, first_by_writer, heartbeat_due, is_reader_of, is_writer_of, send_due, writer_due}
 use Rattle.dds_domain.specs.Standing.{AreReached}

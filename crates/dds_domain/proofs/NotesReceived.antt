@@ -16,8 +16,8 @@ use Rattle.dds_base.specs.declared.events.Reply.TheVariants.{Refused, Written, F
 use Rattle.dds_qos.specs.Notes.{Notes, note_ack}
 use Rattle.dds_qos.specs.Writing.{base_after}
 use Rattle.dds_match.specs.Network.{Network, IsNetwork, follows}
-use Rattle.dds_check.specs.World.{World}
-use Rattle.dds_check.specs.Steps.{Event}
+use Rattle.dds_runs.specs.World.{World}
+use Rattle.dds_runs.specs.Steps.{Event}
 use Rattle.dds_writer.specs.Proxies.{ProxyState, after_acknack, is_matched, is_of, proxy_of}
 use Rattle.dds_writer.specs.Writer.{WriterState}
 use Rattle.dds_reader.specs.declared.notes.WriterProxy.{WriterProxy}

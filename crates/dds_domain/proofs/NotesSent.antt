@@ -11,7 +11,7 @@ use Rattle.dds_qos.specs.Notes.{Notes, note_sent}
 use Rattle.dds_qos.specs.Writing.{gap_of}
 use Rattle.dds_match.specs.Network.{Network, IsNetwork}
 use Rattle.dds_match.specs.Plan.{network_of}
-use Rattle.dds_check.specs.World.{World, is_kept, is_relevant}
+use Rattle.dds_runs.specs.World.{World, is_kept, is_relevant}
 use Rattle.dds_writer.specs.Proxies.{ProxyState, after_message, is_matched, is_of, proxy_of}
 use Rattle.dds_writer.specs.Writer.{WriterState, is_silent}
 use Rattle.dds_writer.specs.Writer as writer

@@ -10,7 +10,7 @@ use Rattle.dds_qos.specs.declared.admission.Admit.TheVariants.{Stored, Overwrote
 use Rattle.dds_qos.specs.Samples.{Keys, in_instance, first_of}
 use Rattle.dds_qos.specs.Admission.{admission, is_reached, is_one_too_many}
 use Rattle.dds_match.specs.Network.{Network, IsNetwork}
-use Rattle.dds_check.proofs.StoredPlaces.{count_cons}
+use Rattle.dds_runs.proofs.StoredPlaces.{count_cons}
 
 -- the first that passes is there where one passes
 first_there : (p : Sample → Bool) (xs : List Sample) → 1 ≤ count_by p xs → position_or_len p xs < length xs

@@ -21,15 +21,15 @@ use Rattle.dds_qos.specs.Taking.{available_of}
 use Rattle.dds_qos.specs.Admission.{admission}
 use Rattle.dds_qos.specs.Reading.{base_of, below_first, is_repeat, marked_by, data_arrival, gap_arrival, heartbeat_arrival, heard_after, missing_of, new_by_heartbeat}
 use Rattle.dds_match.specs.Network.{Network, IsNetwork, follows}
-use Rattle.dds_check.specs.World.{World, marked, base, stored, is_stored, known_keys}
-use Rattle.dds_check.specs.Steps.{after_data, arrival_of_data, store, give_up, after_gap, after_heartbeat, available as available_at}
-use Rattle.dds_check.proofs.StoredPlaces.{Distinct, apart_in, eqb_sym, filter_in, place_sym}
-use Rattle.dds_check.proofs.Moves.{replaced_is}
-use Rattle.dds_check.proofs.Sound.{Sound}
-use Rattle.dds_check.proofs.Views.{marked_store, marked_gap, stored_store, stored_over, stored_take}
-use Rattle.dds_check.proofs.PartsWatching.{marked_give_up}
-use Rattle.dds_check.proofs.Joins.{in_at, remove_is, without_is}
-use Rattle.dds_check.proofs.CountsWeights.{after_take}
+use Rattle.dds_runs.specs.World.{World, marked, base, stored, is_stored, known_keys}
+use Rattle.dds_runs.specs.Steps.{after_data, arrival_of_data, store, give_up, after_gap, after_heartbeat, available as available_at}
+use Rattle.dds_runs.proofs.StoredPlaces.{Distinct, apart_in, eqb_sym, filter_in, place_sym}
+use Rattle.dds_runs.proofs.Moves.{replaced_is}
+use Rattle.dds_runs.proofs.Sound.{Sound}
+use Rattle.dds_runs.proofs.Views.{marked_store, marked_gap, stored_store, stored_over, stored_take}
+use Rattle.dds_runs.proofs.PartsWatching.{marked_give_up}
+use Rattle.dds_runs.proofs.Joins.{in_at, remove_is, without_is}
+use Rattle.dds_runs.proofs.CountsWeights.{after_take}
 use Rattle.dds_reader.specs.declared.notes.WriterProxy.{WriterProxy}
 use Rattle.dds_reader.specs.Notes.{has_writer, heard_in, hears, pays}
 use Rattle.dds_reader.specs.Reader.{ReaderState, acknack_of, available, data_arrives, gap_arrives, heartbeat_arrives, heard_of, heeds, is_marked, is_proxy, MarksMore, SameMarks, SameReader, SameSamples, Stores}

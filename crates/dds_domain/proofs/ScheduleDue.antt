@@ -9,7 +9,7 @@ use Rattle.dds_qos.specs.declared.notes.Due.TheVariants.{Data, Gap}
 use Rattle.dds_qos.specs.Notes.{Notes, due_number, due_of, is_due, watch_due_of}
 use Rattle.dds_match.specs.Network.{Network, IsNetwork}
 use Rattle.dds_match.specs.Plan.{network_of}
-use Rattle.dds_check.specs.World.{World, is_kept, is_at_hand, is_relevant}
+use Rattle.dds_runs.specs.World.{World, is_kept, is_at_hand, is_relevant}
 use Rattle.dds_writer.specs.Proxies.{ProxyState, is_matched, proxy_of}
 use Rattle.dds_writer.specs.Writer.{WriterState, is_offered, keeps}
 use Rattle.dds_writer.specs.Writer as writer

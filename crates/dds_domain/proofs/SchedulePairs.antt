@@ -2,7 +2,7 @@
 use Rattle.std.proofs.Common.{◌≡◌, ℕ, ◌+◌, ◌<◌, Bool, true, false, cond, ◌==◌, Option, Some, None, sym, ap, ◌∙◌, slice_get}
 use Rattle.std.specs.Option.{option_map_or}
 use Rattle.dds_deploy.specs.Lists.{Lists, Writer, Reader}
-use Rattle.dds_check.specs.First.{first_below}
+use Rattle.dds_runs.specs.First.{first_below}
 use Rattle.dds_check.proofs.FirstLemmas.{first_below_found, first_below_next}
 use Rattle.dds_domain.specs.Schedule.{is_reader_of, is_writer_of}
 

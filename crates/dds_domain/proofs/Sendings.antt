@@ -10,7 +10,7 @@ use Rattle.dds_qos.specs.declared.notes.Due.{Due}
 use Rattle.dds_qos.specs.declared.notes.Due.TheVariants.{Data as DueData, Gap as DueGap}
 use Rattle.dds_qos.specs.Writing.{heartbeat_of}
 use Rattle.dds_match.specs.Plan.{network_of}
-use Rattle.dds_check.specs.Steps.{Event, Refused, Sent}
+use Rattle.dds_runs.specs.Steps.{Event, Refused, Sent}
 use Rattle.dds_writer.specs.Proxies.{bases_of, is_matched, proxy_of}
 use Rattle.dds_writer.specs.Writer.{WriterState}
 use Rattle.dds_reader.specs.Notes.{pays}

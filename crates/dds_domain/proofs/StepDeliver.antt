@@ -7,8 +7,8 @@ use Rattle.dds_base.specs.declared.events.Refusal.TheVariants.{NoPacket}
 use Rattle.dds_base.specs.declared.messages.Packet.{Packet}
 use Rattle.dds_base.specs.declared.messages.Packet.TheVariants.{Data, Gap, Heartbeat, AckNack}
 use Rattle.dds_match.specs.Network.{Network}
-use Rattle.dds_check.specs.World.{World}
-use Rattle.dds_check.specs.Steps.{May, AtPlace, after, changed, arrived_from, packet_reply, after_packet, take_away}
+use Rattle.dds_runs.specs.World.{World}
+use Rattle.dds_runs.specs.Steps.{May, AtPlace, after, changed, arrived_from, packet_reply, after_packet, take_away}
 use Rattle.dds_domain.specs.Bus.{at_place}
 use Rattle.dds_domain.specs.Standing.{PartsState, Stands, HasWorld, IsSent, StepsWorld, Receives}
 use Rattle.dds_domain.proofs.StepLose.{taken_away}

@@ -6,9 +6,9 @@ use Rattle.dds_base.specs.declared.events.Event.TheVariants.{Fire}
 use Rattle.dds_base.specs.declared.events.Reply.TheVariants.{Refused, Fired}
 use Rattle.dds_base.specs.declared.events.Refusal.TheVariants.{Foreign, NotEnough, CountLimit}
 use Rattle.dds_match.specs.Network.{Network}
-use Rattle.dds_check.specs.World.{World}
-use Rattle.dds_check.specs.Steps.{Refusal, refusal, fire_passes_limit}
-use Rattle.dds_check.specs.CountRuns.CountMove.{Fires}
+use Rattle.dds_runs.specs.World.{World}
+use Rattle.dds_runs.specs.Steps.{Refusal, refusal, fire_passes_limit}
+use Rattle.dds_runs.specs.CountRuns.CountMove.{Fires}
 use Rattle.dds_rules.specs.declared.refused.FireRefused.{FireRefused}
 use Rattle.dds_rules.specs.declared.refused.FireRefused.TheVariants.{NotEnough as TooFew, CountLimit as TooMany}
 use Rattle.dds_rules.specs.Counts.{count_at}

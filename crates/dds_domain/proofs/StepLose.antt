@@ -5,8 +5,8 @@ use Rattle.dds_base.specs.declared.events.Event.TheVariants.{Lose}
 use Rattle.dds_base.specs.declared.events.Reply.TheVariants.{Refused, Dropped}
 use Rattle.dds_base.specs.declared.events.Refusal.TheVariants.{NoPacket}
 use Rattle.dds_match.specs.Network.{Network}
-use Rattle.dds_check.specs.World.{World}
-use Rattle.dds_check.specs.Steps.{is_none_of, take_away}
+use Rattle.dds_runs.specs.World.{World}
+use Rattle.dds_runs.specs.Steps.{is_none_of, take_away}
 use Rattle.dds_domain.specs.Bus.{at_place}
 use Rattle.dds_domain.specs.Standing.{PartsState, Stands, StepsWorld}
 use Rattle.dds_domain.proofs.Buses.{clear_stands}

@@ -14,10 +14,10 @@ use Rattle.dds_qos.specs.declared.admission.Admit.TheVariants.{Stored, Overwrote
 use Rattle.dds_qos.specs.Reading.{arrival_of, below_first, marked_by}
 use Rattle.dds_qos.specs.Admission.{admission}
 use Rattle.dds_match.specs.Network.{Network, IsNetwork, follows}
-use Rattle.dds_check.specs.World.{World, marked, stored, known_keys}
-use Rattle.dds_check.specs.Steps.{after_data, after_watched, give_up, after_gap, after_heartbeat, store, arrival_of_data}
-use Rattle.dds_check.specs.Facts.{IsWrittenFor}
-use Rattle.dds_check.proofs.Moves.{Healthy, answered_is, from_one}
+use Rattle.dds_runs.specs.World.{World, marked, stored, known_keys}
+use Rattle.dds_runs.specs.Steps.{after_data, after_watched, give_up, after_gap, after_heartbeat, store, arrival_of_data}
+use Rattle.dds_runs.specs.Facts.{IsWrittenFor}
+use Rattle.dds_runs.proofs.Moves.{Healthy, answered_is, from_one}
 use Rattle.dds_reader.specs.Notes.{hears}
 use Rattle.dds_reader.specs.Reader.{ReaderState, data_arrives, gap_arrives, heartbeat_arrives, heeds, MarksMore, OnIdle, SameReader, SameSamples, Stores}
 use Rattle.dds_domain.specs.Standing.{PartsState, IsReached, ReaderStands, Receives, Stands, part_of}

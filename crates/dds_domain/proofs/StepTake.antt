@@ -11,12 +11,12 @@ use Rattle.dds_qos.specs.Samples.{has_key, without}
 use Rattle.dds_qos.specs.Taking.{IsLeastOfWriter}
 use Rattle.dds_match.specs.Network.{Network, IsNetwork}
 use Rattle.dds_match.specs.Plan.{network_of}
-use Rattle.dds_check.specs.CountRuns.CountMove.{Takes}
-use Rattle.dds_check.specs.World.{World, spare, stored}
-use Rattle.dds_check.specs.Steps.{refusal, is_empty, is_available, available as available_at}
-use Rattle.dds_check.proofs.Moves.{Healthy}
-use Rattle.dds_check.proofs.StoredPlaces.{filter_in}
-use Rattle.dds_check.proofs.CountsWeights.{after_take}
+use Rattle.dds_runs.specs.CountRuns.CountMove.{Takes}
+use Rattle.dds_runs.specs.World.{World, spare, stored}
+use Rattle.dds_runs.specs.Steps.{refusal, is_empty, is_available, available as available_at}
+use Rattle.dds_runs.proofs.Moves.{Healthy}
+use Rattle.dds_runs.proofs.StoredPlaces.{filter_in}
+use Rattle.dds_runs.proofs.CountsWeights.{after_take}
 use Rattle.dds_rules.specs.Counts.{count_at}
 use Rattle.dds_rules.specs.Ledger.{LedgerState}
 use Rattle.dds_rules.specs.Standing.{Makes}

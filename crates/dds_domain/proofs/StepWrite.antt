@@ -8,9 +8,9 @@ use Rattle.dds_base.specs.declared.events.Refusal.TheVariants.{Foreign, NoPermit
 use Rattle.dds_qos.specs.Writing.{write_refusal}
 use Rattle.dds_match.specs.Network.{Network}
 use Rattle.dds_match.specs.Plan.{network_of}
-use Rattle.dds_check.specs.World.{World, permits}
-use Rattle.dds_check.specs.CountRuns.CountMove.{Writes}
-use Rattle.dds_check.specs.Steps.{Refusal, Refused, Written, Write, refusal}
+use Rattle.dds_runs.specs.World.{World, permits}
+use Rattle.dds_runs.specs.CountRuns.CountMove.{Writes}
+use Rattle.dds_runs.specs.Steps.{Refusal, Refused, Written, Write, refusal}
 use Rattle.dds_rules.specs.Counts.{count_at}
 use Rattle.dds_rules.specs.Ledger.{LedgerState}
 use Rattle.dds_rules.specs.Standing.{Makes}

@@ -1,7 +1,7 @@
 -- Steps of the world and of the notes, where the parts and the reply go by other names.
 use Rattle.std.proofs.Common.{◌≡◌, refl, sym, subst}
 use Rattle.dds_base.specs.declared.events.Reply.TheVariants.{Refused}
-use Rattle.dds_check.specs.Steps.{Event, Refusal, Reply}
+use Rattle.dds_runs.specs.Steps.{Event, Refusal, Reply}
 use Rattle.dds_domain.specs.Standing.{PartsState, StepsNotes, StepsWorld}
 
 -- what relates parts to later ones, where all of them go by other names

@@ -2,8 +2,8 @@
 use Rattle.std.proofs.Common.{◌≡◌, ℕ, ◌%◌, ◌==◌, Bool, true, false, cond, Option, Some, None, refl}
 use Rattle.std.specs.Prelude.{IfSome}
 use Rattle.dds_base.specs.declared.events.Fate.{Fate}
-use Rattle.dds_check.specs.World.{World}
-use Rattle.dds_check.specs.Steps.{Event, refusal}
+use Rattle.dds_runs.specs.World.{World}
+use Rattle.dds_runs.specs.Steps.{Event, refusal}
 use Rattle.dds_deploy.specs.Lists.{Lists}
 use Rattle.dds_match.specs.Plan.{network_of}
 use Rattle.dds_domain.specs.Noted.{Noted}

@@ -3,14 +3,14 @@ use Rattle.std.proofs.Common.{◌≡◌, ℕ, ◌<◌, List, Option, Some, None,
 use Rattle.dds_base.specs.declared.messages.Packet.{Packet}
 use Rattle.dds_base.specs.declared.events.Reply.TheVariants.{Refused}
 use Rattle.dds_match.specs.Network.{Network, IsNetwork}
-use Rattle.dds_check.specs.World.{World}
-use Rattle.dds_check.specs.Steps.{Event, Reply, Refusal, refusal, May, RefusedOr, Replies, after}
-use Rattle.dds_check.specs.Runs.{as_moves}
-use Rattle.dds_check.specs.Facts.{FactOf}
-use Rattle.dds_check.specs.Accepted.{Certificate, Accepted}
-use Rattle.dds_check.proofs.Moves.{Healthy}
-use Rattle.dds_check.proofs.Guarded.{Guarded}
-use Rattle.dds_check.proofs.Opening.{world_healthy, world_guarded}
+use Rattle.dds_runs.specs.World.{World}
+use Rattle.dds_runs.specs.Steps.{Event, Reply, Refusal, refusal, May, RefusedOr, Replies, after}
+use Rattle.dds_runs.specs.Runs.{as_moves}
+use Rattle.dds_runs.specs.Facts.{FactOf}
+use Rattle.dds_runs.specs.Accepted.{Certificate, Accepted}
+use Rattle.dds_runs.proofs.Moves.{Healthy}
+use Rattle.dds_runs.proofs.Guarded.{Guarded}
+use Rattle.dds_runs.proofs.Opening.{world_healthy, world_guarded}
 use Rattle.dds_writer.specs.Writer.{WriterState}
 use Rattle.dds_reader.specs.Reader.{ReaderState}
 use Rattle.dds_domain.specs.Bus.{at_place}

@@ -2,7 +2,7 @@
 use Rattle.std.specs.Prelude.{◌≡◌, ℕ, ◌+◌, ◌-◌, ◌*◌, ◌<◌, Bool, true, false, if◌then◌else◌, nat_lt, List, Option, Some, None, is_none, is_some, length, position, slice_index, slice_index_or, slice_set}
 use Rattle.dds_base.specs.Sums.{count_below, least}
 use Rattle.dds_base.specs.declared.messages.Packet.{Packet}
-use Rattle.dds_check.specs.Steps.{places}
+use Rattle.dds_runs.specs.Steps.{places}
 
 -- the packet at a place, if there is one
 abbrev pub at_place : List (Option Packet) → ℕ → Option Packet

@@ -5,8 +5,8 @@ use Rattle.dds_base.specs.Sums.{put}
 use Rattle.dds_base.specs.declared.messages.Packet.TheVariants.{Heartbeat, AckNack}
 use Rattle.dds_qos.specs.Notes.{Notes, no_notes, note_sent, note_ack}
 use Rattle.dds_match.specs.Network.{Network, follows}
-use Rattle.dds_check.specs.World.{World, Packet, is_kept, is_relevant}
-use Rattle.dds_check.specs.Steps.{Event, Reply, SendData, SendGap, SendAckNack, Deliver, Refused, after, gap_of}
+use Rattle.dds_runs.specs.World.{World, Packet, is_kept, is_relevant}
+use Rattle.dds_runs.specs.Steps.{Event, Reply, SendData, SendGap, SendAckNack, Deliver, Refused, after, gap_of}
 
 -- the notes of all writers and readers
 pub record Noted : Type 0 where

@@ -12,9 +12,9 @@ use Rattle.dds_qos.specs.Notes.{due_of, watch_due_of}
 use Rattle.dds_deploy.specs.Lists.{Lists, Writer, Reader}
 use Rattle.dds_match.specs.Network.{Network}
 use Rattle.dds_match.specs.Plan.{matched, network_of}
-use Rattle.dds_check.specs.First.{first_below}
-use Rattle.dds_check.specs.World.{World, is_kept, is_at_hand, is_relevant}
-use Rattle.dds_check.specs.Steps.{places, is_none_of}
+use Rattle.dds_runs.specs.First.{first_below}
+use Rattle.dds_runs.specs.World.{World, is_kept, is_at_hand, is_relevant}
+use Rattle.dds_runs.specs.Steps.{places, is_none_of}
 use Rattle.dds_domain.specs.Noted.{Noted}
 use Rattle.dds_domain.specs.declared.schedule.Sending.{Sending}
 use Rattle.dds_domain.specs.declared.schedule.Sending.TheVariants.{Data, Gap, Heartbeat, AckNack}

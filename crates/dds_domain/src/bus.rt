@@ -1,6 +1,6 @@
 //! The bus: 4,096 places for packets under way.
 ghost use Rattle.std.specs.Prelude.{◌≡◌, None, is_none, is_some, nat_lt, replicate, option_map, position, slice_set, IfOk};
-ghost use Rattle.dds_check.specs.Steps.{places};
+ghost use Rattle.dds_runs.specs.Steps.{places};
 ghost use Rattle.dds_domain.specs.Bus.{IsLastPlace, at_place, last_taken, sent_to, taken_count, with_packet};
 
 use dds_base::{NoMemory, Packet};

@@ -1,7 +1,7 @@
 //! What a participant is to do in its turn.
 ghost use Rattle.std.specs.Prelude.{◌≡◌, ◌<◌, ◌≤◌, length, true, Some};
 ghost use Rattle.dds_match.specs.Plan.{matched, network_of};
-ghost use Rattle.dds_check.specs.World.{World};
+ghost use Rattle.dds_runs.specs.World.{World};
 ghost use Rattle.dds_domain.specs.Noted.{Noted};
 ghost use Rattle.dds_domain.specs.Schedule.{acknack_due, as_data, as_gap, by_fate, due, due_to, first_by_reader, first_by_writer, first_of_reader, first_of_writer, heartbeat_due, load, send_due, sending_of, writer_due};
 ghost use Rattle.dds_domain.specs.Standing.{PartsAt, IsRunning};

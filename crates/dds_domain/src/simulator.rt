@@ -1,6 +1,6 @@
 //! A simulator: a plan that is run, whether a certificate is accepted for it or not.
 ghost use Rattle.std.specs.Prelude.{◌≡◌, ◌≤◌, ◌++◌, ◌∷◌, [], List, length, option_map, IfOk, IfErr, OnErr, MatchResult};
-ghost use Rattle.dds_check.specs.Steps.{Event as EventValue, Reply as ReplyValue};
+ghost use Rattle.dds_runs.specs.Steps.{Event as EventValue, Reply as ReplyValue};
 ghost use Rattle.dds_domain.specs.Standing.{GoesOn, OnRefused, StandsAfter, paired, world_after};
 
 use crate::opening::open;

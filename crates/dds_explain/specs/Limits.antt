@@ -9,7 +9,7 @@ use Rattle.dds_cert.specs.Lists.{Certificate}
 use Rattle.dds_cert.specs.Naming.{reader_key, writer_key}
 use Rattle.dds_cert.specs.Text.{each_below}
 use Rattle.dds_cert.specs.declared.certificate.Bound.{Bound}
-use Rattle.dds_check.specs.Accepted.{instance_limit}
+use Rattle.dds_runs.specs.Accepted.{instance_limit}
 use Rattle.dds_check.specs.Limits.{is_bounded, reached_bound}
 use Rattle.dds_check.specs.Tables.{bound_of, total_of}
 use Rattle.dds_events.specs.Naming.{writer_name, reader_name}

@@ -8,7 +8,7 @@ use Rattle.dds_cert.specs.Lists.{Certificate, Row}
 use Rattle.dds_cert.specs.Naming.{reader_key}
 use Rattle.dds_cert.specs.declared.certificate.Bound.{Bound}
 use Rattle.dds_cert.specs.declared.certificate.Total.{Total}
-use Rattle.dds_check.specs.Accepted.{row_of, budget, instance_limit}
+use Rattle.dds_runs.specs.Accepted.{row_of, budget, instance_limit}
 use Rattle.dds_events.specs.Naming.{reader_name}
 use Rattle.dds_explain.specs.Pieces.{instance_limit_name}
 use Rattle.dds_explain.specs.Shown.{shown_text}

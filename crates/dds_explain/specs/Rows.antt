@@ -9,7 +9,7 @@ use Rattle.dds_match.specs.Plan.{network_of}
 use Rattle.dds_cert.specs.Lists.{Certificate, Row}
 use Rattle.dds_cert.specs.Naming.{reader_key, writer_key}
 use Rattle.dds_cert.specs.Text.{each_below}
-use Rattle.dds_check.specs.Accepted.{row_of, spread}
+use Rattle.dds_runs.specs.Accepted.{row_of, spread}
 use Rattle.dds_events.specs.Naming.{writer_name, reader_name, rule_text}
 use Rattle.dds_explain.specs.Pieces.{weighed_term}
 

@@ -10,7 +10,7 @@ use Rattle.dds_cert.specs.Naming.{reader_key, writer_key}
 use Rattle.dds_cert.specs.Text.{each_below}
 use Rattle.dds_cert.specs.declared.certificate.Bound.{Bound}
 use Rattle.dds_cert.specs.declared.certificate.Total.{Total}
-use Rattle.dds_check.specs.Accepted.{row_of, budget, opening_permits}
+use Rattle.dds_runs.specs.Accepted.{row_of, budget, opening_permits}
 use Rattle.dds_check.specs.Shown.{shows, shows_all}
 use Rattle.dds_events.specs.Naming.{writer_name, reader_name}
 use Rattle.dds_explain.specs.Pieces.{weighed_term}

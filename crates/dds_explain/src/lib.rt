@@ -1,5 +1,5 @@
 //! The reasons of a check's answer: the numbers behind a refusal, and how tight what is accepted is.
-#![tactic(auto, using(dds_check::proofs::Sums::total_start, dds_check::proofs::Sums::total_more))]
+#![tactic(auto, using(dds_runs::proofs::Sums::total_start, dds_runs::proofs::Sums::total_more))]
 
 mod explanation;
 mod limits;

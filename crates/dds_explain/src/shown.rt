@@ -4,7 +4,7 @@ ghost use Rattle.dds_match.specs.Network.{reach};
 ghost use Rattle.dds_match.specs.Plan.{network_of};
 ghost use Rattle.dds_cert.specs.Text.{each_below};
 ghost use Rattle.dds_cert.specs.Views.{certificate_view, row_view};
-ghost use Rattle.dds_check.specs.Accepted.{budget, row_of};
+ghost use Rattle.dds_runs.specs.Accepted.{budget, row_of};
 ghost use Rattle.dds_check.specs.Shown.{shows, shows_all};
 ghost use Rattle.dds_explain.specs.Shown.{bound_claim, bound_lines, bound_not_shown_lines, permit_line, permit_lines, reached_sample_line, sample_line, shown_text, total_claim, total_lines, total_not_shown_lines, unshown_bound, unshown_bound_by, unshown_line, unshown_total, unshown_total_by, writer_permit_lines};
 

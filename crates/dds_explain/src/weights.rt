@@ -4,7 +4,7 @@ ghost use Rattle.dds_deploy.specs.Views.{rule_view};
 ghost use Rattle.dds_match.specs.Network.{named, weighed};
 ghost use Rattle.dds_match.specs.Plan.{network_of};
 ghost use Rattle.dds_cert.specs.Views.{row_view};
-ghost use Rattle.dds_check.specs.Accepted.{budget, opening_permits, row_of, spread};
+ghost use Rattle.dds_runs.specs.Accepted.{budget, opening_permits, row_of, spread};
 ghost use Rattle.dds_check.specs.Spreads.{heard};
 ghost use Rattle.dds_cert.specs.Weighing.{weight_by};
 ghost use Rattle.dds_check.specs.Tables.{weighed_by};

@@ -5,7 +5,7 @@ use Rattle.std.proofs.lemmas.List.FromFn.{take-map-range_with_len}
 use Rattle.std.specs.List.{range_with_len}
 use Rattle.atomic_table.specs.Seated.{TableId}
 use Rattle.dds_book.specs.Gauge.{GaugeState, GaugeSeatState, fresh_seat}
-use Rattle.dds_peers.specs.Kept.{AreOwners, claim_of, new_claim}
+use Rattle.dds_apps.specs.Kept.{AreOwners, claim_of, new_claim}
 
 claimed : (table : TableId) (apps a n : ℕ) → a + n ≤ apps → map claim_of (map (fresh_seat table apps) (range_with_len a n)) ≡ map (new_claim table) (range_with_len a n)
 claimed table apps a zero low = refl

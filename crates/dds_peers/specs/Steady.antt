@@ -11,7 +11,7 @@ use Rattle.dds_base.specs.declared.events.Reply.{Reply}
 use Rattle.dds_base.specs.declared.events.Reply.TheVariants.{Took, Written}
 use Rattle.dds_peers.specs.declared.circle.Step.{Step}
 use Rattle.dds_peers.specs.declared.circle.Step.TheVariants.{Take, Fire, Write}
-use Rattle.dds_peers.specs.Diary.{DiaryState, empty_diary}
+use Rattle.dds_apps.specs.Diary.{DiaryState, empty_diary}
 
 -- the numbers below a count, in order
 abbrev below : ℕ → List ℕ

@@ -1,6 +1,6 @@
 //! The gauge of a run, with a seat for each of its applications.
 ghost use Rattle.std.specs.Prelude.{◌≡◌, IfOk};
-ghost use Rattle.dds_peers.specs.Kept.{AreOwners};
+ghost use Rattle.dds_apps.specs.Kept.{AreOwners};
 
 use dds_base::NoMemory;
 use dds_book::{Gauge, GaugeSeat};

@@ -5,23 +5,17 @@
 //! the plan: what the checker promises of every run is promised of this one.
 #![tactic(auto)]
 
-mod app;
-mod boxed;
 mod carrier;
 mod circle;
-mod diary;
 mod fates;
 mod gauges;
-mod player;
 mod run;
 mod settling;
 mod steady;
 mod threads;
 
-pub use app::{Act, App, Gate};
-pub use diary::Diary;
+pub use dds_apps::{Act, App, AppEnd, Diary, Gate, Limits};
 pub use fates::Fates;
 pub use gauges::gauge_of;
-pub use player::{AppEnd, Limits};
 pub use run::{Outcome, RunFault, run_peers};
 pub use steady::Steady;

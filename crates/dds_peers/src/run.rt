@@ -3,22 +3,21 @@ ghost use Rattle.std.specs.Prelude.{◌≡◌, ◌≢◌, ◌≤◌, true, [], l
 ghost use Rattle.std.specs.List.{range_with_len};
 ghost use Rattle.std.specs.Vec.{vec_len, vec_capacity};
 ghost use Rattle.dds_match.specs.Plan.{network_of};
-ghost use Rattle.dds_check.specs.Accepted.{certificate_of};
-ghost use Rattle.dds_check.specs.Certified.{SafeRun};
-ghost use Rattle.dds_check.specs.Runs.{as_moves};
+ghost use Rattle.dds_runs.specs.Accepted.{certificate_of};
+ghost use Rattle.dds_runs.specs.Certified.{SafeRun};
+ghost use Rattle.dds_runs.specs.Runs.{as_moves};
 ghost use Rattle.dds_book.specs.Journal.{IsJournal, pairs_of};
 ghost use Rattle.dds_book.specs.Kit.{IsKitOf};
 ghost use Rattle.dds_book.specs.Owning.{is_participant, seat_count};
 ghost use Rattle.dds_book.specs.Seat.{new_seat};
-ghost use Rattle.dds_peers.specs.Kept.{AreOwners, parts_of};
+ghost use Rattle.dds_apps.specs.Kept.{AreOwners, parts_of};
 ghost use Rattle.dds_peers.specs.declared.run.RunFault.TheVariants.{AppCount, DiaryMismatch};
 
-use crate::app::{App, Gate};
 use crate::carrier::Carrier;
 use crate::fates::Fates;
-use crate::player::{AppEnd, Limits, Player};
 use crate::settling::{Settled, are_fresh, settle, sit};
 use crate::threads::{Room, together};
+use dds_apps::{App, AppEnd, Gate, Limits, Player};
 use dds_base::NoMemory;
 use dds_book::{Book, Gauge, GaugeSeat, Journal, Kit, Name, Seat};
 use dds_check::Checked;

@@ -3,10 +3,9 @@ ghost use Rattle.std.specs.Prelude.{◌≡◌, ◌≤◌, true, [], length, map,
 ghost use Rattle.std.specs.List.{range_with_len};
 ghost use Rattle.std.specs.Vec.{vec_len, vec_capacity};
 ghost use Rattle.dds_book.specs.Seat.{new_seat};
-ghost use Rattle.dds_peers.specs.Kept.{AreOwners, IsKept, done_by};
+ghost use Rattle.dds_apps.specs.Kept.{AreOwners, IsKept, done_by};
 
-use crate::app::App;
-use crate::player::{AppEnd, Player};
+use dds_apps::{App, AppEnd, Player};
 use dds_base::AppNo;
 use dds_book::{Gauge, GaugeSeat, Name, Seat};
 

@@ -2,9 +2,8 @@
 ghost use Rattle.std.specs.Prelude.{◌≡◌, ℕ, ◌<◌, length, IfOk, IfSome, if◌then◌else◌};
 ghost use Rattle.dds_peers.specs.Steady.{IsNext, all_writes, circle_of, counted, data_of, event_of, is_wanted, steady_of, wanted};
 
-use crate::app::{Act, App};
 use crate::circle::{Step, push_firings, push_takes, push_writes};
-use crate::diary::Diary;
+use dds_apps::{Act, App, Diary};
 use dds_base::{AppNo, Data, Event, NoMemory, Reply};
 use dds_match::Plan;
 use std::alloc::Global;

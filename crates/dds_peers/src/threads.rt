@@ -2,12 +2,11 @@
 ghost use Rattle.std.specs.Prelude.{◌≡◌, ◌+◌, ◌≤◌, true, [], length, map, All};
 ghost use Rattle.std.specs.List.{range_with_len};
 ghost use Rattle.std.specs.Vec.{vec_len, vec_capacity};
-ghost use Rattle.dds_peers.specs.Kept.{IsKept};
+ghost use Rattle.dds_apps.specs.Kept.{IsKept};
 
-use crate::app::{App, Gate};
 use crate::carrier::Carrier;
 use crate::fates::Fates;
-use crate::player::{Limits, Player};
+use dds_apps::{App, Gate, Limits, Player};
 use dds_book::{Book, Gauge, Name};
 use std::snapshot::Snapshot;
 use std::sync::Wait;
@@ -26,7 +25,7 @@ pub(crate) struct Plays {
 
 impl<A: App, N: Name> Promise<Player<A, N>> for Plays {
     ghost use Rattle.std.specs.Prelude.{◌≡◌};
-    ghost use Rattle.dds_peers.specs.Kept.{IsKept};
+    ghost use Rattle.dds_apps.specs.Kept.{IsKept};
 
     ghost kept_by = { λ p r. (r.seat.number ≡ p.app) × IsKept p.gauge.value p.fresh r.seat r.counter (A.notes r.app).entries };
 }

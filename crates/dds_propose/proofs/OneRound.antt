@@ -4,7 +4,7 @@ use Rattle.std.proofs.Math.Numerals.{add-one}
 use Rattle.std.proofs.lemmas.Bool.{cases_lt, or_parts}
 use Rattle.dds_base.specs.Sums.{In}
 use Rattle.dds_match.specs.Network.{Network, IsNetwork}
-use Rattle.dds_check.specs.Accepted.{Row}
+use Rattle.dds_runs.specs.Accepted.{Row}
 use Rattle.dds_propose.specs.declared.targets.Target.{Target}
 use Rattle.dds_propose.specs.declared.weights.Weights.{Weights}
 use Rattle.dds_propose.specs.Following.{Follows, IsMade, IsNeed, IsRound, RaisesSamples, RaisesTakes, spread_by}

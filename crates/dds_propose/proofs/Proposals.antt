@@ -7,7 +7,7 @@ use Rattle.dds_cert.specs.declared.certificate.Bound.{Bound}
 use Rattle.dds_cert.specs.declared.certificate.Total.{Total}
 use Rattle.dds_cert.specs.declared.certificate.Row.{Row as CodeRow}
 use Rattle.dds_cert.specs.Views.{row_view}
-use Rattle.dds_check.specs.Accepted.{Row}
+use Rattle.dds_runs.specs.Accepted.{Row}
 use Rattle.dds_propose.specs.declared.targets.Target.{Target}
 use Rattle.dds_propose.specs.Proposal.{AddsTarget, AddsTargets, bound_entry, no_rows, total_entry, with_target}
 use Rattle.dds_propose.specs.Listing.{listed}

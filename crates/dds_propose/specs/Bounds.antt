@@ -2,7 +2,7 @@
 use Rattle.std.specs.Prelude.{ℕ, zero, suc, ◌/◌, ◌==◌, Bool, nat_le, min, Option, Some, None, unwrap_or, if◌then◌else◌}
 use Rattle.std.specs.Option.{option_map_or}
 use Rattle.dds_match.specs.Network.{Network}
-use Rattle.dds_check.specs.Accepted.{Row, budget}
+use Rattle.dds_runs.specs.Accepted.{Row, budget}
 use Rattle.dds_propose.specs.declared.targets.Target.{Target}
 use Rattle.dds_propose.specs.Targets.{counts, reader_of}
 

@@ -5,7 +5,7 @@ use Rattle.std.specs.List.{range_with_len}
 use Rattle.dds_match.specs.Network.{Network}
 use Rattle.dds_cert.specs.declared.certificate.Weight.{Weight}
 use Rattle.dds_cert.specs.Lists as lists
-use Rattle.dds_check.specs.Accepted.{Row}
+use Rattle.dds_runs.specs.Accepted.{Row}
 
 -- the entry of a key, none of weight 0
 abbrev pub entry : {E : Type 0} → E → ℕ → ℕ → List (Weight E)

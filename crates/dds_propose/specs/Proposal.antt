@@ -4,7 +4,7 @@ use Rattle.dds_match.specs.Network.{Network}
 use Rattle.dds_cert.specs.Lists.{Certificate}
 use Rattle.dds_cert.specs.declared.certificate.Bound.{Bound}
 use Rattle.dds_cert.specs.declared.certificate.Total.{Total}
-use Rattle.dds_check.specs.Accepted.{Row}
+use Rattle.dds_runs.specs.Accepted.{Row}
 use Rattle.dds_propose.specs.declared.targets.Target.{Target}
 use Rattle.dds_propose.specs.declared.targets.Target.TheVariants.{Instance, Reader}
 use Rattle.dds_propose.specs.Bounds.{bound}

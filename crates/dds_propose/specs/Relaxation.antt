@@ -3,7 +3,7 @@ use Rattle.std.specs.Prelude.{ℕ, zero, suc, ◌≡◌, ◌+◌, ◌-◌, ◌<�
 use Rattle.std.specs.Int.{div_ceil}
 use Rattle.dds_base.specs.declared.portion.Portion.{Portion}
 use Rattle.dds_match.specs.Network.{Network, weighed}
-use Rattle.dds_check.specs.Accepted.{Row, spread}
+use Rattle.dds_runs.specs.Accepted.{Row, spread}
 use Rattle.dds_propose.specs.declared.targets.Target.{Target}
 use Rattle.dds_propose.specs.Targets.{counts, reader_of}
 

@@ -1,6 +1,6 @@
 -- The weights of a row while it is made: a table with a place for each key of each endpoint.
 use Rattle.std.specs.Prelude.{ℕ, ◌+◌, ◌*◌, Bool, ◌&&◌, nat_lt, List, slice_index, if◌then◌else◌}
-use Rattle.dds_check.specs.Accepted.{Row}
+use Rattle.dds_runs.specs.Accepted.{Row}
 use Rattle.dds_propose.specs.declared.weights.Weights.{Weights}
 
 -- there is a place for the key of the endpoint

@@ -4,7 +4,7 @@ ghost use Rattle.std.specs.Option.{option_map_or};
 ghost use Rattle.dds_deploy.specs.Views.{rule_view};
 ghost use Rattle.dds_match.specs.Network.{weighed};
 ghost use Rattle.dds_match.specs.Plan.{network_of};
-ghost use Rattle.dds_check.specs.Accepted.{budget};
+ghost use Rattle.dds_runs.specs.Accepted.{budget};
 ghost use Rattle.dds_propose.specs.Bounds.{bound, least_sample};
 ghost use Rattle.dds_propose.specs.Tables.{cell, row_of};
 
@@ -36,7 +36,7 @@ fn opened_by(weights: &Weights, rule: &Rule) -> u128
 }
 
 /// What all permits at the opening weigh.
-#[tactic(auto, using(dds_check::proofs::Sums::total_start, dds_check::proofs::Sums::total_more))]
+#[tactic(auto, using(dds_runs::proofs::Sums::total_start, dds_runs::proofs::Sums::total_more))]
 fn budget(plan: &Plan, weights: &Weights) -> u128
     ensures { result ≡ budget (network_of plan.now) (row_of weights.now) }
 {

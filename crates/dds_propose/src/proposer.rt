@@ -3,9 +3,9 @@ ghost use Rattle.std.specs.Prelude.{◌≡◌, ◌++◌, true, None, IfOk, IfSom
 ghost use Rattle.dds_match.specs.Plan.{network_of};
 ghost use Rattle.dds_cert.specs.Fits.{fits};
 ghost use Rattle.dds_cert.specs.Views.{certificate_view};
-ghost use Rattle.dds_check.specs.Accepted.{Accepted, certificate_of};
+ghost use Rattle.dds_runs.specs.Accepted.{Accepted, certificate_of};
 ghost use Rattle.dds_check.specs.Accepts.{first_no};
-ghost use Rattle.dds_check.specs.Certified.{Safe};
+ghost use Rattle.dds_runs.specs.Certified.{Safe};
 ghost use Rattle.dds_propose.specs.Matches.{ShowsMatches};
 ghost use Rattle.dds_propose.specs.Proposal.{AddsTarget, IsProposal, bound_entry, total_entry};
 ghost use Rattle.dds_propose.specs.Targets.{IsReached};

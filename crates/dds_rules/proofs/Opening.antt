@@ -11,7 +11,7 @@ use Rattle.dds_deploy.specs.Lists.{Rule, Lists}
 use Rattle.dds_deploy.specs.WellFormed.{IsWellFormed, IsRuleOf, NamesOnce, IsConsistent, IsCounted, AreDistinctBy, endpoint_and_key}
 use Rattle.dds_match.specs.Network.{IsNetwork, named}
 use Rattle.dds_match.specs.Plan.{network_of, no_rule}
-use Rattle.dds_check.proofs.Sums.{total_start, total_more}
+use Rattle.dds_runs.proofs.Sums.{total_start, total_more}
 use Rattle.dds_rules.specs.Counts.{CountTable, IsMoreBy, count_at, no_counts}
 use Rattle.dds_rules.specs.Exchange.{Exchange, HasPlace, IsAlone, IsExchange, exchange_of}
 use Rattle.dds_rules.specs.Ledger.{LedgerState, IsLedgerOf, no_exchange}

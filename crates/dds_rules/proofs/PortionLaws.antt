@@ -7,7 +7,7 @@ use Rattle.std.proofs.Math.Nat.{mul-le-mul_right}
 use Rattle.std.proofs.lemmas.List.{take_more, take-append-drop}
 use Rattle.dds_base.specs.declared.portion.Portion.{Portion}
 use Rattle.dds_match.specs.Network.{named}
-use Rattle.dds_check.specs.Steps.{any_entry, is_empty}
+use Rattle.dds_runs.specs.Steps.{any_entry, is_empty}
 use Rattle.dds_rules.specs.Exchange.{IsAlone, lacks_room, lacks_takes}
 use Rattle.dds_rules.specs.Counts.{CountTable, IsMoreBy, count_at, only_at}
 use Rattle.dds_rules.proofs.CountLaws.{and_more}

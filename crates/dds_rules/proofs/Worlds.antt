@@ -2,10 +2,10 @@
 use Rattle.std.proofs.Common.{◌≡◌, ℕ, ◌+◌, ◌<◌, ◌^◌, Bool, ◌||◌, nat_lt, nat_le, List, [], ◌∷◌, length, slice_get, unwrap_or, refl, sym, ap, ◌∙◌, arith}
 use Rattle.dds_base.specs.declared.portion.Portion.{Portion}
 use Rattle.dds_match.specs.Network.{Network, named}
-use Rattle.dds_check.specs.World.{World}
-use Rattle.dds_check.specs.CountRuns.CountMove.{Fires}
-use Rattle.dds_check.specs.Steps.{any_entry, is_empty, fire_needs_more, fire_passes_limit}
-use Rattle.dds_check.proofs.CountsWeights.{fire_given, fire_spent}
+use Rattle.dds_runs.specs.World.{World}
+use Rattle.dds_runs.specs.CountRuns.CountMove.{Fires}
+use Rattle.dds_runs.specs.Steps.{any_entry, is_empty, fire_needs_more, fire_passes_limit}
+use Rattle.dds_runs.proofs.CountsWeights.{fire_given, fire_spent}
 use Rattle.dds_rules.specs.Counts.{IsMoreBy, count_at}
 use Rattle.dds_rules.specs.Exchange.{Exchange, lacks_takes, lacks_room}
 use Rattle.dds_rules.specs.Ledger.{LedgerState, IsLedgerOf, KeepsPlan, exchange_at, no_exchange}

@@ -3,7 +3,7 @@ use Rattle.std.specs.Prelude.{◌≡◌, ℕ, ◌+◌, ◌^◌, ◌<◌, Bool, �
 use Rattle.dds_base.specs.declared.portion.Portion.{Portion}
 use Rattle.dds_deploy.specs.Lists.{Rule}
 use Rattle.dds_match.specs.Network.{named}
-use Rattle.dds_check.specs.Steps.{any_entry, is_empty}
+use Rattle.dds_runs.specs.Steps.{any_entry, is_empty}
 
 -- what a rule takes, and what it may write after that
 pub record Exchange : Type 0 where

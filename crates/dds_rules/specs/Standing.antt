@@ -1,9 +1,9 @@
 -- How a ledger stands for a world of a run: its tables are the permits and the unspent takes that the history gives.
 use Rattle.std.specs.Prelude.{◌≡◌, ℕ}
 use Rattle.dds_match.specs.Network.{Network, IsNetwork}
-use Rattle.dds_check.specs.World.{World, permits, spare}
-use Rattle.dds_check.specs.CountRuns.{CountMove, counted}
-use Rattle.dds_check.specs.Facts.{CountsOk}
+use Rattle.dds_runs.specs.World.{World, permits, spare}
+use Rattle.dds_runs.specs.CountRuns.{CountMove, counted}
+use Rattle.dds_runs.specs.Facts.{CountsOk}
 use Rattle.dds_rules.specs.Counts.{count_at}
 use Rattle.dds_rules.specs.Ledger.{LedgerState, IsLedgerOf}
 

@@ -4,10 +4,10 @@ ghost use Rattle.dds_match.specs.Plan.{network_of};
 ghost use Rattle.dds_cert.specs.Lists.{Certificate as CertificateLists};
 ghost use Rattle.dds_cert.specs.Fits.{fits};
 ghost use Rattle.dds_cert.specs.Views.{certificate_view};
-ghost use Rattle.dds_check.specs.Accepted.{Accepted, certificate_of};
+ghost use Rattle.dds_runs.specs.Accepted.{Accepted, certificate_of};
 ghost use Rattle.dds_check.specs.Accepts.{first_no};
 ghost use Rattle.dds_check.specs.Claims.{structure_no};
-ghost use Rattle.dds_check.specs.Certified.{Safe};
+ghost use Rattle.dds_runs.specs.Certified.{Safe};
 ghost use Rattle.dds_search.specs.Answers.{IsShownFor, IsShownLeast, IfCertificate, IfStructure, IfLimit};
 
 use crate::answer::{Found, Least, Missing};

@@ -4,8 +4,8 @@ use Rattle.std.specs.Prelude.{IfErr, IfOk}
 use Rattle.dds_fields.specs.Reading.{Read}
 use Rattle.dds_deploy.specs.Lists.{Lists}
 use Rattle.dds_match.specs.Plan.{network_of}
-use Rattle.dds_check.specs.Steps.{Event, Reply}
-use Rattle.dds_check.specs.Runs.{IsRun}
+use Rattle.dds_runs.specs.Steps.{Event, Reply}
+use Rattle.dds_runs.specs.Runs.{IsRun}
 use Rattle.dds_domain.specs.Standing.{GoesOn, PartsState, StandsAfter}
 use Rattle.dds_events.specs.Events.{event_text}
 use Rattle.dds_events.specs.Reading.{IsFaultOf, said_of}

@@ -3,7 +3,7 @@ use Rattle.std.proofs.Common.{◌≡◌, ℕ, false, List, [], length, refl}
 use Rattle.std.specs.List.{range_with_len}
 use Rattle.serde_json.specs.Written.{has_float}
 use Rattle.dds_book.specs.declared.entry.Entry.{Entry}
-use Rattle.dds_peers.specs.declared.player.AppEnd.{AppEnd}
+use Rattle.dds_apps.specs.declared.player.AppEnd.{AppEnd}
 use Rattle.dds_json.proofs.Documents.{no_fractions}
 use Rattle.dds_tool.specs.RunDocument.{document_at, run_document}
 

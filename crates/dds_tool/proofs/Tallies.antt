@@ -5,7 +5,7 @@ use Rattle.std.proofs.lemmas.List.Sums.{length-filter}
 use Rattle.dds_base.specs.declared.events.Event.{Event}
 use Rattle.dds_base.specs.declared.events.Reply.{Reply}
 use Rattle.dds_book.specs.declared.entry.Entry.{Entry}
-use Rattle.dds_peers.specs.Kept.{entries_of}
+use Rattle.dds_apps.specs.Kept.{entries_of}
 
 -- the entry is the seat's, and passes
 abbrev pub is_own : (Event × Reply → Bool) → ℕ → Entry → Bool

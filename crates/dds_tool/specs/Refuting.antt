@@ -8,9 +8,9 @@ use Rattle.dds_match.specs.Plan.{network_of}
 use Rattle.dds_cert.specs.Lists.{Certificate}
 use Rattle.dds_cert.specs.Naming.{name_at, reader_key}
 use Rattle.dds_cert.specs.Views.{certificate_view}
-use Rattle.dds_check.specs.Accepted.{certificate_of}
+use Rattle.dds_runs.specs.Accepted.{certificate_of}
 use Rattle.dds_check.specs.Accepts.{first_no}
-use Rattle.dds_check.specs.Certified.{Safe}
+use Rattle.dds_runs.specs.Certified.{Safe}
 use Rattle.dds_check.specs.Claims.{structure_no}
 use Rattle.dds_events.specs.Lines.{lines_of}
 use Rattle.dds_events.specs.Replies.{rejection_name}

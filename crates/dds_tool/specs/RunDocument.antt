@@ -6,9 +6,9 @@ use Rattle.serde_json.specs.View.{items_of}
 use Rattle.dds_base.specs.declared.events.Event.{Event}
 use Rattle.dds_base.specs.declared.events.Reply.{Reply}
 use Rattle.dds_book.specs.declared.entry.Entry.{Entry}
-use Rattle.dds_peers.specs.declared.player.AppEnd.{AppEnd}
-use Rattle.dds_peers.specs.declared.player.AppEnd.TheVariants as end
-use Rattle.dds_peers.specs.Kept.{entries_of}
+use Rattle.dds_apps.specs.declared.player.AppEnd.{AppEnd}
+use Rattle.dds_apps.specs.declared.player.AppEnd.TheVariants as end
+use Rattle.dds_apps.specs.Kept.{entries_of}
 use Rattle.dds_json.specs.Line.{line_of}
 use Rattle.dds_json.specs.Matching.{answer_word}
 use Rattle.dds_json.specs.declared.style.Style.{Style}

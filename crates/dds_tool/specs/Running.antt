@@ -9,9 +9,9 @@ use Rattle.dds_deploy.specs.Lists.{Lists}
 use Rattle.dds_cert.specs.Naming.{name_at}
 use Rattle.dds_cert.specs.Text.{each_below}
 use Rattle.dds_book.specs.declared.entry.Entry.{Entry}
-use Rattle.dds_peers.specs.declared.player.AppEnd.{AppEnd}
-use Rattle.dds_peers.specs.declared.player.AppEnd.TheVariants as end
-use Rattle.dds_peers.specs.Kept.{entries_of}
+use Rattle.dds_apps.specs.declared.player.AppEnd.{AppEnd}
+use Rattle.dds_apps.specs.declared.player.AppEnd.TheVariants as end
+use Rattle.dds_apps.specs.Kept.{entries_of}
 
 -- the reply tells of a sample that was written
 abbrev pub tells_of_write : Reply → Bool

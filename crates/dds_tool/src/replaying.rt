@@ -1,7 +1,7 @@
 //! What `replay` answers.
 ghost use Rattle.std.specs.Prelude.{◌≡◌, Ok, IfErr, IfOk, length, string_bytes};
 ghost use Rattle.dds_match.specs.Plan.{network_of};
-ghost use Rattle.dds_check.specs.Runs.{IsRun};
+ghost use Rattle.dds_runs.specs.Runs.{IsRun};
 ghost use Rattle.dds_domain.specs.Standing.{paired};
 ghost use Rattle.dds_answers.specs.Answers.{GivesOneOf};
 ghost use Rattle.dds_answers.specs.Fault.{IsAnswerFault};

@@ -4,7 +4,7 @@ ghost use Rattle.std.specs.List.{range_with_len};
 ghost use Rattle.serde_json.specs.Data.{array};
 ghost use Rattle.serde_json.specs.View.{items_of, view};
 ghost use Rattle.dds_json.specs.Line.{line_of};
-ghost use Rattle.dds_peers.specs.Kept.{entries_of};
+ghost use Rattle.dds_apps.specs.Kept.{entries_of};
 ghost use Rattle.dds_tool.specs.RunDocument.{app_document, document_at, run_document};
 
 use crate::running::{all_stopped, end_word, taken_by, written_by};

@@ -1,10 +1,11 @@
-//! The commands of `ddscheck` whose words are a command and the names of its files, for the toolchain's interpreter: it reads such words itself, so that
-//! the interpreter hasn't to compile `clap`, and answers in half the time. Where nothing is built, `./ddscheck` hands these words to it.
+//! The commands by which users begin, `check`, `match`, `propose` and `migrate`, on words that are the command and the names of its files, for the
+//! toolchain's interpreter: it reads such words itself, so that the interpreter has neither `clap` nor the other commands to compile, and answers in less
+//! than half the time. Where nothing is built, `./ddscheck` hands these words to it.
 #![tactic(auto)]
 
 use dds_answers::{
-    Answer, Detail, Disk, Format, Sources, Stream, ToolFault, check_files, draw_file, draw_files,
-    give, match_file, migrate_file, propose_file, show_file, tell_fault,
+    Answer, Disk, Report, Sources, Stream, ToolFault, answer_check, answered, give, match_file,
+    migrate_file, propose_file, read_files, report_text, tell_fault,
 };
 use std::alloc::Global;
 use std::env::{self, Env};
@@ -35,10 +36,23 @@ fn answer_to_one<S: Sources>(
         "match" => match_file(alloc, deployment, files),
         "propose" => propose_file(alloc, deployment, files),
         "migrate" => migrate_file(alloc, deployment, files),
-        "show" => show_file(alloc, deployment, Format::Json, files),
-        "draw" => draw_file(alloc, deployment, files),
         _ => Err(other_words(alloc)),
     }
+}
+
+/// The answer of `check` without a reason, so that the code of reasons hasn't to be compiled.
+fn check<S: Sources>(
+    alloc: Global,
+    deployment: &str,
+    certificate: &str,
+    files: &mut S,
+) -> Result<Answer, ToolFault> {
+    let (deployment, certificate) = read_files(alloc, files, deployment, certificate)?;
+    let report = answer_check(alloc, deployment.as_slice(), certificate.as_slice())?;
+    let is_yes = matches!(&report, Report::Yes(_));
+    let answer = answered(report_text(alloc, &report), is_yes);
+    drop(report);
+    answer
 }
 
 /// The answer to a command on two files.
@@ -50,8 +64,7 @@ fn answer_to_two<S: Sources>(
     files: &mut S,
 ) -> Result<Answer, ToolFault> {
     match command {
-        "check" => check_files(alloc, deployment, certificate, Detail::Plain, files),
-        "draw" => draw_files(alloc, deployment, certificate, files),
+        "check" => check(alloc, deployment, certificate, files),
         _ => Err(other_words(alloc)),
     }
 }

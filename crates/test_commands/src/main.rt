@@ -1,5 +1,6 @@
 //! Whole commands as data: prints each line of standard input, and below a line that is a command line what comes of it over the files of the folder
-//! in which this runs. The stored run has its command lines in `stdin`, what is expected in `stdout` and the files in `data`.
+//! in which this runs. A command line after the word `often` is run fifty times, and has to answer alike. The stored run has its command lines in `stdin`,
+//! what is expected in `stdout` and the files in `data`.
 #![tactic(auto)]
 
 use dds_answers::{Disk, Stream};
@@ -46,14 +47,37 @@ fn outcome<R: Files + Input + Threads + Wait + Clock + Sync>(
     format!(in alloc; "{output}errors:\n{errors}status {status}")
 }
 
+/// What comes of the words each of fifty times, with one that differs from the first below it.
+fn outcome_often<R: Files + Input + Threads + Wait + Clock + Sync>(
+    rt: &R,
+    alloc: Global,
+    words: &[&str],
+) -> Result<String, AllocError> {
+    let first = outcome(rt, alloc, words)?;
+    for _ in 1..50u8 {
+        let other = outcome(rt, alloc, words)?;
+        if other != first {
+            return format!(in alloc; "{first}\nand another time:\n{other}");
+        }
+    }
+    Ok(first)
+}
+
 fn main(rt: HostRuntime) -> io::Result<()> {
     for line in rt.lines(rt.alloc()) {
         let line = line?;
         println!(rt; "{line}")?;
         let words = words_of(rt.alloc(), line.as_str())?;
-        if words.as_slice().first() == Some(&"ddscheck") {
-            let text = outcome(&rt, rt.alloc(), words.as_slice())?;
-            println!(rt; "{text}")?;
+        match words.as_slice() {
+            ["ddscheck", ..] => {
+                let text = outcome(&rt, rt.alloc(), words.as_slice())?;
+                println!(rt; "{text}")?;
+            }
+            ["often", rest @ ..] => {
+                let text = outcome_often(&rt, rt.alloc(), rest)?;
+                println!(rt; "{text}")?;
+            }
+            _ => {}
         }
     }
     Ok(())

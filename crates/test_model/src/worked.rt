@@ -9,7 +9,7 @@ use dds_base::{
 };
 
 /// The deployment of a run.
-#[derive(Clone, Copy, Debug, PartialEq, Eq)]
+#[derive(Clone, Copy, PartialEq, Eq)]
 pub enum Stage {
     /// One writer, one reader that takes so many samples of an instance, one key, and as many permits.
     Small(u32),
@@ -27,7 +27,7 @@ pub enum Stage {
 }
 
 /// An event, or a question about what is there.
-#[derive(Clone, Copy, Debug, PartialEq, Eq)]
+#[derive(Clone, Copy)]
 pub enum Move {
     /// The writer, the key, and the byte that its payload is filled with.
     Write(usize, usize, u8),

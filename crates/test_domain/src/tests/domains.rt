@@ -61,7 +61,8 @@ fn expect_move(
         None => answer(domain, written, asked),
     };
     if let Some(answered) = answered {
-        assert_eq!(rt; answered, told, "{about}: {asked:?}");
+        let event = event_of(asked);
+        assert_eq!(rt; answered, told, "{about}: {event:?}");
     }
 }
 
@@ -179,7 +180,7 @@ pub(crate) fn listed(alloc: Global) -> Result<Vec<Event>, NoMemory> {
 /// The replies are those that the list tells from a place on, as far as they go.
 pub(crate) fn expect_replies(rt: &impl Abort, replies: &[Reply], from: usize) {
     for (reply, (asked, told)) in replies.iter().zip(LIST.iter().skip(from)) {
-        assert_eq!(rt; told_of(reply), *told, "{asked:?}");
+        assert_eq!(rt; told_of(reply), *told, "{:?}", event_of(*asked));
     }
 }
 

@@ -115,8 +115,8 @@ impl Twins {
             let again = event;
             let first = told_of(&self.make_first(rt, event));
             let second = told_of(&self.make_second(rt, again));
-            assert_eq!(rt; first, told, "{about}: {asked:?}");
-            assert_eq!(rt; second, told, "{about}: {asked:?}");
+            assert_eq!(rt; first, told, "{about}: {event:?}");
+            assert_eq!(rt; second, told, "{about}: {event:?}");
         }
     }
 }

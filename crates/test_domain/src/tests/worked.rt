@@ -121,14 +121,7 @@ fn answer(both: &Both, asked: Move) -> Told {
     }
 }
 
-/// Makes a move on both sides, and tells what the parts reply.
-fn make(rt: &impl Abort, both: &mut Both, plan: &Plan, asked: Move) -> Told {
-    match event_of(asked) {
-        Some(event) => told_of(&both.enter_same(rt, plan, &event)),
-        None => answer(both, asked),
-    }
-}
-
+/// Makes a move on both sides, of which the parts reply this.
 fn expect_move(
     rt: &impl Abort,
     both: &mut Both,
@@ -137,7 +130,12 @@ fn expect_move(
     told: Told,
     about: &str,
 ) {
-    assert_eq!(rt; make(rt, both, plan, asked), told, "{about}: {asked:?}");
+    let answered = match event_of(asked) {
+        Some(event) => told_of(&both.enter_same(rt, plan, &event)),
+        None => answer(both, asked),
+    };
+    let event = event_of(asked);
+    assert_eq!(rt; answered, told, "{about}: {event:?}");
 }
 
 /// The plan of a stage's deployment.

@@ -2,7 +2,7 @@ use Rattle.std.proofs.Common.{sym, ◌∙◌}
 use Rattle.dds_cert.specs.Views.{certificate_view}
 use Rattle.dds_check.proofs.Fitting.{tabled_of}
 use Rattle.dds_check.proofs.Whole.{accepted_where_none}
-use Rattle.dds_check.proofs.Safety.{safe_law}
+use Rattle.dds_runs.proofs.Safety.{safe_law}
 use Rattle.dds_check.proofs.accepts.accepts.Goals as goal
 
 pub first_no-requires : goal.first_no-requires

@@ -2,7 +2,7 @@ use Rattle.std.proofs.Common.{◌≡◌, ◌*◌, sym, ap, ◌∙◌, arith}
 use Rattle.dds_base.specs.Sums.{total}
 use Rattle.dds_match.specs.Network.{weighed}
 use Rattle.dds_match.specs.Plan.{network_of}
-use Rattle.dds_check.specs.Accepted.{row_of}
+use Rattle.dds_runs.specs.Accepted.{row_of}
 use Rattle.dds_check.proofs.Grid.{pairs_opened}
 use Rattle.dds_check.proofs.Plans.{writes_in}
 use Rattle.dds_check.proofs.budget.budget.Goals as goal

@@ -2,7 +2,7 @@ use Rattle.std.proofs.Common.{◌≡◌, ◌≤◌, ◌*◌, ◌^◌}
 use Rattle.dds_base.specs.Sums.{total}
 use Rattle.dds_match.specs.Network.{weighed}
 use Rattle.dds_match.specs.Plan.{network_of}
-use Rattle.dds_check.specs.Accepted.{row_of}
+use Rattle.dds_runs.specs.Accepted.{row_of}
 use Rattle.dds_check.proofs.budget.budget.Given as goal
 
 abbrev pub invariant-loop-u : goal.invariant-loop-u

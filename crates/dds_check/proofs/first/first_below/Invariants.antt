@@ -1,5 +1,5 @@
 use Rattle.std.proofs.Common.{◌≡◌, ◌<◌, ℕ, None}
-use Rattle.dds_check.specs.First.{first_below}
+use Rattle.dds_runs.specs.First.{first_below}
 use Rattle.dds_check.proofs.first.first_below.Given as goal
 
 -- none so far is there

@@ -1,6 +1,6 @@
 use Rattle.std.proofs.Common.{◌≡◌}
 use Rattle.dds_match.specs.Plan.{network_of}
-use Rattle.dds_check.specs.First.{all_below}
+use Rattle.dds_runs.specs.First.{all_below}
 use Rattle.dds_check.specs.Limits.{is_bounded}
 use Rattle.dds_check.proofs.limits.all_bounded.Given as goal
 

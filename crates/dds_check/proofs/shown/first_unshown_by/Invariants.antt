@@ -1,5 +1,5 @@
 use Rattle.dds_match.specs.Plan.{network_of}
-use Rattle.dds_check.specs.First.{NoneBefore}
+use Rattle.dds_runs.specs.First.{NoneBefore}
 use Rattle.dds_check.specs.Shown.{is_unshown_by}
 use Rattle.dds_check.proofs.shown.first_unshown_by.Given as goal
 

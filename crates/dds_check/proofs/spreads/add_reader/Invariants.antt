@@ -1,6 +1,6 @@
 use Rattle.std.proofs.Common.{ℕ, ◌<◌, ◌^◌, nat_lt, if◌then◌else◌}
 use Rattle.dds_match.specs.Plan.{network_of}
-use Rattle.dds_check.specs.Accepted.{row_of}
+use Rattle.dds_runs.specs.Accepted.{row_of}
 use Rattle.dds_check.specs.Spreads.{Adds, heard}
 use Rattle.dds_check.proofs.spreads.add_reader.Given as goal
 

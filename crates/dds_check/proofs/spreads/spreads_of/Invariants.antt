@@ -1,5 +1,5 @@
 use Rattle.dds_match.specs.Plan.{network_of}
-use Rattle.dds_check.specs.Accepted.{row_of}
+use Rattle.dds_runs.specs.Accepted.{row_of}
 use Rattle.dds_check.specs.Spreads.{ShowsHeard}
 use Rattle.dds_check.proofs.spreads.spreads_of.Given as goal
 

@@ -4,7 +4,7 @@ use Rattle.dds_deploy.specs.Lists.{Lists}
 use Rattle.dds_match.specs.Plan.{network_of}
 use Rattle.dds_cert.specs.Naming.{reader_key}
 use Rattle.dds_cert.specs.declared.certificate.Bound.{Bound}
-use Rattle.dds_check.specs.Accepted.{instance_limit}
+use Rattle.dds_runs.specs.Accepted.{instance_limit}
 use Rattle.dds_check.specs.Tables.{bound_of}
 use Rattle.dds_explain.specs.Limits.{bound_text}
 use Rattle.dds_explain.specs.Pieces.{instance_limit_name, limit_text}

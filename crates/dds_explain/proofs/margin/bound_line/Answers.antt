@@ -1,7 +1,7 @@
 use Rattle.std.proofs.Common.{◌≡◌, ◌∙◌, string_bytes}
 use Rattle.dds_match.specs.Plan.{network_of}
 use Rattle.dds_cert.specs.Views.{row_view}
-use Rattle.dds_check.specs.Accepted.{budget, row_of}
+use Rattle.dds_runs.specs.Accepted.{budget, row_of}
 use Rattle.dds_explain.specs.Margin.{bound_words, margin_text, named_instance_limit}
 use Rattle.dds_explain.specs.Shown.{shown_text}
 use Rattle.dds_explain.proofs.margin.bound_line.Goals as goal

@@ -4,7 +4,7 @@ use Rattle.dds_deploy.specs.Lists.{Lists}
 use Rattle.dds_match.specs.Network.{weighed}
 use Rattle.dds_match.specs.Plan.{network_of}
 use Rattle.dds_cert.specs.Views.{row_view}
-use Rattle.dds_check.specs.Accepted.{row_of}
+use Rattle.dds_runs.specs.Accepted.{row_of}
 use Rattle.dds_check.proofs.Grid.{pairs_opened}
 use Rattle.dds_check.proofs.Plans.{writes_in}
 use Rattle.dds_explain.proofs.weights.budget.Goals as goal

@@ -1,9 +1,9 @@
 use Rattle.std.proofs.Common.{rules, ◌≡◌, [], length, map, All, sym, ap, ◌∙◌, subst, arith, true, false}
 use Rattle.std.specs.List.{range_with_len}
 use Rattle.std.specs.Vec.{vec_len}
-use Rattle.dds_peers.specs.Kept.{entries_of}
+use Rattle.dds_apps.specs.Kept.{entries_of}
 use Rattle.dds_peers.proofs.ListLaws.{mapped_len, yes, no}
-use Rattle.dds_peers.proofs.KeptLaws.{closed_deeds, closed_counts}
+use Rattle.dds_apps.proofs.KeptLaws.{closed_deeds, closed_counts}
 use Rattle.dds_peers.proofs.run.perform.Goals as goal
 
 pub sit-players-requires-clause-fresh : goal.sit-players-requires-clause-fresh

@@ -1,6 +1,6 @@
 use Rattle.std.proofs.Common.{rules, ◌≡◌, ◌+◌, ◌<◌, ◌++◌, ◌∷◌, [], length, map, sym, ap, ◌∙◌, refl, subst, arith, append_assoc, length-append, Some}
 use Rattle.std.specs.Vec.Iter.{into_iter_items}
-use Rattle.dds_peers.specs.Kept.{IsKept, done_by}
+use Rattle.dds_apps.specs.Kept.{IsKept, done_by}
 use Rattle.dds_peers.proofs.ListLaws.{all_next, map_more, map_both, whole, walked}
 use Rattle.dds_peers.proofs.settling.settle.Goals as goal
 

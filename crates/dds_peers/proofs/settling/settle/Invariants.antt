@@ -1,7 +1,7 @@
 use Rattle.std.proofs.Common.{◌≡◌, ◌≤◌, ◌+◌, ◌++◌, length, map, true}
 use Rattle.std.specs.Vec.{vec_len, vec_capacity}
 use Rattle.std.specs.Vec.Iter.{into_iter_items, into_iter_len}
-use Rattle.dds_peers.specs.Kept.{done_by}
+use Rattle.dds_apps.specs.Kept.{done_by}
 use Rattle.dds_peers.proofs.ListLaws.{Walks}
 use Rattle.dds_peers.proofs.settling.settle.Given as goal
 

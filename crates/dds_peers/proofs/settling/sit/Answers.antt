@@ -2,8 +2,8 @@ use Rattle.std.proofs.Common.{rules, ◌≡◌, ◌<◌, ◌++◌, ◌∷◌, []
 use Rattle.std.specs.List.{range_with_len}
 use Rattle.std.specs.Vec.Iter.{into_iter_items, into_iter_len}
 use Rattle.dds_book.specs.Seat.{new_seat}
-use Rattle.dds_peers.specs.Kept.{IsKept, claim_of, new_claim}
-use Rattle.dds_peers.proofs.KeptLaws.{kept_new}
+use Rattle.dds_apps.specs.Kept.{IsKept, claim_of, new_claim}
+use Rattle.dds_apps.proofs.KeptLaws.{kept_new}
 use Rattle.dds_peers.proofs.ListLaws.{all_next, all_more, map_more, next_made, length_map, made_len, range_more, walked}
 use Rattle.dds_peers.proofs.settling.sit.Goals as goal
 

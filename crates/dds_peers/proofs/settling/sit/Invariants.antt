@@ -3,7 +3,7 @@ use Rattle.std.specs.List.{range_with_len}
 use Rattle.std.specs.Vec.{vec_len, vec_capacity}
 use Rattle.std.specs.Vec.Iter.{into_iter_items, into_iter_len}
 use Rattle.dds_book.specs.Seat.{new_seat}
-use Rattle.dds_peers.specs.Kept.{IsKept, claim_of, new_claim}
+use Rattle.dds_apps.specs.Kept.{IsKept, claim_of, new_claim}
 use Rattle.dds_peers.proofs.ListLaws.{Walks}
 use Rattle.dds_peers.proofs.settling.sit.Given as goal
 

@@ -1,7 +1,7 @@
 use Rattle.std.proofs.Common.{◌≡◌, ◌≤◌, ◌+◌, ◌++◌, length, map, All}
 use Rattle.std.specs.Vec.{vec_len, vec_capacity}
 use Rattle.std.specs.Vec.Iter.{into_iter_items, into_iter_len}
-use Rattle.dds_peers.specs.Kept.{IsKept}
+use Rattle.dds_apps.specs.Kept.{IsKept}
 use Rattle.dds_peers.proofs.ListLaws.{Walks}
 use Rattle.dds_peers.proofs.threads.join_players.Given as goal
 

@@ -1,7 +1,7 @@
 use Rattle.std.proofs.Common.{rules, ◌≡◌, ◌++◌, ◌∷◌, [], length, map, sym, ap, ◌∙◌, arith, append_assoc}
 use denote.Param.Send.{sendable}
 use Rattle.std.specs.Vec.Iter.{into_iter_items}
-use Rattle.dds_peers.specs.Kept.{IsKept}
+use Rattle.dds_apps.specs.Kept.{IsKept}
 use Rattle.dds_peers.proofs.ListLaws.{all_next, all_more, map_both, whole, walked}
 use Rattle.dds_peers.proofs.threads.start_players.Goals as goal
 

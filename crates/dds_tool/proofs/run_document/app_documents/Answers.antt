@@ -2,8 +2,8 @@ use Rattle.std.proofs.Common.{◌≡◌, ◌∙◌, [], List, ℕ, get_or, map, 
 use Rattle.std.proofs.lemmas.List.{get_or-map}
 use Rattle.serde_json.specs.View.{view}
 use Rattle.dds_book.specs.declared.entry.Entry.{Entry}
-use Rattle.dds_peers.specs.declared.player.AppEnd.TheVariants.{Stopped}
-use Rattle.dds_peers.specs.Kept.{entries_of}
+use Rattle.dds_apps.specs.declared.player.AppEnd.TheVariants.{Stopped}
+use Rattle.dds_apps.specs.Kept.{entries_of}
 use Rattle.dds_json.proofs.Documents.{one_more}
 use Rattle.dds_tool.specs.RunDocument.{app_document, document_at}
 use Rattle.dds_tool.proofs.run_document.app_documents.Goals as goal

@@ -1,5 +1,5 @@
 use Rattle.std.proofs.Common.{◌≡◌, ◌∙◌, None, List, ℕ, length, map, string_bytes, sym, ap, ap₂}
-use Rattle.dds_peers.specs.declared.player.AppEnd.{AppEnd}
+use Rattle.dds_apps.specs.declared.player.AppEnd.{AppEnd}
 use Rattle.dds_tool.specs.RunDocument.{told_run}
 use Rattle.dds_tool.specs.Running.{all_stopped, app_names}
 use Rattle.dds_tool.proofs.RunGives.{names_len, ran_gives}

@@ -2,8 +2,8 @@ use Rattle.std.proofs.Common.{◌≡◌, ◌∙◌, ◌++◌, [], List, ℕ, get
 use Rattle.std.proofs.lemmas.List.{get_or-map}
 use Rattle.dds_book.specs.declared.entry.Entry.{Entry}
 use Rattle.dds_cert.proofs.TextLaws.{and_next}
-use Rattle.dds_peers.specs.declared.player.AppEnd.TheVariants.{Stopped}
-use Rattle.dds_peers.specs.Kept.{entries_of}
+use Rattle.dds_apps.specs.declared.player.AppEnd.TheVariants.{Stopped}
+use Rattle.dds_apps.specs.Kept.{entries_of}
 use Rattle.dds_tool.specs.Running.{app_line, line_at}
 use Rattle.dds_tool.proofs.running.run_text.Goals as goal
 

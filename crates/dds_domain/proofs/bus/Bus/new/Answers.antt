@@ -1,5 +1,5 @@
 use Rattle.std.proofs.Common.{rules, ◌≡◌, ℕ, None, replicate}
-use Rattle.dds_check.specs.Steps.{places}
+use Rattle.dds_runs.specs.Steps.{places}
 use Rattle.dds_domain.proofs.Counted.{counted_empty}
 use Rattle.dds_domain.proofs.bus.Bus.new.Goals as goal
 

@@ -1,6 +1,6 @@
 use Rattle.std.proofs.Common.{Option, subst, sym}
 use Rattle.std.specs.Prelude.{◌≡◌, IfSome, None}
-use Rattle.dds_check.specs.Steps.{Event, refusal}
+use Rattle.dds_runs.specs.Steps.{Event, refusal}
 use Rattle.dds_match.specs.Plan.{network_of}
 use Rattle.dds_domain.specs.Schedule.{due}
 use Rattle.dds_domain.specs.Standing.{DomainState, IsAt}

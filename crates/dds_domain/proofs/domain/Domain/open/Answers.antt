@@ -2,8 +2,8 @@ use Rattle.std.proofs.Common.{◌∙◌, subst, sym}
 use Rattle.dds_cert.specs.Lists.{Certificate}
 use Rattle.dds_deploy.specs.Lists.{Lists}
 use Rattle.dds_match.specs.Plan.{network_of}
-use Rattle.dds_check.specs.Accepted.{Accepted, certificate_of}
-use Rattle.dds_check.specs.World.{opening}
+use Rattle.dds_runs.specs.Accepted.{Accepted, certificate_of}
+use Rattle.dds_runs.specs.World.{opening}
 use Rattle.dds_domain.specs.Noted.{opening_notes}
 use Rattle.dds_domain.proofs.domain.Domain.open.Goals as goal
 

@@ -1,6 +1,6 @@
 use Rattle.std.proofs.Common.{◌≡◌, None}
-use Rattle.dds_check.specs.First.{first_below}
-use Rattle.dds_check.specs.World.{World}
+use Rattle.dds_runs.specs.First.{first_below}
+use Rattle.dds_runs.specs.World.{World}
 use Rattle.dds_domain.specs.Noted.{Noted}
 use Rattle.dds_domain.specs.Schedule.{acknack_due, first_of_reader, is_reader_of}
 use Rattle.dds_domain.specs.Standing.{PartsAt}

@@ -1,6 +1,6 @@
 use Rattle.std.proofs.Common.{true, false, Some, position, is_some, sym, ap, ◌∙◌}
 use Rattle.std.proofs.lemmas.Option.{none-some, same_Some}
-use Rattle.dds_check.specs.Steps.{Deliver, Lose}
+use Rattle.dds_runs.specs.Steps.{Deliver, Lose}
 use Rattle.dds_domain.specs.Bus.{last_taken}
 use Rattle.dds_domain.specs.Schedule.{lowest, highest, by_fate}
 use Rattle.dds_domain.proofs.Buses.{lowest_is, highest_is}

@@ -1,7 +1,7 @@
 use Rattle.std.proofs.Common.{◌≡◌, None}
 use Rattle.dds_match.specs.Plan.{matched}
-use Rattle.dds_check.specs.First.{first_below}
-use Rattle.dds_check.specs.World.{World}
+use Rattle.dds_runs.specs.First.{first_below}
+use Rattle.dds_runs.specs.World.{World}
 use Rattle.dds_domain.specs.Noted.{Noted}
 use Rattle.dds_domain.specs.Schedule.{acknack_due}
 use Rattle.dds_domain.specs.Standing.{PartsAt}

@@ -2,7 +2,7 @@ use Rattle.std.proofs.Common.{◌≡◌, ◌<◌, ◌≤◌, length, None, Some,
 use Rattle.dds_base.specs.declared.events.Event.TheVariants.{Fire}
 use Rattle.dds_base.specs.declared.events.Reply.TheVariants.{Refused, Fired}
 use Rattle.dds_base.specs.declared.events.Refusal.TheVariants.{Foreign, NotEnough, CountLimit}
-use Rattle.dds_check.specs.CountRuns.CountMove.{Fires}
+use Rattle.dds_runs.specs.CountRuns.CountMove.{Fires}
 use Rattle.dds_rules.specs.declared.refused.FireRefused.TheVariants.{NotEnough as TooFew, CountLimit as TooMany}
 use Rattle.dds_rules.specs.Ledger.{fire_refusal}
 use Rattle.dds_rules.specs.Standing.{Makes}

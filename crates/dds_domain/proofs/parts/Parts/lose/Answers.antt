@@ -3,7 +3,7 @@ use Rattle.std.specs.Prelude.{is_none}
 use Rattle.dds_base.specs.declared.events.Event.TheVariants.{Lose}
 use Rattle.dds_base.specs.declared.events.Reply.TheVariants.{Dropped}
 use Rattle.dds_base.specs.declared.events.Refusal.TheVariants.{NoPacket}
-use Rattle.dds_check.specs.Steps.{is_none_of}
+use Rattle.dds_runs.specs.Steps.{is_none_of}
 use Rattle.dds_domain.specs.Bus.{at_place}
 use Rattle.dds_domain.specs.Standing.{PartsState, StepsNotes, StepsWorld}
 use Rattle.dds_domain.specs.View.{view_of}

@@ -1,5 +1,5 @@
 use Rattle.std.proofs.Common.{◌≡◌, ◌<◌, List, length, get_or, sym, subst, ◌∙◌, rules}
-use Rattle.dds_check.specs.Steps.{Reply}
+use Rattle.dds_runs.specs.Steps.{Reply}
 use Rattle.dds_domain.specs.Standing.{Does, Runs, paired}
 use Rattle.dds_domain.proofs.Standing.{has_world, running_step, runs_more, runs_start}
 use Rattle.dds_domain.proofs.parts.Parts.run.Goals as goal

@@ -1,7 +1,7 @@
 use Rattle.std.proofs.Common.{◌≡◌, ℕ, refl, ◌∙◌}
 use Rattle.dds_deploy.specs.Lists.{Lists}
 use Rattle.dds_match.specs.Plan.{network_of}
-use Rattle.dds_check.specs.World.{World}
+use Rattle.dds_runs.specs.World.{World}
 use Rattle.dds_domain.specs.Noted.{Noted}
 use Rattle.dds_domain.specs.Schedule.{due_to, first_by_writer, send_due}
 use Rattle.dds_domain.specs.declared.schedule.Sending.{Sending}

@@ -1,0 +1,3 @@
+pub mod Diary
+pub mod Ends
+pub mod Kept

@@ -1,5 +1,0 @@
-use Rattle.dds_check.proofs.Overflows.{equal_bound_law}
-use Rattle.dds_check.proofs.laws.equal_bound.Goals as goal
-
-pub returns : goal.returns
-returns c = equal_bound_law

@@ -1,5 +1,0 @@
-use Rattle.dds_check.proofs.Overflows.{forgotten_reader_law}
-use Rattle.dds_check.proofs.laws.forgotten_reader.Goals as goal
-
-pub returns : goal.returns
-returns c = forgotten_reader_law

@@ -1,0 +1,98 @@
+-- What a reader stored and has not taken is in flight: the samples that matched writers wrote are a list without a place twice.
+use Rattle.std.proofs.Common.{◌≡◌, ◌⊎◌, inl, inr, ℕ, zero, suc, ◌+◌, ◌≤◌, ◌<◌, Bool, true, false, cond, ◌||◌, List, [], ◌∷◌, ◌++◌, Option, Some, None, refl, sym, ap, ◌∙◌, subst, arith}
+use Rattle.std.specs.Prelude.{count_by}
+use Rattle.std.proofs.lemmas.Bool.{cases_eq, cond_both, or_from}
+use Rattle.std.proofs.lemmas.List.Sums.{sum_by-append}
+use Rattle.dds_base.specs.Sums.{total, In}
+use Rattle.dds_match.specs.Network.{Network, IsNetwork}
+use Rattle.dds_runs.specs.World.{World, Sample, entry_at, is_same, holds, has_key, count_key, supply}
+use Rattle.dds_runs.proofs.StoredPlaces.{Distinct, count_part, numbered, numbered_other, numbered_distinct, numbered_in, numbered_count}
+pub use Rattle.dds_runs.specs.Facts.{IsWrittenFor}
+
+pub In_left : {A : Type 0} (xs ys : List A) (x : A) → In x xs → In x (xs ++ ys)
+In_left [] ys x i = absurd i
+In_left (y ∷ xs) ys x (inl e) = inl e
+In_left (y ∷ xs) ys x (inr i) = inr (In_left xs ys x i)
+
+pub In_right : {A : Type 0} (xs ys : List A) (x : A) → In x ys → In x (xs ++ ys)
+In_right [] ys x i = i
+In_right (y ∷ xs) ys x i = inr (In_right xs ys x i)
+
+pub In_cases : {A : Type 0} (xs ys : List A) (x : A) → In x (xs ++ ys) → In x xs ⊎ In x ys
+In_cases [] ys x i = inr i
+In_cases (y ∷ xs) ys x (inl e) = inl (inl e)
+In_cases (y ∷ xs) ys x (inr i) = elim (In_cases xs ys x i) [ inl j ↦ inl (inr j) | inr j ↦ inr j ]
+
+pub holds_append : (xs ys : List Sample) (s : Sample) → holds (xs ++ ys) s ≡ (holds xs s || holds ys s)
+holds_append [] ys s = refl
+holds_append (x ∷ xs) ys s = ap (λ b. is_same s x || b) (holds_append xs ys s) ∙ assoc (is_same s x) (holds xs s) (holds ys s)
+  where
+    assoc : (a b c : Bool) → (a || (b || c)) ≡ ((a || b) || c)
+    assoc true b c = refl
+    assoc false b c = refl
+
+pub Distinct_append : (xs ys : List Sample) → Distinct xs → Distinct ys → ((s : Sample) → In s xs → holds ys s ≡ false) → Distinct (xs ++ ys)
+Distinct_append [] ys dx dy apart = dy
+Distinct_append (x ∷ xs) ys dx dy apart = (holds_append xs ys x ∙ or_from (holds xs x) (holds ys x) dx.0 (apart x (inl refl)), Distinct_append xs ys dx.1 dy (λ s i. apart s (inr i)))
+
+pub numbered_writer : (w n : ℕ) (es : List (ℕ × List ℕ)) (s : Sample) → In s (numbered w n es) → s.writer ≡ w
+numbered_writer w n [] s i = absurd i
+numbered_writer w n (e ∷ es) s (inl h) = sym (ap (λ (x : Sample). x.writer) h)
+numbered_writer w n (e ∷ es) s (inr i) = numbered_writer w (suc n) es s i
+
+-- the samples of the writers below n that M has
+pub all_samples : (M : ℕ → Bool) (W : ℕ → List (ℕ × List ℕ)) → ℕ → List Sample
+all_samples M W zero = []
+all_samples M W (suc n) = all_samples M W n ++ cond (M n) (numbered n 1 (W n)) []
+
+all_below : (M : ℕ → Bool) (W : ℕ → List (ℕ × List ℕ)) (n : ℕ) (s : Sample) → In s (all_samples M W n) → s.writer < n
+unfolding all_samples
+all_below M W zero s i = absurd i
+all_below M W (suc n) s i = elim (In_cases (all_samples M W n) (cond (M n) (numbered n 1 (W n)) []) s i) [
+  | inl j ↦ let b = all_below M W n s j in omega arith
+  | inr j ↦ (cond_both (M n) (numbered n 1 (W n)) [] (λ xs. In s xs → s.writer < suc n) (λ t k. let e = numbered_writer n 1 (W n) s k in omega arith) (λ f k. absurd k)) j
+]
+
+all_distinct : (M : ℕ → Bool) (W : ℕ → List (ℕ × List ℕ)) (n : ℕ) → Distinct (all_samples M W n)
+unfolding all_samples
+all_distinct M W zero = tt
+all_distinct M W (suc n) = Distinct_append (all_samples M W n) (cond (M n) (numbered n 1 (W n)) []) (all_distinct M W n)
+    (cond_both (M n) (numbered n 1 (W n)) [] Distinct (λ t. numbered_distinct n 1 (W n)) (λ f. tt))
+    (λ s i. let b = all_below M W n s i in cond_both (M n) (numbered n 1 (W n)) [] (λ xs. holds xs s ≡ false) (λ t. numbered_other n 1 (W n) s (λ e. absurd (omega arith))) (λ f. refl))
+
+all_in : (M : ℕ → Bool) (W : ℕ → List (ℕ × List ℕ)) (n : ℕ) (s : Sample) → s.writer < n → M s.writer ≡ true → In s (numbered s.writer 1 (W s.writer)) → In s (all_samples M W n)
+unfolding all_samples
+all_in M W zero s b m i = absurd (omega arith)
+all_in M W (suc n) s b m i = elim (cases_eq s.writer n) [
+  | inl e ↦ In_right (all_samples M W n) (cond (M n) (numbered n 1 (W n)) []) s (subst (λ x. In s (cond (M x) (numbered x 1 (W x)) [])) e (rw m i))
+  | inr ne ↦ In_left (all_samples M W n) (cond (M n) (numbered n 1 (W n)) []) s (all_in M W n s (omega arith) m i)
+]
+
+all_count : (M : ℕ → Bool) (W : ℕ → List (ℕ × List ℕ)) (k n : ℕ) → count_by (has_key k) (all_samples M W n) ≡ total n (λ w. cond (M w) (count_key k (W w)) 0)
+unfolding all_samples total
+all_count M W k zero = refl
+all_count M W k (suc n) =
+    sum_by-append (λ (x : Sample). cond (has_key k x) 1 0) (all_samples M W n) (cond (M n) (numbered n 1 (W n)) [])
+    ∙ (ap (λ x. x + count_by (has_key k) (cond (M n) (numbered n 1 (W n)) [])) (all_count M W k n)
+    ∙ ap (λ x. total n (λ w. cond (M w) (count_key k (W w)) 0) + x) (cond_both (M n) (numbered n 1 (W n)) [] (λ xs. count_by (has_key k) xs ≡ cond (M n) (count_key k (W n)) 0) (λ t. rw t (numbered_count n 1 k (W n))) (λ f. rw f refl)))
+
+pub entry_in : (W : ℕ → List (ℕ × List ℕ)) (s : Sample) → entry_at (W s.writer) s.sn ≡ Some (s.key, s.payload) → In s (numbered s.writer 1 (W s.writer))
+entry_in W s h = go s.sn refl
+  where
+    go : (n : ℕ) → n ≡ s.sn → In s (numbered s.writer 1 (W s.writer))
+    go zero e = absurd (none-some' (s.key, s.payload) (subst (λ m. entry_at (W s.writer) m ≡ Some (s.key, s.payload)) (sym e) h))
+      where
+        none-some' : (x : ℕ × List ℕ) → ◌≡◌ {A = Option (ℕ × List ℕ)} None (Some x) → ⊥
+        none-some' x h = cc
+    go (suc n) e = subst (λ t. In t (numbered s.writer 1 (W s.writer))) (ap (λ m. record { writer = s.writer; sn = m; key = s.key; payload = s.payload }) (let z : 1 + n ≡ s.sn = omega arith in z))
+        (numbered_in s.writer 1 n (W s.writer) (s.key, s.payload) (subst (λ m. entry_at (W s.writer) m ≡ Some (s.key, s.payload)) (sym e) h))
+
+-- a list of such samples without a place twice has no more of a key than was written
+pub supply_holds : (net : Network) (known : IsNetwork net) (v : World) (r k : ℕ) (ss : List Sample) → Distinct ss → ((s : Sample) → In s ss → IsWrittenFor net v r s) → count_by (has_key k) ss ≤ supply net v r k
+supply_holds net known v r k ss d each =
+    let M = λ (w : ℕ). net.matched w r in
+    let whole = all_samples M v.written net.writers in
+    let part = count_part ss whole (has_key k) d (all_distinct M v.written net.writers)
+    (λ s i. let x = each s i in all_in M v.written net.writers s (known.matched_writer s.writer r x.matched) x.matched (entry_in v.written s x.entry)) in
+    let count = all_count M v.written k net.writers in
+    omega arith

@@ -1,0 +1,10 @@
+pub mod First
+pub mod Accepted
+pub mod World
+pub mod Steps
+pub mod Runs
+pub mod Certified
+pub mod Facts
+pub mod Laws
+pub mod Unsafe
+pub mod CountRuns

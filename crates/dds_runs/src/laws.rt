@@ -1,0 +1,60 @@
+//! The laws of every run, over the definitions alone: four passes and what they come to. `accepts` rests on them. What they say of packets, of what is
+//! stored and of watchers holds of every plan; only counts, order and the safety that they come to need an accepted certificate.
+
+ghost use Rattle.dds_runs.specs.CountRuns.{CountRuns};
+ghost use Rattle.dds_runs.specs.Laws.{Counts, Headline, Order, Packets, Parts, Stored, Watched};
+ghost use Rattle.dds_runs.specs.Unsafe.{EqualBoundOverflows, ForgottenReaderOverflows};
+
+/// Over writes, firings and takes alone, for every list of them for which permits and unspent takes suffice: no row's weight is above its
+/// budget, and no count is below 0.
+pub fn count_runs()
+    ensures { CountRuns }
+{}
+
+/// The first pass: in every wide run no row's weight is above its budget, and no count is below 0.
+pub fn counts()
+    ensures { Counts }
+{}
+
+/// The second pass: of every packet that was ever sent, an ACKNACK's base and a HEARTBEAT's first are at most the reader's base, a DATA is
+/// its place in the writer's history, and a GAP covers written irrelevant numbers alone.
+pub fn packets()
+    ensures { Packets }
+{}
+
+/// The third pass: what is unread is in flight, an arriving sample included; so where a certificate is accepted no reliable reader rejects or overwrites.
+pub fn stored()
+    ensures { Stored }
+{}
+
+/// The fourth pass: what a reliable reader took of a writer and key is a prefix of what was written, in order, once.
+pub fn order()
+    ensures { Order }
+{}
+
+/// What a watcher took of a writer and key is a part of what was written: with its data, in order, once.
+pub fn parts()
+    ensures { Parts }
+{}
+
+/// A watcher has marked with a number all lesser ones: what is marked is what is below its base.
+pub fn watched()
+    ensures { Watched }
+{}
+
+/// What they come to: an accepted certificate is safe in every wide run.
+pub fn headline()
+    ensures { Headline }
+{}
+
+/// A write puts a sample in flight for every matched reader: a rule that forgets one of two accepts a deployment in which a reader
+/// rejects a sample, so that it isn't safe.
+pub fn forgotten_reader()
+    ensures { ForgottenReaderOverflows }
+{}
+
+/// A bound must be strict: a rule by which the opening permits may weigh as much as one sample more accepts a deployment in which a
+/// reader rejects a sample, so that it isn't safe.
+pub fn equal_bound()
+    ensures { EqualBoundOverflows }
+{}

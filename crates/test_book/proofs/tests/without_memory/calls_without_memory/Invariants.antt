@@ -1,5 +1,0 @@
-use Rattle.test_book.proofs.tests.without_memory.calls_without_memory.Given as goal
-
--- the book is named by the kit's plan and tables
-abbrev pub ghosts-expect_state : goal.ghosts-expect_state
-ghosts-expect_state g a = record { plan = a.kit.checked.plan; tables = a.kit.tables }

@@ -1,5 +1,0 @@
-mod gauge;
-mod kits;
-mod longest;
-mod seats;
-mod without_memory;

@@ -1,0 +1,15 @@
+mod bounds;
+mod consistency;
+mod devices;
+mod files;
+mod longest;
+mod migrated;
+mod names;
+mod patterns;
+mod plans;
+mod programs;
+mod ranges;
+mod read;
+mod rereading;
+mod weights;
+mod written;

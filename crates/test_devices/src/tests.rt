@@ -1,5 +1,0 @@
-mod devices;
-mod documents;
-mod files;
-mod migrated;
-mod runs;

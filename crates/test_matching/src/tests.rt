@@ -1,4 +1,0 @@
-mod consistency;
-mod names;
-mod patterns;
-mod ranges;

@@ -1,7 +1,0 @@
-mod answers;
-mod ends;
-mod faults;
-mod meeting;
-mod plans;
-mod runs;
-mod scripts;

@@ -1,0 +1,12 @@
+mod answers;
+mod ends;
+mod faults;
+mod gauge;
+mod kits;
+mod longest;
+mod meeting;
+mod plans;
+mod runs;
+mod scripts;
+mod seats;
+mod without_memory;

@@ -1,0 +1,97 @@
+//! The seats of two applications and their participants at a book, call by call.
+
+ghost use Rattle.dds_book.specs.Kit.{IsKitOf};
+
+use crate::tests::kits::{CALLS, ENTERED, empty_take, kit};
+use dds_base::Reply;
+use dds_book::{Book, BookFault, Journal, Kit, Name, Seat};
+use std::alloc::Global;
+use std::marker::Brand;
+use std::process::Abort;
+use std::sync::Wait;
+use std::test::Fail;
+use std::time::Clock;
+use test_model::worked::{Move, Told, event_of, told_of};
+
+fn told(answer: Result<Reply, BookFault>) -> Result<Told, BookFault> {
+    match answer {
+        Ok(reply) => Ok(told_of(&reply)),
+        Err(fault) => Err(fault),
+    }
+}
+
+fn expect_call<N: Name, R: Wait + Abort>(
+    rt: &R,
+    book: &Book<N>,
+    seat: &mut Seat<N>,
+    asked: Move,
+    owed: Result<Told, BookFault>,
+) {
+    if let Some(event) = event_of(asked) {
+        let answer = book.call(rt, seat, event);
+        assert_eq!(rt; told(answer), owed, "{event:?}");
+    }
+}
+
+fn expect_calls<N: Name, R: Wait + Abort>(rt: &R, book: &Book<N>, seats: &mut Vec<Seat<N>>) {
+    for (number, asked, owed) in &CALLS {
+        match seats.get_mut(*number) {
+            Some(seat) => expect_call(rt, book, seat, *asked, *owed),
+            None => panic!(rt; "no seat {number}"),
+        }
+    }
+}
+
+/// The journal has the calls that were entered, in order.
+fn expect_entries(rt: &impl Abort, journal: &Journal) {
+    let entered = CALLS.iter().filter(|call| call.2.is_ok());
+    assert_eq!(rt; journal.entries().len(), ENTERED);
+    for (entry, (number, asked, owed)) in journal.entries().iter().zip(entered) {
+        assert_eq!(rt; entry.seat, *number, "{:?}", entry.event);
+        assert_eq!(rt; Some(entry.event), event_of(*asked));
+        assert_eq!(rt; Ok(told_of(&entry.reply)), *owed);
+    }
+}
+
+/// A stopped book enters nothing of any seat.
+fn expect_closed<N: Name, R: Wait + Abort>(rt: &R, book: &Book<N>, seats: &mut Vec<Seat<N>>) {
+    for seat in seats.iter_mut() {
+        let answer = book.call(rt, seat, empty_take());
+        assert_eq!(rt; told(answer), Err(BookFault::Closed));
+    }
+}
+
+fn opened<N: Name>(rt: &impl Abort, alloc: Global, kit: Kit) -> (Book<N>, Vec<Seat<N>>)
+    requires { IsKitOf N.plan N.tables kit }
+{
+    match Book::open(alloc, kit) {
+        Ok(both) => both,
+        Err((_, kit)) => {
+            drop(kit);
+            panic!(rt; "no memory for the book")
+        }
+    }
+}
+
+fn expect_book<N: Name, R: Wait + Clock + Abort>(rt: &R, alloc: Global, kit: Kit)
+    requires { IsKitOf N.plan N.tables kit }
+{
+    let (book, mut seats) = opened::<N>(rt, alloc, kit);
+    expect_calls(rt, &book, &mut seats);
+    assert_eq!(rt; book.wait_change(rt, 4), Some(5));
+    assert_eq!(rt; book.wait_change(rt, 5), None);
+    assert_eq!(rt; book.wait_briefly(rt, 4), Some(5));
+    assert_eq!(rt; book.wait_briefly(rt, 5), None);
+    book.stop(rt);
+    expect_closed(rt, &book, &mut seats);
+    let journal = book.close(rt, seats);
+    expect_entries(rt, &journal);
+    drop(journal);
+}
+
+#[test]
+fn a_sample_goes_from_seat_to_seat(rt: HostRuntime) -> Result<(), Fail> {
+    let kit = kit(&rt, rt.alloc());
+    expect_book::<Brand, _>(&rt, rt.alloc(), kit);
+    Ok(())
+}
