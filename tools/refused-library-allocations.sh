@@ -69,19 +69,18 @@ build_tests() {
     fi
 }
 
-build_tests test_endpoints
-build_tests test_domain
+build_tests test_running
 build_tests test_threads
 if ! build_library; then
     fail "no compiler built tools/refuse.c"
     finish
 fi
-sweep test_endpoints tests::caches::caches_call_by_call
-sweep test_endpoints tests::readers::readers_call_by_call
-sweep test_endpoints tests::writers::two_readers_call_by_call
-sweep test_endpoints tests::writers::a_watcher_call_by_call
-sweep test_endpoints tests::writers::a_watcher_beside_a_reader
-sweep test_domain tests::without_memory::each_event_without_memory
-sweep test_domain tests::without_memory::a_list_without_memory
+sweep test_running tests::caches::caches_call_by_call
+sweep test_running tests::readers::readers_call_by_call
+sweep test_running tests::writers::two_readers_call_by_call
+sweep test_running tests::writers::a_watcher_call_by_call
+sweep test_running tests::writers::a_watcher_beside_a_reader
+sweep test_running tests::without_memory::each_event_without_memory
+sweep test_running tests::without_memory::a_list_without_memory
 sweep test_threads tests::without_memory::calls_without_memory
 finish

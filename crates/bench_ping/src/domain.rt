@@ -4,8 +4,8 @@ use dds_base::{Arrival, Event, KeyNo, ReaderNo, Reply, RuleNo, WriterNo};
 use dds_domain::Domain;
 use std::alloc::Global;
 use std::time::{Clock, Duration, Instant};
+use test_files::plans::checked;
 use test_files::texts::{PING, PING_CERT};
-use test_plans::checked;
 
 /// The domain before the first event.
 fn opened(alloc: Global) -> Option<Domain> {

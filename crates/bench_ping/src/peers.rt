@@ -11,8 +11,8 @@ use std::alloc::Global;
 use std::sync::{Arc, Wait};
 use std::thread::Threads;
 use std::time::{Clock, Duration, Instant};
+use test_files::plans::checked;
 use test_files::texts::{PING, PING_CERT};
-use test_plans::checked;
 
 /// No limit ends a run before the journal is full.
 const LIMITS: Limits = Limits {

@@ -3,6 +3,7 @@
 
 use crate::layout::RuleLayout;
 use crate::world::World;
+use crate::writing::count_of;
 use dds_base::{Endpoint, KeyNo, Portion, ReaderNo, WriterNo};
 
 /// The sum of the counts of an endpoint and a key in a list, 0 where it isn't named.
@@ -50,7 +51,7 @@ impl World {
     /// How many samples of a key a reader's application took.
     fn taken_of(&self, reader: ReaderNo, key: KeyNo) -> usize {
         match self.readers.get(reader.number()) {
-            Some(past) => past.taken.iter().filter(|s| s.key == key).count(),
+            Some(past) => count_of(&past.taken, key),
             None => 0,
         }
     }

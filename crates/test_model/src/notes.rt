@@ -82,6 +82,24 @@ impl World {
     }
 }
 
+/// What a reader asked for, without a number that is sent to it and the unbroken run of silent numbers that ends with it.
+fn asked_beside(
+    world: &World,
+    writer: WriterNo,
+    reader: ReaderNo,
+    sn: u64,
+) -> Result<Vec<u64>, NoMemory> {
+    let mut asked = Vec::new(world.alloc);
+    if let Some(held) = world.for_reader(writer, reader) {
+        for n in &held.asked {
+            if *n != sn && !world.is_silent_run(writer, reader, *n, sn) {
+                asked.push(*n)?;
+            }
+        }
+    }
+    Ok(asked)
+}
+
 /// A DATA of this number was sent to a reader, or a GAP with this number below the base of its set. The greatest number sent grows, and
 /// what the reader asked for loses the number and the unbroken run of silent numbers that ends with it.
 fn note_sent(
@@ -90,11 +108,7 @@ fn note_sent(
     reader: ReaderNo,
     sn: u64,
 ) -> Result<(), NoMemory> {
-    let mut asked = match world.for_reader(writer, reader) {
-        Some(held) => Vec::from_slice(world.alloc, &held.asked)?,
-        None => Vec::new(world.alloc),
-    };
-    asked.retain(|n| *n != sn && !world.is_silent_run(writer, reader, *n, sn));
+    let asked = asked_beside(world, writer, reader, sn)?;
     if let Some(held) = world.for_reader_mut(writer, reader) {
         held.sent = held.sent.max(sn);
         held.asked = asked;

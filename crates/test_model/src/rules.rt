@@ -3,14 +3,22 @@
 use crate::counts::named;
 use crate::layout::RuleLayout;
 use crate::world::World;
-use dds_base::{Refusal, Reply, RuleNo};
+use dds_base::{Portion, ReaderNo, Refusal, Reply, RuleNo};
+
+/// Whether fewer takes are unspent than the rule needs of what one of its needs names.
+fn is_short(world: &World, rule: &RuleLayout, need: &Portion<ReaderNo>) -> bool {
+    let needed = named(&rule.needs, need.endpoint.number(), need.key);
+    world.unspent(need.endpoint, need.key) < needed
+}
 
 /// Whether the rule needs nothing, or of something fewer takes are unspent than it needs.
 fn needs_more(world: &World, rule: &RuleLayout) -> bool {
+    for need in &rule.needs {
+        if is_short(world, rule, need) {
+            return true;
+        }
+    }
     rule.needs.is_empty()
-        || rule.needs.iter().any(|e| {
-            world.unspent(e.endpoint, e.key) < named(&rule.needs, e.endpoint.number(), e.key)
-        })
 }
 
 /// Whether a firing would bring a count of permits above 2^64 - 1.

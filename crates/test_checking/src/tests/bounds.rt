@@ -4,8 +4,8 @@ use crate::tests::plans::NO_MEMORY;
 use dds_base::{KeyNo, ReaderNo};
 use dds_check::Checked;
 use std::process::Abort;
+use test_files::plans::checked;
 use test_files::texts::{PING, PING_CERT};
-use test_plans::checked;
 
 /// A total of the first reader of `PING`, which stands behind its certificate.
 const TOTAL: &str = "\n[[totals]]\nreader = \"ping_r\"\nrow = \"m\"\nbound = 5\n";

@@ -6,7 +6,7 @@ use dds_cert_file::read_certificate;
 use dds_match::Plan;
 use std::alloc::Global;
 use std::process::Abort;
-use test_plans::planned;
+use test_files::plans::planned;
 
 /// What is told where memory is refused, which ends a test.
 pub(crate) const NO_MEMORY: &str = "no memory";

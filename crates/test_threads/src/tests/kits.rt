@@ -4,9 +4,9 @@ use dds_base::{Event, Fate, KeyNo, ReaderNo, Refusal};
 use dds_book::{BookFault, Kit};
 use std::alloc::Global;
 use std::process::Abort;
+use test_files::plans::{planned, proposed};
 use test_files::texts::PING;
 use test_model::worked::{Move, Told};
-use test_plans::{planned, proposed};
 
 /// A call: the seat, what it makes, and what is told. The seats are those of the two applications and then those of their participants.
 pub(crate) type Call = (usize, Move, Result<Told, BookFault>);

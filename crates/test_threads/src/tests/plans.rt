@@ -3,8 +3,8 @@
 use dds_check::Checked;
 use std::alloc::Global;
 use std::process::Abort;
+use test_files::plans::checked;
 use test_files::texts::{PING, PING_CERT, SMALL, SMALL_CERT};
-use test_plans::checked;
 
 /// Two applications that answer each other's samples, of which at most three are on the way.
 pub(crate) fn ping(rt: &impl Abort, alloc: Global) -> Checked {

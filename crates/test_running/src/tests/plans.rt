@@ -7,8 +7,8 @@ use dds_base::{KeyNo, ReaderNo, RuleNo, WriterNo};
 use dds_match::Plan;
 use std::alloc::Global;
 use std::process::Abort;
+use test_files::plans::planned;
 use test_model::{Layout, ReaderLayout, RuleLayout, World, WriterLayout};
-use test_plans::planned;
 
 /// What is told where memory is refused, which ends a test.
 pub(crate) const NO_MEMORY: &str = "no memory";

@@ -1,5 +1,5 @@
-use Rattle.test_endpoints.proofs.FedLaws.{below_taken}
-use Rattle.test_endpoints.proofs.tests.caches.Fed.take.Goals as goal
+use Rattle.test_running.proofs.FedLaws.{below_taken}
+use Rattle.test_running.proofs.tests.caches.Fed.take.Goals as goal
 
 pub invariant_of-self : goal.invariant_of-self
 invariant_of-self g c =

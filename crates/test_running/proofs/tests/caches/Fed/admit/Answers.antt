@@ -1,6 +1,6 @@
 use Rattle.std.proofs.Common.{◌<◌, length, slice_index_or, arith}
-use Rattle.test_endpoints.proofs.FedLaws.{below_after}
-use Rattle.test_endpoints.proofs.tests.caches.Fed.admit.Goals as goal
+use Rattle.test_running.proofs.FedLaws.{below_after}
+use Rattle.test_running.proofs.tests.caches.Fed.admit.Goals as goal
 
 pub invariant_of-self-2 : goal.invariant_of-self-2
 invariant_of-self-2 g c =

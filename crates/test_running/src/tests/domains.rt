@@ -7,9 +7,9 @@ use dds_domain::Domain;
 use dds_match::Plan;
 use std::alloc::Global;
 use std::process::Abort;
+use test_files::plans::proposed;
 use test_model::PLACES;
 use test_model::worked::{Move, RUNS, Run, Stage, Told, event_of, told_of, told_of_packet};
-use test_plans::proposed;
 
 /// The domain of a plan with the certificate that is proposed for it, before the first event.
 pub(crate) fn opened(rt: &impl Abort, alloc: Global, plan: Plan) -> Domain {

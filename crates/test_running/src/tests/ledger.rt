@@ -8,8 +8,8 @@ use dds_rules::{FireRefused, Ledger, NoPermit};
 use std::alloc::Global;
 use std::process::Abort;
 use std::test::Fail;
+use test_files::plans::planned;
 use test_files::texts::LOOP;
-use test_plans::planned;
 
 /// The places of the two rules.
 const TO_A: usize = 0;

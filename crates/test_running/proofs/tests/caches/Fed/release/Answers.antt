@@ -1,6 +1,6 @@
 use Rattle.std.proofs.Common.{◌∙◌}
-use Rattle.test_endpoints.proofs.FedLaws.{listed_raised}
-use Rattle.test_endpoints.proofs.tests.caches.Fed.release.Goals as goal
+use Rattle.test_running.proofs.FedLaws.{listed_raised}
+use Rattle.test_running.proofs.tests.caches.Fed.release.Goals as goal
 
 pub invariant_of-self : goal.invariant_of-self
 invariant_of-self g c = record {

@@ -8,9 +8,9 @@ use dds_domain::Domain;
 use std::alloc::Global;
 use std::process::Abort;
 use std::test::Fail;
+use test_files::plans::{planned, proposed};
 use test_model::PLACES;
 use test_model::worked::{Move, RUNS, Run, Stage, Told, event_of, told_of};
-use test_plans::{planned, proposed};
 
 /// No worked run has more writers, readers or keys.
 const SOME: usize = 3;
