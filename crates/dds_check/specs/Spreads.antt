@@ -4,11 +4,6 @@ use Rattle.dds_base.specs.Sums.{total}
 use Rattle.dds_match.specs.Network.{Network}
 use Rattle.dds_runs.specs.Accepted.{Row}
 
--- each key of each writer below n has a place, with as much more in it as the function says
-pub record Adds (n : ℕ) (more : ℕ → ℕ → ℕ) (old new : List ℕ) : Type 0 where
-  pub len : length new ≡ length old
-  pub each : (w k : ℕ) → w < n → k < 64 → slice_index new (w * 64 + k) ≡ slice_index old (w * 64 + k) + more w k
-
 -- what a write of the key at the writer puts in flight for the reader, weighed
 abbrev pub heard : Network → Row → ℕ → ℕ → ℕ → ℕ
 heard net row r w k = if net.matched w r && net.hears r k then row.samples r k else 0

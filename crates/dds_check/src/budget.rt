@@ -5,9 +5,9 @@ ghost use Rattle.dds_match.specs.Network.{weighed};
 ghost use Rattle.dds_match.specs.Plan.{network_of};
 ghost use Rattle.dds_runs.specs.Accepted.{row_of, budget};
 
-use crate::sizes::rules_of;
 use crate::tables::Tables;
 use dds_base::RuleNo;
+use dds_conditions::rules_of;
 use dds_deploy::Rule;
 use dds_match::Plan;
 

@@ -12,7 +12,6 @@ mod pairs;
 mod profile;
 mod rows;
 mod shown;
-mod sizes;
 mod spreads;
 mod tables;
 pub mod verdict;

@@ -5,9 +5,9 @@ ghost use Rattle.dds_runs.specs.First.{first_below};
 ghost use Rattle.dds_check.specs.Pairs.{not_matched, not_intended, first_pair, pairs_no};
 
 use crate::first::first_below;
-use crate::sizes::{readers_of, writers_of};
 use crate::verdict::{No, Number, Subject, refusal_if};
 use dds_base::{ReaderNo, WriterNo};
+use dds_conditions::{readers_of, writers_of};
 use dds_match::Plan;
 
 fn not_matched(plan: &Plan, writer: WriterNo, reader: ReaderNo) -> Option<No>

@@ -8,13 +8,13 @@ ghost use Rattle.dds_check.specs.Tables.{IsTabled};
 ghost use Rattle.dds_check.specs.Rows.{take_raises, row_take_raises, rule_raises, row_rule_raises, write_raises, row_write_raises, rows_no, ShowsSpreads};
 
 use crate::first::first_below;
-use crate::sizes::{readers_of, rules_of, writers_of};
 use crate::spreads::spreads_of;
 use crate::tables::{Tables, tables_of};
 use crate::verdict::{No, Number, Subject, refusal_if};
 use dds_base::grid::{KEYS, PLACES};
 use dds_base::{KeyNo, ReaderNo, RuleNo, WriterNo};
 use dds_cert::Certificate;
+use dds_conditions::{readers_of, rules_of, writers_of};
 use dds_match::Plan;
 
 fn take_raises(

@@ -1,5 +1,5 @@
 //! Number 33: each bound and each total is shown by its row.
-ghost use Rattle.std.specs.Prelude.{◌≡◌, ◌&&◌, ◌||◌, ◌*◌, ℕ, suc, not, nat_lt, false, slice_get, ◌<◌, ◌≤◌, Some, option_map, vec_len, length};
+ghost use Rattle.std.specs.Prelude.{◌≡◌, ◌||◌, ℕ, not, false, slice_get, ◌<◌, ◌≤◌, Some, option_map, vec_len, length};
 ghost use Rattle.std.specs.Option.{option_map_or};
 ghost use Rattle.dds_match.specs.Network.{reach};
 ghost use Rattle.dds_match.specs.Plan.{network_of};
@@ -16,6 +16,7 @@ use crate::verdict::{No, Number, Subject, refusal_if};
 use dds_base::grid::KEYS;
 use dds_base::{KeyNo, ReaderNo};
 use dds_cert::{Bound, Certificate, Row, Total};
+use dds_conditions::is_enough;
 use dds_match::Plan;
 
 /// No certificate has more rows.
@@ -31,13 +32,6 @@ fn budgets_of(plan: &Plan, certificate: &Certificate) -> [u128; ROWS]
         budgets[n] = budget(plan, &weights);
     }
     budgets
-}
-
-fn is_enough(weight: u32, opening: u128, bound: u32) -> bool
-    ensures { result ≡ (nat_lt 0 weight && nat_lt opening (suc bound * weight)) }
-{
-    let weight = u128::from(weight);
-    0 < weight && opening < (u128::from(bound) + 1) * weight
 }
 
 fn shows(

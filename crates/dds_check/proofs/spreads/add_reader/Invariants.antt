@@ -1,7 +1,8 @@
 use Rattle.std.proofs.Common.{ℕ, ◌<◌, ◌^◌, nat_lt, if◌then◌else◌}
 use Rattle.dds_match.specs.Plan.{network_of}
 use Rattle.dds_runs.specs.Accepted.{row_of}
-use Rattle.dds_check.specs.Spreads.{Adds, heard}
+use Rattle.dds_conditions.specs.Heard.{Adds}
+use Rattle.dds_check.specs.Spreads.{heard}
 use Rattle.dds_check.proofs.spreads.add_reader.Given as goal
 
 abbrev pub invariant-loop-k : goal.invariant-loop-k

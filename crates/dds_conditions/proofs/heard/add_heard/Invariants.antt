@@ -1,7 +1,7 @@
 use Rattle.std.proofs.Common.{◌&&◌, ◌==◌, nat_lt, if◌then◌else◌}
 use Rattle.dds_match.specs.Plan.{network_of}
-use Rattle.dds_check.specs.Spreads.{Adds}
-use Rattle.dds_check.proofs.spreads.add_heard.Given as goal
+use Rattle.dds_conditions.specs.Heard.{Adds}
+use Rattle.dds_conditions.proofs.heard.add_heard.Given as goal
 
 abbrev pub invariant-loop-w : goal.invariant-loop-w
 invariant-loop-w l =

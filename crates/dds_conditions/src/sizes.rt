@@ -6,7 +6,7 @@ ghost use Rattle.dds_match.specs.Plan.{network_of};
 use dds_match::Plan;
 
 /// How many writers the plan has, at most 256.
-pub(crate) fn writers_of(plan: &Plan) -> usize
+pub fn writers_of(plan: &Plan) -> usize
     ensures count { result ≡ (network_of plan.now).writers }
     ensures few { result ≤ 256 }
     ensures well_formed { IsWellFormed plan.now }
@@ -15,7 +15,7 @@ pub(crate) fn writers_of(plan: &Plan) -> usize
 }
 
 /// How many readers the plan has, at most 256.
-pub(crate) fn readers_of(plan: &Plan) -> usize
+pub fn readers_of(plan: &Plan) -> usize
     ensures count { result ≡ (network_of plan.now).readers }
     ensures few { result ≤ 256 }
     ensures well_formed { IsWellFormed plan.now }
@@ -24,7 +24,7 @@ pub(crate) fn readers_of(plan: &Plan) -> usize
 }
 
 /// How many rules the plan has, at most 256.
-pub(crate) fn rules_of(plan: &Plan) -> usize
+pub fn rules_of(plan: &Plan) -> usize
     ensures count { result ≡ (network_of plan.now).rules }
     ensures few { result ≤ 256 }
     ensures well_formed { IsWellFormed plan.now }
