@@ -7,5 +7,4 @@ pub mod Rows
 pub mod Spreads
 pub mod Shown
 pub mod Accepts
-pub mod Claims
 pub mod Checked

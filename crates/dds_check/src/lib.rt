@@ -5,7 +5,6 @@ pub mod accepts;
 pub mod bounds;
 mod budget;
 pub mod checked;
-pub mod claims;
 mod first;
 mod limits;
 mod pairs;
@@ -19,5 +18,11 @@ pub mod verdict;
 pub use bounds::{Bounds, Totals, find_bound, find_total};
 pub use budget::rule_at;
 pub use checked::{Checked, check};
-pub use limits::{instance_limit, reached, written};
+pub use limits::{
+    first_reader_instances, first_writer_instances, instance_limit, reached, written,
+};
+pub use pairs::pairs_no;
+pub use profile::profile_no;
+pub use rows::rows_no;
+pub use shown::shown_no;
 pub use verdict::{No, Number, Subject};

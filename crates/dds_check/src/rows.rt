@@ -180,7 +180,7 @@ fn refusals_of(plan: &Plan, certificate: &Certificate) -> Refusals
 
 /// The first take, firing or write that can raise the sum of a row: by number, then by row, by endpoint or rule, by key.
 #[tactic(auto, unfolding(crate::specs::Rows::rows_no))]
-pub(crate) fn rows_no(plan: &Plan, certificate: &Certificate) -> Option<No>
+pub fn rows_no(plan: &Plan, certificate: &Certificate) -> Option<No>
     requires { IsTabled (certificate_view certificate.now) }
     ensures { result ≡ rows_no (network_of plan.now) (certificate_view certificate.now).rows }
 {

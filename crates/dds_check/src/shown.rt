@@ -214,7 +214,7 @@ fn first_total_not_shown(
 
 /// The first bound that its row doesn't show, else the first total, each in the order of the certificate.
 #[tactic(auto, unfolding(crate::specs::Shown::shown_no))]
-pub(crate) fn shown_no(plan: &Plan, certificate: &Certificate) -> Option<No>
+pub fn shown_no(plan: &Plan, certificate: &Certificate) -> Option<No>
     requires { IsTabled (certificate_view certificate.now) }
     ensures { result ≡ shown_no (network_of plan.now) (certificate_view certificate.now) }
 {

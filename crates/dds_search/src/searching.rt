@@ -6,7 +6,7 @@ ghost use Rattle.dds_cert.specs.Fits.{fits};
 ghost use Rattle.dds_cert.specs.Views.{certificate_view};
 ghost use Rattle.dds_runs.specs.Accepted.{Accepted, certificate_of};
 ghost use Rattle.dds_check.specs.Accepts.{first_no};
-ghost use Rattle.dds_check.specs.Claims.{structure_no};
+ghost use Rattle.dds_claims.specs.Claims.{structure_no};
 ghost use Rattle.dds_runs.specs.Certified.{Safe};
 ghost use Rattle.dds_search.specs.Answers.{IsShownFor, IsShownLeast, IfCertificate, IfStructure, IfLimit};
 
@@ -21,7 +21,7 @@ use crate::weights::WeighedRow;
 use dds_base::NoMemory;
 use dds_cert::Certificate;
 use dds_check::accepts::accepts;
-use dds_check::claims::{shows, structure_no};
+use dds_claims::{shows, structure_no};
 use dds_match::Plan;
 use dds_propose::targets::Target;
 use std::alloc::Global;

@@ -14,7 +14,7 @@ use Rattle.dds_match.specs.Plan.{network_of}
 use Rattle.dds_runs.specs.Accepted.{certificate_of}
 use Rattle.dds_check.specs.Accepts.{first_no}
 use Rattle.dds_runs.specs.Certified.{Safe}
-use Rattle.dds_check.specs.Claims.{structure_no}
+use Rattle.dds_claims.specs.Claims.{structure_no}
 use Rattle.dds_search.specs.declared.refuting.Refutation.{Refutation}
 use Rattle.dds_search.specs.declared.refuting.Refutation.TheVariants as refutation
 use Rattle.dds_search.specs.Refutations.{IfSafe, IfStructure, IfUnsafe, IsCounterexample}

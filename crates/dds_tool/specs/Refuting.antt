@@ -11,7 +11,7 @@ use Rattle.dds_cert.specs.Views.{certificate_view}
 use Rattle.dds_runs.specs.Accepted.{certificate_of}
 use Rattle.dds_check.specs.Accepts.{first_no}
 use Rattle.dds_runs.specs.Certified.{Safe}
-use Rattle.dds_check.specs.Claims.{structure_no}
+use Rattle.dds_claims.specs.Claims.{structure_no}
 use Rattle.dds_events.specs.Lines.{lines_of}
 use Rattle.dds_events.specs.Replies.{rejection_name}
 use Rattle.dds_search.specs.declared.loss.Counterexample.{Counterexample}

@@ -1,5 +1,5 @@
 //! The lines of an acceptance.
-ghost use Rattle.std.specs.Prelude.{◌≡◌, IfOk, string_bytes};
+ghost use Rattle.std.specs.Prelude.{◌≡◌, ◌++◌, IfOk, flat_map, string_bytes};
 ghost use Rattle.dds_cert.specs.Views.{certificate_view};
 ghost use Rattle.dds_verdict.specs.Acceptance.{acceptance_lines, bound_line, total_line};
 
@@ -28,6 +28,38 @@ fn total_text(alloc: Global, lists: &Deployment, total: &Total) -> Result<String
     format!(in alloc; "total {reader} {number}\n")
 }
 
+/// Adds the line of each bound, in their order.
+fn push_bounds(
+    alloc: Global,
+    text: &mut String,
+    lists: &Deployment,
+    bounds: &[Bound],
+) -> Result<(), NoMemory>
+    ensures { IfOk result (λ _. string_bytes text.new ≡ string_bytes text.old ++ flat_map (bound_line lists.now) bounds.now) }
+{
+    for bound in bounds {
+        let line = bound_text(alloc, lists, bound)?;
+        text.push_str(line.as_str())?;
+    }
+    Ok(())
+}
+
+/// Adds the line of each total, in their order.
+fn push_totals(
+    alloc: Global,
+    text: &mut String,
+    lists: &Deployment,
+    totals: &[Total],
+) -> Result<(), NoMemory>
+    ensures { IfOk result (λ _. string_bytes text.new ≡ string_bytes text.old ++ flat_map (total_line lists.now) totals.now) }
+{
+    for total in totals {
+        let line = total_text(alloc, lists, total)?;
+        text.push_str(line.as_str())?;
+    }
+    Ok(())
+}
+
 /// The lines of an acceptance: `yes`, then each bound and each total of the certificate, in its order. Only want of memory is an error.
 pub fn acceptance_text(
     alloc: Global,
@@ -37,11 +69,7 @@ pub fn acceptance_text(
     ensures { IfOk result (λ text. string_bytes text ≡ acceptance_lines lists.now (certificate_view certificate.now)) }
 {
     let mut text = String::from_str(alloc, "yes\n")?;
-    for bound in certificate.bounds.as_slice() {
-        text.push_str(bound_text(alloc, lists, bound)?.as_str())?;
-    }
-    for total in certificate.totals.as_slice() {
-        text.push_str(total_text(alloc, lists, total)?.as_str())?;
-    }
+    push_bounds(alloc, &mut text, lists, certificate.bounds.as_slice())?;
+    push_totals(alloc, &mut text, lists, certificate.totals.as_slice())?;
     Ok(text)
 }

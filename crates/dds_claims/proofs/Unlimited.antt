@@ -14,7 +14,7 @@ use Rattle.dds_check.specs.Limits.{of_reliable, reader_instances, no_bounds, rea
 use Rattle.dds_check.specs.Rows.{rows_no}
 use Rattle.dds_check.specs.Shown.{shown_no}
 use Rattle.dds_check.specs.Accepts.{first_no}
-use Rattle.dds_check.specs.Claims.{IsShown, structure_no}
+use Rattle.dds_claims.specs.Claims.{IsShown, structure_no}
 use Rattle.dds_check.proofs.FirstLemmas.{orElse_none}
 use Rattle.dds_check.proofs.Holds.{each_row, each_bound, each_total}
 use Rattle.dds_check.proofs.Plans.{known_of}

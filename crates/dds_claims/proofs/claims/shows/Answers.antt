@@ -1,8 +1,8 @@
 use Rattle.std.proofs.Common.{sym, ◌∙◌}
 use Rattle.dds_cert.specs.Views.{certificate_view}
 use Rattle.dds_check.proofs.Fitting.{tabled_of}
-use Rattle.dds_check.proofs.Unlimited.{shown_where_none}
-use Rattle.dds_check.proofs.claims.shows.Goals as goal
+use Rattle.dds_claims.proofs.Unlimited.{shown_where_none}
+use Rattle.dds_claims.proofs.claims.shows.Goals as goal
 
 pub rows_no-requires : goal.rows_no-requires
 rows_no-requires c = tabled_of _ _ c.lists-lists.ensures.well_formed c.requires.fits

@@ -6,15 +6,12 @@ ghost use Rattle.dds_cert.specs.Fits.{fits};
 ghost use Rattle.dds_cert.specs.Views.{certificate_view};
 ghost use Rattle.dds_runs.specs.Accepted.{certificate_of};
 ghost use Rattle.dds_check.specs.Accepts.{first_no};
-ghost use Rattle.dds_check.specs.Claims.{IsShown, structure_no};
+ghost use Rattle.dds_claims.specs.Claims.{IsShown, structure_no};
 
-use crate::limits::{first_reader_instances, first_writer_instances};
-use crate::pairs::pairs_no;
-use crate::profile::profile_no;
-use crate::rows::rows_no;
-use crate::shown::shown_no;
-use crate::verdict::No;
 use dds_cert::Certificate;
+use dds_check::{
+    No, first_reader_instances, first_writer_instances, pairs_no, profile_no, rows_no, shown_no,
+};
 use dds_match::Plan;
 
 /// Whether no event raises the weighted sum of any row of a certificate, and each row shows the bounds and totals that name it. Nothing is
