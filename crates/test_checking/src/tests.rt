@@ -1,6 +1,7 @@
 mod bounds;
 mod consistency;
 mod devices;
+mod expecting;
 mod files;
 mod longest;
 mod migrated;

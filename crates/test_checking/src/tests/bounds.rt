@@ -1,5 +1,6 @@
 //! The bounds and totals of a checked deployment: both those that are searched in its certificate and those of its tables.
 
+use crate::tests::expecting::expect_equal;
 use crate::tests::plans::NO_MEMORY;
 use dds_base::{KeyNo, ReaderNo};
 use dds_check::Checked;
@@ -27,16 +28,10 @@ fn expect_bounds(rt: &impl Abort, checked: &Checked) {
     for (reader, key, wanted) in &BOUNDS {
         let reader = ReaderNo::new(*reader);
         let key = KeyNo::new(*key);
-        assert_eq!(rt;
-            checked.bound(reader, key),
-            *wanted,
-            "the bound that is searched"
-        );
-        assert_eq!(rt;
-            table.of(reader, key).map(u64::from),
-            *wanted,
-            "the bound of the table"
-        );
+        let searched = checked.bound(reader, key);
+        expect_equal(rt, searched, *wanted, "the bound that is searched");
+        let tabled = table.of(reader, key).map(u64::from);
+        expect_equal(rt, tabled, *wanted, "the bound of the table");
     }
 }
 
@@ -44,16 +39,10 @@ fn expect_totals(rt: &impl Abort, checked: &Checked) {
     let table = checked.totals();
     for (reader, wanted) in &TOTALS {
         let reader = ReaderNo::new(*reader);
-        assert_eq!(rt;
-            checked.total(reader),
-            *wanted,
-            "the total that is searched"
-        );
-        assert_eq!(rt;
-            table.of(reader).map(u64::from),
-            *wanted,
-            "the total of the table"
-        );
+        let searched = checked.total(reader);
+        expect_equal(rt, searched, *wanted, "the total that is searched");
+        let tabled = table.of(reader).map(u64::from);
+        expect_equal(rt, tabled, *wanted, "the total of the table");
     }
 }
 

@@ -6,6 +6,7 @@
 
 mod answers;
 
+use crate::tests::expecting::expect_equal;
 use dds_qos::{
     AccessScope, DestinationOrder, Durability, Duration, History, HistoryKind, Liveliness,
     LivelinessKind, Ownership, Policies, Presentation, QosFault, ReaderQos, Reliability,
@@ -121,7 +122,7 @@ fn policies_go_together(rt: HostRuntime) {
         "reader history=KEEP_LAST;depth=2;ms=1 -",
     ];
     for row in rows {
-        assert_eq!(rt; goes_together(row), Some(true), "{row}");
+        expect_equal(&rt, goes_together(row), Some(true), row);
     }
 }
 
@@ -129,8 +130,8 @@ fn policies_go_together(rt: HostRuntime) {
 fn policies_go_together_as_elsewhere(rt: HostRuntime) {
     let mut cases: u64 = 0;
     for line in answers::CASES.lines() {
-        assert_eq!(rt; goes_together(line), Some(true), "{line}");
+        expect_equal(&rt, goes_together(line), Some(true), line);
         cases = cases.wrapping_add(1);
     }
-    assert_eq!(rt; cases, 85);
+    expect_equal(&rt, cases, 85, "cases");
 }

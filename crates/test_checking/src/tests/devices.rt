@@ -1,5 +1,6 @@
 //! Files that are as large as they may be or too large, every beginning of a file, readers that are slow or fail, and an output that fails, by
 //! each command.
+use crate::tests::expecting::expect_equal;
 use crate::tests::files::{Command, Pair, expect, readable, text_of, told_by};
 use crate::tests::plans::NO_MEMORY;
 use dds_answers::{Exit, MAX_FILE, Stream};
@@ -45,7 +46,7 @@ fn padded(rt: &impl Abort, alloc: Global, size: usize) -> String {
 #[test]
 fn takes_the_largest_file(rt: HostRuntime) {
     let largest = padded(&rt, rt.alloc(), MAX_FILE);
-    assert_eq!(rt; largest.len(), MAX_FILE);
+    expect_equal(&rt, largest.len(), MAX_FILE, "the largest file");
     let files = readable(largest.as_bytes(), PING_CERT.as_bytes());
     expect_answers(&rt, rt.alloc(), files);
 }
@@ -54,7 +55,7 @@ fn takes_the_largest_file(rt: HostRuntime) {
 fn tells_a_file_that_is_too_large(rt: HostRuntime) {
     let alloc = rt.alloc();
     let larger = padded(&rt, alloc, MAX_FILE + 1);
-    assert_eq!(rt; larger.len(), MAX_FILE + 1);
+    expect_equal(&rt, larger.len(), MAX_FILE + 1, "a larger file");
     let too_large = "ddscheck: 4 TooLarge\n";
     let first = readable(larger.as_bytes(), PING_CERT.as_bytes());
     expect_fault(&rt, alloc, first, 2, too_large);
@@ -120,7 +121,8 @@ fn opens_and_closes_each_file_once(rt: HostRuntime) {
         let mut files = readable(PING.as_bytes(), PING_CERT.as_bytes());
         drop(told_by(rt.alloc(), command, &mut files));
         let seen = (files.opened, files.closed, files.has_failed);
-        assert_eq!(rt; seen, (opened, opened, false), "{command:?}");
+        let wanted = (command, (opened, opened, false));
+        expect_equal(&rt, (command, seen), wanted, "opened and closed");
     }
 }
 
@@ -152,9 +154,11 @@ fn expect_write_fault(rt: &impl Abort, alloc: Global, command: Command, room: us
     let mut out = Stream::new(Full { room });
     let exit = command.run(alloc, &mut files, &mut out, &mut err);
     let seen = (exit, exit.status(), out.has_failed);
-    assert_eq!(rt; seen, (Exit::Device, 3, true), "{command:?}");
+    let wanted = (command, (Exit::Device, 3, true));
+    expect_equal(rt, (command, seen), wanted, "a full output");
     let errors = text_of(err.writer.as_slice());
-    assert_eq!(rt; errors, "ddscheck: 6 Write\n", "{command:?}");
+    let wanted = (command, "ddscheck: 6 Write\n");
+    expect_equal(rt, (command, errors), wanted, "a full output");
 }
 
 #[test]
@@ -176,14 +180,16 @@ fn answers_the_status_without_an_error_output(rt: HostRuntime) {
         let mut err = Stream::new(Full { room: 0 });
         let exit = command.run(alloc, &mut files, &mut out, &mut err);
         let seen = (exit.status(), out.writer.len(), err.has_failed);
-        assert_eq!(rt; seen, (2, 0, true), "{command:?}");
+        let wanted = (command, (2, 0, true));
+        expect_equal(&rt, (command, seen), wanted, "no error output");
     }
 }
 
 /// Runs a command on two files, whatever it answers of them.
 fn expect_an_answer(rt: &impl Abort, alloc: Global, command: Command, mut files: Pair, end: usize) {
     let status = told_by(alloc, command, &mut files).exit.status();
-    assert!(rt; status <= 2, "{command:?} {end}");
+    let have = (command, end, status <= 2);
+    expect_equal(rt, have, (command, end, true), "a beginning of a file");
 }
 
 /// A command reads every beginning of a deployment.

@@ -2,6 +2,7 @@
 ghost use Rattle.std.specs.Prelude.{◌≡◌, ◌||◌};
 ghost use Rattle.dds_answers.specs.Reading.{is_worn};
 
+use crate::tests::expecting::expect_equal;
 use dds_answers::{
     Answer, Counted, Detail, Exit, Output, Sources, Stream, ToolFault, check_files, give,
     match_file, migrate_file, propose_file, tell_fault,
@@ -115,7 +116,7 @@ pub(crate) fn text_of(bytes: &[u8]) -> &str {
 }
 
 /// A command on the files `d` and `c`, or on `d` alone.
-#[derive(Clone, Copy, Debug)]
+#[derive(Clone, Copy, Debug, PartialEq)]
 pub(crate) enum Command {
     Check,
     Match,
@@ -190,7 +191,8 @@ pub(crate) fn expect(
     errors: &str,
 ) {
     let told = told_by(alloc, command, &mut files);
-    assert_eq!(rt; told.out(), output, "{command:?}");
-    assert_eq!(rt; told.err(), errors, "{command:?}");
-    assert_eq!(rt; told.exit.status(), status, "{command:?}");
+    expect_equal(rt, (command, told.out()), (command, output), "output");
+    expect_equal(rt, (command, told.err()), (command, errors), "errors");
+    let have = (command, told.exit.status());
+    expect_equal(rt, have, (command, status), "status");
 }

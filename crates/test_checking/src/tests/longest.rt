@@ -1,6 +1,7 @@
 //! The longest lists: each key of each endpoint of the greatest plan, by entries without `key`. No list has more single keys,
 //! since one more names an endpoint and key again. So TooMany is told of arrays alone.
 
+use crate::tests::expecting::expect_equal;
 use crate::tests::plans::{NO_MEMORY, certificate_of, plan_of};
 use dds_cert::Certificate;
 use dds_cert_file::{CertFault, read_certificate};
@@ -80,19 +81,17 @@ fn longest(rt: &impl Abort, alloc: Global, more: &str) -> String {
 
 /// The lists are as long as they may be, and end with the last key of the last endpoint.
 fn expect_longest(rt: &impl Abort, found: &Certificate) {
-    assert_eq!(rt; found.rows.len(), 1);
-    assert_eq!(rt; found.bounds.len(), 16_384);
+    expect_equal(rt, found.rows.len(), 1, "rows");
+    expect_equal(rt, found.bounds.len(), 16_384, "bounds");
     for row in &found.rows {
-        assert_eq!(rt; row.samples.len(), 16_384);
-        assert_eq!(rt; row.takes.len(), 16_384);
-        assert_eq!(rt; row.permits.len(), 16_384);
+        expect_equal(rt, row.samples.len(), 16_384, "samples");
+        expect_equal(rt, row.takes.len(), 16_384, "takes");
+        expect_equal(rt, row.permits.len(), 16_384, "permits");
         let Some(last) = row.permits.get(16_383) else {
             panic!(rt; "no last permit");
         };
-        assert_eq!(rt;
-            (last.endpoint.number(), last.key.number(), last.weight),
-            (255, 63, 3)
-        );
+        let have = (last.endpoint.number(), last.key.number(), last.weight);
+        expect_equal(rt, have, (255, 63, 3), "the last permit");
     }
 }
 
@@ -120,11 +119,12 @@ fn reads_the_longest_lists(rt: HostRuntime) {
     let plan = plan_of(&rt, alloc, deployment.as_str());
     let text = longest(&rt, alloc, "");
     let found = certificate_of(&rt, alloc, &plan, text.as_str());
-    assert!(rt; found.fits(&plan));
+    expect_equal(&rt, found.fits(&plan), true, "fits");
     expect_longest(&rt, &found);
     drop(found);
     let text = longest(&rt, alloc, "{ writer = \"w7\", key = \"k9\", weight = 1 }");
     let answer = told(&rt, alloc, &plan, text.as_bytes());
-    assert_eq!(rt; answer.as_str(), "8 Duplicate rows[0].permits[256]");
+    let wanted = "8 Duplicate rows[0].permits[256]";
+    expect_equal(&rt, answer.as_str(), wanted, "one more");
     drop(plan);
 }

@@ -1,4 +1,5 @@
 //! A file of version 1 and what `migrate` prints of it have the same answers: of worked files, and of drawn ones.
+use crate::tests::expecting::expect_equal;
 use crate::tests::files::{Command, Told, readable, told_by};
 use crate::tests::plans::NO_MEMORY;
 use std::alloc::Global;
@@ -32,23 +33,21 @@ fn expect_same(
 ) {
     let first = told_of(alloc, command, one, certificate);
     let second = told_of(alloc, command, two, certificate);
-    assert_eq!(rt; second.out(), first.out(), "{command:?} of {one}");
-    assert_eq!(rt; second.err(), first.err(), "{command:?} of {one}");
-    assert_eq!(rt; second.exit, first.exit, "{command:?} of {one}");
+    expect_equal(rt, (command, second.out()), (command, first.out()), one);
+    expect_equal(rt, (command, second.err()), (command, first.err()), one);
+    expect_equal(rt, (command, second.exit), (command, first.exit), one);
 }
 
 /// What is printed of a file is of version 2, can't be migrated again, and is answered as the file.
 fn expect_migrated(rt: &impl Abort, alloc: Global, text: &str, certificate: &str) {
     let printed = told_of(alloc, Command::Migrate, text, "");
-    assert_eq!(rt; printed.err(), "", "{text}");
-    assert_eq!(rt; printed.exit.status(), 0, "{text}");
+    expect_equal(rt, printed.err(), "", text);
+    expect_equal(rt, printed.exit.status(), 0, text);
     let new = printed.out();
-    assert!(rt; new.contains("version = 2\n"), "{new}");
+    expect_equal(rt, new.contains("version = 2\n"), true, new);
     let again = told_of(alloc, Command::Migrate, new, "");
-    assert_eq!(rt;
-        again.err(),
-        "ddscheck: deployment 2 WrongVersion version\n"
-    );
+    let wanted = "ddscheck: deployment 2 WrongVersion version\n";
+    expect_equal(rt, again.err(), wanted, new);
     expect_same(rt, alloc, Command::Match, text, new, "");
     expect_same(rt, alloc, Command::Propose, text, new, "");
     expect_same(rt, alloc, Command::Check, text, new, certificate);

@@ -1,5 +1,6 @@
 //! Names that are added one after the other, under a limit: each gets the next number, or is refused for the first of the reasons.
 
+use crate::tests::expecting::expect_equal;
 use dds_base::{NameFault, Names};
 
 /// 64 bytes, the longest that a name has.
@@ -25,8 +26,8 @@ fn names_are_added_or_refused_in_order(rt: HostRuntime) {
     ];
     let mut names = Names::new(rt.alloc());
     for (name, number) in rows {
-        assert_eq!(rt; names.add(name, 3), number, "{name}");
+        expect_equal(&rt, names.add(name, 3), number, name);
     }
-    assert_eq!(rt; names.len(), 3);
-    assert_eq!(rt; names.number(LONGEST), Some(2));
+    expect_equal(&rt, names.len(), 3, "names");
+    expect_equal(&rt, names.number(LONGEST), Some(2), LONGEST);
 }

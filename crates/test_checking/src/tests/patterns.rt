@@ -1,5 +1,6 @@
 //! Which names have a pattern.
 
+use crate::tests::expecting::expect_equal;
 use dds_match::name_matches;
 use std::process::Abort;
 
@@ -24,7 +25,8 @@ const CASES: [Case; 12] = [
 
 fn expect(rt: &impl Abort, case: &Case) {
     let (pattern, name, wanted) = *case;
-    assert_eq!(rt; name_matches(pattern, name), wanted, "{pattern} {name}");
+    let have = (pattern, name, name_matches(pattern, name));
+    expect_equal(rt, have, (pattern, name, wanted), "a pattern and a name");
 }
 
 #[test]

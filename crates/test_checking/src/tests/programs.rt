@@ -1,5 +1,6 @@
 //! Small programs whose greatest values are known by hand.
 
+use crate::tests::expecting::expect_equal;
 use dds_simplex::{Dictionary, End, Line, Stop, Variable};
 use std::alloc::Global;
 use std::test::Fail;
@@ -92,7 +93,7 @@ const RUNS: [Run; 3] = [
 fn ends_without_a_greatest_value(rt: HostRuntime) -> Result<(), Fail> {
     for run in &RUNS {
         let climbed = climb(rt.alloc(), run.conditions, run.sum, run.pivots)?;
-        assert_eq!(rt; climbed.end, run.end, "{}", run.about);
+        expect_equal(&rt, climbed.end, run.end, run.about);
     }
     Ok(())
 }
@@ -101,8 +102,9 @@ fn ends_without_a_greatest_value(rt: HostRuntime) -> Result<(), Fail> {
 #[test]
 fn meets_in_a_corner(rt: HostRuntime) -> Result<(), Fail> {
     let climbed = climb(rt.alloc(), &CORNER, [0, 1, 1], 10)?;
-    assert_eq!(rt; climbed.end, Ok(End::Greatest));
-    assert_eq!(rt; (climbed.alone, climbed.den, climbed.left), (14, 5, 8));
+    expect_equal(&rt, climbed.end, Ok(End::Greatest), "the end");
+    let corner = (climbed.alone, climbed.den, climbed.left);
+    expect_equal(&rt, corner, (14, 5, 8), "the corner");
     Ok(())
 }
 
@@ -168,6 +170,7 @@ fn keeps_a_sum(rt: HostRuntime) -> Result<(), Fail> {
         x: 0,
         y: Some(4),
     };
-    assert_eq!(rt; kept_under_two(rt.alloc())?, wanted);
+    let have = kept_under_two(rt.alloc())?;
+    expect_equal(&rt, have, wanted, "what is kept");
     Ok(())
 }

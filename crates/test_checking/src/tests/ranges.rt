@@ -1,5 +1,6 @@
 //! The ranges of messages and sets of sequence numbers, at both ends.
 
+use crate::tests::expecting::expect_equal;
 use dds_base::{DataMsg, GapMsg, Heartbeat, KeyNo, ReaderNo, Sample, SnSet, WriterNo};
 
 /// The last number that a sample has.
@@ -24,11 +25,8 @@ fn data_has_a_number(rt: HostRuntime) {
             key: KeyNo::new(0),
             payload: [0; 32],
         };
-        assert_eq!(rt;
-            DataMsg::new(ReaderNo::new(0), sample).is_some(),
-            fits,
-            "{sn}"
-        );
+        let data = DataMsg::new(ReaderNo::new(0), sample);
+        expect_equal(&rt, (sn, data.is_some()), (sn, fits), "a DATA");
     }
 }
 
@@ -56,10 +54,12 @@ fn sets_have_256_numbers_at_most(rt: HostRuntime) {
         (u64::MAX, &[], false),
     ];
     for (base, numbers, fits) in rows {
-        assert_eq!(rt;
-            SnSet::new(base, numbers).is_some(),
-            fits,
-            "{base} {numbers:?}"
+        let set = SnSet::new(base, numbers);
+        expect_equal(
+            &rt,
+            (base, numbers, set.is_some()),
+            (base, numbers, fits),
+            "a set",
         );
     }
     assert!(rt; SnSet::new(3, &[5, 4]) == SnSet::new(3, &[4, 5, 5]));
@@ -79,9 +79,14 @@ fn a_gap_starts_at_its_base_or_below(rt: HostRuntime) {
     ];
     for (start, base, fits) in rows {
         let set = SnSet::new(base, &[]);
-        assert!(rt; set.is_some(), "{base}");
+        expect_equal(&rt, (base, set.is_some()), (base, true), "the set of a GAP");
         let gap = set.and_then(|set| GapMsg::new(WriterNo::new(0), ReaderNo::new(0), start, set));
-        assert_eq!(rt; gap.is_some(), fits, "{start} {base}");
+        expect_equal(
+            &rt,
+            (start, base, gap.is_some()),
+            (start, base, fits),
+            "a GAP",
+        );
     }
 }
 
@@ -103,6 +108,7 @@ fn a_heartbeat_has_a_last_number(rt: HostRuntime) {
     ];
     for (first, last, fits) in rows {
         let heartbeat = Heartbeat::new(WriterNo::new(0), ReaderNo::new(0), first, last);
-        assert_eq!(rt; heartbeat.is_some(), fits, "{first} {last}");
+        let have = (first, last, heartbeat.is_some());
+        expect_equal(&rt, have, (first, last, fits), "a HEARTBEAT");
     }
 }

@@ -1,5 +1,6 @@
 //! Certificate files without a fault: the rows, bounds and totals that are read.
 
+use crate::tests::expecting::expect_equal;
 use crate::tests::plans::{FILTERS, NO_MEMORY, certificate_of, plan_of};
 use crate::tests::weights::{
     PlainBound, PlainRow, PlainTotal, PlainWeight, plain_bounds, plain_row, plain_totals,
@@ -62,19 +63,19 @@ struct File {
 
 /// Compares a row, also the order of its lists.
 fn expect_row(rt: &impl Abort, alloc: Global, have: &Row, wanted: &WantedRow) {
-    assert_eq!(rt; have.name.as_str(), wanted.name());
+    expect_equal(rt, have.name.as_str(), wanted.name(), "the name");
     let weights = plain_row(rt, alloc, have);
     expect_weights(rt, &weights, wanted.lists());
 }
 
 fn expect_weights(rt: &impl Abort, have: &PlainRow, wanted: WantedLists) {
-    assert_eq!(rt; have.samples.as_slice(), wanted.samples);
-    assert_eq!(rt; have.takes.as_slice(), wanted.takes);
-    assert_eq!(rt; have.permits.as_slice(), wanted.permits);
+    expect_equal(rt, have.samples.as_slice(), wanted.samples, "samples");
+    expect_equal(rt, have.takes.as_slice(), wanted.takes, "takes");
+    expect_equal(rt, have.permits.as_slice(), wanted.permits, "permits");
 }
 
 fn expect_rows(rt: &impl Abort, alloc: Global, rows: &[Row], wanted: &[WantedRow]) {
-    assert_eq!(rt; rows.len(), wanted.len());
+    expect_equal(rt, rows.len(), wanted.len(), "rows");
     for (have, want) in rows.iter().zip(wanted) {
         expect_row(rt, alloc, have, want);
     }
@@ -84,14 +85,14 @@ fn expect_rows(rt: &impl Abort, alloc: Global, rows: &[Row], wanted: &[WantedRow
 fn expect_certificate(rt: &impl Abort, alloc: Global, have: &Certificate, wanted: &Wanted) {
     expect_rows(rt, alloc, &have.rows, wanted.rows);
     let bounds = plain_bounds(rt, alloc, &have.bounds);
-    assert_eq!(rt; bounds.as_slice(), wanted.bounds);
+    expect_equal(rt, bounds.as_slice(), wanted.bounds, "bounds");
     let totals = plain_totals(rt, alloc, &have.totals);
-    assert_eq!(rt; totals.as_slice(), wanted.totals);
+    expect_equal(rt, totals.as_slice(), wanted.totals, "totals");
 }
 
 /// A text with one part of it replaced, which has to be there.
 fn replaced(rt: &impl Abort, alloc: Global, text: &str, old: &str, new: &str) -> String {
-    assert!(rt; text.contains(old), "{old}");
+    expect_equal(rt, text.contains(old), true, old);
     text.replace(alloc, old, new).expect(rt, NO_MEMORY)
 }
 
@@ -108,7 +109,7 @@ fn text_of(rt: &impl Abort, alloc: Global, file: &File) -> String {
 fn expect_file(rt: &impl Abort, alloc: Global, plan: &Plan, file: &File) {
     let text = text_of(rt, alloc, file);
     let found = certificate_of(rt, alloc, plan, text.as_str());
-    assert!(rt; found.fits(plan), "{}", file.about);
+    expect_equal(rt, found.fits(plan), true, file.about);
     expect_certificate(rt, alloc, &found, &file.wanted);
     drop(found);
 }

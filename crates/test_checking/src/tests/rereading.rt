@@ -1,5 +1,6 @@
 //! Certificates of many kinds, made by numbers that look like chance, and what is read of their text again.
 
+use crate::tests::expecting::expect_equal;
 use crate::tests::plans::{FILTERS, NO_MEMORY, certificate_of, plan_of};
 use crate::tests::weights::{Placed, PlainWeight, plain_row};
 use dds_base::{KeyNo, ReaderNo};
@@ -164,11 +165,11 @@ fn expect_weights(
     places: &[Place],
 ) {
     let wanted = in_order(rt, alloc, written, places);
-    assert_eq!(rt; found, wanted.as_slice());
+    expect_equal(rt, found, wanted.as_slice(), "weights");
 }
 
 fn expect_row(rt: &impl Abort, alloc: Global, found: &Row, written: &Row) {
-    assert_eq!(rt; found.name.as_str(), written.name.as_str());
+    expect_equal(rt, found.name.as_str(), written.name.as_str(), "the name");
     let found = plain_row(rt, alloc, found);
     let written = plain_row(rt, alloc, written);
     expect_weights(rt, alloc, &found.samples, &written.samples, &READER_PLACES);
@@ -177,7 +178,7 @@ fn expect_row(rt: &impl Abort, alloc: Global, found: &Row, written: &Row) {
 }
 
 fn expect_rows(rt: &impl Abort, alloc: Global, found: &[Row], written: &[Row]) {
-    assert_eq!(rt; found.len(), written.len());
+    expect_equal(rt, found.len(), written.len(), "rows");
     for (have, want) in found.iter().zip(written) {
         expect_row(rt, alloc, have, want);
     }
@@ -185,14 +186,16 @@ fn expect_rows(rt: &impl Abort, alloc: Global, found: &[Row], written: &[Row]) {
 
 /// Writes a certificate, reads it again, and compares both; and then their texts.
 fn expect_again(rt: &impl Abort, alloc: Global, plan: &Plan, written: &Certificate) {
-    assert!(rt; written.fits(plan));
+    expect_equal(rt, written.fits(plan), true, "fits");
     let text = certificate_text(alloc, plan, written).expect(rt, NO_MEMORY);
     let found = certificate_of(rt, alloc, plan, text.as_str());
     expect_rows(rt, alloc, &found.rows, &written.rows);
-    assert_eq!(rt; found.bounds.as_slice(), written.bounds.as_slice());
-    assert_eq!(rt; found.totals.as_slice(), written.totals.as_slice());
+    let (have, wanted) = (found.bounds.as_slice(), written.bounds.as_slice());
+    expect_equal(rt, have, wanted, "bounds");
+    let (have, wanted) = (found.totals.as_slice(), written.totals.as_slice());
+    expect_equal(rt, have, wanted, "totals");
     let again = certificate_text(alloc, plan, &found).expect(rt, NO_MEMORY);
-    assert_eq!(rt; again.as_str(), text.as_str());
+    expect_equal(rt, again.as_str(), text.as_str(), "the text");
     drop(found);
 }
 

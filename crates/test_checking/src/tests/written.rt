@@ -1,5 +1,6 @@
 //! The text of certificates, byte for byte.
 
+use crate::tests::expecting::expect_equal;
 use crate::tests::plans::{FILTERS, NO_MEMORY, plan_of};
 use crate::tests::weights::{Placed, PlainBound, PlainTotal, PlainWeight};
 use dds_base::{KeyNo, ReaderNo};
@@ -167,9 +168,9 @@ fn expect_text(
     certificate: &Certificate,
     wanted: &Written,
 ) {
-    assert!(rt; certificate.fits(plan), "{}", wanted.about);
+    expect_equal(rt, certificate.fits(plan), true, wanted.about);
     let text = certificate_text(alloc, plan, certificate).expect(rt, NO_MEMORY);
-    assert_eq!(rt; text.as_str(), wanted.text, "{}", wanted.about);
+    expect_equal(rt, text.as_str(), wanted.text, wanted.about);
 }
 
 /// Writes a certificate for the plan of its deployment, and compares the text.

@@ -9,6 +9,7 @@ mod earlier;
 mod later;
 
 use crate::tests::caches::Fed;
+use crate::tests::comparing::expect_equal;
 use crate::tests::forms::CacheForm;
 use dds_base::{NoMemory, Rejection, Sample};
 use dds_cache::Cache;
@@ -134,7 +135,7 @@ fn expect_answer(
     let Some(want) = wanted(call) else {
         panic!(rt; "{program}");
     };
-    assert_eq!(rt; answer, Some(want), "sample {next} of {program}");
+    expect_equal(rt, (next, answer), (next, Some(want)), program);
 }
 
 /// Makes the calls of a program.
@@ -159,7 +160,7 @@ fn expect<C: CacheForm>(
 /// Makes the 40 calls of a program on both forms.
 fn expect_on_both(rt: &impl Abort, alloc: Global, program: &str) -> Result<(), NoMemory> {
     let calls = calls(alloc, program.split(' ').nth(4).unwrap_or(""))?;
-    assert_eq!(rt; calls.len(), 40, "{program}");
+    expect_equal(rt, calls.len(), 40, program);
     expect::<Cache>(rt, alloc, program, &calls)?;
     expect::<PlainCache>(rt, alloc, program, &calls)
 }
@@ -178,6 +179,6 @@ fn expect_programs(rt: &impl Abort, alloc: Global, programs: &str) -> Result<u64
 fn admits_as_elsewhere(rt: HostRuntime) -> Result<(), Fail> {
     let earlier = expect_programs(&rt, rt.alloc(), earlier::PROGRAMS)?;
     let later = expect_programs(&rt, rt.alloc(), later::PROGRAMS)?;
-    assert_eq!(rt; earlier.wrapping_add(later), 1200);
+    expect_equal(&rt, earlier.wrapping_add(later), 1200, "programs");
     Ok(())
 }

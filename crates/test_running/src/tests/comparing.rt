@@ -34,7 +34,12 @@ fn taken(reply: &Reply) -> Option<Sample> {
 /// one that was given.
 pub(crate) fn expect_step(rt: &impl Abort, world: &mut World, event: &Event, reply: &Reply) {
     let other = step_as(world, event, &taken(reply)).expect(rt, NO_MEMORY);
-    assert_eq!(rt; *reply, other, "{event:?}");
+    expect_equal(
+        rt,
+        (*event, *reply),
+        (*event, other),
+        "an event and its reply",
+    );
 }
 
 impl Both {
@@ -147,10 +152,8 @@ fn expect_same_readers(rt: &impl Abort, both: &Both) {
 /// Compares the packets at the first places.
 fn expect_same_bus(rt: &impl Abort, both: &Both) {
     for place in 0..SOME_PLACES {
-        assert!(rt;
-            both.peers.at(place) == both.world.at(place),
-            "place {place}"
-        );
+        let same = both.peers.at(place) == both.world.at(place);
+        expect_equal(rt, (place, same), (place, true), "a place of the bus");
     }
 }
 

@@ -1,5 +1,6 @@
 //! The worked runs, made by a domain of a plan whose certificate is accepted.
 
+use crate::tests::comparing::expect_equal;
 use crate::tests::plans::{NO_MEMORY, plan_of};
 use crate::tests::worked::{ON_A_FULL_BUS, text_of};
 use dds_base::{Arrival, Event, KeyNo, NoMemory, ReaderNo, Refusal, Reply, WriterNo};
@@ -112,9 +113,12 @@ const ORDERS: [[usize; 30]; 3] = [
 fn deliver(rt: &impl Abort, domain: &mut Domain, place: usize, first: bool) {
     let arrival = if first { Arrival::New } else { Arrival::Repeat };
     let reply = make(rt, domain, Event::Deliver { place, keep: true });
-    assert_eq!(rt; reply, Reply::Arrived(arrival), "place {place}");
-    assert!(rt; domain.stored(ReaderNo::new(0)) <= 3);
-    assert!(rt; domain.unread(ReaderNo::new(0), KeyNo::new(0)) <= 3);
+    let wanted = (place, Reply::Arrived(arrival));
+    expect_equal(rt, (place, reply), wanted, "a place and what arrives");
+    let stored = domain.stored(ReaderNo::new(0));
+    let unread = domain.unread(ReaderNo::new(0), KeyNo::new(0));
+    let have = (stored, unread, stored <= 3 && unread <= 3);
+    expect_equal(rt, have, (stored, unread, true), "three at most");
 }
 
 fn deliver_all(rt: &impl Abort, domain: &mut Domain, order: &[usize; 30]) {
@@ -134,7 +138,7 @@ fn expect_ten_times(rt: &impl Abort, alloc: Global, order: &[usize; 30]) {
     let mut domain = domain_of(rt, alloc, Stage::Small(3));
     expect_three_sent(rt, &mut domain);
     deliver_all(rt, &mut domain, order);
-    assert_eq!(rt; domain.stored(ReaderNo::new(0)), 3);
+    expect_equal(rt, domain.stored(ReaderNo::new(0)), 3, "stored");
     drop(domain);
 }
 
@@ -192,7 +196,7 @@ fn a_list_of_events(rt: HostRuntime) {
         Ok(replies) => replies,
         Err(_) => panic!(rt; "no memory for the events"),
     };
-    assert_eq!(rt; replies.len(), LIST.len());
+    expect_equal(&rt, replies.len(), LIST.len(), "replies");
     expect_replies(&rt, &replies, 0);
     drop(domain);
 }

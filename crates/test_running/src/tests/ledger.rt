@@ -3,6 +3,7 @@
 
 ghost use Rattle.std.specs.Prelude.{◌≡◌, ◌<◌};
 
+use crate::tests::comparing::expect_equal;
 use dds_base::{KeyNo, ReaderNo, RuleNo, WriterNo};
 use dds_rules::{FireRefused, Ledger, NoPermit};
 use std::alloc::Global;
@@ -31,8 +32,10 @@ fn opened(rt: &impl Abort, alloc: Global) -> Ledger
 }
 
 fn expect_permits(rt: &impl Abort, ledger: &Ledger, of_wa: u64, of_wb: u64) {
-    assert_eq!(rt; ledger.permits(WriterNo::new(0), KeyNo::new(0)), of_wa);
-    assert_eq!(rt; ledger.permits(WriterNo::new(1), KeyNo::new(0)), of_wb);
+    let of_first = ledger.permits(WriterNo::new(0), KeyNo::new(0));
+    expect_equal(rt, of_first, of_wa, "the permits of wa");
+    let of_second = ledger.permits(WriterNo::new(1), KeyNo::new(0));
+    expect_equal(rt, of_second, of_wb, "the permits of wb");
 }
 
 fn expect_take(rt: &impl Abort, ledger: &mut Ledger)
@@ -40,21 +43,21 @@ fn expect_take(rt: &impl Abort, ledger: &mut Ledger)
     ensures { ledger.new.spare.endpoints ≡ ledger.old.spare.endpoints }
 {
     let answer = ledger.note_take(ReaderNo::new(0), KeyNo::new(0));
-    assert!(rt; answer.is_ok());
+    expect_equal(rt, answer.is_ok(), true, "a take");
 }
 
 fn expect_fire(rt: &impl Abort, ledger: &mut Ledger, rule: usize, expected: Result<(), FireRefused>)
     ensures { ledger.new.spare.endpoints ≡ ledger.old.spare.endpoints }
 {
     let answer = ledger.fire(RuleNo::new(rule));
-    assert_eq!(rt; answer, expected);
+    expect_equal(rt, answer, expected, "a firing");
 }
 
 fn expect_no_permit(rt: &impl Abort, ledger: &mut Ledger, writer: usize)
     ensures { ledger.new.spare.endpoints ≡ ledger.old.spare.endpoints }
 {
     let answer = ledger.use_permit(WriterNo::new(writer), KeyNo::new(0));
-    assert_eq!(rt; answer, Err(NoPermit));
+    expect_equal(rt, answer, Err(NoPermit), "a write");
 }
 
 #[test]
@@ -66,7 +69,8 @@ fn a_loop_call_by_call(rt: HostRuntime) -> Result<(), Fail> {
     expect_fire(&rt, &mut ledger, TO_B, Err(FireRefused::NotEnough));
     expect_take(&rt, &mut ledger);
     expect_fire(&rt, &mut ledger, TO_B, Ok(()));
-    assert_eq!(rt; ledger.spare(ReaderNo::new(0), KeyNo::new(0)), 0);
+    let spare = ledger.spare(ReaderNo::new(0), KeyNo::new(0));
+    expect_equal(&rt, spare, 0, "spare takes");
     expect_permits(&rt, &ledger, 4, 1);
     expect_fire(&rt, &mut ledger, TO_A, Err(FireRefused::NotEnough));
     Ok(())

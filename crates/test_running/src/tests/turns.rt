@@ -1,6 +1,7 @@
 //! A run by the schedule: each participant does what is due in its turns, the fates of packets come in a circle, and in between the applications
 //! take, fire and write.
 
+use crate::tests::comparing::expect_equal;
 use crate::tests::domains::{make, opened};
 use crate::tests::plans::plan_of;
 use dds_base::{
@@ -75,7 +76,8 @@ impl Side {
         };
         let on_bus = is_on_bus(&event);
         let reply = make(rt, domain, event);
-        assert!(rt; is_good(&reply), "turn {turn}: {reply:?}");
+        let have = (turn, reply, is_good(&reply));
+        expect_equal(rt, have, (turn, reply, true), "a turn");
         if on_bus {
             self.fates = self.fates.saturating_add(1);
         }
@@ -88,12 +90,10 @@ impl Side {
         match make(rt, domain, Event::Take { reader, key }) {
             Reply::Took(_) => {
                 self.taken = self.taken.saturating_add(1);
-                assert_eq!(rt;
-                    make(rt, domain, Event::Fire { rule: self.rule }),
-                    Reply::Fired
-                );
+                let fired = make(rt, domain, Event::Fire { rule: self.rule });
+                expect_equal(rt, fired, Reply::Fired, "a firing");
             }
-            other => assert_eq!(rt; other, Reply::Refused(Refusal::Empty)),
+            other => expect_equal(rt, other, Reply::Refused(Refusal::Empty), "a take"),
         }
     }
 
@@ -106,7 +106,7 @@ impl Side {
         };
         match make(rt, domain, event) {
             Reply::Written(_) => (),
-            other => assert_eq!(rt; other, Reply::Refused(Refusal::NoPermit)),
+            other => expect_equal(rt, other, Reply::Refused(Refusal::NoPermit), "a write"),
         }
     }
 
@@ -135,6 +135,7 @@ fn the_schedule_brings_a_hundred_samples_to_each_side(rt: HostRuntime) {
     let mut domain = opened(&rt, rt.alloc(), plan);
     let mut first = Side::new(0, 1);
     let mut second = Side::new(1, 0);
-    assert!(rt; rounds(&rt, &mut domain, &mut first, &mut second) < TURNS);
+    let done = rounds(&rt, &mut domain, &mut first, &mut second);
+    expect_equal(&rt, done < TURNS, true, "a hundred samples");
     drop(domain);
 }

@@ -69,10 +69,8 @@ fn expect_same_stored(rt: &impl Abort, domain: &Domain, world: &World) {
 /// Compares the packets at the first places.
 fn expect_same_places(rt: &impl Abort, domain: &Domain, world: &World) {
     for place in 0..SOME_PLACES {
-        assert!(rt;
-            domain.at(place).copied() == world.at(place),
-            "place {place}"
-        );
+        let same = domain.at(place).copied() == world.at(place);
+        expect_equal(rt, (place, same), (place, true), "a place of the bus");
     }
 }
 

@@ -1,6 +1,7 @@
 //! Each event of worked runs where memory is refused: nothing changes, and the same event then answers as with ample memory. The tests of this
 //! file also pass where any one allocation is refused, which is how they are run once for each allocation that they make.
 
+use crate::tests::comparing::expect_equal;
 use crate::tests::domains::{expect_replies, listed};
 use crate::tests::worked::text_of;
 use dds_base::{Event, KeyNo, NoMemory, ReaderNo, Reply, WriterNo};
@@ -49,9 +50,12 @@ struct Twins {
 impl Twins {
     fn expect_same_bus(&self, rt: &impl Abort, about: &Event) {
         for place in 0..PLACES {
-            assert!(rt;
-                self.first.at(place).copied() == self.second.at(place).copied(),
-                "place {place} after {about:?} without memory"
+            let same = self.first.at(place).copied() == self.second.at(place).copied();
+            expect_equal(
+                rt,
+                (*about, place, same),
+                (*about, place, true),
+                "a place of the bus",
             );
         }
     }
@@ -59,11 +63,9 @@ impl Twins {
     fn expect_same_unread(&self, rt: &impl Abort, reader: ReaderNo, about: &Event) {
         for k in 0..SOME {
             let key = KeyNo::new(k);
-            assert_eq!(rt;
-                self.first.unread(reader, key),
-                self.second.unread(reader, key),
-                "unread after {about:?} without memory"
-            );
+            let have = (*about, self.first.unread(reader, key));
+            let wanted = (*about, self.second.unread(reader, key));
+            expect_equal(rt, have, wanted, "unread without memory");
         }
     }
 
@@ -71,16 +73,9 @@ impl Twins {
         for number in 0..SOME {
             let reader = ReaderNo::new(number);
             let writer = WriterNo::new(number);
-            assert_eq!(rt;
-                self.first.stored(reader),
-                self.second.stored(reader),
-                "stored after {about:?} without memory"
-            );
-            assert_eq!(rt;
-                self.first.kept(writer),
-                self.second.kept(writer),
-                "kept after {about:?} without memory"
-            );
+            let have = (*about, self.first.stored(reader), self.first.kept(writer));
+            let wanted = (*about, self.second.stored(reader), self.second.kept(writer));
+            expect_equal(rt, have, wanted, "stored and kept without memory");
             self.expect_same_unread(rt, reader, about);
         }
     }
@@ -156,7 +151,7 @@ fn run_list(rt: &impl Abort, domain: &mut Domain, events: &[Event]) {
     match domain.run(&events[done..]) {
         Ok(replies) => {
             expect_replies(rt, &replies, done);
-            assert_eq!(rt; done + replies.len(), events.len());
+            expect_equal(rt, done + replies.len(), events.len(), "events");
         }
         Err(_) => panic!(rt; "no memory for the rest of the list, twice"),
     }
