@@ -1,5 +1,6 @@
 mod answers;
 mod ends;
+mod expecting;
 mod faults;
 mod gauge;
 mod kits;

@@ -1,5 +1,6 @@
 //! Two steady applications that answer each other: ten samples of each are written and taken, whatever befalls the packets.
 
+use crate::tests::expecting::expect_equal;
 use crate::tests::plans::ping;
 use crate::tests::runs::{Fault, LIMITS, Told, run};
 use dds_base::{AppNo, Event, Fate, Reply, Sample};
@@ -34,15 +35,13 @@ fn expect_diaries(rt: &impl Abort, told: &Told) {
     for (seat, diary) in told.diaries.iter().enumerate() {
         let entries = told.journal.entries();
         let part = entries.iter().filter(|entry| entry.seat == seat);
-        assert_eq!(rt;
-            diary.len(),
-            entries.iter().filter(|entry| entry.seat == seat).count()
-        );
+        let count = entries.iter().filter(|entry| entry.seat == seat).count();
+        expect_equal(rt, diary.len(), count, "the length of a diary");
         for (made, entry) in diary.iter().zip(part) {
-            assert_eq!(rt; made.0, entry.event);
-            assert_eq!(rt; made.1, entry.reply);
+            expect_equal(rt, *made, (entry.event, entry.reply), "what a seat did");
         }
-        assert_eq!(rt; told.gauge.get(seat).copied(), Some(diary.len() as u64));
+        let counted = told.gauge.get(seat).copied();
+        expect_equal(rt, counted, Some(diary.len() as u64), "the gauge");
     }
 }
 
@@ -69,7 +68,7 @@ fn expect_taken(rt: &impl Abort, journal: &Journal, owed: usize) {
             );
         }
     }
-    assert_eq!(rt; taken, owed);
+    expect_equal(rt, taken, owed, "taken");
 }
 
 /// Both stopped, and each took what the other one wrote.
@@ -78,10 +77,8 @@ pub(crate) fn expect_answered(rt: &impl Abort, told: Result<Told, Fault>) {
         Ok(told) => {
             expect_diaries(rt, &told);
             expect_taken(rt, &told.journal, 20);
-            assert_eq!(rt;
-                told.ends.as_slice(),
-                [AppEnd::Stopped, AppEnd::Stopped].as_slice()
-            );
+            let wanted = [AppEnd::Stopped, AppEnd::Stopped];
+            expect_equal(rt, told.ends.as_slice(), wanted.as_slice(), "the ends");
         }
         Err(fault) => panic!(rt; "the run met {fault:?}"),
     }

@@ -1,5 +1,6 @@
 //! How the thread of an application ends.
 
+use crate::tests::expecting::expect_equal;
 use crate::tests::plans::{ping, small};
 use crate::tests::runs::{LIMITS, run};
 use crate::tests::scripts::{Script, take_at, write_at};
@@ -29,7 +30,8 @@ fn played<R: Threads + Wait + Clock + Sync + Abort>(
     apps.push(second).expect(rt, "memory");
     match run(rt, alloc, checked, apps, &[Fate::Pass], limits) {
         Ok(told) => {
-            assert_eq!(rt; told.ends.as_slice().first().copied(), Some(owed));
+            let end = told.ends.as_slice().first().copied();
+            expect_equal(rt, end, Some(owed), "the first end");
             match told.diaries.into_iter().next() {
                 Some(diary) => diary,
                 None => panic!(rt; "no application"),
@@ -56,13 +58,12 @@ fn writes_more_than_it_may(rt: HostRuntime) {
         LIMITS,
         AppEnd::Stopped,
     );
-    assert_eq!(rt; diary.len(), 100);
-    assert_eq!(rt;
-        diary.iter().filter(|told| is_unpermitted(told)).count(),
-        97
-    );
+    expect_equal(&rt, diary.len(), 100, "calls");
+    let unpermitted = diary.iter().filter(|told| is_unpermitted(told)).count();
+    expect_equal(&rt, unpermitted, 97, "calls without a permit");
     for (place, told) in diary.iter().take(3).enumerate() {
-        assert_eq!(rt; told.1, Reply::Written((place as u64).saturating_add(1)));
+        let wanted = Reply::Written((place as u64).saturating_add(1));
+        expect_equal(&rt, told.1, wanted, "a write");
     }
 }
 
@@ -72,7 +73,7 @@ fn is_short_of_memory(rt: HostRuntime) {
     let script = Script::new(alloc, write_at(0), 100).short_in(2);
     let checked = small(&rt, alloc);
     let diary = played(&rt, alloc, checked, script, LIMITS, AppEnd::NoMemory);
-    assert_eq!(rt; diary.len(), 2);
+    expect_equal(&rt, diary.len(), 2, "calls");
 }
 
 #[test]
@@ -81,7 +82,7 @@ fn writes_at_another_ones_writer(rt: HostRuntime) {
     let script = Script::new(alloc, write_at(1), 100);
     let checked = ping(&rt, alloc);
     let diary = played(&rt, alloc, checked, script, LIMITS, AppEnd::NotYours);
-    assert_eq!(rt; diary.len(), 0);
+    expect_equal(&rt, diary.len(), 0, "calls");
 }
 
 #[test]
@@ -91,7 +92,7 @@ fn never_stops(rt: HostRuntime) {
     let script = Script::new(alloc, write_at(0), u64::MAX);
     let checked = small(&rt, alloc);
     let diary = played(&rt, alloc, checked, script, limits, AppEnd::CallLimit);
-    assert_eq!(rt; diary.len(), 5);
+    expect_equal(&rt, diary.len(), 5, "calls");
 }
 
 #[test]
@@ -101,5 +102,5 @@ fn makes_as_many_calls_as_it_may(rt: HostRuntime) {
     let script = Script::new(alloc, write_at(0), 5);
     let checked = small(&rt, alloc);
     let diary = played(&rt, alloc, checked, script, limits, AppEnd::Stopped);
-    assert_eq!(rt; diary.len(), 5);
+    expect_equal(&rt, diary.len(), 5, "calls");
 }

@@ -1,5 +1,6 @@
 //! Runs that give nothing.
 
+use crate::tests::expecting::expect_equal;
 use crate::tests::plans::{ping, small};
 use crate::tests::runs::{Fault, LIMITS, Told, run};
 use crate::tests::scripts::{Script, take_at, write_at};
@@ -15,7 +16,7 @@ fn expect_fault(rt: &impl Abort, told: Result<Told, Fault>, owed: Fault) {
             drop(told);
             panic!(rt; "the run met no fault")
         }
-        Err(fault) => assert_eq!(rt; fault, owed),
+        Err(fault) => expect_equal(rt, fault, owed, "the fault"),
     }
 }
 

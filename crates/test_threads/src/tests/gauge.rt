@@ -2,6 +2,7 @@
 
 ghost use Rattle.std.specs.Prelude.{◌≡◌, ◌<◌, IsSome};
 
+use crate::tests::expecting::expect_equal;
 use dds_base::AppNo;
 use dds_book::{Gauge, GaugeSeat};
 use std::test::Fail;
@@ -42,6 +43,7 @@ fn gauge_read_back(rt: HostRuntime) -> Result<(), Fail> {
     let (Some(monitor), Some(owner)) = (seats.pop(), seats.pop()) else {
         panic!(rt; "too few seats")
     };
-    assert_eq!(rt; read_after(&rt, &gauge, owner, monitor), 1000);
+    let count = read_after(&rt, &gauge, owner, monitor);
+    expect_equal(&rt, count, 1000, "the count");
     Ok(())
 }

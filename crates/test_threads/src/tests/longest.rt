@@ -2,6 +2,7 @@
 
 ghost use Rattle.dds_book.specs.Kit.{IsKitOf};
 
+use crate::tests::expecting::expect_equal;
 use crate::tests::kits::{empty_take, kit};
 use crate::tests::without_memory::opened;
 use dds_base::{Refusal, Reply};
@@ -35,7 +36,7 @@ fn expect_longest<N: Name>(rt: &impl Abort, alloc: Global, kit: Kit)
     requires { IsKitOf N.plan N.tables kit }
 {
     let (mut state, mut seats) = opened::<N>(rt, alloc, kit);
-    assert_eq!(rt; seats.len(), 4);
+    expect_equal(rt, seats.len(), 4, "seats");
     if let Some(seat) = seats.get_mut(0) {
         expect_full(rt, &mut state, seat);
     }

@@ -2,6 +2,7 @@
 
 ghost use Rattle.dds_book.specs.Kit.{IsKitOf};
 
+use crate::tests::expecting::expect_equal;
 use crate::tests::kits::{CALLS, ENTERED, empty_take, kit};
 use dds_base::Reply;
 use dds_book::{Book, BookFault, Journal, Kit, Name, Seat};
@@ -45,11 +46,11 @@ fn expect_calls<N: Name, R: Wait + Abort>(rt: &R, book: &Book<N>, seats: &mut Ve
 /// The journal has the calls that were entered, in order.
 fn expect_entries(rt: &impl Abort, journal: &Journal) {
     let entered = CALLS.iter().filter(|call| call.2.is_ok());
-    assert_eq!(rt; journal.entries().len(), ENTERED);
+    expect_equal(rt, journal.entries().len(), ENTERED, "entries");
     for (entry, (number, asked, owed)) in journal.entries().iter().zip(entered) {
-        assert_eq!(rt; entry.seat, *number, "{:?}", entry.event);
-        assert_eq!(rt; Some(entry.event), event_of(*asked));
-        assert_eq!(rt; Ok(told_of(&entry.reply)), *owed);
+        let wanted = (*number, event_of(*asked));
+        expect_equal(rt, (entry.seat, Some(entry.event)), wanted, "an entry");
+        expect_equal(rt, Ok(told_of(&entry.reply)), *owed, "its reply");
     }
 }
 
@@ -57,7 +58,7 @@ fn expect_entries(rt: &impl Abort, journal: &Journal) {
 fn expect_closed<N: Name, R: Wait + Abort>(rt: &R, book: &Book<N>, seats: &mut Vec<Seat<N>>) {
     for seat in seats.iter_mut() {
         let answer = book.call(rt, seat, empty_take());
-        assert_eq!(rt; told(answer), Err(BookFault::Closed));
+        expect_equal(rt, told(answer), Err(BookFault::Closed), "a closed book");
     }
 }
 
@@ -78,10 +79,10 @@ fn expect_book<N: Name, R: Wait + Clock + Abort>(rt: &R, alloc: Global, kit: Kit
 {
     let (book, mut seats) = opened::<N>(rt, alloc, kit);
     expect_calls(rt, &book, &mut seats);
-    assert_eq!(rt; book.wait_change(rt, 4), Some(5));
-    assert_eq!(rt; book.wait_change(rt, 5), None);
-    assert_eq!(rt; book.wait_briefly(rt, 4), Some(5));
-    assert_eq!(rt; book.wait_briefly(rt, 5), None);
+    expect_equal(rt, book.wait_change(rt, 4), Some(5), "a change");
+    expect_equal(rt, book.wait_change(rt, 5), None, "no change");
+    expect_equal(rt, book.wait_briefly(rt, 4), Some(5), "a change, briefly");
+    expect_equal(rt, book.wait_briefly(rt, 5), None, "no change, briefly");
     book.stop(rt);
     expect_closed(rt, &book, &mut seats);
     let journal = book.close(rt, seats);

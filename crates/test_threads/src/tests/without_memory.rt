@@ -3,6 +3,7 @@
 
 ghost use Rattle.dds_book.specs.Kit.{IsKitOf};
 
+use crate::tests::expecting::expect_equal;
 use crate::tests::kits::{CALLS, FATE, kit};
 use dds_base::{Event, Reply};
 use dds_book::{BookFault, BookState, Kit, Name, Seat};
@@ -23,7 +24,7 @@ fn entered<N: Name>(
     let again = event;
     match state.enter(seat, event) {
         Err(BookFault::NoMemory) => {
-            assert_eq!(rt; state.changes(), before);
+            expect_equal(rt, state.changes(), before, "changes");
             state.enter(seat, again)
         }
         answer => answer,
@@ -90,11 +91,8 @@ fn expect_turns<N: Name>(rt: &impl Abort, state: &mut BookState<N>, seats: &mut 
     for (number, turn, owed) in &TURNS {
         if let Some(seat) = seats.get_mut(*number) {
             let answer = pumped(rt, state, seat, *turn);
-            assert_eq!(rt;
-                told_of_turn(rt, answer),
-                *owed,
-                "seat {number}, turn {turn}"
-            );
+            let have = (*number, *turn, told_of_turn(rt, answer));
+            expect_equal(rt, have, (*number, *turn, *owed), "a turn of a seat");
         }
     }
 }
