@@ -6,7 +6,7 @@ ghost use Rattle.dds_cert.specs.Fits.{fits};
 ghost use Rattle.dds_cert.specs.Views.{certificate_view};
 ghost use Rattle.dds_runs.specs.Accepted.{certificate_of};
 ghost use Rattle.dds_check.specs.Accepts.{first_no};
-ghost use Rattle.dds_claims.specs.Claims.{IsShown, structure_no};
+ghost use Rattle.dds_claims.specs.Claims.{IsShown, shows, structure_no};
 
 use dds_cert::Certificate;
 use dds_check::{
@@ -15,10 +15,11 @@ use dds_check::{
 use dds_match::Plan;
 
 /// Whether no event raises the weighted sum of any row of a certificate, and each row shows the bounds and totals that name it. Nothing is
-/// said of the limits, nor that each limit has a bound.
+/// said of the limits, nor that each limit has a bound. `false` exactly where a condition on rows fails, or one on what they show.
 pub fn shows(plan: &Plan, certificate: &Certificate) -> bool
     requires fits { fits (network_of plan.now) (certificate_view certificate.now) ≡ true }
-    ensures { IsTrue result → IsShown (network_of plan.now) (certificate_of (certificate_view certificate.now)) }
+    ensures decided { result ≡ shows (network_of plan.now) (certificate_view certificate.now) }
+    ensures shown { IsTrue result → IsShown (network_of plan.now) (certificate_of (certificate_view certificate.now)) }
 {
     // What is known of every plan: its lists name nothing that isn't there.
     let _lists = plan.lists();

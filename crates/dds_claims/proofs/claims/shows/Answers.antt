@@ -10,5 +10,5 @@ rows_no-requires c = tabled_of _ _ c.lists-lists.ensures.well_formed c.requires.
 pub shown_no-requires : goal.shown_no-requires
 shown_no-requires c = tabled_of _ _ c.lists-lists.ensures.well_formed c.requires.fits
 
-pub returns-in-None-shown_no : goal.returns-in-None-shown_no
-returns-in-None-shown_no c = λ _. shown_where_none c.args.plan.now (certificate_view c.args.certificate.now) c.lists-lists.ensures.well_formed (sym c.rows_no.ensures ∙ c.in-None.is) (sym c.shown_no.ensures ∙ c.in-None-shown_no.is)
+pub returns-in-None-shown_no-clause-shown : goal.returns-in-None-shown_no-clause-shown
+returns-in-None-shown_no-clause-shown c = λ _. shown_where_none c.args.plan.now (certificate_view c.args.certificate.now) c.lists-lists.ensures.well_formed (sym c.rows_no.ensures ∙ c.in-None.is) (sym c.shown_no.ensures ∙ c.in-None-shown_no.is)
