@@ -1,7 +1,6 @@
 -- Columns in a row.
-use Rattle.std.proofs.Common.{◌≡◌, ℕ, zero, suc, ◌+◌, List, [], ◌∷◌, ◌++◌, map, refl, ap, ◌∙◌, arith}
+use Rattle.std.proofs.Common.{◌≡◌, ℕ, zero, suc, ◌+◌, [], ◌∷◌, ◌++◌, map, ap, ◌∙◌, arith}
 use Rattle.std.specs.List.{range_with_len}
-use Rattle.dds_simplex.specs.declared.dictionary.Variable.{Variable}
 use Rattle.dds_simplex.specs.declared.dictionary.Variable.TheVariants.{Column}
 use Rattle.dds_simplex.specs.Dictionary.{fresh_columns}
 

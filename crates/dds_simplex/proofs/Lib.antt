@@ -1,1 +1,11 @@
 mod Columns
+mod Divisions
+mod Divisors
+mod Fractions
+mod Kept
+mod Lines
+mod Mixing
+mod Pivots
+mod Sums
+mod Turning
+mod Values

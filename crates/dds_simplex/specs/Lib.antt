@@ -1,1 +1,4 @@
 pub mod Dictionary
+pub mod Keeping
+pub mod Line
+pub mod Points

@@ -1,7 +1,12 @@
 //! A dictionary: some variables in terms of the others, which are free. Where the free ones are 0, the others are not below 0.
-ghost use Rattle.std.specs.Prelude.{◌≡◌, ◌≢◌, ◌≤◌, ◌++◌, ◌∷◌, [], Err, Ok, IfErr, IfNone, IfOk, OnErr, OnOk, vec_len};
-ghost use Rattle.dds_simplex.specs.Dictionary.{IsGreatest, fresh_columns};
+ghost use Rattle.std.specs.Prelude.{◌≡◌, ◌≢◌, ◌<◌, ◌≤◌, ◌<ℤ◌, ◌≤ℤ◌, ◌++◌, ◌∷◌, ℕ, pos, [], Err, None, Ok, Some, IfErr, IfNone, IfOk, IfSome, OnErr, OnOk, option_map, position, slice_index_or, true, vec_len};
+ghost use Rattle.std.specs.List.{All, HoldsAt};
+ghost use Rattle.dds_simplex.specs.Dictionary.{IsGreatest, IsUnbounded, fresh_columns, is_variable, line_of};
+ghost use Rattle.dds_simplex.specs.Keeping.{IsBasicKept, IsLineKept, kept_columns};
+ghost use Rattle.dds_simplex.specs.Line.{IsColumnMore, IsTimesMore, number_of};
+ghost use Rattle.dds_simplex.specs.Points.{IsAtMost, IsBasicReplaced, IsExchanged, KeepsPoints};
 
+use crate::keeping::keep_columns;
 use crate::line::Line;
 use std::alloc::{AllocError, Global};
 use std::mem;
@@ -55,12 +60,6 @@ pub struct Dictionary {
     basics: Vec<Basic>,
 }
 
-/// Where a variable stands.
-enum Place<'a> {
-    Free(usize),
-    Basic(&'a Line),
-}
-
 impl Dictionary {
     /// A dictionary without lines, over so many free variables.
     #[tactic(auto, using(crate::proofs::Columns::columns_push))]
@@ -99,60 +98,55 @@ impl Dictionary {
         &self.free
     }
 
-    /// Where a variable stands, if it does.
-    fn find(&self, variable: Variable) -> Option<Place<'_>> {
-        for basic in &self.basics {
-            if basic.variable == variable {
-                return Some(Place::Basic(&basic.line));
-            }
-        }
-        let column = self.free.iter().position(|v| *v == variable)?;
-        Some(Place::Free(column))
-    }
-
-    /// Adds `times` a variable to a sum. `None` where a number would pass 128 bits, and where there is no such variable.
-    pub fn add(&self, sum: &mut Line, times: i128, variable: Variable) -> Option<()> {
-        match self.find(variable)? {
-            Place::Free(column) => sum.add_column(times, column),
-            Place::Basic(line) => sum.add(times, line),
+    /// Adds `times` a variable to a sum: its line, or its column where it is free. `None` where a number would pass 128 bits, which leaves a sum that means
+    /// nothing, where a line has more columns than the sum, and where there is no such variable.
+    pub fn add(&self, sum: &mut Line, times: i128, variable: Variable) -> Option<()>
+        ensures given { (line : Line) → line_of self.now variable ≡ Some line → IfSome result (λ _. IsTimesMore times line sum.old sum.new) }
+        ensures free { line_of self.now variable ≡ None → IfSome result (λ _. IsColumnMore times (position (is_variable variable) self.now.free.items) sum.old sum.new) }
+        ensures columns { vec_len sum.new.numbers ≡ vec_len sum.old.numbers }
+    {
+        match self.line(variable) {
+            Some(line) => sum.add(times, line),
+            None => sum.add_column(times, self.column(variable)?),
         }
     }
 
     /// The line of a variable, `None` where it is free or was dropped.
-    pub fn line(&self, variable: Variable) -> Option<&Line> {
-        match self.find(variable)? {
-            Place::Free(_) => None,
-            Place::Basic(line) => Some(line),
-        }
+    pub fn line(&self, variable: Variable) -> Option<&Line>
+        ensures { option_map (λ line. line.now) result ≡ line_of self.now variable }
+    {
+        let basic = self.basics.iter().find(|basic| basic.variable == variable)?;
+        Some(&basic.line)
     }
 
-    /// Drops a column: its variable is 0 for good.
-    fn drop_column(&mut self, column: usize) {
-        if column < self.free.len() {
-            self.free.swap_remove(column);
-        }
-        for basic in &mut self.basics {
-            basic.line.drop_column(column);
-        }
+    /// The column of a free variable, `None` where it isn't free.
+    fn column(&self, variable: Variable) -> Option<usize>
+        ensures { result ≡ position (is_variable variable) self.now.free.items }
+    {
+        self.free.iter().position(|free| *free == variable)
     }
 
     /// From here on a sum that has climbed keeps its greatest value: the variables that would lower it are 0 for good, and their columns are
-    /// dropped here and in the next sum, whose columns have to be the same. The first sum is worth nothing any more.
-    pub fn keep(&mut self, sum: &Line, next: &mut Line) {
-        let columns = sum.columns();
-        for turn in 1..=columns {
-            // The last one first, since a column that is dropped gets the place of one that was looked at.
-            let column = columns.saturating_sub(turn);
-            if sum.number(column) < 0 {
-                self.drop_column(column);
-                next.drop_column(column);
+    /// dropped here and in the next sum, whose columns have to be the same. The others keep their order. The first sum is worth nothing any more.
+    pub fn keep(&mut self, sum: &Line, next: &mut Line)
+        ensures free { self.new.free.items ≡ kept_columns sum.now.numbers.items self.old.free.items }
+        ensures basics { vec_len self.new.basics ≡ vec_len self.old.basics }
+        ensures lines { (place : ℕ) (other : Basic) → place < vec_len self.old.basics → IsBasicKept sum.now.numbers.items (slice_index_or self.old.basics.items place other) (slice_index_or self.new.basics.items place other) }
+        ensures next { IsLineKept sum.now.numbers.items next.old next.new }
+    {
+        keep_columns(&mut self.free, sum);
+        next.keep(sum);
+        for place in 0..self.basics.len() {
+            if let Some(basic) = self.basics.get_mut(place) {
+                basic.line.keep(sum);
             }
         }
     }
 
     /// The column of the least free variable that would raise the sum.
     fn entering(&self, sum: &Line) -> Option<usize>
-        ensures { IfNone result (IsGreatest self.now sum.now) }
+        ensures greatest { IfNone result (IsGreatest self.now sum.now) }
+        ensures raises { IfSome result (λ column. (column < vec_len self.now.free) × (pos 0 <ℤ number_of sum.now column)) }
     {
         let mut found: Option<(Variable, usize)> = None;
         for column in 0..self.free.len() {
@@ -171,7 +165,9 @@ impl Dictionary {
     /// The place of the line that bounds the free variable of a column the most, the least variable's where two are alike. None where no
     /// line bounds it.
     fn leaving(&self, column: usize) -> Result<Option<usize>, Stop>
-        ensures { IfErr result (λ e. e ≡ Stop.Overflow) }
+        ensures overflow { IfErr result (λ e. e ≡ Stop.Overflow) }
+        ensures unbounded { IfOk result (λ place. IfNone place (All (λ b. pos 0 ≤ℤ number_of b.line column) self.now.basics.items)) }
+        ensures falls { IfOk result (λ place. IfSome place (λ k. HoldsAt (λ b. number_of b.line column <ℤ pos 0) self.now.basics.items k)) }
     {
         let mut found: Option<usize> = None;
         for place in 0..self.basics.len() {
@@ -188,20 +184,27 @@ impl Dictionary {
 
     /// The free variable of a column and the one that a line gives change places, in all lines and in the sum.
     fn pivot(&mut self, sum: &mut Line, column: usize, place: usize) -> Result<(), Stop>
-        ensures { result ≢ Err Stop.Budget }
+        ensures budget { result ≢ Err Stop.Budget }
+        ensures free { OnOk result (vec_len self.new.free ≡ vec_len self.old.free) }
+        ensures points { column < vec_len self.old.free → OnOk result (KeepsPoints self.old sum.old self.new sum.new) }
+        ensures den { HoldsAt (λ b. number_of b.line column <ℤ pos 0) self.old.basics.items place → pos 0 <ℤ sum.old.den → OnOk result (pos 0 <ℤ sum.new.den) }
     {
         if place >= self.basics.len() {
             return Ok(());
         }
         let mut given = self.basics.swap_remove(place);
         given.line.turn(column).ok_or(Stop::Overflow)?;
-        for basic in &mut self.basics {
-            basic
-                .line
-                .replace(column, &given.line)
-                .ok_or(Stop::Overflow)?;
-        }
+        replace_each(&mut self.basics, column, &given.line).ok_or(Stop::Overflow)?;
         sum.replace(column, &given.line).ok_or(Stop::Overflow)?;
+        self.exchange(column, given)
+    }
+
+    /// The variable that a line gives takes a column, and the line gives the one that had it.
+    fn exchange(&mut self, column: usize, mut given: Basic) -> Result<(), Stop>
+        ensures budget { result ≢ Err Stop.Budget }
+        ensures exchanged { column < vec_len self.old.free → OnOk result (IsExchanged column given self.old self.new) }
+        ensures free { vec_len self.new.free ≡ vec_len self.old.free }
+    {
         if let Some(free) = self.free.get_mut(column) {
             mem::swap(free, &mut given.variable);
         }
@@ -215,8 +218,14 @@ impl Dictionary {
     /// the pivots that it makes from those that are left. After an `Err` the dictionary is worth nothing: `Overflow` where a number would pass 128 bits, `Memory`
     /// where memory ran out, and `Budget` only where no pivot is left.
     pub fn climb(&mut self, sum: &mut Line, left: &mut usize) -> Result<End, Stop>
-        // At the greatest value no free variable would raise the sum.
+        // Values that the lines allow they allow later too, and the sum has the same value there.
+        ensures points { OnOk result (KeepsPoints self.old sum.old self.new sum.new) }
+        // At the greatest value no free variable would raise the sum, so that no values of which none is below 0 give it a greater one.
         ensures greatest { result ≡ Ok End.Greatest → IsGreatest self.new sum.new }
+        ensures bound { result ≡ Ok End.Greatest → IsAtMost self.old sum.old sum.new.constant sum.new.den }
+        // There is no greatest value where a free variable raises the sum and no line falls with it.
+        ensures unbounded { result ≡ Ok End.Unbounded → IsUnbounded self.new sum.new }
+        ensures den { pos 0 <ℤ sum.old.den → OnOk result (pos 0 <ℤ sum.new.den) }
         ensures spent { left.new ≤ left.old }
         ensures budget { result ≡ Err Stop.Budget → left.new ≡ 0 }
     {
@@ -234,8 +243,23 @@ impl Dictionary {
     }
 }
 
+/// Puts a line in the place of its column's variable in each of the others.
+fn replace_each(basics: &mut Vec<Basic>, column: usize, given: &Line) -> Option<()>
+    ensures basics { vec_len basics.new ≡ vec_len basics.old }
+    ensures lines { IfSome result (λ _. (place : ℕ) (other : Basic) → place < vec_len basics.old → IsBasicReplaced column given.now (slice_index_or basics.old.items place other) (slice_index_or basics.new.items place other)) }
+{
+    for place in 0..basics.len() {
+        if let Some(basic) = basics.get_mut(place) {
+            basic.line.replace(column, given)?;
+        }
+    }
+    Some(())
+}
+
 /// Whether a line bounds the free variable of a column more than the best so far: constant by number, and then the variable, is less.
-fn is_first(basic: &Basic, best: Option<&Basic>, column: usize) -> Option<bool> {
+fn is_first(basic: &Basic, best: Option<&Basic>, column: usize) -> Option<bool>
+    ensures { IfNone best.entry (result ≡ Some true) }
+{
     let Some(best) = best else {
         return Some(true);
     };
