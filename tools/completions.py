@@ -4,15 +4,14 @@
   tools/completions.py           # writes docs/completions/ddscheck.{bash,zsh,fish} and docs/man/ddscheck.1
   tools/completions.py --check   # tells which of these files fall behind; the last line is 'N passed, M failed'
 
-The help is read from the stored run of crates/test_commands, which the gate holds equal to what the program prints.
+The help is read from tools/commands/help.txt, which tools/commands.py holds equal to what the program prints.
 """
 import re
 import sys
 from dataclasses import dataclass, field
-from pathlib import Path
 
-ROOT = Path(__file__).resolve().parent.parent
-STORED = ROOT / "crates/test_commands/stdout"
+sys.dont_write_bytecode = True
+from commands import ROOT, cases  # noqa: E402
 
 
 @dataclass
@@ -43,10 +42,7 @@ class Command:
 
 def printed_for(words):
     """What the program prints for these words, without the line of its status."""
-    lines = STORED.read_text().splitlines()
-    start = lines.index("ddscheck " + words) + 1
-    end = next(at for at in range(start, len(lines)) if re.fullmatch(r"status \d", lines[at]))
-    return lines[start:end]
+    return next(case for case in cases(["help"]) if case.words == words.split()).expected.splitlines()[:-1]
 
 
 def part_of(lines, heading):

@@ -3,8 +3,8 @@
 
   tools/drawn.py
 
-Drawn is every deployment of crates/test_commands, of the examples and of tools/search-cases, and every pair of a deployment and a certificate of the examples and
-of the command lines of crates/test_commands. Deployments are read by tools/shown.py and certificates here, both with Python's TOML parser; which endpoints match
+Drawn is every deployment of tools/commands, of the examples and of tools/search-cases, and every pair of a deployment and a certificate of the examples and
+of the commands of tools/commands. Deployments are read by tools/shown.py and certificates here, both with Python's TOML parser; which endpoints match
 is decided here a second time (OMG DDS 1.4, clause 2.2.3). The picture is read line by line, and has to have the clusters, nodes and edges that the files say, each
 with its attributes, at its place and in its order. Where `dot` is installed, a picture of at most 400 edges is rendered too: the SVG has to have a title for each
 node, each edge and each cluster with a node in it, and for nothing else. Of a file with a fault `draw` owes what `match` or `check` answers: nothing, the same line
@@ -19,6 +19,7 @@ import tomllib
 import xml.etree.ElementTree as xml
 
 sys.dont_write_bytecode = True
+from commands import DATA, cases  # noqa: E402
 from shown import ROOT, answer_of, deployments, lists_of  # noqa: E402
 
 MOST_EDGES = 400
@@ -254,10 +255,9 @@ def cases():
         for deployment in sorted(certificate.parent.glob("*.toml")):
             if not deployment.name.endswith(".cert.toml"):
                 yield [deployment, certificate]
-    commands = (ROOT / "crates/test_commands/stdin").read_text()
-    for words in re.findall(r"^ddscheck check (\S+\.toml) (\S+\.toml)$", commands, re.MULTILINE):
-        files = [ROOT / "crates/test_commands/data" / word for word in words]
-        if all(file.is_file() for file in files):
+    for case in cases():
+        files = [DATA / word for word in case.words[1:]]
+        if case.words[:1] == ["check"] and len(files) == 2 and all(file.suffix == ".toml" and file.is_file() for file in files):
             yield files
 
 

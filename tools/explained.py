@@ -1,7 +1,7 @@
 #!/usr/bin/env python3
 """Says what `ddscheck check --explain` owes, by sums of its own, and holds the built program against it.
 
-  tools/explained.py                          # every check of crates/test_commands and of the examples
+  tools/explained.py                          # every check of tools/commands and of the examples
   tools/explained.py DEPLOYMENT CERTIFICATE   # prints what is owed
 
 Both files are read by Python's TOML parser (the deployment as tools/shown.py reads it), and each number of a reason is added up here a second time. From the built program
@@ -15,9 +15,8 @@ from pathlib import Path
 
 sys.dont_write_bytecode = True
 import shown  # noqa: E402
+from commands import DATA, cases  # noqa: E402
 from shown import ROOT  # noqa: E402
-
-DATA = ROOT / "crates/test_commands"
 
 
 class Case:
@@ -242,10 +241,9 @@ def agrees(given, wanted):
 
 
 def checks():
-    for line in (DATA / "stdin").read_text().splitlines():
-        words = line.split()
-        if words[:2] == ["ddscheck", "check"] and len(words) == 4:
-            yield DATA / "data" / words[2], DATA / "data" / words[3]
+    for case in cases():
+        if case.words[:1] == ["check"] and len(case.words) == 3:
+            yield DATA / case.words[1], DATA / case.words[2]
     for certificate in sorted((ROOT / "examples").rglob("*.cert.toml")):
         for deployment in sorted(certificate.parent.glob("*.toml")):
             if not deployment.name.endswith(".cert.toml"):

@@ -1,7 +1,7 @@
 #!/usr/bin/env python3
 """Holds the schemas of docs/schemas against files whose answers are known.
 
-  tools/schemas.py                       # the command lines of crates/test_commands with what comes of them
+  tools/schemas.py                       # the commands of tools/commands with what comes of them
   tools/schemas.py FOLDER ..             # folders with files and expected.jsonl: a line {"words": [..], "out": .., "err": ..} for each command line
 
 A file that is read without a fault has to pass its schema. One whose first fault is WrongVersion, UnknownKey, MissingKey, WrongKind, OutOfRange, BadName or
@@ -15,25 +15,17 @@ import sys
 import tomllib
 from pathlib import Path
 
-ROOT = Path(__file__).resolve().parent.parent
+sys.dont_write_bytecode = True
+from commands import DATA, ROOT, cases  # noqa: E402
+
 SEEN = {"WrongVersion", "UnknownKey", "MissingKey", "WrongKind", "OutOfRange", "BadName", "TooMany"}
 FAULT = re.compile(r"ddscheck: (deployment|certificate) \d+ (\w+)")
 TAKES_CERTIFICATE = {"check", "run"}
 
 
 def commands_of_the_repository():
-    """Each command line of test_commands, and what is written to the error output."""
-    words, errors, in_errors = None, "", False
-    for line in (ROOT / "crates/test_commands/stdout").read_text().splitlines():
-        if line.startswith("ddscheck "):
-            words, errors, in_errors = line.split()[1:], "", False
-        elif line == "errors:":
-            in_errors = True
-        elif re.fullmatch(r"status \d", line) and words:
-            yield ROOT / "crates/test_commands/data", words, errors
-            words = None
-        elif in_errors:
-            errors += line + "\n"
+    """The words of each command of tools/commands, and what it writes to the error output."""
+    return ((DATA, case.words, case.errors()) for case in cases())
 
 
 def commands_of(folder):

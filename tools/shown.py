@@ -1,7 +1,7 @@
 #!/usr/bin/env python3
 """Says what `ddscheck show` owes, by a reading of its own, and holds the built program against it.
 
-  tools/shown.py              # every deployment of crates/test_commands, of the examples and of tools/search-cases
+  tools/shown.py              # every deployment of tools/commands, of the examples and of tools/search-cases
   tools/shown.py DEPLOYMENT   # prints what is owed for a deployment without a fault
 
 A deployment is read by Python's TOML parser, with the defaults of docs/FORMAT.md, and its rules with `each` are expanded as that page says; the text is put together here
@@ -112,7 +112,7 @@ def answer_of(words):
 
 
 def deployments():
-    for folder in ("crates/test_commands/data", "examples", "tools/search-cases"):
+    for folder in ("tools/commands/data", "examples", "tools/search-cases"):
         for path in sorted((ROOT / folder).rglob("*.toml")):
             if not path.name.endswith(".cert.toml") and "certificates" not in path.parts:
                 yield path
