@@ -6,7 +6,8 @@
 
 A case is data. In a file of tools/commands a line `$ ddscheck WORD ..` is a command, given in the folder tools/commands/data, where the files lie that it names. Below
 it stands what it writes to its output; after a line `errors:`, where it writes any, what it writes to its error output; and a line `status N`. A command after the word
-`often` is given fifty times, and has to answer alike. All other lines are empty, or headings that begin with `#`. The last line is 'N passed, M failed'; the status is 1 if one failed.
+`often` is given fifty times, and has to answer alike. All other lines are empty, or headings that begin with `#`. The last line is 'N passed, M failed'; the status is 1
+if one failed.
 """
 import os
 import re
@@ -41,13 +42,13 @@ def cases_of(file):
     """The cases of a file."""
     case = None
     for number, line in enumerate(file.read_text().splitlines(keepends=True), start=1):
-        if command := re.fullmatch(r"\$ (often )?ddscheck(.*)\n", line):
-            case = Case(file, number, 50 if command[1] else 1, command[2].split(), "")
-        elif case:
+        if case:
             case.expected += line
             if re.fullmatch(r"status \d+\n", line):
                 yield case
                 case = None
+        elif command := re.fullmatch(r"\$ (often )?ddscheck(.*)\n", line):
+            case = Case(file, number, 50 if command[1] else 1, command[2].split(), "")
         elif line.strip() and not line.startswith("#"):
             sys.exit(f"{file}:{number}: neither a command nor a heading")
     if case:
