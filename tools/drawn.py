@@ -19,7 +19,7 @@ import tomllib
 import xml.etree.ElementTree as xml
 
 sys.dont_write_bytecode = True
-from commands import DATA, cases  # noqa: E402
+import commands  # noqa: E402
 from shown import ROOT, answer_of, deployments, lists_of  # noqa: E402
 
 MOST_EDGES = 400
@@ -255,8 +255,8 @@ def cases():
         for deployment in sorted(certificate.parent.glob("*.toml")):
             if not deployment.name.endswith(".cert.toml"):
                 yield [deployment, certificate]
-    for case in cases():
-        files = [DATA / word for word in case.words[1:]]
+    for case in commands.cases():
+        files = [commands.DATA / word for word in case.words[1:]]
         if case.words[:1] == ["check"] and len(files) == 2 and all(file.suffix == ".toml" and file.is_file() for file in files):
             yield files
 
