@@ -177,8 +177,8 @@ fn expect_programs(rt: &impl Abort, alloc: Global, programs: &str) -> Result<u64
 
 #[test]
 fn admits_as_elsewhere(rt: HostRuntime) -> Result<(), Fail> {
-    let earlier = expect_programs(&rt, rt.alloc(), earlier::programs())?;
-    let later = expect_programs(&rt, rt.alloc(), later::programs())?;
+    let earlier = expect_programs(&rt, rt.alloc(), earlier::PROGRAMS)?;
+    let later = expect_programs(&rt, rt.alloc(), later::PROGRAMS)?;
     expect_equal(&rt, earlier.wrapping_add(later), 1200, "programs");
     Ok(())
 }

@@ -1,11 +1,6 @@
 //! The first 600 programs. Each is a line, whose form the module above tells.
 
-/// The programs.
-pub(super) fn programs() -> &'static str {
-    PROGRAMS
-}
-
-static PROGRAMS: &str =
+pub(super) static PROGRAMS: &str =
     "1 3 - 1 aEaNbEaO1dNbNdO3aO2aO6dT5bO4bO8dNaO7cEbT9bNaO11aT13aEbT12dO10dO14dT15cNbNbT17cO16dEdNaNdO19cO18dO21aO20aT24cT22cNdT23dE
 3 2 3 - aEcNdEdNcT1dNbSaEaScSbSdSaSdScSdScEdT2dNbSbSbSbEdSbEcSbScScEaSdSdSaSdSbSbSbScSaEaS
 1 3 - 1 aNaO1bEcNdNcO3dT4bNbO6bO7aO2bO8cO5bT10dNbEcO11cO13aO9bSdT12dNdO17dT18dEcT14bEcNbNcO19bO20aO15cT21bO22aO23dEcEbT24cEdN

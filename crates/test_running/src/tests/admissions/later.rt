@@ -1,11 +1,6 @@
 //! The last 600 programs. Each is a line, whose form the module above tells.
 
-/// The programs.
-pub(super) fn programs() -> &'static str {
-    PROGRAMS
-}
-
-static PROGRAMS: &str =
+pub(super) static PROGRAMS: &str =
     "2 6 3 - aNbEdNbEdNaNaT1aNcNbIcT6aT4aT5aEcNdO2dT3aNcT8dNbIdO9dO11dO13bIaNaO10cNbEaT17dO14bIdO15aNbIcT19cNbIaT18dO20
 - 3 - - dNbEaNaT2dNdNcSdSbSbScEaSbEdSbEcSbSaEcSdT1bEdNdSaSdSdT3dT4aNcEdNaScScSdSaT18cNbScT24bEdN
 2 3 1 - cNdIbEbEdIbIcNaIdIcT1bEdIbEcNcO5cO9aIbIcO10dEaIcT11bIdEaIbEaIcNbIdIdEcO14aEcO19bEbEdIbIaIaI
