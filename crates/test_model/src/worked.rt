@@ -1,11 +1,8 @@
 //! Worked runs: each event with the reply that was worked out for it by hand, in plain numbers. Tests of the whole make them in the world of
 //! this crate, and in the parts that a running deployment is made of.
 
-use crate::stepping::step;
-use crate::world::World;
 use dds_base::{
-    Arrival, Event, KeyNo, NoMemory, Packet, ReaderNo, Refusal, Rejection, Reply, RuleNo, Sample,
-    WriterNo,
+    Arrival, Event, KeyNo, Packet, ReaderNo, Refusal, Rejection, Reply, RuleNo, Sample, WriterNo,
 };
 
 /// The deployment of a run.
@@ -180,14 +177,6 @@ pub fn told_of(reply: &Reply) -> Told {
         Reply::Arrived(arrival) => told_of_arrival(arrival),
         Reply::Acked => Told::Acked,
         Reply::Dropped => Told::Dropped,
-    }
-}
-
-/// Makes an event in a world, and tells the reply. An `Err` means that memory ran out.
-pub fn told_by_step(world: &mut World, event: &Event) -> Result<Told, NoMemory> {
-    match step(world, event) {
-        Ok(reply) => Ok(told_of(&reply)),
-        Err(error) => Err(error),
     }
 }
 
