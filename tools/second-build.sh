@@ -50,7 +50,11 @@ link() {
 libraries_are_current || (cd "$here/crates/ddscheck" && rt check) >"$room/log" 2>&1 || fail "the libraries: $(tail -n 5 "$room/log")"
 mkdir "$room/ddscheck" || fail 'no folder was made'
 cp -R "$here/crates/ddscheck/src" "$room/ddscheck/src" || fail 'the sources were not copied'
-compile >>"$room/log" 2>&1 || fail "the second build: $(tail -n 5 "$room/log")"
+if ! compile >>"$room/log" 2>&1; then
+    grep -q 'error\[unusable-built-library\]' "$room/log" &&
+        fail 'the libraries are of several runs of rt, which do not fit together: remove crates/*/out, and run ./test again'
+    fail "the second build: $(tail -n 5 "$room/log")"
+fi
 link >>"$room/log" 2>&1 || fail "the second build: $(tail -n 5 "$room/log")"
 first=$(sum_of "$program")
 second=$(sum_of "$room/program")
