@@ -19,7 +19,7 @@ pub record IsKitOf (plan : Lists) (tables : List TableId) (kit : KitState) : Typ
 
 -- the lists of a plan with nothing in it
 abbrev pub no_lists : Lists
-no_lists = record { participants = nothing; topics = nothing; writers = nothing; readers = nothing; applications = nothing; rules = no_rules; connections = [] }
+no_lists = record { version = 1; participants = nothing; topics = nothing; writers = nothing; readers = nothing; applications = nothing; rules = no_rules; connections = [] }
 
 -- ── pairs
 -- a half with an empty front

@@ -22,22 +22,22 @@ head newest ms = do
   Ok v
 
 -- the participants, topics and endpoints
-unfoldable pub endpoints : Members → Read (Listed Participant × Listed Topic × Listed Writer × Listed Reader)
-endpoints ms = do
+unfoldable pub endpoints : ℕ → Members → Read (Listed Participant × Listed Topic × Listed Writer × Listed Reader)
+endpoints v ms = do
   ps ← participants ms
-  ts ← topics ms
+  ts ← topics v ms
   ws ← writers ps ts ms
-  rs ← readers ps ts ms
+  rs ← readers v ps ts ms
   Ok (ps, ts, ws, rs)
 
 -- the sections of a document of this version
 unfoldable pub lists : ℕ → Members → Read Lists
 lists v ms = do
-  e ← endpoints ms
+  e ← endpoints v ms
   apps ← applications e.0 e.2 e.3 ms
   us ← rules v e.1 e.2 e.3 apps ms
   cs ← connections e.2 e.3 ms
-  Ok (record { participants = e.0; topics = e.1; writers = e.2; readers = e.3; applications = apps; rules = us; connections = cs })
+  Ok (record { version = v; participants = e.0; topics = e.1; writers = e.2; readers = e.3; applications = apps; rules = us; connections = cs })
 
 unfoldable pub deployment : ℕ → Members → Read Lists
 deployment newest ms = do
@@ -50,6 +50,6 @@ read_up_to newest bytes = do
   ms ← or_fault NotToml [] (document bytes)
   deployment newest ms
 
--- the lists of a deployment file of version 1 or 2, or its first fault
+-- the lists of a deployment file of version 1, 2 or 3, or its first fault
 abbrev pub read : List ℕ → Read Lists
-read bytes = read_up_to 2 bytes
+read bytes = read_up_to 3 bytes

@@ -1,11 +1,12 @@
 -- A rule with `each`.
-use Rattle.std.specs.Prelude.{codes, ℕ, Bool, List, [], ◌∷◌, ◌++◌, Ok, not, ◌&&◌, ◌==◌}
+use Rattle.std.specs.Prelude.{codes, ℕ, Bool, List, [], ◌∷◌, ◌++◌, Option, Ok, not, ◌&&◌, ◌==◌, length}
 use Rattle.std.specs.List.{list_any}
 use Rattle.toml.specs.Data.{Data, Members}
 use Rattle.dds_fields.specs.declared.fault.FaultKind.TheVariants.{RuleEntry}
 use Rattle.dds_fields.specs.Reading.{◌>>=◌, Read, unless, a_number, a_known_name, field, optional, entry, a_list_of}
 use Rattle.dds_base.specs.Section.{Listed}
 use Rattle.dds_deploy.specs.Lists.{Writer, Reader, Application, has, writers_at, readers_at}
+use Rattle.dds_deploy_file.specs.Starts.{start_field}
 use Rattle.dds_deploy_file.specs.declared.each.EachRule.{EachRule as CodeEachRule}
 
 -- a rule with `each` as it stands in the file: each element is an endpoint and a count, for every key
@@ -13,7 +14,8 @@ pub record EachRule : Type 0 where
   pub application : ℕ
   pub takes : List (ℕ × ℕ)
   pub writes : List (ℕ × ℕ)
-  pub start : ℕ
+  -- none where the rule is free
+  pub start : Option ℕ
 
 -- what such a rule of the code stands for
 abbrev pub each_rule_view : CodeEachRule → EachRule
@@ -38,9 +40,9 @@ each_takes rs apps a = a_list_of 16 (share (codes "reader") rs.names (readers_at
 abbrev pub each_writes : Listed Writer → Listed Application → ℕ → List ℕ → Data → Read (List (ℕ × ℕ))
 each_writes ws apps a = a_list_of 16 (share (codes "writer") ws.names (writers_at apps a)) []
 
-unfoldable pub each_rule : Listed Writer → Listed Reader → Listed Application → ℕ → List ℕ → Members → Read EachRule
-each_rule ws rs apps a path ms = do
+unfoldable pub each_rule : ℕ → Listed Writer → Listed Reader → Listed Application → ℕ → List ℕ → Members → Read EachRule
+each_rule v ws rs apps a path ms = do
   the_takes ← optional (codes "takes") [] (each_takes rs apps a) path ms
   the_writes ← optional (codes "writes") [] (each_writes ws apps a) path ms
-  n ← optional (codes "start") 0 (a_number 0 65535) path ms
+  n ← start_field v (length the_takes == 0) path ms
   Ok (record { application = a; takes = the_takes; writes = the_writes; start = n })

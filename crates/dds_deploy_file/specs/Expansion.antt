@@ -1,5 +1,5 @@
 -- The rules that a rule with `each` stands for: one for each key that all its endpoints have.
-use Rattle.std.specs.Prelude.{ℕ, ◌+◌, Bool, map, is_some, List, Option, Some, None, Ok, nat_le, ◌&&◌, unwrap_or, option_map, option_and_then, slice_get, length, if◌then◌else◌}
+use Rattle.std.specs.Prelude.{is_none, ℕ, ◌+◌, Bool, map, is_some, List, Option, Some, None, Ok, nat_le, ◌&&◌, unwrap_or, option_map, option_and_then, slice_get, length, if◌then◌else◌}
 use Rattle.std.specs.Option.{option_or}
 use Rattle.std.specs.List.{list_all, filter as only_those}
 use Rattle.toml.specs.Data.{Members}
@@ -35,7 +35,8 @@ rule_for ts ws rs u name = record {
   application = u.application;
   takes = map (portion_at (key_to_take ts rs name)) u.takes;
   writes = map (portion_at (key_to_write ts ws name)) u.writes;
-  start = u.start;
+  start = unwrap_or u.start 0;
+  free = is_none u.start;
 }
 
 -- the rules that a rule with `each` stands for, one for each common key
@@ -50,9 +51,9 @@ abbrev pub keys_to_expand : Listed Topic → Listed Writer → Listed Reader →
 keys_to_expand ts ws rs u = option_and_then (λ t. if nat_le 1 (length (common_keys ts ws rs u t)) then Some (t, common_keys ts ws rs u t) else None) (first_topic ws rs u)
 
 -- the rules of an entry with `each`, under the name with this number
-unfoldable pub expanded : Listed Topic → Listed Writer → Listed Reader → Listed Application → ℕ → ℕ → List ℕ → Members → Read (List Origin × List Rule)
-expanded ts ws rs apps name a path ms = do
-  u ← each_rule ws rs apps a path ms
+unfoldable pub expanded : ℕ → Listed Topic → Listed Writer → Listed Reader → Listed Application → ℕ → ℕ → List ℕ → Members → Read (List Origin × List Rule)
+expanded v ts ws rs apps name a path ms = do
+  u ← each_rule v ws rs apps a path ms
   c ← or_fault RuleEntry path (keys_to_expand ts ws rs u)
   Ok (origins_for name c.0 c.1, rules_for ts ws rs u c.0 c.1)
 

@@ -7,6 +7,7 @@ pub mod Endpoints
 pub mod Each
 pub mod Expansion
 pub mod Rules
+pub mod Starts
 pub mod Connections
 pub mod Document
 pub mod Policies

@@ -13,14 +13,14 @@ use Rattle.dds_deploy_file.specs.Document.{read_up_to, read}
 unfoldable pub version_of : List ℕ → Read ℕ
 version_of bytes = do
   ms ← or_fault NotToml [] (document bytes)
-  field (codes "version") (version 2) [] ms
+  field (codes "version") (version 3) [] ms
 
--- the text is of version 2 and stands for the lists that the bytes stand for in version 1
+-- the text is of version 2 and stands for the lists that the bytes stand for in version 1, but for the version
 pub record IsMigrated (bytes text : List ℕ) : Type 0 where
   pub lists : Lists
   pub from : read_up_to 1 bytes ≡ Ok lists
   pub version : version_of text ≡ Ok 2
-  pub to : read text ≡ Ok lists
+  pub to : read text ≡ Ok (record lists { version = 2 })
 
 -- the members agree but for the version
 abbrev pub AgreeElsewhere : Members → Members → Type 0

@@ -1,5 +1,5 @@
 -- The section of the rules.
-use Rattle.std.specs.Prelude.{codes, ℕ, ◌+◌, Bool, false, List, [], ◌∷◌, ◌++◌, Option, Some, None, Ok, nat_le, not, ◌&&◌, ◌==◌, option_and_then, length, if◌then◌else◌}
+use Rattle.std.specs.Prelude.{codes, ℕ, ◌+◌, Bool, false, List, [], ◌∷◌, ◌++◌, Option, Some, None, Ok, is_none, nat_le, not, ◌&&◌, ◌==◌, unwrap_or, option_and_then, length, if◌then◌else◌}
 use Rattle.std.specs.List.{list_any}
 use Rattle.toml.specs.Data.{Data, Members}
 use Rattle.dds_base.specs.declared.portion.Portion.{Portion}
@@ -11,6 +11,7 @@ use Rattle.dds_deploy.specs.declared.lists.Origin.{Origin}
 use Rattle.dds_deploy.specs.Lists.{Topic, Writer, Reader, Application, Rule, Rules, no_rules, and_rules, has, writers_at, readers_at}
 use Rattle.dds_deploy_file.specs.Endpoints.{key_to_take, key_to_write}
 use Rattle.dds_deploy_file.specs.Expansion.{expanded}
+use Rattle.dds_deploy_file.specs.Starts.{start_field}
 
 -- whether one of these is of this endpoint and key
 abbrev pub is_named : List (Portion ℕ) → ℕ → ℕ → Bool
@@ -38,16 +39,16 @@ abbrev pub writes : Listed Topic → Listed Writer → Listed Application → �
 writes ts ws apps a = a_list_of 16 (portion (codes "writer") ws.names (writers_at apps a) (key_to_write ts ws)) []
 
 -- the one rule of an entry without `each`
-unfoldable pub plain_rule : Listed Topic → Listed Writer → Listed Reader → Listed Application → ℕ → List ℕ → Members → Read Rule
-plain_rule ts ws rs apps a path ms = do
+unfoldable pub plain_rule : ℕ → Listed Topic → Listed Writer → Listed Reader → Listed Application → ℕ → List ℕ → Members → Read Rule
+plain_rule v ts ws rs apps a path ms = do
   the_takes ← optional (codes "takes") [] (takes ts rs apps a) path ms
   the_writes ← optional (codes "writes") [] (writes ts ws apps a) path ms
-  n ← optional (codes "start") 0 (a_number 0 65535) path ms
-  Ok (record { application = a; takes = the_takes; writes = the_writes; start = n })
+  n ← start_field v (length the_takes == 0) path ms
+  Ok (record { application = a; takes = the_takes; writes = the_writes; start = unwrap_or n 0; free = is_none n })
 
-unfoldable pub single : Listed Topic → Listed Writer → Listed Reader → Listed Application → ℕ → ℕ → List ℕ → Members → Read (List Origin × List Rule)
-single ts ws rs apps name a path ms = do
-  u ← plain_rule ts ws rs apps a path ms
+unfoldable pub single : ℕ → Listed Topic → Listed Writer → Listed Reader → Listed Application → ℕ → ℕ → List ℕ → Members → Read (List Origin × List Rule)
+single v ts ws rs apps name a path ms = do
+  u ← plain_rule v ts ws rs apps a path ms
   Ok (record { name = name; key = None } ∷ [], u ∷ [])
 
 -- in version 1 `each` is no field of a rule
@@ -56,18 +57,18 @@ rule_entry v path d =
     if v == 1 then entry (codes "name" ∷ codes "application" ∷ codes "takes" ∷ codes "writes" ∷ codes "start" ∷ []) path d
     else entry (codes "name" ∷ codes "application" ∷ codes "each" ∷ codes "takes" ∷ codes "writes" ∷ codes "start" ∷ []) path d
 
-unfoldable pub rule_fields : Listed Topic → Listed Writer → Listed Reader → Listed Application → ℕ → List ℕ → Members → Read (List Origin × List Rule)
-rule_fields ts ws rs apps name path ms = do
+unfoldable pub rule_fields : ℕ → Listed Topic → Listed Writer → Listed Reader → Listed Application → ℕ → List ℕ → Members → Read (List Origin × List Rule)
+rule_fields v ts ws rs apps name path ms = do
   a ← field (codes "application") (a_known_name apps.names) path ms
   for_each ← optional (codes "each") false a_flag path ms
-  if for_each then expanded ts ws rs apps name a path ms else single ts ws rs apps name a path ms
+  if for_each then expanded v ts ws rs apps name a path ms else single v ts ws rs apps name a path ms
 
 -- the rules of one more entry, of which there are at most 256 in all
 unfoldable pub rule : ℕ → Listed Topic → Listed Writer → Listed Reader → Listed Application → Rules → List ℕ → Data → Read Rules
 rule v ts ws rs apps before path d = do
   ms ← rule_entry v path d
   name ← field (codes "name") (a_new_name before.names) path ms
-  us ← rule_fields ts ws rs apps (length before.names) path ms
+  us ← rule_fields v ts ws rs apps (length before.names) path ms
   unless TooMany path (nat_le (length before.entries + length us.1) 256) (and_rules before name us)
 
 abbrev pub rules : ℕ → Listed Topic → Listed Writer → Listed Reader → Listed Application → Members → Read Rules

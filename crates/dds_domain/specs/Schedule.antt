@@ -1,6 +1,5 @@
 -- What a participant is to do in a turn. The schedule is no part of a run: any schedule makes a run.
-use Rattle.std.specs.Prelude.{ℕ, ◌-◌, ◌/◌, ◌%◌, Bool, true, false, if◌then◌else◌, nat_le, not, ◌&&◌, ◌||◌, ◌==◌, length, Option, Some, None, slice_get}
-use Rattle.std.specs.Option.{option_map_or}
+use Rattle.std.specs.Prelude.{ℕ, ◌-◌, ◌/◌, ◌%◌, Bool, true, false, if◌then◌else◌, nat_le, not, ◌&&◌, ◌||◌, ◌==◌, length, Option, Some, None}
 use Rattle.dds_base.specs.Sums.{least, count_below}
 use Rattle.dds_base.specs.declared.events.Event.{Event}
 use Rattle.dds_base.specs.declared.events.Event.TheVariants.{SendData, SendGap, SendHeartbeat, SendAckNack, Deliver, Lose}
@@ -9,25 +8,18 @@ use Rattle.dds_base.specs.declared.events.Fate.TheVariants.{Pass, Keep, Last, Lo
 use Rattle.dds_qos.specs.declared.notes.Due.{Due}
 use Rattle.dds_qos.specs.declared.notes.Due.TheVariants.{Data as DueData, Gap as DueGap}
 use Rattle.dds_qos.specs.Notes.{due_of, watch_due_of}
-use Rattle.dds_deploy.specs.Lists.{Lists, Writer, Reader}
+use Rattle.dds_deploy.specs.Lists.{Lists}
 use Rattle.dds_match.specs.Network.{Network}
 use Rattle.dds_match.specs.Plan.{matched, network_of}
+pub use Rattle.dds_match.specs.Plan.{is_reader_of, is_writer_of}
 use Rattle.dds_runs.specs.First.{first_below}
-use Rattle.dds_runs.specs.World.{World, is_kept, is_at_hand, is_relevant}
+use Rattle.dds_runs.specs.World.{World, is_pending, is_at_hand, is_relevant, is_offered}
 use Rattle.dds_runs.specs.Steps.{places, is_none_of}
 use Rattle.dds_domain.specs.Noted.{Noted}
 use Rattle.dds_domain.specs.declared.schedule.Sending.{Sending}
 use Rattle.dds_domain.specs.declared.schedule.Sending.TheVariants.{Data, Gap, Heartbeat, AckNack}
 
 -- ── a participant's matched pairs
--- the writer is the participant's
-abbrev pub is_writer_of : Lists → ℕ → ℕ → Bool
-is_writer_of d p w = option_map_or (λ (x : Writer). x.participant == p) (slice_get d.writers.entries w) false
-
--- the reader is the participant's
-abbrev pub is_reader_of : Lists → ℕ → ℕ → Bool
-is_reader_of d p r = option_map_or (λ (x : Reader). x.participant == p) (slice_get d.readers.entries r) false
-
 -- what f gives for the first reader of those that match the writer, in file order, for which it gives something
 abbrev pub first_of_writer : Lists → ℕ → (ℕ → ℕ → Option Event) → Option Event
 first_of_writer d w f = first_below (length d.readers.entries) (λ r. if matched d w r then f w r else None)
@@ -73,7 +65,7 @@ by_fate v LoseIt = Lose (lowest v)
 abbrev pub writer_due : Network → World → Noted → ℕ → ℕ → Option Due
 writer_due net v noted w r =
     if net.watcher r then watch_due_of (λ n. is_at_hand net v w r n && is_relevant net v w r n) (noted.notes w r) (length (v.written w))
-    else due_of (is_kept net v w) (is_relevant net v w r) (v.acked w r) (noted.notes w r) (length (v.written w))
+    else due_of (is_pending net v w) (is_offered net v w r) (v.acked w r) (noted.notes w r) (length (v.written w))
 
 -- the sending of the DATA that is due, if a DATA is
 abbrev pub as_data : ℕ → ℕ → Option Due → Option Event
@@ -85,7 +77,7 @@ abbrev pub as_gap : ℕ → ℕ → Option Due → Option Event
 as_gap w r (Some (DueGap n)) = Some (SendGap w r n)
 as_gap w r _ = None
 
--- a HEARTBEAT is due to a reliable reader that has not acknowledged all that is written
+-- a HEARTBEAT is due to a strict reader that has not acknowledged all that is written
 abbrev pub heartbeat_due : Network → World → ℕ → ℕ → Option Event
 heartbeat_due net v w r = if not (net.watcher r) && nat_le (v.acked w r) (length (v.written w)) then Some (SendHeartbeat w r) else None
 

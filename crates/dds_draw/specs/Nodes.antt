@@ -1,5 +1,5 @@
 -- Endpoints and rules as nodes of a picture, in DOT, with their labels. Names have no byte that DOT escapes; a label has `\n`, two bytes, where a new line begins.
-use Rattle.std.specs.Prelude.{codes, ℕ, List, [], ◌++◌, ◌==◌, flat_map, Option, Some, None, if◌then◌else◌}
+use Rattle.std.specs.Prelude.{codes, ℕ, Bool, List, [], ◌++◌, ◌==◌, flat_map, Option, Some, None, if◌then◌else◌}
 use Rattle.std.specs.Fmt.{decimal}
 use Rattle.dds_qos.specs.declared.policies.HistoryKind.{HistoryKind}
 use Rattle.dds_qos.specs.declared.policies.HistoryKind.TheVariants.{KeepLast, KeepAll}
@@ -60,18 +60,22 @@ writer_node d w x =
     ++ (name_at d.writers.names w
     ++ (codes "\" [label=\"" ++ (endpoint_label (name_at d.writers.names w) (name_at d.topics.names x.topic) x.qos.offered ++ codes "\"];\n")))
 
+-- a word for a reader that may lose samples
+abbrev pub may_lose_line : Bool → List ℕ
+may_lose_line may_lose = if may_lose then codes "\\nmay lose" else []
+
 -- the node of a reader with this number, with what a certificate shows of it
 unfoldable pub reader_node : Lists → Option Certificate → ℕ → Reader → List ℕ
 reader_node d c r x =
     codes "    \"reader "
     ++ (name_at d.readers.names r
     ++ (codes "\" [style=filled, fillcolor=white, label=\""
-    ++ (endpoint_label (name_at d.readers.names r) (name_at d.topics.names x.topic) x.qos.requested ++ (certificate_lines d r c ++ codes "\"];\n"))))
+    ++ (endpoint_label (name_at d.readers.names r) (name_at d.topics.names x.topic) x.qos.requested ++ (may_lose_line x.may_lose ++ (certificate_lines d r c ++ codes "\"];\n")))))
 
 -- how often a rule may write at the opening, nothing where it may not
-abbrev pub start_line : ℕ → List ℕ
-start_line n = if n == 0 then [] else codes "\\nstart " ++ decimal n
+abbrev pub start_line : Rule → List ℕ
+start_line x = if x.free then codes "\\nstart unlimited" else if x.start == 0 then [] else codes "\\nstart " ++ decimal x.start
 
 -- the node of a rule with this number
 unfoldable pub rule_node : Lists → ℕ → Rule → List ℕ
-rule_node d u x = codes "      \"rule " ++ (decimal u ++ (codes "\" [shape=ellipse, label=\"" ++ (rule_text d u ++ (start_line x.start ++ codes "\"];\n"))))
+rule_node d u x = codes "      \"rule " ++ (decimal u ++ (codes "\" [shape=ellipse, label=\"" ++ (rule_text d u ++ (start_line x ++ codes "\"];\n"))))

@@ -4,10 +4,10 @@ use Rattle.dds_deploy.specs.Lists.{Lists}
 use Rattle.dds_cert.specs.Lists.{Certificate}
 use Rattle.dds_check.specs.declared.verdict.No.{No}
 use Rattle.dds_check.specs.declared.verdict.Number.{Number}
-use Rattle.dds_check.specs.declared.verdict.Number.TheVariants.{IntendedNotMatched, UnintendedMatch, WriterKeepsLast, Exclusive, SourceOrder, OrderedOrCoherent, WriterBestEffort, ReaderInstances, NoBound, BoundOverInstanceLimit, BoundOverSamples, WriterInstances, TakeRaises, RuleRaises, WriteRaises, BoundNotShown}
+use Rattle.dds_check.specs.declared.verdict.Number.TheVariants.{IntendedNotMatched, UnintendedMatch, WriterKeepsLast, Exclusive, SourceOrder, OrderedOrCoherent, WriterBestEffort, ReaderInstances, NoBound, BoundOverInstanceLimit, BoundOverSamples, WriterInstances, KeepLastFilter, WriterDepth, TakeRaises, RuleRaises, WriteRaises, BoundNotShown}
 use Rattle.dds_check.specs.declared.verdict.Subject.{Subject}
 use Rattle.dds_check.specs.declared.verdict.Subject.TheVariants as subject
-use Rattle.dds_explain.specs.Limits.{reader_instances_lines, writer_instances_lines, no_bound_line, no_total_lines, bound_over_line, samples_over_lines}
+use Rattle.dds_explain.specs.Limits.{reader_instances_lines, writer_instances_lines, no_bound_line, no_total_lines, bound_over_line, samples_over_lines, keep_last_filter_lines, writer_depth_lines}
 use Rattle.dds_explain.specs.Margin.{margin_lines}
 use Rattle.dds_explain.specs.Pairs.{not_matched_line, not_intended_line}
 use Rattle.dds_events.specs.Naming.{writer_name, reader_name}
@@ -19,7 +19,13 @@ use Rattle.dds_explain.specs.Shown.{bound_not_shown_lines, total_not_shown_lines
 abbrev pub pair_reason : Lists → Number → ℕ → ℕ → List ℕ
 pair_reason d IntendedNotMatched w r = not_matched_line d w r
 pair_reason d UnintendedMatch w r = not_intended_line d w r
+pair_reason d KeepLastFilter w r = keep_last_filter_lines d w r
 pair_reason d _ w r = []
+
+-- why a key of a pair is refused
+abbrev pub pair_key_reason : Lists → Certificate → Number → ℕ → ℕ → ℕ → List ℕ
+pair_key_reason d c WriterDepth w r k = writer_depth_lines d c w r k
+pair_key_reason d c _ w r k = []
 
 -- why a key of a reader is refused
 abbrev pub instance_reason : Lists → Certificate → Number → ℕ → ℕ → List ℕ
@@ -65,6 +71,7 @@ write_reason d c _ n w k = []
 -- what a number says of its subject; of a subject that isn't one of the number, nothing
 abbrev pub reason_of : Lists → Certificate → Number → Subject → List ℕ
 reason_of d c number (subject.Pair w r) = pair_reason d number w r
+reason_of d c number (subject.PairKey w r k) = pair_key_reason d c number w r k
 reason_of d c number (subject.Instance r k) = instance_reason d c number r k
 reason_of d c number (subject.Reader r) = reader_reason d c number r
 reason_of d c number (subject.Writer w) = writer_reason d number w

@@ -1,4 +1,5 @@
--- Why numbers 20 to 24 refuse an endpoint: how much can come, and the limit that is too small for it (DDS 1.4, clause 2.2.3.19).
+-- Why numbers 20 to 24 refuse an endpoint: how much can come, and the limit that is too small for it (DDS 1.4, clause 2.2.3.19); and why 25
+-- and 26 refuse a writer that keeps the last samples alone (DDS 1.4, clause 2.2.3.18).
 use Rattle.std.specs.Prelude.{codes, ℕ, List, [], ◌++◌, Option, Some, None, if◌then◌else◌}
 use Rattle.std.specs.Fmt.{decimal}
 use Rattle.dds_base.specs.Sums.{total, count_below}
@@ -10,7 +11,7 @@ use Rattle.dds_cert.specs.Naming.{reader_key, writer_key}
 use Rattle.dds_cert.specs.Text.{each_below}
 use Rattle.dds_cert.specs.declared.certificate.Bound.{Bound}
 use Rattle.dds_runs.specs.Accepted.{instance_limit}
-use Rattle.dds_check.specs.Limits.{is_bounded, reached_bound}
+use Rattle.dds_check.specs.Limits.{is_bounded, is_heard, reached_bound}
 use Rattle.dds_check.specs.Tables.{bound_of, total_of}
 use Rattle.dds_events.specs.Naming.{writer_name, reader_name}
 use Rattle.dds_show.specs.Pieces.{number_or}
@@ -86,3 +87,26 @@ abbrev pub samples_over_lines : Lists → Certificate → ℕ → List ℕ
 samples_over_lines d c r =
     codes "because " ++ (reader_name d r ++ (codes " has max_samples " ++ (limit_text ((network_of d).reader_limits r).max_samples ++ (codes "\n"
     ++ (total_line (total_of c.totals r) ++ (each_below 64 (reached_bound_line d c.bounds r) ++ (codes "  sum " ++ (decimal (total 64 (reached_bound (network_of d) c.bounds r)) ++ codes "\n"))))))))
+
+-- ── 25
+-- a key in a line of its own, if a rule writes it at the writer and the reader doesn't hear it
+abbrev pub unheard_key : Lists → ℕ → ℕ → ℕ → List ℕ
+unheard_key d w r k = if is_heard (network_of d) w r k then [] else key_line (writer_key d w k)
+
+-- the keys that rules write at a writer with KEEP_LAST and the reader's filter leaves out
+abbrev pub keep_last_filter_lines : Lists → ℕ → ℕ → List ℕ
+keep_last_filter_lines d w r =
+    codes "because " ++ (writer_name d w ++ (codes " has history KEEP_LAST, and the filter of " ++ (reader_name d r ++ (codes " leaves out what rules write there\n"
+    ++ each_below 64 (unheard_key d w r)))))
+
+-- ── 26
+-- the bound of a key at a reader in words
+abbrev pub bound_given : List ℕ → List ℕ → Option ℕ → List ℕ
+bound_given key reader (Some n) = codes "the bound of " ++ (key ++ (codes " at " ++ (reader ++ (codes " is " ++ decimal n))))
+bound_given key reader None = codes "no bound of " ++ (key ++ (codes " at " ++ (reader ++ codes " is given")))
+
+-- the depth of a writer with KEEP_LAST, the bound of the key at the reader, and the reader's total if there is one
+abbrev pub writer_depth_lines : Lists → Certificate → ℕ → ℕ → ℕ → List ℕ
+writer_depth_lines d c w r k =
+    codes "because " ++ (writer_name d w ++ (codes " keeps " ++ (limit_text ((network_of d).writer_limits w).keep_last ++ (codes " of " ++ (writer_key d w k ++ (codes ", and "
+    ++ (bound_given (reader_key d r k) (reader_name d r) (bound_of c.bounds r k) ++ (codes "\n" ++ total_line (total_of c.totals r)))))))))

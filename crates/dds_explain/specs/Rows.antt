@@ -59,11 +59,15 @@ heard_line d row w k r =
     then codes "  a sample at " ++ (reader_name d r ++ (codes " weighs " ++ (decimal ((row_of row).samples r k) ++ codes "\n")))
     else []
 
+-- what the permit of a write weighs, or that a free write uses none
+abbrev pub permit_text : Lists → Row → ℕ → ℕ → List ℕ
+permit_text d row w k = if (network_of d).free w k then codes "it uses no permit" else codes "its permit weighs " ++ decimal ((row_of row).permits w k)
+
 -- what the samples of a write weigh, and its permit
 abbrev pub write_line : Lists → Row → ℕ → ℕ → List ℕ
 write_line d row w k =
     codes "because by " ++ (row.name ++ (codes " a write of " ++ (writer_key d w k ++ (codes " at " ++ (writer_name d w ++ (codes " puts samples in flight that weigh "
-    ++ (decimal (spread (network_of d) (row_of row) w k) ++ (codes ", and its permit weighs " ++ (decimal ((row_of row).permits w k) ++ codes "\n")))))))))
+    ++ (decimal (spread (network_of d) (row_of row) w k) ++ (codes ", and " ++ (permit_text d row w k ++ codes "\n")))))))))
 
 -- the same with a line for each reader
 abbrev pub write_lines : Lists → Row → ℕ → ℕ → List ℕ

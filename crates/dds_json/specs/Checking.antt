@@ -38,10 +38,16 @@ abbrev pub acceptance_document : Lists → Certificate → Option (List ℕ) →
 acceptance_document d c because =
     object (answered (codes "yes") because (member (codes "bounds") (array (items_of (map (bound_document d) c.bounds))) (member (codes "totals") (array (items_of (map (total_document d) c.totals))) no_members)))
 
+-- a writer, a reader and a key of it, by name
+abbrev pub pair_key_document : Lists → ℕ → ℕ → ℕ → Data
+pair_key_document d w r k =
+    object (member (codes "key") (string (reader_key d r k)) (member (codes "reader") (string (name_at d.readers.names r)) (member (codes "writer") (string (name_at d.writers.names w)) no_members)))
+
 -- what a condition speaks of, by name
 abbrev pub subject_document : Lists → Certificate → Subject → Data
 subject_document d c (subject.Pair w r) =
     object (member (codes "reader") (string (name_at d.readers.names r)) (member (codes "writer") (string (name_at d.writers.names w)) no_members))
+subject_document d c (subject.PairKey w r k) = pair_key_document d w r k
 subject_document d c (subject.Instance r k) = object (member (codes "key") (string (reader_key d r k)) (member (codes "reader") (string (name_at d.readers.names r)) no_members))
 subject_document d c (subject.Reader r) = object (member (codes "reader") (string (name_at d.readers.names r)) no_members)
 subject_document d c (subject.Writer w) = object (member (codes "writer") (string (name_at d.writers.names w)) no_members)

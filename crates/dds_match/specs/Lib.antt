@@ -1,5 +1,6 @@
 pub mod Marks
 pub mod Matching
+pub mod Neighbours
 pub mod Network
 pub mod Partitions
 pub mod Plan

@@ -1,6 +1,6 @@
 -- All that runs see of a plan: which endpoints match, filters, limits, rules, as functions of their numbers.
-use Rattle.std.specs.Prelude.{◌≡◌, ℕ, ◌+◌, ◌*◌, ◌<◌, ◌≤◌, Bool, true, not, ◌&&◌, ◌==◌, List, Some, [], ◌∷◌, if◌then◌else◌}
-use Rattle.std.specs.List.{list_any}
+use Rattle.std.specs.Prelude.{◌≡◌, ℕ, ◌+◌, ◌*◌, ◌<◌, ◌≤◌, Bool, true, not, ◌&&◌, ◌==◌, List, Some, [], ◌∷◌, if◌then◌else◌, filter}
+use Rattle.std.specs.List.{list_any, range_with_len}
 use Rattle.dds_base.specs.Sums.{In, any_below}
 use Rattle.dds_base.specs.declared.portion.Portion.{Portion}
 use Rattle.dds_qos.specs.declared.limits.ReaderLimits.{ReaderLimits}
@@ -16,7 +16,7 @@ pub record Network : Type 0 where
   pub rules : ℕ
   pub matched : ℕ → ℕ → Bool
   pub intended : ℕ → ℕ → Bool
-  -- the reader is best-effort: it takes a part of what is written, and no writer waits for it
+  -- the reader is a watcher, best-effort or one that may lose: it takes a part of what is written, and no writer waits for it. Any other is strict
   pub watcher : ℕ → Bool
   -- the key is in the writer's topic
   pub writes_key : ℕ → ℕ → Bool
@@ -25,9 +25,19 @@ pub record Network : Type 0 where
   pub writer_limits : ℕ → WriterLimits
   pub reader_limits : ℕ → ReaderLimits
   pub rule : ℕ → Rule
+  -- the key may be written at the writer without a permit, at any time
+  pub free : ℕ → ℕ → Bool
 
--- what holds of the network of every plan: numbers are below the counts, rules name keys that are there, and by KEEP_LAST
--- an instance has at least one sample, and never more than a finite max_samples_per_instance
+-- the list names the endpoint and key
+abbrev pub is_named : List (Portion ℕ) → ℕ → ℕ → Bool
+is_named es i k = list_any (λ e. (e.endpoint == i) && (e.key == k)) es
+
+-- some rule writes the key at the writer
+abbrev pub is_written : Network → ℕ → ℕ → Bool
+is_written net w k = any_below net.rules (λ u. is_named (net.rule u).writes w k)
+
+-- what holds of the network of every plan: numbers are below the counts, rules name keys that are there, by KEEP_LAST an instance
+-- has at least one sample, and never more than a finite max_samples_per_instance, and what is written freely some rule writes
 pub record IsNetwork (net : Network) : Type 0 where
   pub matched_writer : (w r : ℕ) → net.matched w r ≡ true → w < net.writers
   pub matched_reader : (w r : ℕ) → net.matched w r ≡ true → r < net.readers
@@ -37,10 +47,21 @@ pub record IsNetwork (net : Network) : Type 0 where
   pub written_key : (w k : ℕ) → net.writes_key w k ≡ true → k < net.keys
   pub takes_known : (u : ℕ) (e : Portion ℕ) → u < net.rules → In e (net.rule u).takes → net.hears e.endpoint e.key ≡ true
   pub writes_known : (u : ℕ) (e : Portion ℕ) → u < net.rules → In e (net.rule u).writes → net.writes_key e.endpoint e.key ≡ true
+  pub writer_depth : (w d : ℕ) → (net.writer_limits w).keep_last ≡ Some d → 1 ≤ d
+  pub writer_consistent : (w d m : ℕ) → (net.writer_limits w).keep_last ≡ Some d → (net.writer_limits w).max_samples_per_instance ≡ Some m → d ≤ m
   pub some_depth : (r d : ℕ) → (net.reader_limits r).keep_last ≡ Some d → 1 ≤ d
   pub consistent : (r d m : ℕ) → (net.reader_limits r).keep_last ≡ Some d → (net.reader_limits r).max_samples_per_instance ≡ Some m → d ≤ m
+  pub free_written : (w k : ℕ) → net.free w k ≡ true → is_written net w k ≡ true
 
--- the reader matches the writer and is reliable: the writer waits for what it acknowledges
+-- the readers that match a writer, in the order of their numbers
+abbrev pub matched_readers : Network → ℕ → List ℕ
+matched_readers net w = filter (net.matched w) (range_with_len 0 net.readers)
+
+-- the writers that match a reader, in the order of their numbers
+abbrev pub matched_writers : Network → ℕ → List ℕ
+matched_writers net r = filter (λ w. net.matched w r) (range_with_len 0 net.writers)
+
+-- the reader matches the writer and is strict: the writer waits for what it acknowledges
 abbrev pub follows : Network → ℕ → ℕ → Bool
 follows net w r = net.matched w r && not (net.watcher r)
 
@@ -54,14 +75,6 @@ abbrev pub weighed : List (Portion ℕ) → (ℕ → ℕ → ℕ) → ℕ
 weighed [] f = 0
 weighed (e ∷ es) f = e.count * f e.endpoint e.key + weighed es f
 
--- the list names the endpoint and key
-abbrev pub is_named : List (Portion ℕ) → ℕ → ℕ → Bool
-is_named es i k = list_any (λ e. (e.endpoint == i) && (e.key == k)) es
-
 -- some rule writes the key at a writer that matches the reader, and the reader hears it
 abbrev pub reach : Network → ℕ → ℕ → Bool
 reach net r k = net.hears r k && any_below net.rules (λ u. list_any (λ e. (e.key == k) && net.matched e.endpoint r) (net.rule u).writes)
-
--- some rule writes the key at the writer
-abbrev pub is_written : Network → ℕ → ℕ → Bool
-is_written net w k = any_below net.rules (λ u. is_named (net.rule u).writes w k)

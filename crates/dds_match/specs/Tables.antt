@@ -6,8 +6,9 @@ use Rattle.dds_match.specs.declared.matching.WhyNot.{WhyNot}
 use Rattle.dds_match.specs.declared.tables.Tables.{Tables}
 use Rattle.dds_match.specs.Marks.{is_marked}
 use Rattle.dds_match.specs.Matching.{why_not}
+use Rattle.dds_match.specs.Neighbours.{ShowsNeighbours}
 use Rattle.dds_match.specs.Network.{reach, is_written}
-use Rattle.dds_match.specs.Plan.{hears, network_of}
+use Rattle.dds_match.specs.Plan.{hears, is_free, network_of}
 
 -- the reason at a writer and a reader: each writer has a row of 256 places
 abbrev pub reason_at : List (Option WhyNot) → ℕ → ℕ → Option WhyNot
@@ -28,3 +29,5 @@ pub record ShowsPlan (d : Lists) (t : Tables) : Type 0 where
   pub hearing : ShowsHearing d t.hearing
   pub reached : (r k : ℕ) → is_marked t.reached r k ≡ reach (network_of d) r k
   pub written : (w k : ℕ) → is_marked t.written w k ≡ is_written (network_of d) w k
+  pub free : (w k : ℕ) → is_marked t.free w k ≡ is_free d w k
+  pub neighbours : ShowsNeighbours d t.neighbours

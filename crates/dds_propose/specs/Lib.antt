@@ -1,7 +1,6 @@
 pub mod Tables
 pub mod Listing
 pub mod Targets
-pub mod Matches
 pub mod Bounds
 pub mod Relaxation
 pub mod Following

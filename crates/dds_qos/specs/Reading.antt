@@ -19,7 +19,7 @@ abbrev pub is_below_base : (ℕ → Bool) → ℕ → Bool
 is_below_base marks n = nat_lt n (least (λ m. not (marks m)) n 1)
 
 -- ── DATA
--- a DATA of number n came before: at a reliable reader n is marked, at a watcher it is below the base
+-- a DATA of number n came before: at a strict reader n is marked, at a watcher it is below the base
 abbrev pub is_repeat : (watcher : Bool) → (ℕ → Bool) → ℕ → Bool
 is_repeat watcher marks n = if watcher then is_below_base marks n else marks n
 

@@ -8,3 +8,4 @@ pub mod Facts
 pub mod Laws
 pub mod Unsafe
 pub mod CountRuns
+pub mod Before

@@ -20,7 +20,7 @@ pub use Rattle.dds_qos.specs.Writing.{write_refusal, gap_of, heartbeat_of, count
 use Rattle.dds_match.specs.Network.{Network, follows, named}
 use Rattle.dds_deploy.specs.Lists.{Rule}
 use Rattle.dds_base.specs.declared.portion.Portion.{Portion}
-use Rattle.dds_runs.specs.World.{World, Sample, Packet, entry_at, has_key, permits, spare, bases, kept, is_kept, is_at_hand, written_keys, marked, base, stored, known_keys, is_relevant}
+use Rattle.dds_runs.specs.World.{World, Sample, Packet, entry_at, has_key, permits, spare, kept, is_kept, is_pending, is_at_hand, written_keys, marked, base, stored, known_keys, is_relevant, is_offered}
 
 -- ── tests of lists and options
 -- some entry of a rule's list passes the test
@@ -61,7 +61,7 @@ fire_passes_limit net v rule = any_entry (λ e. nat_le (2 ^ 64) (permits net v e
 abbrev pub refusal : Network → World → Event → Option Refusal
 refusal net v (Write w k d) =
     if not (net.writes_key w k) then Some Foreign
-    else if permits net v w k == 0 then Some NoPermit
+    else if not (net.free w k) && (permits net v w k == 0) then Some NoPermit
     else write_refusal (net.writer_limits w) (length (v.written w)) (written_keys v w) (kept net v w) k
 refusal net v (Fire u) =
     if nat_le net.rules u then Some Foreign
@@ -80,7 +80,7 @@ refusal net v (SendData w r n) =
 refusal net v (SendGap w r n) =
     if not (net.matched w r) then Some Foreign
     else if net.watcher r then Some NothingToSend
-    else if not (is_kept net v w n && not (is_relevant net v w r n)) then Some NothingToSend
+    else if not (is_pending net v w n && not (is_offered net v w r n)) then Some NothingToSend
     else None
 refusal net v (SendHeartbeat w r) = if not (net.matched w r) then Some Foreign else if net.watcher r then Some NothingToSend else None
 refusal net v (SendAckNack r w) = if not (net.matched w r) then Some Foreign else if net.watcher r then Some NothingToSend else None
@@ -97,13 +97,14 @@ sample_of w n (Some e) = record { writer = w; sn = n; key = e.0; payload = e.1 }
 abbrev pub data_packet : World → ℕ → ℕ → ℕ → Packet
 data_packet v w r n = Data (record { reader = r; sample = sample_of w n (entry_at (v.written w) n) })
 
--- the GAP of a writer to a reader from an irrelevant number on, up to the next number that is relevant or unwritten
+-- the GAP of a writer to a reader from a number on that the reader won't get, irrelevant or dropped, up to the next that it may still get or
+-- that is unwritten
 abbrev pub gap_packet : Network → World → ℕ → ℕ → ℕ → Packet
-gap_packet net v w r n = Gap (gap_of w r (is_relevant net v w r) (length (v.written w)) n)
+gap_packet net v w r n = Gap (gap_of w r (is_offered net v w r) (length (v.written w)) n)
 
 -- the HEARTBEAT of a writer to a reader: from the least kept number, or else the next one, to the last written
 abbrev pub heartbeat_packet : Network → World → ℕ → ℕ → Packet
-heartbeat_packet net v w r = Heartbeat (heartbeat_of w r (bases net v w) (length (v.written w)))
+heartbeat_packet net v w r = Heartbeat (heartbeat_of w r (is_kept net v w) (length (v.written w)))
 
 -- the ACKNACK of a reader to a writer: its base, and the unmarked numbers that it heard of
 abbrev pub acknack_packet : World → ℕ → ℕ → Packet
@@ -151,7 +152,7 @@ mark_irrelevant v r w more = record v { irrelevant = put v.irrelevant r (put (v.
 abbrev pub mark_lost : World → ℕ → ℕ → (ℕ → Bool) → World
 mark_lost v r w more = record v { lost = put v.lost r (put (v.lost r) w (λ n. v.lost r w n || more n)) }
 
--- the world after a DATA did this at a reliable reader r; a rejected or repeated sample changes nothing
+-- the world after a DATA did this at a strict reader r; a rejected or repeated sample changes nothing
 abbrev pub after_data : World → ℕ → Sample → Arrival → World
 after_data v r s New = store v r s
 after_data v r s (Overwrote old) = record (store v r s) { overwritten = put v.overwritten r (v.overwritten r ++ old ∷ []) }
@@ -166,7 +167,7 @@ give_up v r w n = mark_lost v r w (new_by_heartbeat (marked v r w) n)
 abbrev pub after_watched : World → ℕ → Sample → Arrival → World
 after_watched v r s a = if marks_it a then after_data (give_up v r s.writer s.sn) r s a else v
 
--- the world after a GAP of a matched writer: the unmarked numbers that it covers are irrelevant
+-- the world after a GAP of a matched writer: the unmarked numbers that it covers are marked as irrelevant
 abbrev pub after_gap : World → GapFor → World
 after_gap v g = mark_irrelevant v g.reader g.writer (new_by_gap (marked v g.reader g.writer) g)
 

@@ -1,5 +1,5 @@
 -- The entries of a deployment's sections in JSON.
-use Rattle.std.specs.Prelude.{codes, ℕ, List, [], ◌++◌, length, slice_get, Option, Some, None}
+use Rattle.std.specs.Prelude.{codes, ℕ, Bool, List, [], ◌++◌, length, nat_le, slice_get, Option, Some, None, if◌then◌else◌}
 use Rattle.std.specs.Fmt.{decimal}
 use Rattle.std.specs.Option.{option_map_or}
 use Rattle.dds_base.specs.declared.portion.Portion.{Portion}
@@ -8,7 +8,7 @@ use Rattle.dds_deploy.specs.Lists.{Lists, Participant, Topic, Writer, Reader, Ap
 use Rattle.dds_deploy.specs.declared.lists.Origin.{Origin}
 use Rattle.dds_cert.specs.Naming.{name_at, reader_key, writer_key}
 use Rattle.dds_cert.specs.Text.{each_below}
-use Rattle.dds_show.specs.Pieces.{comma, name_items, quoted}
+use Rattle.dds_show.specs.Pieces.{comma, flag_word, name_items, quoted}
 use Rattle.dds_show.specs.Policies.{policies_fields}
 
 -- in quotes the name with the number at a place of a list
@@ -38,10 +38,14 @@ qos_fields p partitions = policies_fields p ++ (codes ", \"partitions\": [" ++ (
 abbrev pub writer_entry : Lists → List ℕ → Writer → List ℕ
 writer_entry d name x = codes "{" ++ (place_fields d name x.participant x.topic ++ (codes ", " ++ (qos_fields x.qos.offered x.partitions ++ codes "}")))
 
+-- whether a reader may lose samples; versions 1 and 2 have no such field
+abbrev pub may_lose_field : ℕ → Bool → List ℕ
+may_lose_field v may_lose = if nat_le v 2 then [] else codes ", \"may_lose\": " ++ flag_word may_lose
+
 abbrev pub reader_entry : Lists → List ℕ → Reader → List ℕ
 reader_entry d name x =
-    codes "{" ++ (place_fields d name x.participant x.topic ++ (codes ", \"filter\": [" ++ (numbered_items (keys_at d.topics x.topic) x.filter ++ (codes "], "
-    ++ (qos_fields x.qos.requested x.partitions ++ codes "}")))))
+    codes "{" ++ (place_fields d name x.participant x.topic ++ (codes ", \"filter\": [" ++ (numbered_items (keys_at d.topics x.topic) x.filter ++ (codes "]"
+    ++ (may_lose_field d.version x.may_lose ++ (codes ", " ++ (qos_fields x.qos.requested x.partitions ++ codes "}")))))))
 
 abbrev pub application_entry : Lists → List ℕ → Application → List ℕ
 application_entry d name x =
@@ -79,10 +83,14 @@ origin_fields d None = codes "\"name\": \"\""
 origin_fields d (Some o) =
     codes "\"name\": \"" ++ (name_at d.rules.names o.name ++ option_map_or (λ k. codes "\", \"key\": \"" ++ (key_name d.topics k.0 k.1 ++ codes "\"")) o.key (codes "\""))
 
+-- how often a rule may write at the opening, "unlimited" where it is free
+abbrev pub start_text : Rule → List ℕ
+start_text x = if x.free then codes "\"unlimited\"" else decimal x.start
+
 abbrev pub rule_entry : Lists → Option Origin → Rule → List ℕ
 rule_entry d origin x =
     codes "{" ++ (origin_fields d origin ++ (codes ", \"application\": \"" ++ (name_at d.applications.names x.application ++ (codes "\", \"takes\": [" ++ (take_items d x.takes
-    ++ (codes "], \"writes\": [" ++ (write_items d x.writes ++ (codes "], \"start\": " ++ (decimal x.start ++ codes "}")))))))))
+    ++ (codes "], \"writes\": [" ++ (write_items d x.writes ++ (codes "], \"start\": " ++ (start_text x ++ codes "}")))))))))
 
 abbrev pub connection_entry : Lists → ℕ × ℕ → List ℕ
 connection_entry d pair = codes "{\"writer\": \"" ++ (name_at d.writers.names pair.0 ++ (codes "\", \"reader\": \"" ++ (name_at d.readers.names pair.1 ++ codes "\"}")))

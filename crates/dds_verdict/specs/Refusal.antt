@@ -13,6 +13,7 @@ use Rattle.dds_events.specs.Naming.{rule_text, three_words, two_words}
 -- the names of what a condition speaks of
 abbrev pub subject_text : Lists → Certificate → Subject → List ℕ
 subject_text d c (subject.Pair w r) = two_words (name_at d.writers.names w) (name_at d.readers.names r)
+subject_text d c (subject.PairKey w r k) = three_words (name_at d.writers.names w) (name_at d.readers.names r) (reader_key d r k)
 subject_text d c (subject.Instance r k) = two_words (name_at d.readers.names r) (reader_key d r k)
 subject_text d c (subject.Reader r) = name_at d.readers.names r
 subject_text d c (subject.Writer w) = name_at d.writers.names w

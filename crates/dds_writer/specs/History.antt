@@ -1,28 +1,42 @@
--- Kept samples in a list whose numbers follow one another.
-use Rattle.std.specs.Prelude.{◌≡◌, ◌≢◌, ℕ, suc, ◌+◌, ◌<◌, ◌≤◌, Bool, true, false, not, ◌&&◌, ◌==◌, List, length, slice_index_or}
+-- Kept samples in a list whose numbers rise.
+use Rattle.std.specs.Prelude.{◌≡◌, ℕ, suc, ◌<◌, ◌≤◌, Bool, true, false, not, ◌&&◌, ◌==◌, List, [], ◌∷◌, nat_le}
 use Rattle.std.specs.List.{list_any}
+use Rattle.std.specs.BTreeMap.{BTreeMap, keys}
+use Rattle.std.specs.FinSet as set
 use Rattle.dds_base.specs.declared.sample.Sample.{Sample}
+use Rattle.dds_base.specs.Sums.{In}
+use Rattle.dds_qos.specs.Writing.{is_written, is_relevant_in}
+use Rattle.dds_qos.specs.Samples.{Keys, is_numbered}
 use Rattle.dds_writer.specs.Proxies.{ProxyState, hears}
 
--- the numbers follow one another, with no hole
-abbrev pub FollowOn : List Sample → Type 0
-FollowOn kept = (i : ℕ) (d : Sample) → i < length kept → (slice_index_or kept i d).sn ≡ (slice_index_or kept 0 d).sn + i
+-- each has a greater number than all before it
+abbrev pub Rising : List Sample → Type 0
+Rising [] = Unit {0}
+Rising (s ∷ ss) = ((t : Sample) → In t ss → s.sn < t.sn) × Rising ss
 
--- the sample at the place has the number
-abbrev pub IsPlace : List Sample → ℕ → ℕ → Type 0
-IsPlace kept n at = (at < length kept) × ((d : Sample) → (slice_index_or kept at d).sn ≡ n)
+-- each has a number below n
+abbrev pub AreBelow : ℕ → List Sample → Type 0
+AreBelow n samples = (s : Sample) → In s samples → s.sn < n
 
--- no sample has the number
-abbrev pub IsNowhere : List Sample → ℕ → Type 0
-IsNowhere kept n = (i : ℕ) (d : Sample) → i < length kept → (slice_index_or kept i d).sn ≢ n
+-- each is of this writer
+abbrev pub AreOf : ℕ → List Sample → Type 0
+AreOf w samples = (s : Sample) → In s samples → s.writer ≡ w
 
--- the reader of the proxy takes the key of the sample at the place
-abbrev pub hears_at : ProxyState → List Sample → ℕ → Sample → Bool
-hears_at p kept i d = hears p (slice_index_or kept i d).key
+-- the keys that count as written
+abbrev pub written_keys : BTreeMap ℕ ℕ → Keys
+written_keys counts = set.from_list (keys counts)
 
--- some sample has the number and a key that the reader of the proxy does not take
-abbrev pub is_silent_in : List Sample → ProxyState → ℕ → Bool
-is_silent_in kept p n = list_any (λ s. (s.sn == n) && not (hears p s.key)) kept
+-- the sample has the number of the writer, and the reader of the proxy takes its key
+abbrev pub is_found : (w n : ℕ) → ProxyState → Sample → Bool
+is_found w n p s = is_numbered w n s && hears p s.key
+
+-- some kept sample has the number, and the reader of the proxy takes its key
+abbrev pub is_heard_in : List Sample → ProxyState → ℕ → Bool
+is_heard_in kept p n = list_any (λ s. (s.sn == n) && hears p s.key) kept
+
+-- the number is written and none below the least awaited one, and no kept sample has it whose key the reader of the proxy takes
+abbrev pub is_silent_in : (kept : List Sample) → (w low written : ℕ) → ProxyState → ℕ → Bool
+is_silent_in kept w low written p n = (is_written written n && nat_le low n) && not (is_relevant_in (hears p) kept w n)
 
 -- the numbers from `from` to n are silent, and the one below is not; or n is not silent, and `from` is n itself
 pub record IsRunStart (silent : ℕ → Bool) (n from : ℕ) : Type 0 where

@@ -1,4 +1,5 @@
 pub mod Proxies
+pub mod Order
 pub mod History
 pub mod Writer
 pub mod View
