@@ -10,7 +10,8 @@ ghost use Rattle.dds_claims.specs.Claims.{IsShown, shows, structure_no};
 
 use dds_cert::Certificate;
 use dds_check::{
-    No, first_reader_instances, first_writer_instances, pairs_no, profile_no, rows_no, shown_no,
+    No, first_keep_last_filter, first_reader_instances, first_writer_instances, pairs_no,
+    profile_no, rows_no, shown_no,
 };
 use dds_match::Plan;
 
@@ -45,10 +46,13 @@ fn first_structure_no(plan: &Plan) -> Option<No>
     if let Some(no) = first_reader_instances(plan) {
         return Some(no);
     }
-    first_writer_instances(plan)
+    if let Some(no) = first_writer_instances(plan) {
+        return Some(no);
+    }
+    first_keep_last_filter(plan)
 }
 
-/// The first condition that fails of those that no certificate can change: numbers 10 to 20 and 24. Where there is one no certificate is
+/// The first condition that fails of those that no certificate can change: numbers 10 to 20, 24 and 25. Where there is one no certificate is
 /// accepted.
 pub fn structure_no(plan: &Plan) -> Option<No>
     ensures no { result ≡ structure_no plan.now }

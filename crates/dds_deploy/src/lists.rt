@@ -1,5 +1,5 @@
 //! The entries of a deployment's lists.
-ghost use Rattle.std.specs.Prelude.{◌≡◌, ◌++◌, ◌∷◌, [], None, OnOk};
+ghost use Rattle.std.specs.Prelude.{◌≡◌, ◌≤◌, ◌+◌, ◌++◌, ◌∷◌, [], None, OnErr, OnOk, vec_capacity, vec_len};
 ghost use Rattle.dds_base.specs.Names.{number_of};
 ghost use Rattle.dds_base.specs.Section.{listed};
 ghost use Rattle.dds_deploy.specs.Lists.{key_name};
@@ -45,6 +45,8 @@ pub struct Reader {
     pub qos: ReaderQos,
     /// Names of partitions, at most 16, with `*` and `?` in patterns.
     pub partitions: Vec<String>,
+    /// Whether it wants the newest and may miss samples: then it is a watcher, whatever its reliability.
+    pub may_lose: bool,
 }
 
 /// An application at a participant, with the endpoints that it owns.
@@ -55,7 +57,8 @@ pub struct Application {
     pub readers: Vec<ReaderNo>,
 }
 
-/// After taking all of `takes`, the application may write all of `writes`. At the opening it may write `start` times these.
+/// After taking all of `takes`, the application may write all of `writes`. At the opening it may write `start` times these. What a free rule
+/// names may be written at any time.
 #[derive(Drop)]
 pub struct Rule {
     pub application: AppNo,
@@ -63,6 +66,8 @@ pub struct Rule {
     pub writes: Vec<Portion<WriterNo>>,
     /// 0 to 65,535.
     pub start: u16,
+    /// A free rule takes nothing, and its `start` is 0.
+    pub free: bool,
 }
 
 /// Where a rule comes from: an entry of the file, and the key that the rule stands for where the entry has `each`.
@@ -96,23 +101,40 @@ impl Rules {
         }
     }
 
-    /// Adds the rules of an entry under a new name.
+    /// Adds the rules of an entry under a new name. Fails only where no memory is left, and then nothing changes.
     pub fn push(
         &mut self,
         alloc: Global,
         name: &str,
-        mut origins: Vec<Origin>,
-        mut rules: Vec<Rule>,
+        origins: Vec<Origin>,
+        rules: Vec<Rule>,
     ) -> Result<(), NoMemory>
         requires { number_of self.old.names name.now ≡ None }
         ensures names { OnOk result (self.new.names ≡ self.old.names ++ name.now ∷ []) }
         ensures origins { OnOk result (self.new.origins.items ≡ self.old.origins.items ++ origins.items) }
         ensures entries { OnOk result (self.new.entries.items ≡ self.old.entries.items ++ rules.items) }
+        ensures same_names { OnErr result (self.new.names ≡ self.old.names) }
+        ensures same_origins { OnErr result (self.new.origins.items ≡ self.old.origins.items) }
+        ensures same_entries { OnErr result (self.new.entries.items ≡ self.old.entries.items) }
     {
         let name = String::from_str(alloc, name)?;
+        self.origins.reserve(origins.len())?;
+        self.entries.reserve(rules.len())?;
         self.names.push(name)?;
-        self.origins.append(&mut origins)?;
-        self.entries.append(&mut rules)
+        append_reserved(&mut self.origins, origins);
+        append_reserved(&mut self.entries, rules);
+        Ok(())
+    }
+}
+
+/// Moves all elements to the end of a list that has room for them.
+fn append_reserved<T: Drop>(list: &mut Vec<T>, mut more: Vec<T>)
+    requires { vec_len list.old + vec_len more ≤ vec_capacity list.old }
+    ensures { list.new.items ≡ list.old.items ++ more.items }
+{
+    match list.append(&mut more) {
+        Ok(()) => {}
+        Err(_) => unreachable!(),
     }
 }
 

@@ -1,3 +1,4 @@
+mod EachPlace
 pub mod Known
 pub mod Marking
 pub mod Patterns

@@ -3,6 +3,7 @@
 
 mod key_table;
 pub mod matching;
+mod neighbours;
 pub mod partitions;
 pub mod plan;
 pub mod planning;

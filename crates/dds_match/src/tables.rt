@@ -1,17 +1,19 @@
 //! The tables of a plan, filled once, so that each question is answered by one look.
 ghost use Rattle.std.specs.Prelude.{◌≡◌, ◌+◌, ◌*◌, ◌<◌, ◌==◌, ◌&&◌, All, length, IfOk};
 ghost use Rattle.std.specs.List.{list_any};
+ghost use Rattle.dds_deploy.specs.Views.{rule_view};
 ghost use Rattle.dds_deploy.specs.WellFormed.{IsWellFormed};
 ghost use Rattle.dds_match.specs.Marks.{AddsMarks};
 ghost use Rattle.dds_match.specs.Matching.{why_not};
 ghost use Rattle.dds_match.specs.Network.{is_named, is_written, reach};
-ghost use Rattle.dds_match.specs.Plan.{hears, matched, network_of};
+ghost use Rattle.dds_match.specs.Plan.{frees, hears, is_free, matched, network_of};
 ghost use Rattle.dds_match.specs.Tables.{ShowsPlan, ShowsHearing, ShowsReasons};
 
 use crate::key_table::KeyTable;
 use crate::matching::{WhyNot, why_not_by_lists};
+use crate::neighbours::Neighbours;
 use dds_base::{KeyNo, NoMemory, Portion, ReaderNo, RuleNo, WriterNo};
-use dds_deploy::Deployment;
+use dds_deploy::{Deployment, Rule};
 use std::alloc::Global;
 
 /// The most readers that a deployment has: a row of the reasons has a place for each.
@@ -28,6 +30,10 @@ pub(crate) struct Tables {
     pub(crate) reached: KeyTable,
     /// The keys that some rule writes at the writer.
     pub(crate) written: KeyTable,
+    /// The keys that some free rule names at the writer.
+    pub(crate) free: KeyTable,
+    /// Which endpoints match each endpoint, and which are each participant's.
+    pub(crate) neighbours: Neighbours,
 }
 
 /// The reasons of all pairs.
@@ -111,6 +117,27 @@ fn mark_written(written: &mut KeyTable, lists: &Deployment)
 {
     for u in 0..lists.rules() {
         mark_writes(written, &lists.rule(RuleNo::new(u)).writes);
+    }
+}
+
+/// Marks what a rule frees: what it writes, where it is free.
+fn mark_freed(free: &mut KeyTable, rule: &Rule)
+    requires { All (λ e. (e.endpoint * 64 < length free.old) × (e.key < 64)) rule.now.writes.items }
+    ensures { AddsMarks free.old free.new (frees (rule_view rule.now)) }
+{
+    if rule.free {
+        mark_writes(free, &rule.writes);
+    }
+}
+
+/// Marks what all free rules name.
+fn mark_free(free: &mut KeyTable, lists: &Deployment)
+    requires well_formed { IsWellFormed lists.now }
+    requires size { length free.old ≡ length lists.now.writers.entries * 64 }
+    ensures { AddsMarks free.old free.new (is_free lists.now) }
+{
+    for u in 0..lists.rules() {
+        mark_freed(free, lists.rule(RuleNo::new(u)));
     }
 }
 
@@ -211,14 +238,19 @@ impl Tables {
         let mut hearing = KeyTable::new(alloc, lists.readers())?;
         let mut reached = KeyTable::new(alloc, lists.readers())?;
         let mut written = KeyTable::new(alloc, lists.writers())?;
+        let mut free = KeyTable::new(alloc, lists.writers())?;
         mark_filters(&mut hearing, lists);
         mark_reached(&mut reached, lists, &reasons, &hearing);
         mark_written(&mut written, lists);
+        mark_free(&mut free, lists);
+        let neighbours = Neighbours::of(alloc, lists, &reasons)?;
         Ok(Tables {
             reasons,
             hearing,
             reached,
             written,
+            free,
+            neighbours,
         })
     }
 }

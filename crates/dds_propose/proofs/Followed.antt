@@ -1,10 +1,9 @@
 -- Permits that follow samples.
 use Rattle.std.proofs.Common.{ℕ, ◌≡◌, ◌+◌, ◌<◌, ◌≤◌, ◌==◌, ◌&&◌, ◌||◌, Bool, true, false, if◌then◌else◌, List, [], inl, inr, refl, sym, ap, ◌∙◌, arith}
 use Rattle.std.proofs.lemmas.Bool.{cases_eq, eq-eqb, ne_eqb, and_right, or_parts}
-use Rattle.dds_match.specs.Network.{Network, IsNetwork}
+use Rattle.dds_match.specs.Network.{Network, IsNetwork, matched_writers}
 use Rattle.dds_propose.specs.declared.weights.Weights.{Weights}
 use Rattle.dds_propose.specs.Following.{Follows, IsRisenHeard, RaisesPermits, risen_by, spread_by}
-use Rattle.dds_propose.specs.Matches.{matched_writers}
 use Rattle.dds_propose.specs.Tables.{cell, is_place}
 use Rattle.dds_propose.proofs.Raising.{risen_matched}
 use Rattle.dds_propose.proofs.Spreads.{spread_without, neither}

@@ -1,14 +1,13 @@
 -- How permits rise at the writers of a list.
-use Rattle.std.proofs.Common.{ℕ, zero, suc, ◌≡◌, ◌+◌, ◌<◌, ◌==◌, ◌&&◌, nat_lt, Bool, true, false, if◌then◌else◌, List, [], ◌∷◌, ◌++◌, flat_map, length, get_or, take, inl, inr, refl, sym, ap, ◌∙◌, arith}
+use Rattle.std.proofs.Common.{ℕ, zero, suc, ◌≡◌, ◌+◌, ◌<◌, ◌==◌, ◌&&◌, nat_lt, Bool, true, false, if◌then◌else◌, List, [], ◌∷◌, ◌++◌, filter, length, get_or, take, inl, inr, refl, sym, ap, ◌∙◌, arith}
 use Rattle.std.specs.List.{range_with_len}
 use Rattle.std.proofs.Math.Numerals.{add-one}
 use Rattle.std.proofs.lemmas.List.{take_more}
 use Rattle.std.proofs.lemmas.Bool.{cases_eq, cases_Bool, cases_order, eq-eqb, ne_eqb, lt-ltb, le-ltb, and_right}
-use Rattle.dds_match.specs.Network.{Network, IsNetwork}
+use Rattle.dds_base.proofs.Lists.{kept_push}
+use Rattle.dds_match.specs.Network.{Network, IsNetwork, matched_writers}
 use Rattle.dds_propose.specs.Following.{risen_by}
-use Rattle.dds_propose.specs.Matches.{matched_writer, matched_writers}
 use Rattle.dds_propose.specs.Tables.{is_place}
-use Rattle.dds_propose.proofs.Entries.{more_below}
 use Rattle.dds_propose.proofs.Tables.{same_pair, other_pair, put_there, put_elsewhere}
 
 risen_joined : (w n : ℕ) (xs ys : List ℕ) → risen_by w n (xs ++ ys) ≡ risen_by w n xs + risen_by w n ys
@@ -53,13 +52,13 @@ permits_next old mid new ws i x k n v within here before sum put w j = elim (cas
 ]
 
 -- what the next writer adds
-risen_one : (net : Network) (r w n m : ℕ) → risen_by w n (matched_writer net r m) ≡ (if (m == w) && net.matched w r then n else 0)
+risen_one : (net : Network) (r w n m : ℕ) → risen_by w n (filter (λ i. net.matched i r) (m ∷ [])) ≡ (if (m == w) && net.matched w r then n else 0)
 risen_one net r w n m = elim (cases_eq m w) [
   | inl own ↦ rw (own, eq-eqb w w refl) (go own (net.matched w r) refl)
   | inr ne ↦ rw (ne_eqb m w ne) (other ne (net.matched m r))
 ]
   where
-    go : m ≡ w → (b : Bool) → net.matched w r ≡ b → risen_by w n (matched_writer net r w) ≡ (if net.matched w r then n else 0)
+    go : m ≡ w → (b : Bool) → net.matched w r ≡ b → risen_by w n (filter (λ i. net.matched i r) (w ∷ [])) ≡ (if net.matched w r then n else 0)
     go own true e = rw (e, eq-eqb w w refl) (omega arith)
     go own false e = rw e refl
 
@@ -68,12 +67,13 @@ risen_one net r w n m = elim (cases_eq m w) [
     other ne false = refl
 
 -- a writer that matches is listed once
-risen_upto : (net : Network) (r w n m : ℕ) → risen_by w n (flat_map (matched_writer net r) (range_with_len 0 m)) ≡ (if nat_lt w m && net.matched w r then n else 0)
+risen_upto : (net : Network) (r w n m : ℕ) → risen_by w n (filter (λ i. net.matched i r) (range_with_len 0 m)) ≡ (if nat_lt w m && net.matched w r then n else 0)
 risen_upto net r w n zero = rw (le-ltb w 0 (omega arith)) refl
 risen_upto net r w n (suc m) =
     let before = risen_upto net r w n m in
     let one = risen_one net r w n m in
-    let whole = ap (risen_by w n) (ap (λ i. flat_map (matched_writer net r) (range_with_len 0 i)) (sym (add-one m)) ∙ more_below (matched_writer net r) m) ∙ risen_joined w n (flat_map (matched_writer net r) (range_with_len 0 m)) (matched_writer net r m) in
+    let passes = λ (i : ℕ). net.matched i r in
+    let whole = ap (risen_by w n) (ap (λ i. filter passes (range_with_len 0 i)) (sym (add-one m)) ∙ kept_push passes m) ∙ risen_joined w n (filter passes (range_with_len 0 m)) (filter passes (m ∷ [])) in
     whole ∙ (rw (before, one) (split (net.matched w r)))
   where
     split : (b : Bool) → (if nat_lt w m && b then n else 0) + (if (m == w) && b then n else 0) ≡ (if nat_lt w (suc m) && b then n else 0)

@@ -8,7 +8,6 @@
 
 mod bounds;
 mod listing;
-mod matches;
 mod proposer;
 mod rounds;
 pub mod targets;

@@ -6,13 +6,11 @@ ghost use Rattle.dds_cert.specs.Views.{certificate_view};
 ghost use Rattle.dds_runs.specs.Accepted.{Accepted, certificate_of};
 ghost use Rattle.dds_check.specs.Accepts.{first_no};
 ghost use Rattle.dds_runs.specs.Certified.{Safe};
-ghost use Rattle.dds_propose.specs.Matches.{ShowsMatches};
 ghost use Rattle.dds_propose.specs.Proposal.{AddsTarget, IsProposal, bound_entry, total_entry};
 ghost use Rattle.dds_propose.specs.Targets.{IsReached};
 
 use crate::bounds::bound_of;
 use crate::listing::listed_row;
-use crate::matches::Matches;
 use crate::rounds::row_weights;
 use crate::targets::{Target, targets};
 use dds_base::NoMemory;
@@ -56,15 +54,13 @@ fn add_bound(
 fn add_target(
     alloc: Global,
     plan: &Plan,
-    matches: &Matches,
     certificate: &mut Certificate,
     target: &Target,
 ) -> Result<bool, NoMemory>
-    requires matches { ShowsMatches (network_of plan.now) matches.now }
-    requires reached { IsReached (network_of plan.now) target.now }
+    requires { IsReached (network_of plan.now) target.now }
     ensures { IfOk result (λ added. added ≡ true → AddsTarget (network_of plan.now) target.now (certificate_view certificate.old) (certificate_view certificate.new)) }
 {
-    let Some(weights) = row_weights(alloc, plan, matches, target)? else {
+    let Some(weights) = row_weights(alloc, plan, target)? else {
         return Ok(false);
     };
     let Some(bound) = bound_of(plan, target, &weights) else {
@@ -87,14 +83,13 @@ fn candidate(alloc: Global, plan: &Plan) -> Result<Option<Certificate>, NoMemory
     if targets.len() > ROWS {
         return Ok(None);
     }
-    let matches = Matches::of(alloc, plan)?;
     let mut certificate = Certificate {
         rows: Vec::new(alloc),
         bounds: Vec::new(alloc),
         totals: Vec::new(alloc),
     };
     for target in &targets {
-        if !add_target(alloc, plan, &matches, &mut certificate, target)? {
+        if !add_target(alloc, plan, &mut certificate, target)? {
             return Ok(None);
         }
     }
@@ -120,8 +115,9 @@ fn accepted(plan: &Plan, certificate: Certificate) -> Option<Certificate>
 
 /// Looks for a certificate of a plan. What it gives fits the plan and is accepted, so the deployment is safe, and it is the one that follows.
 ///
-/// It has a row `w0`, `w1`, .. for each finite limit of a reader: readers in file order, the keys that can reach the reader in the order of
-/// its topic, and then the reader itself where max_samples is finite. The samples that the limit counts weigh 5040 at first. In a round
+/// It has a row `w0`, `w1`, .. for each finite limit of a strict reader: readers in file order, the keys that can reach the reader in the
+/// order of its topic, where the reader limits an instance or a matched writer with KEEP_LAST may drop the key, and then the reader itself
+/// where max_samples is finite. The samples that the limit counts weigh 5040 at first. In a round
 /// each permit rises to the sum over the samples that its write makes, then, rules in file order, the take of the first need of a rule
 /// rises to the least weight at which the rule's writes weigh no more than its needs, and then each sample rises to its take. Rounds go on
 /// until one changes nothing.

@@ -6,12 +6,10 @@ ghost use Rattle.dds_deploy.specs.WellFormed.{IsCounted};
 ghost use Rattle.dds_match.specs.Network.{weighed};
 ghost use Rattle.dds_match.specs.Plan.{network_of};
 ghost use Rattle.dds_propose.specs.Following.{IsMade, IsNeed, IsRisenHeard, IsRound, RaisesPermits, Follows, RaisesTakes, RaisesSamples};
-ghost use Rattle.dds_propose.specs.Matches.{ShowsMatches};
 ghost use Rattle.dds_propose.specs.Relaxation.{IsRest, IsSame, first_risen, opening, takes_risen};
 ghost use Rattle.dds_propose.specs.Tables.{cell, is_place, row_of};
 ghost use Rattle.dds_propose.specs.Targets.{IsReached, counts, reader_of};
 
-use crate::matches::Matches;
 use crate::targets::Target;
 use crate::weights::Weights;
 use dds_base::grid::KEYS;
@@ -53,13 +51,11 @@ fn raise_permits(
 /// all matched readers together; weights never fall, so it rises by as much as they have risen. Tells whether a permit rose.
 fn follow_samples(
     plan: &Plan,
-    matches: &Matches,
     weights: &mut Weights,
     reader: ReaderNo,
     key: KeyNo,
 ) -> Result<bool, NoRow>
-    requires matches { ShowsMatches (network_of plan.now) matches.now }
-    requires heard { IsRisenHeard (network_of plan.now) weights.old }
+    requires { IsRisenHeard (network_of plan.now) weights.old }
     ensures followed { IfOk result (Follows (network_of plan.now) weights.old weights.new) }
     ensures done { IfOk result (λ _. cell weights.new.risen reader key ≡ 0) }
 {
@@ -70,18 +66,12 @@ fn follow_samples(
         return Ok(false);
     }
     weights.risen.put(reader, key, 0);
-    raise_permits(weights, matches.writers(reader), key, rise)
+    raise_permits(weights, plan.writers_of(reader), key, rise)
 }
 
 /// Lets the permits follow the samples of a target.
-fn follow_target(
-    plan: &Plan,
-    matches: &Matches,
-    target: &Target,
-    weights: &mut Weights,
-) -> Result<bool, NoRow>
-    requires matches { ShowsMatches (network_of plan.now) matches.now }
-    requires heard { IsRisenHeard (network_of plan.now) weights.old }
+fn follow_target(plan: &Plan, target: &Target, weights: &mut Weights) -> Result<bool, NoRow>
+    requires { IsRisenHeard (network_of plan.now) weights.old }
     ensures followed { IfOk result (Follows (network_of plan.now) weights.old weights.new) }
     ensures done { IfOk result (λ _. (k : ℕ) → counts (network_of plan.now) target.now k ≡ true → cell weights.new.risen (reader_of target.now) k ≡ 0) }
 {
@@ -89,7 +79,7 @@ fn follow_target(
     for k in 0..KEYS {
         let key = KeyNo::new(k);
         if target.counts(plan, key) {
-            let raised = follow_samples(plan, matches, weights, target.reader(), key)?;
+            let raised = follow_samples(plan, weights, target.reader(), key)?;
             changed |= raised;
         }
     }
@@ -97,34 +87,27 @@ fn follow_target(
 }
 
 /// Lets the permits follow the sample that a rule needs first. Tells whether a permit rose.
-fn follow_need(
-    plan: &Plan,
-    matches: &Matches,
-    weights: &mut Weights,
-    u: RuleNo,
-) -> Result<bool, NoRow>
+fn follow_need(plan: &Plan, weights: &mut Weights, u: RuleNo) -> Result<bool, NoRow>
     requires there { u < (network_of plan.now).rules }
-    requires matches { ShowsMatches (network_of plan.now) matches.now }
     requires heard { IsRisenHeard (network_of plan.now) weights.old }
     ensures followed { IfOk result (Follows (network_of plan.now) weights.old weights.new) }
     ensures done { IfOk result (λ _. (e : Portion ℕ) (es : List (Portion ℕ)) → ((network_of plan.now).rule u).takes ≡ e ∷ es → cell weights.new.risen e.endpoint e.key ≡ 0) }
 {
     match plan.rule(u).takes.first() {
-        Some(need) => follow_samples(plan, matches, weights, need.endpoint, need.key),
+        Some(need) => follow_samples(plan, weights, need.endpoint, need.key),
         None => Ok(false),
     }
 }
 
 /// Lets the permits follow the samples that rules need first. No other sample but a target's has a weight.
-fn follow_needs(plan: &Plan, matches: &Matches, weights: &mut Weights) -> Result<bool, NoRow>
-    requires matches { ShowsMatches (network_of plan.now) matches.now }
-    requires heard { IsRisenHeard (network_of plan.now) weights.old }
+fn follow_needs(plan: &Plan, weights: &mut Weights) -> Result<bool, NoRow>
+    requires { IsRisenHeard (network_of plan.now) weights.old }
     ensures followed { IfOk result (Follows (network_of plan.now) weights.old weights.new) }
     ensures done { IfOk result (λ _. (r k : ℕ) → IsNeed (network_of plan.now) r k → cell weights.new.risen r k ≡ 0) }
 {
     let mut changed = false;
     for u in 0..plan.lists().rules() {
-        let raised = follow_need(plan, matches, weights, RuleNo::new(u))?;
+        let raised = follow_need(plan, weights, RuleNo::new(u))?;
         changed |= raised;
     }
     Ok(changed)
@@ -224,39 +207,27 @@ fn raise_samples(plan: &Plan, weights: &mut Weights) -> bool
 }
 
 /// One round: the permits follow the samples, then the takes the permits, then the samples the takes. Tells whether a weight rose.
-fn round(
-    plan: &Plan,
-    matches: &Matches,
-    target: &Target,
-    weights: &mut Weights,
-) -> Result<bool, NoRow>
-    requires matches { ShowsMatches (network_of plan.now) matches.now }
-    requires made { IsMade (network_of plan.now) target.now weights.old }
+fn round(plan: &Plan, target: &Target, weights: &mut Weights) -> Result<bool, NoRow>
+    requires { IsMade (network_of plan.now) target.now weights.old }
     ensures { IfOk result (IsRound (network_of plan.now) target.now weights.old weights.new) }
 {
     // What is known of every plan: its lists name nothing that isn't there.
     let _lists = plan.lists();
-    let by_target = follow_target(plan, matches, target, weights)?;
-    let by_needs = follow_needs(plan, matches, weights)?;
+    let by_target = follow_target(plan, target, weights)?;
+    let by_needs = follow_needs(plan, weights)?;
     let takes = raise_takes(plan, weights)?;
     let samples = raise_samples(plan, weights);
     Ok(by_target | by_needs | takes | samples)
 }
 
 /// Rounds until one changes nothing.
-fn come_to_rest(
-    plan: &Plan,
-    matches: &Matches,
-    target: &Target,
-    weights: &mut Weights,
-) -> Result<(), NoRow>
-    requires matches { ShowsMatches (network_of plan.now) matches.now }
+fn come_to_rest(plan: &Plan, target: &Target, weights: &mut Weights) -> Result<(), NoRow>
     requires made { IsMade (network_of plan.now) target.now weights.old }
     requires opened { IsSame (row_of weights.old) (opening (network_of plan.now) target.now) }
     ensures { IfOk result (λ _. IsRest (network_of plan.now) target.now (row_of weights.new)) }
 {
     for count in 0..ROUNDS {
-        if !round(plan, matches, target, weights)? {
+        if !round(plan, target, weights)? {
             return Ok(());
         }
     }
@@ -287,15 +258,13 @@ fn opening_weights(alloc: Global, plan: &Plan, target: &Target) -> Result<Weight
 pub(crate) fn row_weights(
     alloc: Global,
     plan: &Plan,
-    matches: &Matches,
     target: &Target,
 ) -> Result<Option<Weights>, NoMemory>
-    requires matches { ShowsMatches (network_of plan.now) matches.now }
-    requires reached { IsReached (network_of plan.now) target.now }
+    requires { IsReached (network_of plan.now) target.now }
     ensures { IfOk result (λ made. IfSome made (λ weights. IsRest (network_of plan.now) target.now (row_of weights))) }
 {
     let mut weights = opening_weights(alloc, plan, target)?;
-    match come_to_rest(plan, matches, target, &mut weights) {
+    match come_to_rest(plan, target, &mut weights) {
         Ok(()) => Ok(Some(weights)),
         Err(NoRow) => Ok(None),
     }

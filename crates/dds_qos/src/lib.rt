@@ -23,4 +23,4 @@ pub use policies::{
     LivelinessKind, Ownership, Policies, Presentation, ReaderQos, Reliability, ResourceLimits,
     WriterQos,
 };
-pub use profile::{Outside, outside_reader, outside_writer};
+pub use profile::{Outside, Profile, outside_reader, outside_writer};

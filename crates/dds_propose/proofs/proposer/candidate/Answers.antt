@@ -9,8 +9,8 @@ use Rattle.dds_propose.proofs.proposer.candidate.Goals as goal
 pub loop-target-init : goal.loop-target-init
 loop-target-init c = leads_first (network_of c.args.plan.now) c.deref-target-items.result.now _ _ _ c.new.ensures.items c.new-2.ensures.items c.new-3.ensures.items
 
-pub add_target-requires-clause-reached : goal.add_target-requires-clause-reached
-add_target-requires-clause-reached c =
+pub add_target-requires : goal.add_target-requires
+add_target-requires c =
     reached_at (network_of c.args.plan.now) c.deref-target-items.result.now c.loop-target.target-index c.target-item.result (c.deref-target-items.ensures.value ∙ c.in_ok-targets.ensures) c.loop-target-test.true c.target-item.is
 
 pub loop-target-preserved : goal.loop-target-preserved

@@ -1,4 +1,4 @@
-use Rattle.std.proofs.Common.{◌≡◌, ◌≤◌, false, [], refl, sym, ◌∙◌, arith}
+use Rattle.std.proofs.Common.{◌≡◌, ◌≤◌, false, [], refl, sym, arith}
 use Rattle.dds_match.specs.Plan.{network_of}
 use Rattle.dds_propose.specs.declared.weights.Weights.{Weights}
 use Rattle.dds_propose.specs.Following.{RaisesPermits, Follows}
@@ -17,11 +17,11 @@ returns-clause-followed c =
     let n = c.at-rise.result in
     let mid : Weights = record { samples = old.samples; risen = c.put.new.self; takes = old.takes; permits = old.permits } in
     let new = c.raise_permits.new.weights in
-    let listed = c.writers.result.now in
+    let listed = c.writers_of.result.now in
     let some : 1 ≤ n = omega arith in
-    let heard = c.requires.heard r k (let at = c.at-rise.ensures in omega arith) in
+    let heard = c.requires r k (let at = c.at-rise.ensures in omega arith) in
     both_ok c.raise_permits.result (λ _. RaisesPermits listed k n mid new) (λ changed. changed ≡ false → listed ≡ []) (Follows net old new) c.raise_permits.ensures.raised c.raise_permits.ensures.none
-    (λ changed raised none. (follows_one net c.lists-lists.ensures.network refl well.readers.few well.writers.few old mid new listed r k n changed heard (sym c.at-rise.ensures) some (c.writers.ensures ∙ c.requires.matches r) refl refl refl c.put.ensures raised none).0)
+    (λ changed raised none. (follows_one net c.lists-lists.ensures.network refl well.readers.few well.writers.few old mid new listed r k n changed heard (sym c.at-rise.ensures) some c.writers_of.ensures refl refl refl c.put.ensures raised none).0)
 
 pub returns-clause-done : goal.returns-clause-done
 returns-clause-done c =
@@ -33,8 +33,8 @@ returns-clause-done c =
     let n = c.at-rise.result in
     let mid : Weights = record { samples = old.samples; risen = c.put.new.self; takes = old.takes; permits = old.permits } in
     let new = c.raise_permits.new.weights in
-    let listed = c.writers.result.now in
+    let listed = c.writers_of.result.now in
     let some : 1 ≤ n = omega arith in
-    let heard = c.requires.heard r k (let at = c.at-rise.ensures in omega arith) in
+    let heard = c.requires r k (let at = c.at-rise.ensures in omega arith) in
     both_ok c.raise_permits.result (λ _. RaisesPermits listed k n mid new) (λ changed. changed ≡ false → listed ≡ []) (λ _. cell new.risen r k ≡ 0) c.raise_permits.ensures.raised c.raise_permits.ensures.none
-    (λ changed raised none. (follows_one net c.lists-lists.ensures.network refl well.readers.few well.writers.few old mid new listed r k n changed heard (sym c.at-rise.ensures) some (c.writers.ensures ∙ c.requires.matches r) refl refl refl c.put.ensures raised none).1)
+    (λ changed raised none. (follows_one net c.lists-lists.ensures.network refl well.readers.few well.writers.few old mid new listed r k n changed heard (sym c.at-rise.ensures) some c.writers_of.ensures refl refl refl c.put.ensures raised none).1)

@@ -1,7 +1,7 @@
 use Rattle.std.proofs.Common.{subst}
 use Rattle.dds_match.specs.Marks.{AddsMarks}
 use Rattle.dds_match.specs.Network.{reach, is_written}
-use Rattle.dds_match.specs.Plan.{hears, network_of}
+use Rattle.dds_match.specs.Plan.{hears, is_free, network_of}
 use Rattle.dds_match.proofs.Marking.{only_added}
 use Rattle.dds_match.proofs.tables.Tables.of.Goals as goal
 
@@ -14,4 +14,6 @@ returns c = record {
   hearing = record { each = only_added _ _ (hears c.args.lists.now) (subst (λ old. AddsMarks old c.mark_filters.new.hearing (hears c.args.lists.now)) c.in_ok-hearing.ensures c.mark_filters.ensures) };
   reached = only_added _ _ (reach (network_of c.args.lists.now)) (subst (λ old. AddsMarks old c.mark_reached.new.reached (reach (network_of c.args.lists.now))) c.in_ok-reached.ensures c.mark_reached.ensures);
   written = only_added _ _ (is_written (network_of c.args.lists.now)) (subst (λ old. AddsMarks old c.mark_written.new.written (is_written (network_of c.args.lists.now))) c.in_ok-written.ensures c.mark_written.ensures);
+  free = only_added _ _ (is_free c.args.lists.now) (subst (λ old. AddsMarks old c.mark_free.new.free (is_free c.args.lists.now)) c.in_ok-free.ensures c.mark_free.ensures);
+  neighbours = c.in_ok-neighbours.ensures;
 }

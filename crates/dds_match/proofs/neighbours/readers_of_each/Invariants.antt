@@ -1,0 +1,9 @@
+use Rattle.std.proofs.Common.{◌≡◌, ◌<◌, ℕ, length}
+use Rattle.dds_match.specs.Network.{matched_readers}
+use Rattle.dds_match.specs.Neighbours.{list_at}
+use Rattle.dds_match.specs.Plan.{network_of}
+use Rattle.dds_match.proofs.neighbours.readers_of_each.Given as goal
+
+-- the lists of the writers so far
+abbrev pub invariant-loop-w : goal.invariant-loop-w
+invariant-loop-w l = (length l.all.items ≡ l.w) × ((i : ℕ) → i < l.w → list_at l.all.items i ≡ matched_readers (network_of l.lists) i)
