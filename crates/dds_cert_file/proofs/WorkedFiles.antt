@@ -1,5 +1,5 @@
 -- Worked certificate files, and what they read as.
-use Rattle.std.proofs.Common.{◌≡◌, [], ◌∷◌, Ok, Err, codes, refl}
+use Rattle.std.proofs.Common.{false, ◌≡◌, [], ◌∷◌, Ok, Err, codes, refl}
 use Rattle.std.specs.Str.{is_utf8, chars}
 use Rattle.std.specs.Fmt.{digits}
 use Rattle.toml.proofs.OnLiterals.{toml_on_literals}
@@ -26,10 +26,11 @@ certificates_on_literals = tt
 -- a topic with the keys k and l, a writer w, and a reader r that takes k alone
 abbrev small : WriterQos → ReaderQos → Lists
 small wq rq = record {
+  version = 1;
   participants = record { names = codes "p" ∷ []; entries = record { domain = 0 } ∷ [] };
   topics = record { names = codes "t" ∷ []; entries = record { type_name = codes "T"; keys = codes "k" ∷ codes "l" ∷ [] } ∷ [] };
   writers = record { names = codes "w" ∷ []; entries = record { participant = 0; topic = 0; qos = wq; partitions = [] } ∷ [] };
-  readers = record { names = codes "r" ∷ []; entries = record { participant = 0; topic = 0; filter = 0 ∷ []; qos = rq; partitions = [] } ∷ [] };
+  readers = record { names = codes "r" ∷ []; entries = record { participant = 0; topic = 0; filter = 0 ∷ []; qos = rq; partitions = []; may_lose = false } ∷ [] };
   applications = record { names = []; entries = [] };
   rules = record { names = []; origins = []; entries = [] };
   connections = [];

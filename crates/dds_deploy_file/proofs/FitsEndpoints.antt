@@ -13,6 +13,7 @@ use Rattle.dds_qos.specs.Consistency.{consistency_fault, is_depth_over, is_sampl
 use Rattle.dds_qos.specs.Limits.{keep_last_of}
 use Rattle.toml.specs.Data.{Data, Members}
 use Rattle.dds_fields.specs.Reading.{field, a_known_name, a_number, optional}
+use Rattle.dds_fields.specs.Words.{a_flag}
 use Rattle.dds_base.specs.Section.{Listed}
 use Rattle.dds_fields.proofs.Laws.{bind_ok, ok_is}
 use Rattle.dds_deploy.specs.Lists.{Topic, Writer, Reader, Lists, keys_at, all_keys}
@@ -29,22 +30,22 @@ pub none_is : {A : Type 0} (o : Option A) → is_none o ≡ true → o ≡ None
 none_is None e = refl
 none_is (Some x) e = absurd cc
 
-pub few_keys : (before : Listed Topic) (x : Topic) → IsTopicRead before x → length x.keys ≤ 64
-few_keys before x read =
-    let k = keys_are before x read in
+pub few_keys : (v : ℕ) (before : Listed Topic) (x : Topic) → IsTopicRead v before x → length x.keys ≤ 64
+few_keys v before x read =
+    let k = keys_are v before x read in
     let e = keys_each k.0 k.1 x.keys k.2 in
     pushes_few key IsNewName key_pushes k.0 e.0 x.keys 64 e.1 e.3
 
-pub some_keys : (before : Listed Topic) (x : Topic) → IsTopicRead before x → 1 ≤ length x.keys
-some_keys before x read =
-    let k = keys_are before x read in
+pub some_keys : (v : ℕ) (before : Listed Topic) (x : Topic) → IsTopicRead v before x → 1 ≤ length x.keys
+some_keys v before x read =
+    let k = keys_are v before x read in
     let e = keys_each k.0 k.1 x.keys k.2 in
     let n = each_counts key k.0 length (λ s t p d h. push_size s t (key_pushes s t p d h)) 0 [] e.0 x.keys e.3 in
     omega (arith, n, e.2)
 
-pub keys_numbered : (before : Listed Topic) (x : Topic) → IsTopicRead before x → AreNumbered x.keys
-keys_numbered before x read =
-    let k = keys_are before x read in
+pub keys_numbered : (v : ℕ) (before : Listed Topic) (x : Topic) → IsTopicRead v before x → AreNumbered x.keys
+keys_numbered v before x read =
+    let k = keys_are v before x read in
     let e = keys_each k.0 k.1 x.keys k.2 in
     pushes_numbered key key_pushes k.0 e.0 x.keys e.3
 
@@ -95,7 +96,13 @@ all_keys_fit ks = record {
     in_list i lt = let n = length-range_with_len 0 (length ks) in omega (arith, lt, n)
 
 module _ (d : Lists) (ps : length d.participants.names ≡ length d.participants.entries) (ts : length d.topics.names ≡ length d.topics.entries) where
-  writer_fields_fit : (path : List ℕ) (ms : Members) (w : Writer) → writer_fields d.participants d.topics path ms ≡ Ok w → IsWriterOf d w
+  -- the numbers of a writer
+  record HasWriterNumbers (w : Writer) : Type 0 where
+    pub participant : w.participant < length d.participants.entries
+    pub topic : w.topic < length d.topics.entries
+    pub some_depth : 1 ≤ w.qos.offered.history.depth
+
+  writer_fields_fit : (path : List ℕ) (ms : Members) (w : Writer) → writer_fields d.participants d.topics path ms ≡ Ok w → HasWriterNumbers w
   unfolding writer_fields
   writer_fields_fit path ms w e =
       let a = bind_ok (field (codes "participant") (a_known_name d.participants.names) path ms) _ w e in
@@ -103,13 +110,17 @@ module _ (d : Lists) (ps : length d.participants.names ≡ length d.participants
       let q = bind_ok (policies Reliable path ms) _ w b.2 in
       let n = bind_ok (partitions path ms) _ w q.2 in
       let made : Writer = record { participant = a.0; topic = b.0; qos = record { offered = q.0 }; partitions = n.0 } in
-      subst (IsWriterOf d) (ok_is made w n.2) (record {
+      subst HasWriterNumbers {x = made} (ok_is made w n.2) (record {
         participant = number_field d.participants ps (codes "participant") path ms a.0 a.1;
         topic = number_field d.topics ts (codes "topic") path ms b.0 b.1;
+        some_depth = some_depth Reliable path ms q.0 q.1;
       })
 
   pub writer_fits : (before : Listed Writer) (w : Writer) → IsWriterRead d.participants d.topics before w → IsWriterOf d w
-  writer_fits before w read = writer_fields_fit read.0 read.1 w (consistent_is _ _ read.0 read.1 w read.2).0
+  writer_fits before w read =
+      let is = consistent_is _ _ read.0 read.1 w read.2 in
+      let numbers = writer_fields_fit read.0 read.1 w is.0 in
+      record { participant = numbers.participant; topic = numbers.topic; some_depth = numbers.some_depth; depth = keeps_within w.qos.offered is.1 }
 
   -- the numbers of a reader
   record HasNumbers (r : Reader) : Type 0 where
@@ -124,9 +135,10 @@ module _ (d : Lists) (ps : length d.participants.names ≡ length d.participants
       let a = bind_ok (field (codes "participant") (a_known_name d.participants.names) path ms) _ r e in
       let b = bind_ok (field (codes "topic") (a_known_name d.topics.names) path ms) _ r a.2 in
       let c = bind_ok (optional (codes "filter") (all_keys (keys_at d.topics b.0)) (filter (keys_at d.topics b.0)) path ms) _ r b.2 in
-      let q = bind_ok (policies BestEffort path ms) _ r c.2 in
+      let l = bind_ok (optional (codes "may_lose") false a_flag path ms) _ r c.2 in
+      let q = bind_ok (policies BestEffort path ms) _ r l.2 in
       let n = bind_ok (partitions path ms) _ r q.2 in
-      let made : Reader = record { participant = a.0; topic = b.0; filter = c.0; qos = record { requested = q.0 }; partitions = n.0 } in
+      let made : Reader = record { participant = a.0; topic = b.0; filter = c.0; qos = record { requested = q.0 }; partitions = n.0; may_lose = l.0 } in
       subst HasNumbers {x = made} (ok_is made r n.2) (record {
         participant = number_field d.participants ps (codes "participant") path ms a.0 a.1;
         topic = number_field d.topics ts (codes "topic") path ms b.0 b.1;

@@ -1,6 +1,6 @@
 -- Rules and connections as they were read keep their limits, name what is there, and stay with their application.
 use Rattle.std.proofs.Common.{codes, ◌≡◌, ℕ, zero, suc, ◌<◌, ◌≤◌, Bool, true, false, List, [], ◌∷◌, length, map, get_or, Option, Some, None, Ok, refl, sym, ap, subst, ◌∙◌, arith, All, Contains, eqb-true, eq-eqb, nat_le}
-use Rattle.std.specs.Prelude.{◌&&◌, ◌==◌, slice_get, option_map, option_and_then, unwrap_or, is_some, if◌then◌else◌}
+use Rattle.std.specs.Prelude.{◌&&◌, ◌==◌, slice_get, option_map, option_and_then, unwrap_or, is_some, is_none, if◌then◌else◌}
 use Rattle.std.specs.List.{list_any, list_all}
 use Rattle.std.proofs.lemmas.Option.{cond_some}
 use Rattle.std.proofs.lemmas.List.{length-map, get_or-map}
@@ -11,7 +11,7 @@ use Rattle.dds_base.specs.declared.portion.Portion.{Portion}
 use Rattle.toml.specs.Data.{Data, Members}
 use Rattle.dds_base.specs.Names.{number_of}
 use Rattle.dds_fields.specs.declared.fault.FaultKind.TheVariants.{RuleEntry}
-use Rattle.dds_fields.specs.Reading.{field, or_fault, a_number, a_known_name, a_list_of, optional}
+use Rattle.dds_fields.specs.Reading.{field, or_fault, a_known_name, a_list_of, optional}
 use Rattle.dds_fields.specs.Words.{a_flag}
 use Rattle.dds_base.specs.Section.{Listed}
 use Rattle.dds_fields.proofs.Laws.{bind_ok, ok_is, found_is, within}
@@ -23,10 +23,12 @@ use Rattle.dds_deploy_file.specs.Endpoints.{key_to_take, key_to_write}
 use Rattle.dds_deploy_file.specs.Expansion.{is_common, first_topic, common_keys, portion_at, rule_for, rules_for, origins_for, keys_to_expand, expanded}
 use Rattle.dds_deploy_file.specs.Rules.{is_named, portion, takes, writes, plain_rule, single, rule_fields, rules}
 use Rattle.dds_deploy_file.specs.Connections.{connection, connections}
+use Rattle.dds_deploy_file.specs.Starts.{start_field}
+use Rattle.dds_deploy_file.proofs.FitsStarts.{start_fits, start_none, nothing_long}
 use Rattle.dds_deploy_file.proofs.Pushes.{optional_keeps, pushes_few, pushes_all, AreOf}
 use Rattle.dds_deploy_file.proofs.ListsRead.{rules_hold, rules_are_listed}
 use Rattle.dds_deploy_file.proofs.Distinct.{pushes_distinct, distinct_nothing, none_shows}
-use Rattle.dds_deploy_file.proofs.Readings.{both, list_each, section_each, IsShare, share_pushes, number_field, number_between, IsPortion, portion_pushes, connection_pushes, IsPair}
+use Rattle.dds_deploy_file.proofs.Readings.{both, list_each, section_each, IsShare, share_pushes, number_field, IsPortion, portion_pushes, connection_pushes, IsPair}
 
 pub contains_has : (numbers : List ℕ) (n : ℕ) → has numbers n ≡ true → Contains numbers n
 contains_has numbers n h = Contains-from_any {eq = λ q m. m == q} (λ x y e. sym (eqb-true y x e)) n numbers h
@@ -101,6 +103,8 @@ pub record RuleFits (d : Lists) (u : Rule) : Type 0 where
   pub takes : AreElements (IsTakeOf d) (readers_at d.applications u.application) u.takes
   pub writes : AreElements (IsWriteOf d) (writers_at d.applications u.application) u.writes
   pub start : u.start ≤ 65535
+  pub free_takes : u.free ≡ true → u.takes ≡ []
+  pub free_start : u.free ≡ true → u.start ≡ 0
 
 -- the elements of one side of a rule with `each`
 record AreShares (own : List ℕ) (count : ℕ) (xs : List (ℕ × ℕ)) : Type 0 where
@@ -165,7 +169,8 @@ record EachFits (d : Lists) (u : EachRule) : Type 0 where
   pub application : u.application < length d.applications.entries
   pub takes : AreShares (readers_at d.applications u.application) (length d.readers.names) u.takes
   pub writes : AreShares (writers_at d.applications u.application) (length d.writers.names) u.writes
-  pub start : u.start ≤ 65535
+  pub start : unwrap_or u.start 0 ≤ 65535
+  pub free_takes : is_none u.start ≡ true → u.takes ≡ []
 
 -- the rules of one entry, each of which fits, and their origins
 record EntryFits (d : Lists) (name : ℕ) (more : List Origin × List Rule) : Type 0 where
@@ -181,28 +186,32 @@ expand_keys ts ws rs u None c e = absurd cc
 expand_keys ts ws rs u (Some t) c e = let x = cond_some (nat_le 1 (length (common_keys ts ws rs u t))) (t, common_keys ts ws rs u t) c e in subst (λ p. p.1 ≡ common_keys ts ws rs u p.0) x.1 refl
 
 module _ (d : Lists) (ws : length d.writers.names ≡ length d.writers.entries) (apps : length d.applications.names ≡ length d.applications.entries) where
-  plain_fits : (a : ℕ) → a < length d.applications.entries → (path : List ℕ) (ms : Members) (u : Rule) → plain_rule d.topics d.writers d.readers d.applications a path ms ≡ Ok u → RuleFits d u
+  plain_fits : (v a : ℕ) → a < length d.applications.entries → (path : List ℕ) (ms : Members) (u : Rule) → plain_rule v d.topics d.writers d.readers d.applications a path ms ≡ Ok u → RuleFits d u
   unfolding plain_rule
-  plain_fits a below path ms u e =
+  plain_fits v a below path ms u e =
       let b = bind_ok (optional (codes "takes") [] (takes d.topics d.readers d.applications a) path ms) _ u e in
       let c = bind_ok (optional (codes "writes") [] (writes d.topics d.writers d.applications a) path ms) _ u b.2 in
-      let n = bind_ok (optional (codes "start") 0 (a_number 0 65535) path ms) _ u c.2 in
-      let made : Rule = record { application = a; takes = b.0; writes = c.0; start = n.0 } in
+      let n = bind_ok (start_field v (length b.0 == 0) path ms) _ u c.2 in
+      let start = start_fits v (length b.0 == 0) path ms n.0 n.1 in
+      let made : Rule = record { application = a; takes = b.0; writes = c.0; start = unwrap_or n.0 0; free = is_none n.0 } in
       let T = AreElements (IsTakeOf d) (readers_at d.applications a) in
       let W = AreElements (IsWriteOf d) (writers_at d.applications a) in
       subst (RuleFits d) (ok_is made u n.2) (record {
         application = below;
         takes = optional_keeps T (codes "takes") [] (takes d.topics d.readers d.applications a) path ms b.0 (no_elements (IsTakeOf d) (readers_at d.applications a)) (λ p x h. elements_fit (IsTakeOf d) (codes "reader") d.readers.names (readers_at d.applications a) (key_to_take d.topics d.readers) (λ name y known found. in_filter d name y found) p x b.0 h) b.1;
         writes = optional_keeps W (codes "writes") [] (writes d.topics d.writers d.applications a) path ms c.0 (no_elements (IsWriteOf d) (writers_at d.applications a)) (λ p x h. elements_fit (IsWriteOf d) (codes "writer") d.writers.names (writers_at d.applications a) (key_to_write d.topics d.writers) (in_topic d ws) p x c.0 h) c.1;
-        start = optional_keeps (λ k. k ≤ 65535) (codes "start") 0 (a_number 0 65535) path ms n.0 (omega arith) (λ p x h. (number_between 0 65535 p x n.0 h).1) n.1;
+        start = start.few;
+        free_takes = λ free. nothing_long b.0 (start.free free);
+        free_start = start_none n.0;
       })
 
-  each_rule_fits : (a : ℕ) → a < length d.applications.entries → (path : List ℕ) (ms : Members) (u : EachRule) → each_rule d.writers d.readers d.applications a path ms ≡ Ok u → EachFits d u
+  each_rule_fits : (v a : ℕ) → a < length d.applications.entries → (path : List ℕ) (ms : Members) (u : EachRule) → each_rule v d.writers d.readers d.applications a path ms ≡ Ok u → EachFits d u
   unfolding each_rule
-  each_rule_fits a below path ms u e =
+  each_rule_fits v a below path ms u e =
       let b = bind_ok (optional (codes "takes") [] (each_takes d.readers d.applications a) path ms) _ u e in
       let c = bind_ok (optional (codes "writes") [] (each_writes d.writers d.applications a) path ms) _ u b.2 in
-      let n = bind_ok (optional (codes "start") 0 (a_number 0 65535) path ms) _ u c.2 in
+      let n = bind_ok (start_field v (length b.0 == 0) path ms) _ u c.2 in
+      let start = start_fits v (length b.0 == 0) path ms n.0 n.1 in
       let made : EachRule = record { application = a; takes = b.0; writes = c.0; start = n.0 } in
       let T = AreShares (readers_at d.applications a) (length d.readers.names) in
       let W = AreShares (writers_at d.applications a) (length d.writers.names) in
@@ -210,7 +219,8 @@ module _ (d : Lists) (ws : length d.writers.names ≡ length d.writers.entries) 
         application = below;
         takes = optional_keeps T (codes "takes") [] (each_takes d.readers d.applications a) path ms b.0 (no_shares (readers_at d.applications a) (length d.readers.names)) (λ p x h. shares_fit (codes "reader") d.readers.names (readers_at d.applications a) p x b.0 h) b.1;
         writes = optional_keeps W (codes "writes") [] (each_writes d.writers d.applications a) path ms c.0 (no_shares (writers_at d.applications a) (length d.writers.names)) (λ p x h. shares_fit (codes "writer") d.writers.names (writers_at d.applications a) p x c.0 h) c.1;
-        start = optional_keeps (λ k. k ≤ 65535) (codes "start") 0 (a_number 0 65535) path ms n.0 (omega arith) (λ p x h. (number_between 0 65535 p x n.0 h).1) n.1;
+        start = start.few;
+        free_takes = λ free. nothing_long b.0 (start.free free);
       })
 
   -- the rule for a common key
@@ -224,15 +234,17 @@ module _ (d : Lists) (ws : length d.writers.names ≡ length d.writers.entries) 
         writes = spread (IsWriteOf d) (writers_at d.applications u.application) (length d.writers.names) (key_to_write d.topics d.writers name) u.writes fits.writes two.1
             (λ x known found. in_topic d ws name x known found);
         start = fits.start;
+        free_takes = λ free. ap (map (portion_at (key_to_take d.topics d.readers name))) (fits.free_takes free);
+        free_start = start_none u.start;
       }
 
-  expanded_fits : (name a : ℕ) → a < length d.applications.entries → (path : List ℕ) (ms : Members) (more : List Origin × List Rule) → expanded d.topics d.writers d.readers d.applications name a path ms ≡ Ok more → EntryFits d name more
+  expanded_fits : (v name a : ℕ) → a < length d.applications.entries → (path : List ℕ) (ms : Members) (more : List Origin × List Rule) → expanded v d.topics d.writers d.readers d.applications name a path ms ≡ Ok more → EntryFits d name more
   unfolding expanded
-  expanded_fits name a below path ms more e =
-      let u = bind_ok (each_rule d.writers d.readers d.applications a path ms) _ more e in
+  expanded_fits v name a below path ms more e =
+      let u = bind_ok (each_rule v d.writers d.readers d.applications a path ms) _ more e in
       let c = bind_ok (or_fault RuleEntry path (keys_to_expand d.topics d.writers d.readers u.0)) _ more u.2 in
       let found = found_is RuleEntry path (keys_to_expand d.topics d.writers d.readers u.0) c.0 c.1 in
-      let fits = each_rule_fits a below path ms u.0 u.1 in
+      let fits = each_rule_fits v a below path ms u.0 u.1 in
       let t = c.0.0 in
       let ks = c.0.1 in
       let test : ℕ → Bool = λ k. is_common d.topics d.writers d.readers u.0 (key_name d.topics t k) in
@@ -245,36 +257,36 @@ module _ (d : Lists) (ws : length d.writers.names ≡ length d.writers.entries) 
         };
       })
 
-  single_fits : (name a : ℕ) → a < length d.applications.entries → (path : List ℕ) (ms : Members) (more : List Origin × List Rule) → single d.topics d.writers d.readers d.applications name a path ms ≡ Ok more → EntryFits d name more
+  single_fits : (v name a : ℕ) → a < length d.applications.entries → (path : List ℕ) (ms : Members) (more : List Origin × List Rule) → single v d.topics d.writers d.readers d.applications name a path ms ≡ Ok more → EntryFits d name more
   unfolding single
-  single_fits name a below path ms more e =
-      let u = bind_ok (plain_rule d.topics d.writers d.readers d.applications a path ms) _ more e in
+  single_fits v name a below path ms more e =
+      let u = bind_ok (plain_rule v d.topics d.writers d.readers d.applications a path ms) _ more e in
       let o : Origin = record { name = name; key = None } in
       subst (EntryFits d name) (ok_is (o ∷ [], u.0 ∷ []) more u.2) (record {
-        rules = All-cons (RuleFits d) u.0 [] (plain_fits a below path ms u.0 u.1) (All-nil (RuleFits d));
+        rules = All-cons (RuleFits d) u.0 [] (plain_fits v a below path ms u.0 u.1) (All-nil (RuleFits d));
         origins = record { paired = refl; named = All-cons (λ (x : Origin). x.name ≡ name) o [] refl (All-nil (λ (x : Origin). x.name ≡ name)) };
       })
 
-  entry_fits : (name : ℕ) (path : List ℕ) (ms : Members) (more : List Origin × List Rule) → rule_fields d.topics d.writers d.readers d.applications name path ms ≡ Ok more → EntryFits d name more
+  entry_fits : (v name : ℕ) (path : List ℕ) (ms : Members) (more : List Origin × List Rule) → rule_fields v d.topics d.writers d.readers d.applications name path ms ≡ Ok more → EntryFits d name more
   unfolding rule_fields
-  entry_fits name path ms more e =
+  entry_fits v name path ms more e =
       let a = bind_ok (field (codes "application") (a_known_name d.applications.names) path ms) _ more e in
       let f = bind_ok (optional (codes "each") false a_flag path ms) _ more a.2 in
       by a.0 (number_field d.applications apps (codes "application") path ms a.0 a.1) f.0 f.2
     where
-      by : (n : ℕ) → n < length d.applications.entries → (b : Bool) → (if b then expanded d.topics d.writers d.readers d.applications name n path ms else single d.topics d.writers d.readers d.applications name n path ms) ≡ Ok more → EntryFits d name more
-      by n below true h = expanded_fits name n below path ms more h
-      by n below false h = single_fits name n below path ms more h
+      by : (n : ℕ) → n < length d.applications.entries → (b : Bool) → (if b then expanded v d.topics d.writers d.readers d.applications name n path ms else single v d.topics d.writers d.readers d.applications name n path ms) ≡ Ok more → EntryFits d name more
+      by n below true h = expanded_fits v name n below path ms more h
+      by n below false h = single_fits v name n below path ms more h
 
   -- what follows for each rule from how it was read
   pub rules_fit : (v : ℕ) (ms : Members) → rules v d.topics d.writers d.readers d.applications ms ≡ Ok d.rules → (Q : Rule → Type 0) → ((u : Rule) → RuleFits d u → Q u) → All Q d.rules.entries
-  rules_fit v ms read Q follows = rules_hold v d.topics d.writers d.readers d.applications ms d.rules read Q (λ n more x. All-weaker (RuleFits d) Q follows more.1 (entry_fits n x.0 x.1 more x.2).rules)
+  rules_fit v ms read Q follows = rules_hold v d.topics d.writers d.readers d.applications ms d.rules read Q (λ n more x. All-weaker (RuleFits d) Q follows more.1 (entry_fits v n x.0 x.1 more x.2).rules)
 
   pub rules_are : (v : ℕ) (ms : Members) → rules v d.topics d.writers d.readers d.applications ms ≡ Ok d.rules → AreRules 256 d.rules
-  rules_are v ms read = rules_are_listed v d.topics d.writers d.readers d.applications ms d.rules read (λ n more x. (entry_fits n x.0 x.1 more x.2).origins)
+  rules_are v ms read = rules_are_listed v d.topics d.writers d.readers d.applications ms d.rules read (λ n more x. (entry_fits v n x.0 x.1 more x.2).origins)
 
   pub rule_fits : (u : Rule) → RuleFits d u → IsRuleOf d u
-  rule_fits u all = record { few_takes = all.takes.few; few_writes = all.writes.few; takes = all.takes.fit; writes = all.writes.fit }
+  rule_fits u all = record { few_takes = all.takes.few; few_writes = all.writes.few; takes = all.takes.fit; writes = all.writes.fit; free_takes = all.free_takes; free_start = all.free_start }
 
   pub rule_keeps : (u : Rule) → RuleFits d u → KeepsToItsOwn d u
   rule_keeps u all =

@@ -3,6 +3,7 @@ pub mod Pushes
 pub mod Distinct
 pub mod Readings
 pub mod ListsRead
+pub mod FitsStarts
 pub mod FitsEndpoints
 pub mod FitsRules
 pub mod FitsApplications

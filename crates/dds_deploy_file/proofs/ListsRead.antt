@@ -59,45 +59,45 @@ list_read read P step path limit all e = record {
   each_after = each-keeps read path (λ s. EachAfter P s.entries) (λ s u p d after h. let one = step s u p d h in subst (λ v. EachAfter P v.entries) (sym one.added) (each_after_push P s one.entry after one.holds)) 0 nothing e.0 all (λ k x h. absurd cc) e.2;
 }
 
-record EndpointsRead (ps : Listed Participant) (ts : Listed Topic) (ws : Listed Writer) (rs : Listed Reader) : Type 0 where
+record EndpointsRead (v : ℕ) (ps : Listed Participant) (ts : Listed Topic) (ws : Listed Writer) (rs : Listed Reader) : Type 0 where
   pub participants : ListRead 64 IsParticipantRead ps
-  pub topics : ListRead 256 IsTopicRead ts
+  pub topics : ListRead 256 (IsTopicRead v) ts
   pub writers : ListRead 256 (IsWriterRead ps ts) ws
   pub readers : ListRead 256 (IsReaderRead ps ts) rs
 
-endpoints_read : (ms : Members) (e : Listed Participant × Listed Topic × Listed Writer × Listed Reader) → endpoints ms ≡ Ok e → EndpointsRead e.0 e.1 e.2 e.3
+endpoints_read : (v : ℕ) (ms : Members) (e : Listed Participant × Listed Topic × Listed Writer × Listed Reader) → endpoints v ms ≡ Ok e → EndpointsRead v e.0 e.1 e.2 e.3
 unfolding endpoints
-endpoints_read ms e h =
+endpoints_read v ms e h =
     let p = bind_ok (participants ms) _ e h in
-    let t = bind_ok (topics ms) _ e p.2 in
+    let t = bind_ok (topics v ms) _ e p.2 in
     let w = bind_ok (writers p.0 t.0 ms) _ e t.2 in
-    let r = bind_ok (readers p.0 t.0 ms) _ e w.2 in
-    subst (λ x. EndpointsRead x.0 x.1 x.2 x.3) (ok_is (p.0, t.0, w.0, r.0) e r.2) (record {
+    let r = bind_ok (readers v p.0 t.0 ms) _ e w.2 in
+    subst (λ x. EndpointsRead v x.0 x.1 x.2 x.3) (ok_is (p.0, t.0, w.0, r.0) e r.2) (record {
       participants = list_read participant IsParticipantRead (entry_adds _ _) _ 64 p.0 (section_each _ _ ms p.0 p.1);
-      topics = list_read topic IsTopicRead (entry_adds _ _) _ 256 t.0 (section_each _ _ ms t.0 t.1);
+      topics = list_read (topic v) (IsTopicRead v) (entry_adds _ _) _ 256 t.0 (section_each _ _ ms t.0 t.1);
       writers = list_read (writer p.0 t.0) (IsWriterRead p.0 t.0) (entry_adds _ _) _ 256 w.0 (section_each _ _ ms w.0 w.1);
-      readers = list_read (reader p.0 t.0) (IsReaderRead p.0 t.0) (entry_adds _ _) _ 256 r.0 (section_each _ _ ms r.0 r.1);
+      readers = list_read (reader v p.0 t.0) (IsReaderRead p.0 t.0) (entry_adds _ _) _ 256 r.0 (section_each _ _ ms r.0 r.1);
     })
 
 module _ (v : ℕ) (ts : Listed Topic) (ws : Listed Writer) (rs : Listed Reader) (apps : Listed Application) (ms : Members) (us : Rules) (h : rules v ts ws rs apps ms ≡ Ok us) where
   pub rules_named_once : AreNumbered us.names
   rules_named_once =
       let e = section_each _ _ ms us h in
-      rules_numbered (rule v ts ws rs apps) (IsEntryRead ts ws rs apps) (rule_adds v ts ws rs apps) (codes "rules") e.0 us e.2
+      rules_numbered (rule v ts ws rs apps) (IsEntryRead v ts ws rs apps) (rule_adds v ts ws rs apps) (codes "rules") e.0 us e.2
 
-  pub rules_are_listed : ((n : ℕ) (more : List Origin × List Rule) → IsEntryRead ts ws rs apps n more → AreOf n more) → AreRules 256 us
+  pub rules_are_listed : ((n : ℕ) (more : List Origin × List Rule) → IsEntryRead v ts ws rs apps n more → AreOf n more) → AreRules 256 us
   rules_are_listed of =
       let e = section_each _ _ ms us h in
-      rules_listed (rule v ts ws rs apps) (IsEntryRead ts ws rs apps) (rule_adds v ts ws rs apps) (codes "rules") e.0 us of e.2
+      rules_listed (rule v ts ws rs apps) (IsEntryRead v ts ws rs apps) (rule_adds v ts ws rs apps) (codes "rules") e.0 us of e.2
 
-  pub rules_hold : (Q : Rule → Type 0) → ((n : ℕ) (more : List Origin × List Rule) → IsEntryRead ts ws rs apps n more → All Q more.1) → All Q us.entries
+  pub rules_hold : (Q : Rule → Type 0) → ((n : ℕ) (more : List Origin × List Rule) → IsEntryRead v ts ws rs apps n more → All Q more.1) → All Q us.entries
   rules_hold Q follows =
       let e = section_each _ _ ms us h in
-      rules_all (rule v ts ws rs apps) (IsEntryRead ts ws rs apps) (rule_adds v ts ws rs apps) (codes "rules") e.0 us Q follows e.2
+      rules_all (rule v ts ws rs apps) (IsEntryRead v ts ws rs apps) (rule_adds v ts ws rs apps) (codes "rules") e.0 us Q follows e.2
 
 pub record ListsRead (v : ℕ) (ms : Members) (d : Lists) : Type 0 where
   pub participants : ListRead 64 IsParticipantRead d.participants
-  pub topics : ListRead 256 IsTopicRead d.topics
+  pub topics : ListRead 256 (IsTopicRead v) d.topics
   pub writers : ListRead 256 (IsWriterRead d.participants d.topics) d.writers
   pub readers : ListRead 256 (IsReaderRead d.participants d.topics) d.readers
   pub applications_read : applications d.participants d.writers d.readers ms ≡ Ok d.applications
@@ -107,12 +107,12 @@ pub record ListsRead (v : ℕ) (ms : Members) (d : Lists) : Type 0 where
 pub lists_read : (v : ℕ) (ms : Members) (d : Lists) → lists v ms ≡ Ok d → ListsRead v ms d
 unfolding lists
 lists_read v ms d h =
-    let e = bind_ok (endpoints ms) _ d h in
+    let e = bind_ok (endpoints v ms) _ d h in
     let a = bind_ok (applications e.0.0 e.0.2 e.0.3 ms) _ d e.2 in
     let u = bind_ok (rules v e.0.1 e.0.2 e.0.3 a.0 ms) _ d a.2 in
     let c = bind_ok (connections e.0.2 e.0.3 ms) _ d u.2 in
-    let made : Lists = record { participants = e.0.0; topics = e.0.1; writers = e.0.2; readers = e.0.3; applications = a.0; rules = u.0; connections = c.0 } in
-    let ends = endpoints_read ms e.0 e.1 in
+    let made : Lists = record { version = v; participants = e.0.0; topics = e.0.1; writers = e.0.2; readers = e.0.3; applications = a.0; rules = u.0; connections = c.0 } in
+    let ends = endpoints_read v ms e.0 e.1 in
     subst (ListsRead v ms) (ok_is made d c.2) (record {
       participants = ends.participants;
       topics = ends.topics;

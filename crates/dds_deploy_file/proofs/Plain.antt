@@ -1,6 +1,6 @@
 -- What is read without a fault is plain: it nests no deeper than its place allows, and has no date in it.
 use Rattle.std.proofs.Common.{codes, ◌≡◌, ℕ, ℤ, suc, ◌≤◌, ◌+◌, Bool, true, false, not, cond, ◌⊎◌, inl, inr, List, [], ◌∷◌, Option, Some, None, Ok, Less, nat_cmp, refl, sym, ap, subst, ◌∙◌, arith}
-use Rattle.std.specs.Prelude.{◌&&◌}
+use Rattle.std.specs.Prelude.{◌&&◌, nat_le}
 use Rattle.std.specs.List.{list_any, AllByRecursion}
 use Rattle.std.specs.Str.{bytes_eq}
 use Rattle.std.specs.Cmp.{tied_itself}
@@ -17,6 +17,8 @@ use Rattle.dds_fields.specs.Reading.{Read, ◌>>=◌, or_fault, a_text, a_number
 use Rattle.dds_fields.specs.Words.{a_word, a_flag, a_long, a_duration, a_limit, word_or}
 use Rattle.dds_fields.specs.Document.{version}
 use Rattle.dds_fields.proofs.Laws.{bind_ok, ok_is, found_is}
+use Rattle.dds_deploy_file.specs.Starts.{some_times, a_start, start_field}
+use Rattle.dds_deploy_file.specs.Topics.{a_type_name}
 use Rattle.dds_deploy_file.proofs.Pushes.{passed}
 use Rattle.dds_deploy_file.proofs.Migrated.{only_is}
 
@@ -259,3 +261,23 @@ module _ {n : ℕ} where
     plain = λ path d x e. word_or_plain (codes "unlimited") None (a_number 1 2147483647 path d >>= λ m. Ok (Some m)) path d x
         (λ h. let m = bind_ok (a_number 1 2147483647 path d) _ x h in (number_plain 1 2147483647).plain path d m.0 m.1) (as_str d) refl e;
   }
+
+  pub type_name_plain : (v : ℕ) → ReadsPlain n (a_type_name v)
+  unfolding a_type_name
+  type_name_plain v = record { plain = λ path d x e. let t = bind_ok (a_text path d) _ x e in text_plain.plain path d t.0 t.1 }
+
+  some_times_plain : ReadsPlain n some_times
+  unfolding some_times
+  some_times_plain = record { plain = λ path d x e. let m = bind_ok (a_number 0 65535 path d) _ x e in (number_plain 0 65535).plain path d m.0 m.1 }
+
+  start_plain : (v : ℕ) → ReadsPlain n (a_start v)
+  unfolding a_start
+  start_plain v = record { plain = λ path d x e. by path d x (nat_le v 2) e }
+    where
+      by : (path : List ℕ) (d : Data) (x : Option ℕ) (b : Bool) → cond b (some_times path d) (word_or (codes "unlimited") None (some_times path d) path (as_str d)) ≡ Ok x → IsPlain n d
+      by path d x true e = some_times_plain.plain path d x e
+      by path d x false e = word_or_plain (codes "unlimited") None (some_times path d) path d x (λ h. some_times_plain.plain path d x h) (as_str d) refl e
+
+  pub start_field_plain : (v : ℕ) (takes_nothing : Bool) (path : List ℕ) (ms : Members) (x : Option ℕ) → start_field v takes_nothing path ms ≡ Ok x → IsPlainAt n ms (codes "start")
+  unfolding start_field
+  start_field_plain v takes_nothing path ms x e = let start = bind_ok (optional (codes "start") (Some 0) (a_start v) path ms) _ x e in optional_plain (start_plain v) _ path _ start.1

@@ -1,6 +1,6 @@
 -- A deployment that was read is plain, since each field of each section is.
 use Rattle.std.proofs.Common.{codes, ◌≡◌, ℕ, ◌≤◌, Bool, true, false, cond, List, [], ◌∷◌, Option, Ok}
-use Rattle.std.specs.Prelude.{◌==◌, nat_le}
+use Rattle.std.specs.Prelude.{◌==◌, nat_le, length}
 use Rattle.std.specs.List.{AllByRecursion}
 use Rattle.toml.specs.Data.{Data, Members, members_depth, members_have_valid_dates}
 use Rattle.dds_qos.specs.declared.policies.Durability.{Durability}
@@ -16,7 +16,7 @@ use Rattle.dds_qos.specs.declared.policies.Reliability.{Reliability}
 use Rattle.dds_qos.specs.declared.policies.Reliability.TheVariants.{BestEffort, Reliable}
 use Rattle.dds_fields.specs.declared.fault.FaultKind.TheVariants.{OutOfRange, NotToml}
 use Rattle.dds_fields.specs.Reading.{Read, or_fault, a_text, a_new_name, a_known_name, an_array_of, a_list_of, count, unless, entry, optional, only, unlisted, keys_of}
-use Rattle.dds_fields.specs.Words.{a_duration}
+use Rattle.dds_fields.specs.Words.{a_duration, a_flag}
 use Rattle.dds_base.specs.Section.{Listed, nothing}
 use Rattle.dds_fields.specs.Document.{document}
 use Rattle.dds_fields.proofs.Laws.{bind_ok, found_is}
@@ -29,9 +29,10 @@ use Rattle.dds_deploy_file.specs.Entries.{one_more}
 use Rattle.dds_deploy_file.specs.Participants.{participant, participant_keys, participant_fields, participants}
 use Rattle.dds_deploy_file.specs.Topics.{key, keys, topic, topic_keys, topic_fields, topics}
 use Rattle.dds_deploy_file.specs.Writers.{writer, writer_fields, writers}
-use Rattle.dds_deploy_file.specs.Readers.{filter_key, filter, reader, reader_fields, readers}
+use Rattle.dds_deploy_file.specs.Readers.{filter_key, filter, reader, reader_fields, reader_keys, readers}
 use Rattle.dds_deploy_file.specs.Applications.{own, own_writers, own_readers, application, application_keys, application_fields, application_list, applications}
 use Rattle.dds_deploy_file.specs.Expansion.{expanded}
+use Rattle.dds_deploy_file.specs.Starts.{start_field}
 use Rattle.dds_deploy_file.specs.Rules.{portion, takes, writes, plain_rule, single, rule, rule_entry, rule_fields, rules}
 use Rattle.dds_deploy_file.specs.Connections.{connection, connection_entry, connections}
 use Rattle.dds_deploy_file.specs.Document.{head, endpoints, lists, deployment}
@@ -39,7 +40,7 @@ use Rattle.dds_deploy_file.proofs.Ascending.{document_in_order}
 use Rattle.dds_deploy_file.proofs.Pushes.{passed}
 use Rattle.dds_deploy_file.proofs.Readings.{consistent_is}
 use Rattle.dds_deploy_file.proofs.Migrated.{only_is}
-use Rattle.dds_deploy_file.proofs.Plain.{IsPlain, IsPlainAt, HasPlain, ReadsPlain, listed_plain, entry_plain, field_plain, optional_plain, list_plain, section_plain, text_plain, flag_plain, number_plain, version_plain, name_plain, new_name_plain, known_name_plain, word_plain, duration_plain, limit_plain}
+use Rattle.dds_deploy_file.proofs.Plain.{IsPlain, IsPlainAt, HasPlain, ReadsPlain, listed_plain, entry_plain, field_plain, optional_plain, list_plain, section_plain, text_plain, flag_plain, number_plain, version_plain, new_name_plain, known_name_plain, type_name_plain, word_plain, duration_plain, limit_plain, start_field_plain}
 
 -- participants and topics
 
@@ -79,18 +80,18 @@ keys_plain = record {
       (list_plain 64 [] key_plain).plain path d x (rw (all.1, same.1) some.2);
 }
 
-topic_fields_plain : (path : List ℕ) (ms : Members) (t : Topic) → topic_fields path ms ≡ Ok t → IsPlainAt 2 ms (codes "type") × IsPlainAt 2 ms (codes "keys")
+topic_fields_plain : (v : ℕ) (path : List ℕ) (ms : Members) (t : Topic) → topic_fields v path ms ≡ Ok t → IsPlainAt 2 ms (codes "type") × IsPlainAt 2 ms (codes "keys")
 unfolding topic_fields
-topic_fields_plain path ms t e =
+topic_fields_plain v path ms t e =
     let type_name = bind_ok _ _ t e in
     let keys = bind_ok _ _ t type_name.2 in
-    (field_plain name_plain path _ type_name.1, field_plain keys_plain path _ keys.1)
+    (field_plain (type_name_plain v) path _ type_name.1, field_plain keys_plain path _ keys.1)
 
-topic_plain : (before : Listed Topic) → ReadsPlain 3 (topic before)
-topic_plain before = one_more_plain topic_keys (λ _. topic_fields) before (λ path ms t e name. let f = topic_fields_plain path ms t e in (name, (f.0, (f.1, tt))))
+topic_plain : (v : ℕ) (before : Listed Topic) → ReadsPlain 3 (topic v before)
+topic_plain v before = one_more_plain topic_keys (λ _. topic_fields v) before (λ path ms t e name. let f = topic_fields_plain v path ms t e in (name, (f.0, (f.1, tt))))
 
-topics_plain : (ms : Members) (ts : Listed Topic) → topics ms ≡ Ok ts → IsPlainAt 4 ms (codes "topics")
-topics_plain ms ts e = section_plain 256 nothing topic_plain ts e
+topics_plain : (v : ℕ) (ms : Members) (ts : Listed Topic) → topics v ms ≡ Ok ts → IsPlainAt 4 ms (codes "topics")
+topics_plain v ms ts e = section_plain 256 nothing (topic_plain v) ts e
 
 -- endpoints
 
@@ -196,21 +197,32 @@ filter_plain : (keys : List (List ℕ)) → ReadsPlain 2 (filter keys)
 filter_plain keys = list_plain 64 [] (filter_key_plain keys)
 
 reader_fields_plain : (ps : Listed Participant) (ts : Listed Topic) (path : List ℕ) (ms : Members) (r : Reader) → reader_fields ps ts path ms ≡ Ok r → IsPlainAt 2 ms (codes "name")
-    → AllByRecursion (IsPlainAt 2 ms) (codes "filter" ∷ endpoint_keys)
+    → AllByRecursion (IsPlainAt 2 ms) (codes "may_lose" ∷ codes "filter" ∷ endpoint_keys)
 unfolding reader_fields
 reader_fields_plain ps ts path ms r e name =
     let p = bind_ok _ _ r e in
     let t = bind_ok _ _ r p.2 in
     let keys = bind_ok _ _ r t.2 in
-    let q = bind_ok (policies BestEffort path ms) _ r keys.2 in
+    let lose = bind_ok (optional (codes "may_lose") false a_flag path ms) _ r keys.2 in
+    let q = bind_ok (policies BestEffort path ms) _ r lose.2 in
     let names = bind_ok (partitions path ms) _ r q.2 in
-    (optional_plain (filter_plain _) _ path _ keys.1, (name, (field_plain (known_name_plain _) path _ p.1, (field_plain (known_name_plain _) path _ t.1, policies_plain path ms BestEffort q.0 names.0 q.1 names.1))))
+    let rest = policies_plain path ms BestEffort q.0 names.0 q.1 names.1 in
+    (optional_plain flag_plain _ path _ lose.1, (optional_plain (filter_plain _) _ path _ keys.1, (name, (field_plain (known_name_plain _) path _ p.1, (field_plain (known_name_plain _) path _ t.1, rest)))))
 
-reader_plain : (ps : Listed Participant) (ts : Listed Topic) (before : Listed Reader) → ReadsPlain 3 (reader ps ts before)
-reader_plain ps ts before = one_more_plain (codes "filter" ∷ endpoint_keys) (λ _. consistent (λ r. r.qos.requested) (reader_fields ps ts)) before (λ path ms r e name. reader_fields_plain ps ts path ms r (consistent_is _ _ path ms r e).0 name)
+-- what holds of all the keys of a reader holds of those of each version
+of_version : (P : List ℕ → Type 0) (v : ℕ) → AllByRecursion P (codes "may_lose" ∷ codes "filter" ∷ endpoint_keys) → AllByRecursion P (reader_keys v)
+of_version P v all = by (nat_le v 2)
+  where
+    by : (b : Bool) → AllByRecursion P (cond b (codes "filter" ∷ endpoint_keys) (codes "may_lose" ∷ codes "filter" ∷ endpoint_keys))
+    by true = all.1
+    by false = all
 
-readers_plain : (ps : Listed Participant) (ts : Listed Topic) (ms : Members) (rs : Listed Reader) → readers ps ts ms ≡ Ok rs → IsPlainAt 4 ms (codes "readers")
-readers_plain ps ts ms rs e = section_plain 256 nothing (reader_plain ps ts) rs e
+reader_plain : (v : ℕ) (ps : Listed Participant) (ts : Listed Topic) (before : Listed Reader) → ReadsPlain 3 (reader v ps ts before)
+reader_plain v ps ts before = one_more_plain (reader_keys v) (λ _. consistent (λ r. r.qos.requested) (reader_fields ps ts)) before
+    (λ path ms r e name. of_version (IsPlainAt 2 ms) v (reader_fields_plain ps ts path ms r (consistent_is _ _ path ms r e).0 name))
+
+readers_plain : (v : ℕ) (ps : Listed Participant) (ts : Listed Topic) (ms : Members) (rs : Listed Reader) → readers v ps ts ms ≡ Ok rs → IsPlainAt 4 ms (codes "readers")
+readers_plain v ps ts ms rs e = section_plain 256 nothing (reader_plain v ps ts) rs e
 
 -- applications
 
@@ -280,26 +292,26 @@ module _ (ts : Listed Topic) (ws : Listed Writer) (rs : Listed Reader) (apps : L
   abbrev PlainElements : Members → Type 0
   PlainElements ms = AllByRecursion (IsPlainAt 2 ms) (codes "takes" ∷ codes "writes" ∷ codes "start" ∷ [])
 
-  plain_rule_plain : (a : ℕ) (path : List ℕ) (ms : Members) (u : Rule) → plain_rule ts ws rs apps a path ms ≡ Ok u → PlainElements ms
+  plain_rule_plain : (v a : ℕ) (path : List ℕ) (ms : Members) (u : Rule) → plain_rule v ts ws rs apps a path ms ≡ Ok u → PlainElements ms
   unfolding plain_rule
-  plain_rule_plain a path ms u e =
+  plain_rule_plain v a path ms u e =
       let the_takes = bind_ok _ _ u e in
       let the_writes = bind_ok _ _ u the_takes.2 in
-      let n = bind_ok _ _ u the_writes.2 in
-      (optional_plain (takes_plain a) _ path _ the_takes.1, (optional_plain (writes_plain a) _ path _ the_writes.1, (optional_plain (number_plain _ _) _ path _ n.1, tt)))
+      let n = bind_ok (start_field v (length the_takes.0 == 0) path ms) _ u the_writes.2 in
+      (optional_plain (takes_plain a) _ path _ the_takes.1, (optional_plain (writes_plain a) _ path _ the_writes.1, (start_field_plain v (length the_takes.0 == 0) path ms n.0 n.1, tt)))
 
-  each_rule_plain : (a : ℕ) (path : List ℕ) (ms : Members) (u : EachRule) → each_rule ws rs apps a path ms ≡ Ok u → PlainElements ms
+  each_rule_plain : (v a : ℕ) (path : List ℕ) (ms : Members) (u : EachRule) → each_rule v ws rs apps a path ms ≡ Ok u → PlainElements ms
   unfolding each_rule
-  each_rule_plain a path ms u e =
+  each_rule_plain v a path ms u e =
       let the_takes = bind_ok _ _ u e in
       let the_writes = bind_ok _ _ u the_takes.2 in
-      let n = bind_ok _ _ u the_writes.2 in
-      (optional_plain (each_takes_plain a) _ path _ the_takes.1, (optional_plain (each_writes_plain a) _ path _ the_writes.1, (optional_plain (number_plain _ _) _ path _ n.1, tt)))
+      let n = bind_ok (start_field v (length the_takes.0 == 0) path ms) _ u the_writes.2 in
+      (optional_plain (each_takes_plain a) _ path _ the_takes.1, (optional_plain (each_writes_plain a) _ path _ the_writes.1, (start_field_plain v (length the_takes.0 == 0) path ms n.0 n.1, tt)))
 
-  elements_plain : (name a : ℕ) (path : List ℕ) (ms : Members) (us : List Origin × List Rule) (b : Bool) → cond b (expanded ts ws rs apps name a path ms) (single ts ws rs apps name a path ms) ≡ Ok us → PlainElements ms
+  elements_plain : (v name a : ℕ) (path : List ℕ) (ms : Members) (us : List Origin × List Rule) (b : Bool) → cond b (expanded v ts ws rs apps name a path ms) (single v ts ws rs apps name a path ms) ≡ Ok us → PlainElements ms
   unfolding expanded single
-  elements_plain name a path ms us true e = let u = bind_ok (each_rule ws rs apps a path ms) _ us e in each_rule_plain a path ms u.0 u.1
-  elements_plain name a path ms us false e = let u = bind_ok (plain_rule ts ws rs apps a path ms) _ us e in plain_rule_plain a path ms u.0 u.1
+  elements_plain v name a path ms us true e = let u = bind_ok (each_rule v ws rs apps a path ms) _ us e in each_rule_plain v a path ms u.0 u.1
+  elements_plain v name a path ms us false e = let u = bind_ok (plain_rule v ts ws rs apps a path ms) _ us e in plain_rule_plain v a path ms u.0 u.1
 
   rule_entry_plain : (v : ℕ) (path : List ℕ) (d : Data) (ms : Members) → rule_entry v path d ≡ Ok ms → IsPlainAt 2 ms (codes "name") → IsPlainAt 2 ms (codes "application") → IsPlainAt 2 ms (codes "each") → PlainElements ms → IsPlain 3 d
   unfolding rule_entry
@@ -316,11 +328,11 @@ module _ (ts : Listed Topic) (ws : Listed Writer) (rs : Listed Reader) (apps : L
     plain = λ path d x e.
         let ms = bind_ok (rule_entry v path d) _ x e in
         let name = bind_ok _ _ x ms.2 in
-        let us = bind_ok (rule_fields ts ws rs apps _ path ms.0) _ x name.2 in
+        let us = bind_ok (rule_fields v ts ws rs apps _ path ms.0) _ x name.2 in
         let a = bind_ok _ _ us.0 us.1 in
         let for_each = bind_ok _ _ us.0 a.2 in
         rule_entry_plain v path d ms.0 ms.1 (field_plain (new_name_plain _) path _ name.1) (field_plain (known_name_plain _) path _ a.1) (optional_plain flag_plain _ path _ for_each.1)
-        (elements_plain _ a.0 path ms.0 us.0 for_each.0 for_each.2);
+        (elements_plain v _ a.0 path ms.0 us.0 for_each.0 for_each.2);
   }
 
   rules_plain : (v : ℕ) (ms : Members) (us : Rules) → rules v ts ws rs apps ms ≡ Ok us → IsPlainAt 4 ms (codes "rules")
@@ -354,27 +366,27 @@ head_plain newest ms v e =
     let o = bind_ok (only document_keys [] ms) _ v n.2 in
     (only_is document_keys [] ms o.1, field_plain (version_plain newest) [] _ n.1)
 
-endpoints_plain : (ms : Members) (x : Listed Participant × Listed Topic × Listed Writer × Listed Reader) → endpoints ms ≡ Ok x
+endpoints_plain : (v : ℕ) (ms : Members) (x : Listed Participant × Listed Topic × Listed Writer × Listed Reader) → endpoints v ms ≡ Ok x
     → IsPlainAt 4 ms (codes "participants") × IsPlainAt 4 ms (codes "topics") × IsPlainAt 4 ms (codes "writers") × IsPlainAt 4 ms (codes "readers")
 unfolding endpoints
-endpoints_plain ms x e =
+endpoints_plain v ms x e =
     let ps = bind_ok (participants ms) _ x e in
-    let ts = bind_ok (topics ms) _ x ps.2 in
+    let ts = bind_ok (topics v ms) _ x ps.2 in
     let ws = bind_ok (writers ps.0 ts.0 ms) _ x ts.2 in
-    let rs = bind_ok (readers ps.0 ts.0 ms) _ x ws.2 in
-    (participants_plain ms ps.0 ps.1, topics_plain ms ts.0 ts.1, writers_plain ps.0 ts.0 ms ws.0 ws.1, readers_plain ps.0 ts.0 ms rs.0 rs.1)
+    let rs = bind_ok (readers v ps.0 ts.0 ms) _ x ws.2 in
+    (participants_plain ms ps.0 ps.1, topics_plain v ms ts.0 ts.1, writers_plain ps.0 ts.0 ms ws.0 ws.1, readers_plain v ps.0 ts.0 ms rs.0 rs.1)
 
 -- a document that was read as a deployment is at most 4 deep, and no date stands in it
 deployment_plain : (newest : ℕ) (ms : Members) (d : Lists) → deployment newest ms ≡ Ok d → HasPlain 4 ms
 unfolding deployment lists
 deployment_plain newest ms d e =
     let v = bind_ok (head newest ms) _ d e in
-    let x = bind_ok (endpoints ms) _ d v.2 in
+    let x = bind_ok (endpoints v.0 ms) _ d v.2 in
     let apps = bind_ok (applications x.0.0 x.0.2 x.0.3 ms) _ d x.2 in
     let us = bind_ok (rules v.0 x.0.1 x.0.2 x.0.3 apps.0 ms) _ d apps.2 in
     let cs = bind_ok (connections x.0.2 x.0.3 ms) _ d us.2 in
     let top = head_plain newest ms v.0 v.1 in
-    let ends = endpoints_plain ms x.0 x.1 in
+    let ends = endpoints_plain v.0 ms x.0 x.1 in
     listed_plain document_keys top.0 (
       top.1,
       (

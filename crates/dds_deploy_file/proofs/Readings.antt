@@ -10,7 +10,7 @@ use Rattle.dds_qos.specs.Consistency.{consistency_fault}
 use Rattle.dds_qos.specs.declared.policies.Policies.{Policies}
 use Rattle.toml.specs.Data.{Data, Items, Members, as_integer}
 use Rattle.dds_fields.specs.declared.fault.FaultKind.TheVariants.{OutOfRange, WrongKind, Duplicate, Qos, RuleEntry, EndpointOwner, TooMany}
-use Rattle.dds_fields.specs.Reading.{Read, unless, or_fault, natural, count, field, a_name, a_text, a_number, a_new_name, a_known_name, an_array_of, a_list_of, a_section, each, entry, section}
+use Rattle.dds_fields.specs.Reading.{Read, unless, or_fault, natural, count, field, a_text, a_number, a_new_name, a_known_name, an_array_of, a_list_of, a_section, each, entry, section}
 use Rattle.dds_base.specs.Section.{Listed, and_entry}
 use Rattle.dds_base.specs.Pairs.{stands}
 use Rattle.dds_fields.specs.Paths.{key_path}
@@ -18,7 +18,7 @@ use Rattle.dds_fields.proofs.Laws.{bind_ok, ok_is, field_is, found_is, known_wit
 use Rattle.dds_deploy.specs.declared.lists.Origin.{Origin}
 use Rattle.dds_deploy.specs.Lists.{Participant, Topic, Writer, Reader, Application, Rule, Rules, and_rules, has}
 use Rattle.dds_deploy_file.specs.Participants.{participant_fields}
-use Rattle.dds_deploy_file.specs.Topics.{key, keys, topic_fields}
+use Rattle.dds_deploy_file.specs.Topics.{key, keys, a_type_name, topic_fields}
 use Rattle.dds_deploy_file.specs.Writers.{writer_fields}
 use Rattle.dds_deploy_file.specs.Readers.{reader_fields, filter_key}
 use Rattle.dds_deploy_file.specs.Policies.{consistent}
@@ -212,14 +212,14 @@ top_domain before p read =
     let f = field_is (codes "domain") (a_number 0 2147483647) read.0 read.1 a.0 a.1 in
     subst (λ (x : Participant). x.domain ≤ 2147483647) (ok_is (record { domain = a.0 }) p a.2) (number_between 0 2147483647 (key_path read.0 (codes "domain")) f.0 a.0 f.1).1
 
-abbrev pub IsTopicRead : Listed Topic → Topic → Type 0
-IsTopicRead = IsReadFrom (λ _. topic_fields)
+abbrev pub IsTopicRead : ℕ → Listed Topic → Topic → Type 0
+IsTopicRead v = IsReadFrom (λ _. topic_fields v)
 
 -- the list that the keys of a topic were read from
-pub keys_are : (before : Listed Topic) (x : Topic) → IsTopicRead before x → (path : List ℕ) × (item : Data) × (keys path item ≡ Ok x.keys)
+pub keys_are : (v : ℕ) (before : Listed Topic) (x : Topic) → IsTopicRead v before x → (path : List ℕ) × (item : Data) × (keys path item ≡ Ok x.keys)
 unfolding topic_fields
-keys_are before x read =
-    let c = bind_ok (field (codes "type") a_name read.0 read.1) _ x read.2 in
+keys_are v before x read =
+    let c = bind_ok (field (codes "type") (a_type_name v) read.0 read.1) _ x read.2 in
     let k = bind_ok (field (codes "keys") keys read.0 read.1) _ x c.2 in
     let made : Topic = record { type_name = c.0; keys = k.0 } in
     let f = field_is (codes "keys") keys read.0 read.1 k.0 k.1 in
@@ -242,15 +242,15 @@ IsReaderRead ps ts = IsReadFrom (λ _. consistent (λ r. r.qos.requested) (reade
 abbrev pub IsApplicationRead : Listed Participant → Listed Writer → Listed Reader → Listed Application → Application → Type 0
 IsApplicationRead ps ws rs = IsReadFrom (application_fields ps ws rs)
 
-abbrev pub IsEntryRead : Listed Topic → Listed Writer → Listed Reader → Listed Application → ℕ → List Origin × List Rule → Type 0
-IsEntryRead ts ws rs apps name more = (path : List ℕ) × (ms : Members) × (rule_fields ts ws rs apps name path ms ≡ Ok more)
+abbrev pub IsEntryRead : ℕ → Listed Topic → Listed Writer → Listed Reader → Listed Application → ℕ → List Origin × List Rule → Type 0
+IsEntryRead v ts ws rs apps name more = (path : List ℕ) × (ms : Members) × (rule_fields v ts ws rs apps name path ms ≡ Ok more)
 
-pub rule_adds : (v : ℕ) (ts : Listed Topic) (ws : Listed Writer) (rs : Listed Reader) (apps : Listed Application) (s t : Rules) (path : List ℕ) (item : Data) → rule v ts ws rs apps s path item ≡ Ok t → AddsRules (IsEntryRead ts ws rs apps) s t
+pub rule_adds : (v : ℕ) (ts : Listed Topic) (ws : Listed Writer) (rs : Listed Reader) (apps : Listed Application) (s t : Rules) (path : List ℕ) (item : Data) → rule v ts ws rs apps s path item ≡ Ok t → AddsRules (IsEntryRead v ts ws rs apps) s t
 unfolding rule
 rule_adds v ts ws rs apps s t path item e =
     let a = bind_ok (rule_entry v path item) _ t e in
     let b = bind_ok (field (codes "name") (a_new_name s.names) path a.0) _ t a.2 in
-    let c = bind_ok (rule_fields ts ws rs apps (length s.names) path a.0) _ t b.2 in
+    let c = bind_ok (rule_fields v ts ws rs apps (length s.names) path a.0) _ t b.2 in
     let p = passed TooMany path (nat_le (length s.entries + length c.0.1) 256) (and_rules s b.0 c.0) t c.2 in
     record { name = b.0; more = c.0; new = new_name_field s.names path a.0 b.0 b.1; few = leb-true (length s.entries + length c.0.1) 256 p.0; added = sym p.1; holds = (path, a.0, c.1) }
 

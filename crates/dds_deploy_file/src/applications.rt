@@ -138,11 +138,11 @@ impl Entries for ApplicationEntries<'_> {
 
     ghost view = { application_view };
 
-    ghost keys = { application_keys };
+    ghost keys = { λ _. application_keys };
 
     ghost fields = { λ it. application_fields (listed participant_view it.participants.now) (listed writer_view it.writers.now) (listed reader_view it.readers.now) };
 
-    fn keys() -> &'static [&'static str]
+    fn keys(&self) -> &'static [&'static str]
         ensures { map (λ key. key.now) result.now ≡ application_keys }
     {
         &["name", "participant", "writers", "readers"]

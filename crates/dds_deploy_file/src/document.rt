@@ -52,11 +52,11 @@ struct Ends {
 }
 
 #[tactic(auto, unfolding(crate::specs::Document::endpoints))]
-fn endpoints(alloc: Global, table: &Table) -> Result<Ends, DeployFault>
-    ensures { Gives (λ e. (listed participant_view e.participants, listed topic_view e.topics, listed writer_view e.writers, listed reader_view e.readers)) result (endpoints (table_view table.now)) }
+fn endpoints(alloc: Global, version: u32, table: &Table) -> Result<Ends, DeployFault>
+    ensures { Gives (λ e. (listed participant_view e.participants, listed topic_view e.topics, listed writer_view e.writers, listed reader_view e.readers)) result (endpoints version (table_view table.now)) }
 {
     let participants = participants(alloc, table)?;
-    let topics = match topics(alloc, table) {
+    let topics = match topics(alloc, version, table) {
         Ok(topics) => topics,
         Err(fault) => {
             drop(participants);
@@ -71,7 +71,7 @@ fn endpoints(alloc: Global, table: &Table) -> Result<Ends, DeployFault>
             return Err(fault);
         }
     };
-    match readers(alloc, &participants, &topics, table) {
+    match readers(alloc, version, &participants, &topics, table) {
         Ok(readers) => Ok(Ends {
             participants,
             topics,
@@ -91,7 +91,7 @@ fn endpoints(alloc: Global, table: &Table) -> Result<Ends, DeployFault>
 fn lists(alloc: Global, version: u32, table: &Table) -> Result<Deployment, DeployFault>
     ensures { Gives (λ d. d) result (lists version (table_view table.now)) }
 {
-    let ends = endpoints(alloc, table)?;
+    let ends = endpoints(alloc, version, table)?;
     let (writers, readers) = (&ends.writers, &ends.readers);
     let applications = match applications(alloc, &ends.participants, writers, readers, table) {
         Ok(applications) => applications,
@@ -101,12 +101,13 @@ fn lists(alloc: Global, version: u32, table: &Table) -> Result<Deployment, Deplo
         }
     };
     let known = Known {
+        version,
         topics: &ends.topics,
         writers,
         readers,
         applications: &applications,
     };
-    let rules = match rules(alloc, version, &known, table) {
+    let rules = match rules(alloc, &known, table) {
         Ok(rules) => rules,
         Err(fault) => {
             drop(applications);
@@ -123,6 +124,7 @@ fn lists(alloc: Global, version: u32, table: &Table) -> Result<Deployment, Deplo
                 readers,
             } = ends;
             Ok(Deployment::new(
+                version,
                 participants,
                 topics,
                 writers,
@@ -153,7 +155,7 @@ pub(crate) fn deployment_of(
     lists(alloc, version, table)
 }
 
-/// The deployment that the bytes are: a TOML document, version 1 or 2 of the format. Nothing is kept of the bytes, and the limit
+/// The deployment that the bytes are: a TOML document, version 1, 2 or 3 of the format. Nothing is kept of the bytes, and the limit
 /// on the size of a file is the caller's to keep.
 ///
 /// An `Err` is the first fault of the document, with the path of its place (keys joined with `.`, indexes from 0 in
@@ -163,14 +165,14 @@ pub(crate) fn deployment_of(
 /// | Number | Fault | When |
 /// |---|---|---|
 /// | 1 | NotToml | the bytes are not UTF-8 or no TOML document; the path is empty |
-/// | 2 | WrongVersion | `version` is a whole number, but neither 1 nor 2 |
+/// | 2 | WrongVersion | `version` is a whole number, but none of 1, 2 and 3 |
 /// | 3 | UnknownKey | the document or an entry has a key that the format does not list: the least of them in byte order, of which the path shows the first 64 characters, `?` for each outside the alphabet of names |
 /// | 4 | MissingKey | a required field is absent; the path ends with it |
 /// | 5 | WrongKind | a value is not of the kind that its place takes, as a text where a number or a table is due |
-/// | 6 | OutOfRange | a number is out of its range, a text is none of the words of its field, or a topic's `keys` are none |
+/// | 6 | OutOfRange | a number is out of its range, a text is none of the words of its field, a topic's `keys` are none, or a rule that takes something has `start = "unlimited"` |
 /// | 7 | Duplicate | a name that its section, topic or filter already has, or a connection that is already there |
 /// | 8 | UnknownName | a name of another section, or a key of a topic, that is not there |
-/// | 9 | BadName | a name is not 1 to 64 of the letters, digits and `_ . / -`, or the name of a partition not 0 to 64 of these and `* ?` |
+/// | 9 | BadName | a name is not 1 to 64 of the letters, digits and `_ . / -`, the name of a partition not 0 to 64 of these and `* ?`, or in version 3 a type not 1 to 256 of these and `:` |
 /// | 10 | Qos | the history and limits of a writer or a reader contradict each other; the path is its entry |
 /// | 11 | TooMany | a section or a list has more entries than it may, or the rules up to this one, with `each` counted for each key, are more than 256 |
 /// | 12 | EndpointOwner | an application lists an endpoint that has an owner or stands at another participant; or, after all applications, an endpoint has no owner, and the path is its entry |
@@ -189,5 +191,5 @@ pub fn read_deployment(alloc: Global, bytes: &[u8]) -> Result<Deployment, Deploy
     ensures { Gives (λ d. d) result (read bytes.now) }
 {
     let table = document_of(alloc, bytes)?;
-    deployment_of(alloc, 2, &table)
+    deployment_of(alloc, 3, &table)
 }

@@ -10,10 +10,11 @@ ghost use Rattle.dds_deploy.specs.Views.{writer_view, reader_view, application_v
 use crate::applications::owned_at;
 use crate::endpoints::Endpoints;
 use crate::known::Known;
+use crate::starts::start_field;
 use dds_base::{AppNo, ReaderNo, Section, WriterNo};
 use dds_deploy::{Reader, Writer};
 use dds_fields::fault::{FaultKind, ReadFault, refuse};
-use dds_fields::field::{entry, known_name_field, optional_short_number, short_number_field};
+use dds_fields::field::{entry, known_name_field, short_number_field};
 use dds_fields::items::{Items, optional_list};
 use dds_fields::place::Place;
 use std::alloc::Global;
@@ -25,7 +26,8 @@ pub(crate) struct EachRule {
     pub(crate) application: AppNo,
     pub(crate) takes: Vec<(ReaderNo, u16)>,
     pub(crate) writes: Vec<(WriterNo, u16)>,
-    pub(crate) start: u16,
+    /// None where the rule is free.
+    pub(crate) start: Option<u16>,
 }
 
 // What reads the elements of a rule with `each`, at the endpoints of one kind that its application owns.
@@ -82,7 +84,7 @@ pub(crate) fn each_rule(
     table: &Table,
 ) -> Result<EachRule, ReadFault>
     requires { application < length known.now.applications.now.names }
-    ensures { Gives each_rule_view result (each_rule (listed writer_view known.now.writers.now) (listed reader_view known.now.readers.now) (listed application_view known.now.applications.now) application (place_text path.now) (table_view table.now)) }
+    ensures { Gives each_rule_view result (each_rule known.now.version (listed writer_view known.now.writers.now) (listed reader_view known.now.readers.now) (listed application_view known.now.applications.now) application (place_text path.now) (table_view table.now)) }
 {
     let of_readers = ShareEntries {
         endpoints: known.readers,
@@ -109,7 +111,7 @@ pub(crate) fn each_rule(
             return Err(fault);
         }
     };
-    match optional_short_number(alloc, 0, 65_535, 0, path, table, "start") {
+    match start_field(alloc, known.version, takes.is_empty(), path, table) {
         Ok(start) => Ok(EachRule {
             application: AppNo::new(application),
             takes,

@@ -27,14 +27,14 @@ pub(crate) trait Entries {
     ghost view: { Self.Entry → View };
 
     // the keys that an entry may have
-    ghost keys: { List (List ℕ) };
+    ghost keys: { Self → List (List ℕ) };
 
     // what the fields but the name give, after the entries before
     ghost fields: { Self → Listed View → List ℕ → Members → Reading View };
 
     /// The keys that an entry may have.
-    fn keys() -> &'static [&'static str]
-        ensures { map (λ key. key.now) result.now ≡ keys };
+    fn keys(&self) -> &'static [&'static str]
+        ensures { map (λ key. key.now) result.now ≡ keys self.now };
 
     /// The fields of an entry but its name, after the entries before it.
     fn fields(
@@ -60,7 +60,7 @@ impl<E: Entries> Items for EntryItems<'_, E> {
 
     ghost state = { λ all. listed E.view all };
 
-    ghost step = { λ it. one_more E.keys (E.fields it.entries.now) };
+    ghost step = { λ it. one_more (E.keys it.entries.now) (E.fields it.entries.now) };
 
     #[tactic(auto, unfolding(crate::specs::Entries::one_more))]
     fn add(
@@ -70,7 +70,7 @@ impl<E: Entries> Items for EntryItems<'_, E> {
         path: &Place,
         value: &Value,
     ) -> Result<(), ReadFault> {
-        let table = entry(alloc, E::keys(), path, value)?;
+        let table = entry(alloc, self.entries.keys(), path, value)?;
         let name = new_name_field(alloc, &all.names, path, table, "name")?;
         let entry = self.entries.fields(alloc, all, path, table)?;
         all.push(alloc, name, entry)?;
@@ -86,7 +86,7 @@ pub(crate) fn section<E: Entries>(
     table: &Table,
     key: &str,
 ) -> Result<Section<E::Entry>, ReadFault>
-    ensures { Gives (listed E.view) result (a_section key.now limit (one_more E.keys (E.fields entries.now)) nothing (table_view table.now)) }
+    ensures { Gives (listed E.view) result (a_section key.now limit (one_more (E.keys entries.now) (E.fields entries.now)) nothing (table_view table.now)) }
 {
     let items = EntryItems { entries };
     section_of(alloc, limit, &items, Section::new(alloc), table, key)

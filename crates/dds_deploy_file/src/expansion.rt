@@ -132,7 +132,8 @@ fn rule_for(alloc: Global, known: &Known, rule: &EachRule, name: &str) -> Result
         application: rule.application,
         takes,
         writes,
-        start: rule.start,
+        start: rule.start.unwrap_or(0),
+        free: rule.start.is_none(),
     })
 }
 
@@ -231,7 +232,7 @@ pub(crate) fn expanded(
     table: &Table,
 ) -> Result<Option<(Vec<Origin>, Vec<Rule>)>, ReadFault>
     requires { application < length known.now.applications.now.names }
-    ensures { Gives (option_map (λ us. (us.0.items, map rule_view us.1.items))) result (within_room before (expanded (listed topic_view known.now.topics.now) (listed writer_view known.now.writers.now) (listed reader_view known.now.readers.now) (listed application_view known.now.applications.now) name application (place_text path.now) (table_view table.now))) }
+    ensures { Gives (option_map (λ us. (us.0.items, map rule_view us.1.items))) result (within_room before (expanded known.now.version (listed topic_view known.now.topics.now) (listed writer_view known.now.writers.now) (listed reader_view known.now.readers.now) (listed application_view known.now.applications.now) name application (place_text path.now) (table_view table.now))) }
 {
     let rule = each_rule(alloc, known, application, path, table)?;
     match keys_to_expand(alloc, known, &rule)? {

@@ -1,4 +1,4 @@
-//! The deployment file. `read_deployment` gives the deployment that the bytes are, in either version, or the first fault of the file with
+//! The deployment file. `read_deployment` gives the deployment that the bytes are, in any of the three versions, or the first fault of the file with
 //! its path; `migrate` a text of version 2 for a file of version 1.
 #![tactic(auto)]
 
@@ -15,6 +15,7 @@ mod participants;
 mod policies;
 mod readers;
 mod rules;
+mod starts;
 mod topics;
 mod writers;
 

@@ -33,7 +33,7 @@ fn set_version(alloc: Global, table: &mut Table) -> Result<(), NoMemory>
 /// and stands for the same lists as the file. Comments and layout are not kept.
 ///
 /// An `Err` is the file's first fault as a file of version 1, with the numbers and paths of `read_deployment`, so that a file of
-/// version 2 is refused as 2 WrongVersion at `version`; or it is 14 NoMemory.
+/// version 2 or 3 is refused as 2 WrongVersion at `version`; or it is 14 NoMemory.
 #[tactic(auto, unfolding(crate::specs::Document::read_up_to))]
 pub fn migrate(alloc: Global, bytes: &[u8]) -> Result<String, DeployFault>
     ensures text { IfOk result (λ s. IsMigrated bytes.now (string_bytes s)) }

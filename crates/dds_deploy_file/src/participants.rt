@@ -28,11 +28,11 @@ impl Entries for ParticipantEntries {
 
     ghost view = { participant_view };
 
-    ghost keys = { participant_keys };
+    ghost keys = { λ _. participant_keys };
 
     ghost fields = { λ _ _. participant_fields };
 
-    fn keys() -> &'static [&'static str] {
+    fn keys(&self) -> &'static [&'static str] {
         &["name", "domain"]
     }
 

@@ -402,8 +402,10 @@ pub(crate) fn partitions(
     optional_list(alloc, 16, &PartitionNames, none, path, table, "partitions")
 }
 
-/// The keys that the entry of a reader may have. But for `filter`, the first, they are those of a writer.
-pub(crate) const READER_KEYS: [&str; 21] = [
+/// The keys that the entry of a reader may have since version 3. Before it `may_lose`, the first, is none of them. But for
+/// `filter`, the second, the others are those of a writer.
+pub(crate) const READER_KEYS: [&str; 22] = [
+    "may_lose",
     "filter",
     "name",
     "participant",

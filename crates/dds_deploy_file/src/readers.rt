@@ -1,13 +1,13 @@
 //! The section `readers`: their names, participants, topics, filters and policies.
-ghost use Rattle.std.specs.Prelude.{codes, ◌≡◌, ◌<◌, ◌∷◌, List, ℕ, length, map, IfOk};
+ghost use Rattle.std.specs.Prelude.{◌≡◌, ◌<◌, List, ℕ, length, map, IfOk};
 ghost use Rattle.toml.specs.View.{table_view};
 ghost use Rattle.dds_fields.specs.Gives.{Gives};
 ghost use Rattle.dds_base.specs.Section.{listed};
 ghost use Rattle.dds_fields.specs.Places.{place_text};
 ghost use Rattle.dds_fields.specs.Reading.{optional};
 ghost use Rattle.dds_deploy.specs.Lists.{Reader as ReaderView, keys_at, has, all_keys};
-ghost use Rattle.dds_deploy_file.specs.Policies.{endpoint_keys, consistent};
-ghost use Rattle.dds_deploy_file.specs.Readers.{filter_key, filter, reader_fields, readers};
+ghost use Rattle.dds_deploy_file.specs.Policies.{consistent};
+ghost use Rattle.dds_deploy_file.specs.Readers.{filter_key, filter, reader_fields, reader_keys, readers};
 ghost use Rattle.dds_deploy.specs.Views.{participant_view, topic_view, reader_view};
 
 use crate::entries::{Entries, section};
@@ -18,6 +18,7 @@ use dds_fields::fault::{FaultKind, ReadFault, refuse};
 use dds_fields::field::{known_name_field, known_name_of, value_at};
 use dds_fields::items::{Items, list_of};
 use dds_fields::place::Place;
+use dds_fields::words::optional_flag;
 use dds_qos::{ReaderQos, Reliability, consistent_reader};
 use std::alloc::Global;
 use toml::{Table, Value};
@@ -117,6 +118,13 @@ fn reader_fields(
     let participant = known_name_field(alloc, &participants.names, path, table, "participant")?;
     let topic = known_name_field(alloc, &topics.names, path, table, "topic")?;
     let filter = filter_field(alloc, topic_keys(topics, topic), path, table, "filter")?;
+    let may_lose = match optional_flag(alloc, false, path, table, "may_lose") {
+        Ok(may_lose) => may_lose,
+        Err(fault) => {
+            drop(filter);
+            return Err(fault);
+        }
+    };
     let requested = match policies(alloc, Reliability::BestEffort, path, table) {
         Ok(requested) => requested,
         Err(fault) => {
@@ -131,6 +139,7 @@ fn reader_fields(
             filter,
             qos: ReaderQos { requested },
             partitions,
+            may_lose,
         }),
         Err(fault) => {
             drop(filter);
@@ -139,9 +148,10 @@ fn reader_fields(
     }
 }
 
-// What reads the readers of a file.
+// What reads the readers of a file of this version.
 #[derive(Clone, Copy)]
 struct ReaderEntries<'a> {
+    version: u32,
     participants: &'a Section<Participant>,
     topics: &'a Section<Topic>,
 }
@@ -153,14 +163,18 @@ impl Entries for ReaderEntries<'_> {
 
     ghost view = { reader_view };
 
-    ghost keys = { codes "filter" ∷ endpoint_keys };
+    ghost keys = { λ it. reader_keys it.version };
 
     ghost fields = { λ it _. consistent (λ x. x.qos.requested) (reader_fields (listed participant_view it.participants.now) (listed topic_view it.topics.now)) };
 
-    fn keys() -> &'static [&'static str]
-        ensures { map (λ key. key.now) result.now ≡ codes "filter" ∷ endpoint_keys }
+    fn keys(&self) -> &'static [&'static str]
+        ensures { map (λ key. key.now) result.now ≡ reader_keys self.now.version }
     {
-        &READER_KEYS
+        if self.version <= 2 {
+            &READER_KEYS[1..]
+        } else {
+            &READER_KEYS
+        }
     }
 
     #[tactic(auto, unfolding(crate::specs::Policies::consistent))]
@@ -182,13 +196,15 @@ impl Entries for ReaderEntries<'_> {
 /// The section `readers`, at most 256 entries, or its first fault. An absent section has none.
 pub(crate) fn readers(
     alloc: Global,
+    version: u32,
     participants: &Section<Participant>,
     topics: &Section<Topic>,
     table: &Table,
 ) -> Result<Section<Reader>, ReadFault>
-    ensures { Gives (listed reader_view) result (readers (listed participant_view participants.now) (listed topic_view topics.now) (table_view table.now)) }
+    ensures { Gives (listed reader_view) result (readers version (listed participant_view participants.now) (listed topic_view topics.now) (table_view table.now)) }
 {
     let entries = ReaderEntries {
+        version,
         participants,
         topics,
     };

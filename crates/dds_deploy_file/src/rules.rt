@@ -14,12 +14,11 @@ use crate::applications::owned_at;
 use crate::endpoints::Endpoints;
 use crate::expansion::{expanded, has_room};
 use crate::known::Known;
+use crate::starts::start_field;
 use dds_base::{AppNo, KeyNo, Portion, Section};
 use dds_deploy::{Origin, Reader, Rule, Rules, Topic, Writer};
 use dds_fields::fault::{FaultKind, ReadFault, refuse};
-use dds_fields::field::{
-    entry, known_name_field, new_name_field, optional_short_number, short_number_field, text_field,
-};
+use dds_fields::field::{entry, known_name_field, new_name_field, short_number_field, text_field};
 use dds_fields::items::{Items, optional_list, section_of};
 use dds_fields::place::Place;
 use dds_fields::words::optional_flag;
@@ -89,7 +88,7 @@ fn plain_rule(
     table: &Table,
 ) -> Result<Rule, ReadFault>
     requires { application < length known.now.applications.now.names }
-    ensures { Gives rule_view result (plain_rule (listed topic_view known.now.topics.now) (listed writer_view known.now.writers.now) (listed reader_view known.now.readers.now) (listed application_view known.now.applications.now) application (place_text path.now) (table_view table.now)) }
+    ensures { Gives rule_view result (plain_rule known.now.version (listed topic_view known.now.topics.now) (listed writer_view known.now.writers.now) (listed reader_view known.now.readers.now) (listed application_view known.now.applications.now) application (place_text path.now) (table_view table.now)) }
 {
     let of_readers = PortionEntries {
         topics: known.topics,
@@ -119,12 +118,20 @@ fn plain_rule(
         table,
         "writes",
     )?;
-    let start = optional_short_number(alloc, 0, 65_535, 0, path, table, "start")?;
+    let start = match start_field(alloc, known.version, takes.is_empty(), path, table) {
+        Ok(start) => start,
+        Err(fault) => {
+            drop(takes);
+            drop(writes);
+            return Err(fault);
+        }
+    };
     Ok(Rule {
         application: AppNo::new(application),
         takes,
         writes,
-        start,
+        start: start.unwrap_or(0),
+        free: start.is_none(),
     })
 }
 
@@ -139,7 +146,7 @@ fn single(
     table: &Table,
 ) -> Result<Option<(Vec<Origin>, Vec<Rule>)>, ReadFault>
     requires { application < length known.now.applications.now.names }
-    ensures { Gives (option_map (λ us. (us.0.items, map rule_view us.1.items))) result (within_room before (single (listed topic_view known.now.topics.now) (listed writer_view known.now.writers.now) (listed reader_view known.now.readers.now) (listed application_view known.now.applications.now) name application (place_text path.now) (table_view table.now))) }
+    ensures { Gives (option_map (λ us. (us.0.items, map rule_view us.1.items))) result (within_room before (single known.now.version (listed topic_view known.now.topics.now) (listed writer_view known.now.writers.now) (listed reader_view known.now.readers.now) (listed application_view known.now.applications.now) name application (place_text path.now) (table_view table.now))) }
 {
     let rule = plain_rule(alloc, known, application, path, table)?;
     if !has_room(before, 1) {
@@ -161,7 +168,7 @@ fn rule_fields(
     path: &Place,
     table: &Table,
 ) -> Result<Option<(Vec<Origin>, Vec<Rule>)>, ReadFault>
-    ensures { Gives (option_map (λ us. (us.0.items, map rule_view us.1.items))) result (within_room before (rule_fields (listed topic_view known.now.topics.now) (listed writer_view known.now.writers.now) (listed reader_view known.now.readers.now) (listed application_view known.now.applications.now) name (place_text path.now) (table_view table.now))) }
+    ensures { Gives (option_map (λ us. (us.0.items, map rule_view us.1.items))) result (within_room before (rule_fields known.now.version (listed topic_view known.now.topics.now) (listed writer_view known.now.writers.now) (listed reader_view known.now.readers.now) (listed application_view known.now.applications.now) name (place_text path.now) (table_view table.now))) }
 {
     let applications = &known.applications.names;
     let application = known_name_field(alloc, applications, path, table, "application")?;
@@ -199,10 +206,9 @@ fn rule_entry<'a>(
     }
 }
 
-// What reads the rules of a file of this version.
+// What reads the rules of a file.
 #[derive(Clone, Copy)]
 struct RuleEntries<'a> {
-    version: u32,
     known: Known<'a>,
 }
 
@@ -213,7 +219,7 @@ impl Items for RuleEntries<'_> {
 
     ghost state = { λ all. rules_view all };
 
-    ghost step = { λ it. rule it.version (listed topic_view it.known.topics.now) (listed writer_view it.known.writers.now) (listed reader_view it.known.readers.now) (listed application_view it.known.applications.now) };
+    ghost step = { λ it. rule it.known.version (listed topic_view it.known.topics.now) (listed writer_view it.known.writers.now) (listed reader_view it.known.readers.now) (listed application_view it.known.applications.now) };
 
     #[tactic(auto, unfolding(crate::specs::Rules::rule))]
     fn add(
@@ -223,7 +229,7 @@ impl Items for RuleEntries<'_> {
         path: &Place,
         value: &Value,
     ) -> Result<(), ReadFault> {
-        let table = rule_entry(alloc, self.version, path, value)?;
+        let table = rule_entry(alloc, self.known.version, path, value)?;
         let name = new_name_field(alloc, &all.names, path, table, "name")?;
         let number = all.names.len();
         match rule_fields(alloc, &self.known, all.entries.len(), number, path, table)? {
@@ -238,17 +244,9 @@ impl Items for RuleEntries<'_> {
 
 /// The section `rules`, at most 256 entries, which stand for at most 256 rules, or its first fault. An absent section has
 /// none.
-pub(crate) fn rules(
-    alloc: Global,
-    version: u32,
-    known: &Known,
-    table: &Table,
-) -> Result<Rules, ReadFault>
-    ensures { Gives rules_view result (rules version (listed topic_view known.now.topics.now) (listed writer_view known.now.writers.now) (listed reader_view known.now.readers.now) (listed application_view known.now.applications.now) (table_view table.now)) }
+pub(crate) fn rules(alloc: Global, known: &Known, table: &Table) -> Result<Rules, ReadFault>
+    ensures { Gives rules_view result (rules known.now.version (listed topic_view known.now.topics.now) (listed writer_view known.now.writers.now) (listed reader_view known.now.readers.now) (listed application_view known.now.applications.now) (table_view table.now)) }
 {
-    let entries = RuleEntries {
-        version,
-        known: *known,
-    };
+    let entries = RuleEntries { known: *known };
     section_of(alloc, 256, &entries, Rules::new(alloc), table, "rules")
 }

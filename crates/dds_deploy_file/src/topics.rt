@@ -6,14 +6,15 @@ ghost use Rattle.dds_base.specs.Section.{listed};
 ghost use Rattle.dds_fields.specs.Places.{place_text};
 ghost use Rattle.dds_fields.specs.Reading.{field};
 ghost use Rattle.dds_deploy.specs.Lists.{Topic as TopicView};
-ghost use Rattle.dds_deploy_file.specs.Topics.{key, keys, topic_keys, topic_fields, topics};
+ghost use Rattle.std.specs.List.{list_all};
+ghost use Rattle.dds_deploy_file.specs.Topics.{key, keys, is_type_byte, is_type_name, a_type_name, topic_keys, topic_fields, topics};
 ghost use Rattle.dds_deploy.specs.Views.{topic_view};
 
 use crate::entries::{Entries, section};
-use dds_base::{Names, Section};
+use dds_base::{Names, Section, is_name, is_name_byte};
 use dds_deploy::Topic;
 use dds_fields::fault::{FaultKind, ReadFault, refuse};
-use dds_fields::field::{array_of_limit, name_field, new_name_of, required};
+use dds_fields::field::{array_of_limit, new_name_of, required, text_of};
 use dds_fields::items::{Items, each};
 use dds_fields::place::Place;
 use std::alloc::Global;
@@ -66,9 +67,67 @@ fn keys_field(alloc: Global, path: &Place, table: &Table, key: &str) -> Result<N
     keys_of(alloc, &at, value)
 }
 
-// What reads the topics of a file.
+fn is_type_byte(byte: u8) -> bool
+    ensures { result ≡ is_type_byte byte }
+{
+    is_name_byte(byte) || byte == b':'
+}
+
+fn has_type_bytes(text: &str) -> bool
+    ensures { result ≡ list_all is_type_byte text.now }
+{
+    text.as_bytes().iter().all(|b| is_type_byte(*b))
+}
+
+fn is_type_name(text: &str) -> bool
+    ensures { result ≡ is_type_name text.now }
+{
+    1 <= text.len() && text.len() <= 256 && has_type_bytes(text)
+}
+
+#[tactic(auto, unfolding(crate::specs::Topics::a_type_name))]
+fn type_name_of<'a>(
+    alloc: Global,
+    version: u32,
+    path: &Place,
+    value: &'a Value,
+) -> Result<&'a str, ReadFault>
+    ensures { Gives (λ s. s.now) result (a_type_name version (place_text path.now) (view value.now)) }
+{
+    let text = text_of(alloc, path, value)?;
+    let good = if version <= 2 {
+        is_name(text)
+    } else {
+        is_type_name(text)
+    };
+    if good {
+        Ok(text)
+    } else {
+        Err(refuse(alloc, FaultKind::BadName, path))
+    }
+}
+
+#[tactic(auto, unfolding(dds_fields::specs::Reading::field))]
+fn type_name_field<'a>(
+    alloc: Global,
+    version: u32,
+    path: &Place,
+    table: &'a Table,
+    key: &str,
+) -> Result<&'a str, ReadFault>
+    ensures { Gives (λ s. s.now) result
+        (field key.now (a_type_name version) (place_text path.now) (table_view table.now)) }
+{
+    let at = Place::Key { parent: path, key };
+    let value = required(alloc, &at, table, key)?;
+    type_name_of(alloc, version, &at, value)
+}
+
+// What reads the topics of a file of this version.
 #[derive(Clone, Copy)]
-struct TopicEntries;
+struct TopicEntries {
+    version: u32,
+}
 
 impl Entries for TopicEntries {
     type Entry = Topic;
@@ -77,11 +136,11 @@ impl Entries for TopicEntries {
 
     ghost view = { topic_view };
 
-    ghost keys = { topic_keys };
+    ghost keys = { λ _. topic_keys };
 
-    ghost fields = { λ _ _. topic_fields };
+    ghost fields = { λ it _. topic_fields it.version };
 
-    fn keys() -> &'static [&'static str] {
+    fn keys(&self) -> &'static [&'static str] {
         &["name", "type", "keys"]
     }
 
@@ -93,7 +152,7 @@ impl Entries for TopicEntries {
         path: &Place,
         table: &Table,
     ) -> Result<Topic, ReadFault> {
-        let type_name = name_field(alloc, path, table, "type")?;
+        let type_name = type_name_field(alloc, self.version, path, table, "type")?;
         let keys = keys_field(alloc, path, table, "keys")?;
         let type_name = String::from_str(alloc, type_name)?;
         Ok(Topic { type_name, keys })
@@ -101,8 +160,12 @@ impl Entries for TopicEntries {
 }
 
 /// The section `topics`, at most 256 entries, or its first fault. An absent section has none.
-pub(crate) fn topics(alloc: Global, table: &Table) -> Result<Section<Topic>, ReadFault>
-    ensures { Gives (listed topic_view) result (topics (table_view table.now)) }
+pub(crate) fn topics(
+    alloc: Global,
+    version: u32,
+    table: &Table,
+) -> Result<Section<Topic>, ReadFault>
+    ensures { Gives (listed topic_view) result (topics version (table_view table.now)) }
 {
-    section(alloc, 256, &TopicEntries, table, "topics")
+    section(alloc, 256, &TopicEntries { version }, table, "topics")
 }

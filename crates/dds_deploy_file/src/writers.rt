@@ -56,14 +56,14 @@ impl Entries for WriterEntries<'_> {
 
     ghost view = { writer_view };
 
-    ghost keys = { endpoint_keys };
+    ghost keys = { λ _. endpoint_keys };
 
     ghost fields = { λ it _. consistent (λ x. x.qos.offered) (writer_fields (listed participant_view it.participants.now) (listed topic_view it.topics.now)) };
 
-    fn keys() -> &'static [&'static str]
+    fn keys(&self) -> &'static [&'static str]
         ensures { map (λ key. key.now) result.now ≡ endpoint_keys }
     {
-        &READER_KEYS[1..]
+        &READER_KEYS[2..]
     }
 
     #[tactic(auto, unfolding(crate::specs::Policies::consistent))]

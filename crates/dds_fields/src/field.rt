@@ -136,22 +136,8 @@ pub fn required<'a>(
     }
 }
 
-/// The name at a key: MissingKey where the key is absent, else as for a name. `path` is that of the table.
-#[tactic(auto, unfolding(crate::specs::Reading::field))]
-pub fn name_field<'a>(
-    alloc: Global,
-    path: &Place,
-    table: &'a Table,
-    key: &str,
-) -> Result<&'a str, ReadFault>
-    ensures { Gives (λ s. s.now) result (field key.now a_name (place_text path.now) (table_view table.now)) }
-{
-    let at = Place::Key { parent: path, key };
-    let value = required(alloc, &at, table, key)?;
-    name_of(alloc, &at, value)
-}
-
-/// The name at a key that isn't one of `names` yet: MissingKey where the key is absent, else as for a new name.
+/// The name at a key that isn't one of `names` yet: MissingKey where the key is absent, else as for a new name. `path` is
+/// that of the table.
 #[tactic(auto, unfolding(crate::specs::Reading::field))]
 pub fn new_name_field<'a>(
     alloc: Global,
@@ -387,26 +373,4 @@ pub fn short_number_field(
     let at = Place::Key { parent: path, key };
     let value = required(alloc, &at, table, key)?;
     short_number_of(alloc, low, high, &at, value)
-}
-
-/// The whole number from `low` to `high` at a key, `absent` where the key is absent.
-#[tactic(auto, unfolding(crate::specs::Reading::optional))]
-pub fn optional_short_number(
-    alloc: Global,
-    low: u16,
-    high: u16,
-    absent: u16,
-    path: &Place,
-    table: &Table,
-    key: &str,
-) -> Result<u16, ReadFault>
-    ensures { Gives (λ n. n) result (optional key.now absent (a_number low high) (place_text path.now) (table_view table.now)) }
-{
-    match value_at(table, key) {
-        Some(value) => {
-            let at = Place::Key { parent: path, key };
-            short_number_of(alloc, low, high, &at, value)
-        }
-        None => Ok(absent),
-    }
 }

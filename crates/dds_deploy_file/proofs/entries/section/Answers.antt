@@ -9,5 +9,5 @@ use Rattle.dds_deploy_file.proofs.entries.section.Goals as goal
 pub returns : goal.returns
 returns g c =
     let e : listed g.E.Entries.view c.new.result ≡ nothing = cc (c.new.ensures.names, c.new.ensures.entries) in
-    let read = one_more g.E.Entries.keys (g.E.Entries.fields c.args.entries.now) in
+    let read = one_more (g.E.Entries.keys c.args.entries.now) (g.E.Entries.fields c.args.entries.now) in
     subst (λ s. Gives (listed g.E.Entries.view) c.section_of.result (a_section c.args.key.now c.args.limit read s (table_view c.args.table.now))) e c.section_of.ensures
