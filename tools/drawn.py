@@ -20,7 +20,7 @@ import xml.etree.ElementTree as xml
 
 sys.dont_write_bytecode = True
 import commands  # noqa: E402
-from shown import ROOT, answer_of, deployments, lists_of  # noqa: E402
+from shown import ROOT, answer_of, deployments, document_of, lists_of  # noqa: E402
 
 MOST_EDGES = 400
 LIMITS = ("max_samples", "max_instances", "max_samples_per_instance")
@@ -94,7 +94,7 @@ def reason_of(writer, reader, domains):
 
 def shown_of(path, lists):
     """The lines that a certificate adds to the label of each reader."""
-    found = tomllib.loads(path.read_bytes().decode("utf-8-sig")) if path else {}
+    found = document_of(path) if path else {}
     filters = {reader["name"]: reader["filter"] for reader in lists["readers"]}
     lines = {reader: [] for reader in filters}
     for bound in found.get("bounds", []):
@@ -143,7 +143,8 @@ def participant_of(participant, lists, shown):
     for writer in own("writers"):
         yield 2, "node", f"writer {writer['name']}", {"label": label_of(writer, [])}
     for reader in own("readers"):
-        label = label_of(reader, shown[reader["name"]])
+        may_lose = ["may lose"] if reader.get("may_lose", False) else []
+        label = label_of(reader, may_lose + shown[reader["name"]])
         yield 2, "node", f"reader {reader['name']}", {"style": "filled", "fillcolor": "white", "label": label}
     yield 1, "end"
 

@@ -4,9 +4,9 @@
   tools/explained.py                          # every check of tools/commands and of the examples
   tools/explained.py DEPLOYMENT CERTIFICATE   # prints what is owed
 
-Both files are read by Python's TOML parser (the deployment as tools/shown.py reads it), and each number of a reason is added up here a second time. From the built program
-come the answer without reasons, which the reasons are to follow, and by `match` which endpoints match. A file that Python can't read, being TOML 1.1 and not 1.0, is
-left out, and told. The last line is 'N passed, M failed'; the status is 1 if one failed.
+The answer is found a second time by tools/judged.py, and each number of a reason is added up here a second time. From the built program come the faults of files and,
+by `match`, which endpoints match. A file that Python can't read, being TOML 1.1 and not 1.0, is left out, and told. The last line is 'N passed, M failed';
+the status is 1 if one failed.
 """
 import re
 import sys
@@ -14,78 +14,10 @@ import tomllib
 from pathlib import Path
 
 sys.dont_write_bytecode = True
+import judged  # noqa: E402
 import shown  # noqa: E402
 from commands import DATA, cases  # noqa: E402
 from shown import ROOT  # noqa: E402
-
-
-class Case:
-    """A deployment, a certificate and which endpoints match, with the sums that reasons tell."""
-
-    def __init__(self, deployment, certificate):
-        self.lists = shown.lists_of(deployment)
-        self.readers = {r["name"]: r for r in self.lists["readers"]}
-        self.writers = {w["name"]: w for w in self.lists["writers"]}
-        topics = {t["name"]: t["keys"] for t in self.lists["topics"]}
-        self.keys = {name: topics[one["topic"]] for name, one in (self.readers | self.writers).items()}
-        self.reasons, self.matched = {}, set()
-        for line in shown.answer_of(["match", deployment])[0].splitlines():
-            word, writer, reader, *reason = line.split(" ", 3)
-            if word == "match":
-                self.matched.add((writer, reader))
-            else:
-                self.reasons[writer, reader] = reason[0]
-        found = tomllib.loads(certificate.read_bytes().decode("utf-8-sig"))
-        self.rows = {row["name"]: self.weights(row) for row in found.get("rows", [])}
-        self.bounds = [one for entry in found.get("bounds", []) for one in self.each_key(entry)]
-        self.totals = found.get("totals", [])
-
-    def each_key(self, entry):
-        """An entry without a key stands for one of each key."""
-        if "key" in entry:
-            return [entry]
-        keys = self.readers[entry["reader"]]["filter"] if "reader" in entry else self.keys[entry["writer"]]
-        return [entry | {"key": key} for key in keys]
-
-    def weights(self, row):
-        def table(side, name):
-            return {(x[side], x["key"]): x["weight"] for entry in row.get(name, []) for x in self.each_key(entry)}
-
-        return {"samples": table("reader", "samples"), "takes": table("reader", "takes"), "permits": table("writer", "permits")}
-
-    def weight(self, row, what, endpoint, key):
-        return self.rows[row][what].get((endpoint, key), 0)
-
-    def is_written(self, writer, key):
-        return any(x["writer"] == writer and x["key"] == key for rule in self.lists["rules"] for x in rule["writes"])
-
-    def reaches(self, reader, key):
-        writers = [w for w, r in self.matched if r == reader]
-        return key in self.readers[reader]["filter"] and any(self.is_written(w, key) for w in writers)
-
-    def reached(self, reader):
-        return [key for key in self.keys[reader] if self.reaches(reader, key)]
-
-    def opening(self, writer, key):
-        return sum(x["count"] * rule["start"] for rule in self.lists["rules"] for x in rule["writes"] if (x["writer"], x["key"]) == (writer, key))
-
-    def budget(self, row):
-        return sum(self.weight(row, "permits", w, k) * self.opening(w, k) for w in self.writers for k in self.keys[w])
-
-    def bound(self, reader, key):
-        return next((b["bound"] for b in self.bounds if (b["reader"], b["key"]) == (reader, key)), None)
-
-    def total(self, reader):
-        return next((t["bound"] for t in self.totals if t["reader"] == reader), None)
-
-    def instance_limit(self, reader):
-        """The name of the limit of an instance, and its number."""
-        one = self.readers[reader]
-        return ("depth", one["depth"]) if one["history"] == "KEEP_LAST" else ("max_samples_per_instance", one["max_samples_per_instance"])
-
-    def rule(self, words):
-        """The rule with this name, and of an entry with `each` with this key."""
-        return next(u for u in self.lists["rules"] if words == [u["name"]] + ([u["key"]] if "key" in u else []))
 
 
 # The reasons of a refusal, by number: lines without `because`
@@ -111,7 +43,7 @@ def instances_lines(case, number, name):
     if number == 20:
         keys, limit = case.reached(name), case.readers[name]["max_instances"]
         return [f"{len(keys)} keys can reach {name}, and its max_instances is {limit}"] + keys
-    keys, limit = [key for key in case.keys[name] if case.is_written(name, key)], case.writers[name]["max_instances"]
+    keys, limit = case.written(name), case.writers[name]["max_instances"]
     return [f"rules write {len(keys)} keys at {name}, and its max_instances is {limit}"] + keys
 
 
@@ -133,6 +65,17 @@ def samples_lines(case, number, reader):
     return lines + [f"sum {sum(bound or 0 for bound in bounds.values())}"]
 
 
+def filter_lines(case, writer, reader):
+    first = f"{writer} has history KEEP_LAST, and the filter of {reader} leaves out what rules write there"
+    return [first] + [key for key in case.written(writer) if not case.hears(reader, key)]
+
+
+def depth_lines(case, writer, reader, key):
+    depth, bound, total = case.writers[writer]["depth"], case.bound(reader, key), case.total(reader)
+    given = f"no bound of {key} at {reader} is given" if bound is None else f"the bound of {key} at {reader} is {bound}"
+    return [f"{writer} keeps {depth} of {key}, and {given}"] + ([f"total {total}"] if total is not None else [])
+
+
 def row_lines(case, number, row, *words):
     if number == 30:
         reader, key = words
@@ -145,15 +88,14 @@ def row_lines(case, number, row, *words):
         lines = [f"by {row} what {' '.join(words)} writes weighs {sums[0]}, and what it takes {sums[1]}"]
         return lines + [f"{word} {c} x {v} of {k} at {e}" for word, terms in (("writes", writes), ("takes", takes)) for c, v, k, e in terms]
     writer, key = words
-    heard = [r for r in case.readers if (writer, r) in case.matched and key in case.readers[r]["filter"]]
-    samples = {r: case.weight(row, "samples", r, key) for r in heard}
-    permit = case.weight(row, "permits", writer, key)
-    lines = [f"by {row} a write of {key} at {writer} puts samples in flight that weigh {sum(samples.values())}, and its permit weighs {permit}"]
+    samples = case.spread(row, writer, key)
+    permit = "it uses no permit" if case.is_free(writer, key) else f"its permit weighs {case.permit(row, writer, key)}"
+    lines = [f"by {row} a write of {key} at {writer} puts samples in flight that weigh {sum(samples.values())}, and {permit}"]
     return lines + [f"a sample at {r} weighs {weight}" for r, weight in samples.items()]
 
 
 def permit_lines(case, row):
-    terms = [(case.opening(w, k), case.weight(row, "permits", w, k), k, w) for w in case.writers for k in case.keys[w]]
+    terms = [(case.opening(w, k), case.weight(row, "permits", w, k), k, w) for w in case.writers for k in case.writer_keys[w]]
     return [f"permits {count} x {weight} of {key} at {writer}" for count, weight, key, writer in terms if count]
 
 
@@ -162,17 +104,12 @@ def sample_line(case, row, reader, key):
     return f"a sample of {key} weighs {weight}, which shows {shows(case.budget(row), weight)}"
 
 
-def is_shown(case, row, reader, key, bound):
-    weight = case.weight(row, "samples", reader, key)
-    return weight > 0 and case.budget(row) < (bound + 1) * weight
-
-
 def unshown_lines(case, reader, key=None):
     if key is None:
-        one = next(t for t in case.totals if t["reader"] == reader and not all(is_shown(case, t["row"], reader, k, t["bound"]) for k in case.reached(reader)))
+        one = next(t for t in case.totals if t["reader"] == reader and not all(case.is_shown(t["row"], reader, k, t["bound"]) for k in case.reached(reader)))
         claim, keys = f"the total {one['bound']} of {reader}", case.reached(reader)
     else:
-        one = next(b for b in case.bounds if (b["reader"], b["key"]) == (reader, key) and not is_shown(case, b["row"], reader, key, b["bound"]))
+        one = next(b for b in case.bounds if (b["reader"], b["key"]) == (reader, key) and not case.is_shown(b["row"], reader, key, b["bound"]))
         claim, keys = f"the bound {one['bound']} of {key} at {reader}", [key]
     row = one["row"]
     lines = [f"{row} doesn't show {claim}: permits at the opening weigh {case.budget(row)}"]
@@ -190,6 +127,10 @@ def refusal_lines(case, number, words):
         return instances_lines(case, number, words[0])
     if number in (21, 22, 23):
         return limit_lines(case, number, *words) if len(words) == 2 else samples_lines(case, number, *words)
+    if number == 25:
+        return filter_lines(case, *words)
+    if number == 26:
+        return depth_lines(case, *words)
     if number in (30, 31, 32):
         return row_lines(case, number, *words)
     return unshown_lines(case, *words)
@@ -220,12 +161,13 @@ def owed(deployment, certificate):
     out, err, status = shown.answer_of(["check", deployment, certificate])
     if status > 1:
         return out, err, status
-    case = Case(deployment, certificate)
-    if status == 0:
-        return out + margin_lines(case), err, status
-    _, number, _, *words = out.split()
-    first, *terms = refusal_lines(case, int(number), words)
-    return out + f"because {first}\n" + "".join(f"  {term}\n" for term in terms), err, status
+    case = judged.Case(deployment, certificate)
+    refusal = judged.refusal_of(case)
+    answer = judged.answer_of(case, refusal)
+    if refusal is None:
+        return answer + margin_lines(case), "", 0
+    first, *terms = refusal_lines(case, *refusal)
+    return answer + f"because {first}\n" + "".join(f"  {term}\n" for term in terms), "", 1
 
 
 def agrees(given, wanted):
@@ -242,7 +184,7 @@ def agrees(given, wanted):
 
 def checks():
     for case in cases():
-        if case.words[:1] == ["check"] and len(case.words) == 3:
+        if case.words[:1] == ["check"] and len(case.words) > 2 and case.words[3:] in ([], ["--explain"]):
             yield DATA / case.words[1], DATA / case.words[2]
     for certificate in sorted((ROOT / "examples").rglob("*.cert.toml")):
         for deployment in sorted(certificate.parent.glob("*.toml")):

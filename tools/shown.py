@@ -68,13 +68,26 @@ def rules_of(entry, topics, writers, readers):
     return [rule({"key": key}, {"key": key}) for key in keys]
 
 
+def reader_of(entry, keys, version):
+    """All fields of a reader. Since version 3 one says whether it may lose samples."""
+    more = {"filter": entry.get("filter", keys[entry["topic"]])}
+    if version > 2:
+        more["may_lose"] = entry.get("may_lose", False)
+    return endpoint(entry, "BEST_EFFORT", **more)
+
+
+def document_of(path):
+    """The document of a file, as Python reads TOML."""
+    return tomllib.loads(path.read_bytes().decode("utf-8-sig"))
+
+
 def lists_of(path):
-    """Every section, with every field, in the order of the format."""
-    found = tomllib.loads(path.read_bytes().decode("utf-8-sig"))
+    """Every section, with every field, in the order of the format. The start of a free rule is "unlimited"."""
+    found = document_of(path)
     topics = [{"name": t["name"], "type": t["type"], "keys": t["keys"]} for t in found.get("topics", [])]
     keys = {t["name"]: t["keys"] for t in topics}
     writers = [endpoint(w, "RELIABLE") for w in found.get("writers", [])]
-    readers = [endpoint(r, "BEST_EFFORT", filter=r.get("filter", keys[r["topic"]])) for r in found.get("readers", [])]
+    readers = [reader_of(r, keys, found["version"]) for r in found.get("readers", [])]
     by_writer, by_reader = {w["name"]: w for w in writers}, {r["name"]: r for r in readers}
     connected = {(c["writer"], c["reader"]) for c in found.get("connections", [])}
     applications = [

@@ -3,7 +3,7 @@
 
 Taken over are participants, topics, writers and readers with their policies, content filters on the member `key`, and applications. DDS-XML knows no rules, no
 connections, and no keys of a topic: keys are those of an enum `keys` that stands in one module with the topic's type, as `export.py` writes it. What the file has beside that is listed on standard error, with its line and its path. The status is 0 where something was read, 2 where the file is no
-XML or not DDS-XML.
+XML or not DDS-XML. The deployment is of version 1, or of version 3 where the name of a type needs that.
 """
 
 import re
@@ -11,6 +11,7 @@ import sys
 from xml.parsers import expat
 
 NAME = re.compile(r"[A-Za-z0-9_./-]{1,64}\Z")
+TYPE = re.compile(r"[A-Za-z0-9_./:-]{1,256}\Z")
 PARTITION = re.compile(r"[A-Za-z0-9_./*?-]{0,64}\Z")
 TERM = re.compile(r"\s*\(?\s*key\s*=\s*'([^']*)'\s*\)?\s*\Z")
 
@@ -129,6 +130,10 @@ class Import:
         self.leave(node, f"the name {text!r} is none of a deployment, and became {mended!r}")
         return mended
 
+    def type_name(self, node, text):
+        """The name of a type, which since version 3 may be longer than a name and have colons."""
+        return text if TYPE.match(text) else self.name(node, text, "Type")
+
     def duration(self, node):
         part = {}
         for child in node.all("sec", "nanosec"):
@@ -224,11 +229,11 @@ class Import:
             whole = registered.get(ref, ref)
             if whole not in self.types and ref in self.types:
                 whole = ref
-            keys = self.types.get(whole, (None, None))[1]
+            struct, keys = self.types.get(whole, (None, None))
             if keys is None:
                 self.leave(one, "its keys are not in this file: write them")
-            bare = whole.removeprefix(f"{one.attributes.get('name')}::").split("::")[-1]
-            found = {"type": self.name(one, bare, "Type"), "keys": keys, "known": keys is not None}
+            bare = struct.attributes.get("name", "") if struct else whole.split("::")[-1]
+            found = {"type": self.type_name(one, bare), "keys": keys, "known": keys is not None}
             if found["keys"] is None:
                 found["keys"] = ["key"]
             if name in self.topics and self.topics[name] != found:
@@ -383,7 +388,7 @@ class Import:
         return sorted(ends, key=lambda end: end["place"])
 
     def toml(self):
-        text = "version = 1\n"
+        text = f"version = {1 if all(NAME.match(one['type']) for one in self.topics.values()) else 3}\n"
         if self.participants:
             text += "\nparticipants = [\n"
             text += "".join(f'  {{ name = "{name}", domain = {one["domain"]} }},\n' for name, one in self.participants.items()) + "]\n"

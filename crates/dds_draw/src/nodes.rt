@@ -2,7 +2,7 @@
 ghost use Rattle.std.specs.Prelude.{◌≡◌, IfOk, option_map, string_bytes};
 ghost use Rattle.dds_deploy.specs.Views.{reader_view, rule_view, writer_view};
 ghost use Rattle.dds_cert.specs.Views.{certificate_view};
-ghost use Rattle.dds_draw.specs.Nodes.{bound_line, certificate_lines, endpoint_label, history_line, limit_line, policies_lines, reader_node, reliability_line, rule_node, start_line, total_line, writer_node};
+ghost use Rattle.dds_draw.specs.Nodes.{bound_line, certificate_lines, endpoint_label, history_line, limit_line, may_lose_line, policies_lines, reader_node, reliability_line, rule_node, start_line, total_line, writer_node};
 
 use dds_base::{ReaderNo, RuleNo, WriterNo};
 use dds_cert::naming::{name_at, reader_key};
@@ -130,6 +130,13 @@ pub(crate) fn writer_node(
     format!(in alloc; "    \"writer {name}\" [label=\"{label}\"];\n")
 }
 
+/// A word for a reader that may lose samples.
+fn may_lose_line(may_lose: bool) -> &'static str
+    ensures { result.now ≡ may_lose_line may_lose }
+{
+    if may_lose { "\\nmay lose" } else { "" }
+}
+
 /// The node of a reader, with what a certificate shows of it.
 pub(crate) fn reader_node(
     alloc: Global,
@@ -143,19 +150,24 @@ pub(crate) fn reader_node(
     let name = name_at(lists.reader_names(), reader.number());
     let topic = name_at(lists.topic_names(), x.topic.number());
     let label = endpoint_label(alloc, name, topic, &x.qos.requested)?;
+    let may_lose = may_lose_line(x.may_lose);
     let shown = certificate_lines(alloc, lists, certificate, reader)?;
     format!(in alloc;
-        "    \"reader {name}\" [style=filled, fillcolor=white, label=\"{label}{shown}\"];\n"
+        "    \"reader {name}\" [style=filled, fillcolor=white, label=\"{label}{may_lose}{shown}\"];\n"
     )
 }
 
 /// How often a rule may write at the opening, nothing where it may not.
-fn start_line(alloc: Global, start: u16) -> TextResult
-    ensures { IfOk result (λ text. string_bytes text ≡ start_line start) }
+fn start_line(alloc: Global, x: &Rule) -> TextResult
+    ensures { IfOk result (λ text. string_bytes text ≡ start_line (rule_view x.now)) }
 {
-    if start == 0 {
+    if x.free {
+        return String::from_str(alloc, "\\nstart unlimited");
+    }
+    if x.start == 0 {
         return Ok(String::new(alloc));
     }
+    let start = x.start;
     format!(in alloc; "\\nstart {start}")
 }
 
@@ -165,6 +177,6 @@ pub(crate) fn rule_node(alloc: Global, lists: &Deployment, rule: RuleNo, x: &Rul
 {
     let number = rule.number();
     let name = rule_text(alloc, lists, rule)?;
-    let start = start_line(alloc, x.start)?;
+    let start = start_line(alloc, x)?;
     format!(in alloc; "      \"rule {number}\" [shape=ellipse, label=\"{name}{start}\"];\n")
 }

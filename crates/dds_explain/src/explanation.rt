@@ -1,11 +1,11 @@
 //! The reason of an answer of the checker: the numbers behind a refusal, and how tight what is accepted is.
 ghost use Rattle.std.specs.Prelude.{◌≡◌, IfOk, string_bytes};
 ghost use Rattle.dds_cert.specs.Views.{certificate_view};
-ghost use Rattle.dds_explain.specs.Explanation.{instance_reason, margins, pair_reason, reader_reason, reason, reason_of, rule_reason, take_reason, write_reason, writer_reason};
+ghost use Rattle.dds_explain.specs.Explanation.{instance_reason, margins, pair_key_reason, pair_reason, reader_reason, reason, reason_of, rule_reason, take_reason, write_reason, writer_reason};
 
 use crate::limits::{
-    bound_over_line, no_bound_line, no_total_lines, reader_instances_lines, samples_over_lines,
-    writer_instances_lines,
+    bound_over_line, keep_last_filter_lines, no_bound_line, no_total_lines, reader_instances_lines,
+    samples_over_lines, writer_depth_lines, writer_instances_lines,
 };
 use crate::margin::margin_lines;
 use crate::pairs::{not_intended_line, not_matched_line};
@@ -35,6 +35,25 @@ fn pair_reason(
     match number {
         Number::IntendedNotMatched => not_matched_line(alloc, plan, writer, reader),
         Number::UnintendedMatch => not_intended_line(alloc, plan, writer, reader),
+        Number::KeepLastFilter => keep_last_filter_lines(alloc, plan, writer, reader),
+        _ => Ok(String::new(alloc)),
+    }
+}
+
+/// Why a key of a pair is refused.
+fn pair_key_reason(
+    alloc: Global,
+    plan: &Plan,
+    certificate: &Certificate,
+    number: Number,
+    writer: WriterNo,
+    reader: ReaderNo,
+    key: KeyNo,
+) -> TextResult
+    ensures { IfOk result (λ text. string_bytes text ≡ pair_key_reason plan.now (certificate_view certificate.now) number writer reader key) }
+{
+    match number {
+        Number::WriterDepth => writer_depth_lines(alloc, plan, certificate, writer, reader, key),
         _ => Ok(String::new(alloc)),
     }
 }
@@ -158,6 +177,11 @@ fn reason_of(
 {
     match subject {
         Subject::Pair { writer, reader } => pair_reason(alloc, plan, number, writer, reader),
+        Subject::PairKey {
+            writer,
+            reader,
+            key,
+        } => pair_key_reason(alloc, plan, certificate, number, writer, reader, key),
         Subject::Instance { reader, key } => {
             instance_reason(alloc, plan, certificate, number, reader, key)
         }

@@ -1,11 +1,15 @@
-//! Why numbers 20 to 24 refuse an endpoint: how much can come, and the limit that is too small for it.
+//! Why numbers 20 to 24 refuse an endpoint: how much can come, and the limit that is too small for it; and why 25 and 26 refuse a writer
+//! that keeps the last samples alone.
 ghost use Rattle.std.specs.Prelude.{◌≡◌, ◌<◌, ◌^◌, IfOk, string_bytes};
 ghost use Rattle.dds_base.specs.Sums.{total};
 ghost use Rattle.dds_match.specs.Plan.{network_of};
+ghost use Rattle.dds_cert.specs.Naming.{reader_key};
 ghost use Rattle.dds_cert.specs.Text.{each_below};
 ghost use Rattle.dds_cert.specs.Views.{certificate_view};
-ghost use Rattle.dds_check.specs.Limits.{is_bounded, reached_bound};
-ghost use Rattle.dds_explain.specs.Limits.{bound_line, bound_over_line, bound_text, no_bound_line, no_total_lines, reached_bound_line, reached_key, reader_instances_lines, samples_over_lines, total_line, unbounded_key, writer_instances_lines, written_key};
+ghost use Rattle.dds_check.specs.Limits.{is_bounded, is_heard, reached_bound};
+ghost use Rattle.dds_check.specs.Tables.{bound_of};
+ghost use Rattle.dds_events.specs.Naming.{reader_name};
+ghost use Rattle.dds_explain.specs.Limits.{bound_given, keep_last_filter_lines, unheard_key, writer_depth_lines, bound_line, bound_over_line, bound_text, no_bound_line, no_total_lines, reached_bound_line, reached_key, reader_instances_lines, samples_over_lines, total_line, unbounded_key, writer_instances_lines, written_key};
 
 use crate::pieces::{
     instance_limit_name, key_line, limit_text, reader_limits, reader_name, writer_limits,
@@ -281,4 +285,95 @@ pub(crate) fn samples_over_lines(
     let bounds = reached_bound_lines(alloc, plan, certificate.bounds.as_slice(), reader)?;
     let sum = sum_of_bounds(plan, certificate.bounds.as_slice(), reader);
     format!(in alloc; "because {name} has max_samples {limit}\n{total}{bounds}  sum {sum}\n")
+}
+
+/// A key in a line of its own, if a rule writes it at the writer and the reader doesn't hear it.
+fn unheard_key(
+    alloc: Global,
+    plan: &Plan,
+    writer: WriterNo,
+    reader: ReaderNo,
+    key: KeyNo,
+) -> TextResult
+    ensures { IfOk result (λ text. string_bytes text ≡ unheard_key plan.now writer reader key) }
+{
+    if !plan.is_written(writer, key) || plan.hears(reader, key) {
+        Ok(String::new(alloc))
+    } else {
+        key_line(alloc, writer_key(plan.lists(), writer, key))
+    }
+}
+
+/// The keys that rules write at a writer and a reader doesn't hear.
+fn unheard_keys(alloc: Global, plan: &Plan, writer: WriterNo, reader: ReaderNo) -> TextResult
+    ensures { IfOk result (λ text. string_bytes text ≡ each_below 64 (unheard_key plan.now writer reader)) }
+{
+    text_below(
+        alloc,
+        KEYS,
+        |k|
+            ensures { IfOk result (λ text. string_bytes text ≡ unheard_key plan.entry.now writer reader k) }
+        { unheard_key(alloc, plan, writer, reader, KeyNo::new(k)) },
+    )
+}
+
+/// The keys that a reader's filter leaves out, of those that rules write at a writer with KEEP_LAST.
+pub(crate) fn keep_last_filter_lines(
+    alloc: Global,
+    plan: &Plan,
+    writer: WriterNo,
+    reader: ReaderNo,
+) -> TextResult
+    ensures { IfOk result (λ text. string_bytes text ≡ keep_last_filter_lines plan.now writer reader) }
+{
+    let keys = unheard_keys(alloc, plan, writer, reader)?;
+    let writer = writer_name(plan, writer);
+    let reader = reader_name(plan, reader);
+    format!(in alloc;
+        "because {writer} has history KEEP_LAST, and the filter of {reader} leaves out what rules write there\n{keys}"
+    )
+}
+
+/// The bound of a key at a reader in words.
+fn bound_given(alloc: Global, key: &str, reader: &str, bound: Option<u32>) -> TextResult
+    ensures { IfOk result (λ text. string_bytes text ≡ bound_given key.now reader.now bound) }
+{
+    match bound {
+        Some(bound) => format!(in alloc; "the bound of {key} at {reader} is {bound}"),
+        None => format!(in alloc; "no bound of {key} at {reader} is given"),
+    }
+}
+
+/// The bound of a key at a reader by a certificate, in words.
+fn bound_of_key(
+    alloc: Global,
+    plan: &Plan,
+    certificate: &Certificate,
+    reader: ReaderNo,
+    key: KeyNo,
+) -> TextResult
+    ensures { IfOk result (λ text. string_bytes text ≡ bound_given (reader_key plan.now reader key) (reader_name plan.now reader) (bound_of (certificate_view certificate.now).bounds reader key)) }
+{
+    let bound = find_bound(certificate.bounds.as_slice(), reader, key);
+    let name = reader_key(plan.lists(), reader, key);
+    bound_given(alloc, name, reader_name(plan, reader), bound)
+}
+
+/// The depth of a writer with KEEP_LAST, the bound of the key at the reader, and the reader's total if there is one.
+pub(crate) fn writer_depth_lines(
+    alloc: Global,
+    plan: &Plan,
+    certificate: &Certificate,
+    writer: WriterNo,
+    reader: ReaderNo,
+    key: KeyNo,
+) -> TextResult
+    ensures { IfOk result (λ text. string_bytes text ≡ writer_depth_lines plan.now (certificate_view certificate.now) writer reader key) }
+{
+    let depth = limit_text(alloc, writer_limits(plan, writer).keep_last)?;
+    let bound = bound_of_key(alloc, plan, certificate, reader, key)?;
+    let total = total_line(alloc, find_total(certificate.totals.as_slice(), reader))?;
+    let key = writer_key(plan.lists(), writer, key);
+    let writer = writer_name(plan, writer);
+    format!(in alloc; "because {writer} keeps {depth} of {key}, and {bound}\n{total}")
 }

@@ -34,6 +34,7 @@ pub(crate) fn writer_limits(plan: &Plan, writer: WriterNo) -> WriterLimits
         plan.writer_limits(writer)
     } else {
         WriterLimits {
+            keep_last: None,
             max_samples: None,
             max_instances: None,
             max_samples_per_instance: None,

@@ -3,7 +3,7 @@ ghost use Rattle.std.specs.Prelude.{◌≡◌, IfOk, flat_map, length, string_by
 ghost use Rattle.dds_deploy.specs.Views.{rule_view};
 ghost use Rattle.dds_cert.specs.Text.{each_below};
 ghost use Rattle.dds_cert.specs.Views.{certificate_view, row_view};
-ghost use Rattle.dds_explain.specs.Rows.{firing_line, firing_lines, heard_line, rule_lines, rule_raises_lines, take_line, take_raises_line, take_term, write_line, write_lines, write_raises_lines, write_term};
+ghost use Rattle.dds_explain.specs.Rows.{permit_text, firing_line, firing_lines, heard_line, rule_lines, rule_raises_lines, take_line, take_raises_line, take_term, write_line, write_lines, write_raises_lines, write_term};
 
 use crate::pieces::{reader_name, text_of_row, weighed_term, writer_name};
 use crate::weights::{
@@ -160,17 +160,28 @@ fn heard_lines(alloc: Global, plan: &Plan, row: &Row, writer: WriterNo, key: Key
     })
 }
 
+/// What the permit of a write weighs, or that a free write uses none.
+fn permit_text(alloc: Global, plan: &Plan, row: &Row, writer: WriterNo, key: KeyNo) -> TextResult
+    ensures { IfOk result (λ text. string_bytes text ≡ permit_text plan.now (row_view row.now) writer key) }
+{
+    if plan.is_free(writer, key) {
+        return String::from_str(alloc, "it uses no permit");
+    }
+    let weight = permit_weight(row, writer, key);
+    format!(in alloc; "its permit weighs {weight}")
+}
+
 /// What the samples of a write weigh, and its permit.
 fn write_line(alloc: Global, plan: &Plan, row: &Row, writer: WriterNo, key: KeyNo) -> TextResult
     ensures { IfOk result (λ text. string_bytes text ≡ write_line plan.now (row_view row.now) writer key) }
 {
     let spread = spread(plan, row, writer, key);
-    let permit = permit_weight(row, writer, key);
+    let permit = permit_text(alloc, plan, row, writer, key)?;
     let key = writer_key(plan.lists(), writer, key);
     let name = writer_name(plan, writer);
     let row = row.name.as_str();
     format!(in alloc;
-        "because by {row} a write of {key} at {name} puts samples in flight that weigh {spread}, and its permit weighs {permit}\n"
+        "because by {row} a write of {key} at {name} puts samples in flight that weigh {spread}, and {permit}\n"
     )
 }
 

@@ -71,6 +71,7 @@ acceptance_plain d c (Some because) =
 
 subject_plain : (d : Lists) (c : Certificate) (s : Subject) → has_float (subject_document d c s) ≡ false
 subject_plain d c (subject.Pair w r) = refl
+subject_plain d c (subject.PairKey w r k) = refl
 subject_plain d c (subject.Instance r k) = refl
 subject_plain d c (subject.Reader r) = refl
 subject_plain d c (subject.Writer w) = refl

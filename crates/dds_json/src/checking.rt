@@ -9,13 +9,13 @@ ghost use Rattle.dds_answers.specs.Fault.{IsAnswerFault};
 ghost use Rattle.dds_answers.specs.Outcome.{outcome, told};
 ghost use Rattle.dds_answers.specs.Report.{because_lines, outcome_of};
 ghost use Rattle.dds_answers.specs.Syntax.{IsFaultTold};
-ghost use Rattle.dds_json.specs.Checking.{acceptance_document, bound_document, is_accepted, reason_of, refusal_document, report_document, subject_document, total_document};
+ghost use Rattle.dds_json.specs.Checking.{acceptance_document, bound_document, is_accepted, pair_key_document, reason_of, refusal_document, report_document, subject_document, total_document};
 ghost use Rattle.dds_json.specs.Ends.{in_json};
 ghost use Rattle.dds_json.specs.Line.{line_of};
 
 use crate::line::line_of;
 use dds_answers::{Answer, Detail, Report, ToolFault, answered, because_text, detailed_check};
-use dds_base::NoMemory;
+use dds_base::{KeyNo, NoMemory, ReaderNo, WriterNo};
 use dds_cert::naming::{name_at, reader_key, row_name, writer_key};
 use dds_cert::{Bound, Certificate, Total};
 use dds_check::{No, Subject};
@@ -82,6 +82,22 @@ fn acceptance_document(
     }
 }
 
+/// A writer, a reader and a key of it, by name.
+fn pair_key_document(
+    alloc: Global,
+    lists: &Deployment,
+    writer: WriterNo,
+    reader: ReaderNo,
+    key: KeyNo,
+) -> Result<Value, NoMemory>
+    ensures { IfOk result (λ v. view v ≡ pair_key_document lists.now writer reader key) }
+{
+    let key = reader_key(lists, reader, key);
+    let writer = name_at(lists.writer_names(), writer.number());
+    let reader = name_at(lists.reader_names(), reader.number());
+    json!(in alloc; {"writer": writer, "reader": reader, "key": key})
+}
+
 /// What a condition speaks of, by name.
 fn subject_document(
     alloc: Global,
@@ -97,6 +113,11 @@ fn subject_document(
             let reader = name_at(lists.reader_names(), reader.number());
             json!(in alloc; {"writer": writer, "reader": reader})
         }
+        Subject::PairKey {
+            writer,
+            reader,
+            key,
+        } => pair_key_document(alloc, lists, writer, reader, key),
         Subject::Instance { reader, key } => {
             let key = reader_key(lists, reader, key);
             let reader = name_at(lists.reader_names(), reader.number());

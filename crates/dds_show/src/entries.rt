@@ -6,7 +6,7 @@ ghost use Rattle.dds_deploy.specs.Views.{application_view, participant_view, rea
 ghost use Rattle.dds_cert.specs.Naming.{name_at};
 ghost use Rattle.dds_cert.specs.Text.{each_below};
 ghost use Rattle.dds_show.specs.Pieces.{comma, quoted};
-ghost use Rattle.dds_show.specs.Entries.{application_entry, connection_entry, numbered_items, origin_fields, participant_entry, place_fields, portion_entry, qos_fields, reader_entry, rule_entry, take_entry, take_items, topic_entry, write_entry, write_items, writer_entry};
+ghost use Rattle.dds_show.specs.Entries.{application_entry, connection_entry, may_lose_field, numbered_items, origin_fields, participant_entry, place_fields, portion_entry, qos_fields, reader_entry, rule_entry, start_text, take_entry, take_items, topic_entry, write_entry, write_items, writer_entry};
 
 use crate::pieces::{items_below, name_items, quoted, text_items};
 use crate::policies::policies_fields;
@@ -96,14 +96,28 @@ fn filter_items(alloc: Global, lists: &Deployment, topic: TopicNo, filter: &[Key
     key_items(alloc, lists.keys(topic), filter)
 }
 
+/// Whether a reader may lose samples, which versions 1 and 2 don't say.
+fn may_lose_field(version: u32, may_lose: bool) -> &'static str
+    ensures { result.now ≡ may_lose_field version may_lose }
+{
+    if version <= 2 {
+        ""
+    } else if may_lose {
+        ", \"may_lose\": true"
+    } else {
+        ", \"may_lose\": false"
+    }
+}
+
 pub(crate) fn reader_entry(alloc: Global, lists: &Deployment, name: &str, x: &Reader) -> TextResult
     requires { x.now.topic < length lists.now.topics.entries }
     ensures { IfOk result (λ text. string_bytes text ≡ reader_entry lists.now name.now (reader_view x.now)) }
 {
     let place = place_fields(alloc, lists, name, x.participant, x.topic)?;
     let filter = filter_items(alloc, lists, x.topic, x.filter.as_slice())?;
+    let may_lose = may_lose_field(lists.version(), x.may_lose);
     let qos = qos_fields(alloc, &x.qos.requested, x.partitions.as_slice())?;
-    format!(in alloc; "{{{place}, \"filter\": [{filter}], {qos}}}")
+    format!(in alloc; "{{{place}, \"filter\": [{filter}]{may_lose}, {qos}}}")
 }
 
 pub(crate) fn application_entry(
@@ -178,6 +192,17 @@ fn origin_fields(alloc: Global, lists: &Deployment, origin: Option<Origin>) -> T
     }
 }
 
+/// How often a rule may write at the opening.
+fn start_text(alloc: Global, x: &Rule) -> TextResult
+    ensures { IfOk result (λ text. string_bytes text ≡ start_text (rule_view x.now)) }
+{
+    if x.free {
+        return String::from_str(alloc, "\"unlimited\"");
+    }
+    let start = x.start;
+    format!(in alloc; "{start}")
+}
+
 pub(crate) fn rule_entry(
     alloc: Global,
     lists: &Deployment,
@@ -190,7 +215,7 @@ pub(crate) fn rule_entry(
     let application = name_at(lists.application_names(), x.application.number());
     let takes = take_items(alloc, lists, x.takes.as_slice())?;
     let writes = write_items(alloc, lists, x.writes.as_slice())?;
-    let start = x.start;
+    let start = start_text(alloc, x)?;
     format!(in alloc;
         "{{{origin}, \"application\": \"{application}\", \"takes\": [{takes}], \"writes\": [{writes}], \"start\": {start}}}"
     )

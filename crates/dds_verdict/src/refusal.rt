@@ -26,6 +26,16 @@ fn subject_text(
             let reader = name_at(lists.reader_names(), reader.number());
             format!(in alloc; "{writer} {reader}")
         }
+        Subject::PairKey {
+            writer,
+            reader,
+            key,
+        } => {
+            let key = reader_key(lists, reader, key);
+            let writer = name_at(lists.writer_names(), writer.number());
+            let reader = name_at(lists.reader_names(), reader.number());
+            format!(in alloc; "{writer} {reader} {key}")
+        }
         Subject::Instance { reader, key } => {
             let key = reader_key(lists, reader, key);
             let reader = name_at(lists.reader_names(), reader.number());

@@ -7,4 +7,4 @@ pub returns : goal.returns
 returns c =
     let key : c.writer_key-key.result.now ≡ writer_key c.args.plan.now c.args.writer c.args.key =
     c.writer_key-key.ensures ∙ ap (λ (d : Lists). writer_key d (c.args.writer) (c.args.key)) c.lists.ensures.value in
-    rw (c.as_str-row.ensures.value, key, c.writer_name-name.ensures, c.spread-spread.ensures, c.permit_weight-permit.ensures) at c.format.ensures.ok
+    rw (c.as_str-row.ensures.value, key, c.writer_name-name.ensures, c.spread-spread.ensures, c.in_ok-permit.ensures) at c.format.ensures.ok

@@ -1,0 +1,242 @@
+"""A second reading of the answers of `ddscheck check`: the first condition of docs/FORMAT.md that fails, by sums of its own.
+
+Both files are read by Python's TOML parser, the deployment as tools/shown.py reads it. From the built program come, by `match`, which endpoints match, which
+tools/drawn.py decides a second time. tools/explained.py holds the built program against it.
+"""
+import sys
+
+sys.dont_write_bytecode = True
+import shown  # noqa: E402
+
+NAMES = {
+    10: "IntendedNotMatched", 11: "UnintendedMatch", 12: "WriterKeepsLast", 14: "Exclusive", 15: "SourceOrder", 16: "OrderedOrCoherent",
+    17: "WriterBestEffort", 20: "ReaderInstances", 21: "NoBound", 22: "BoundOverInstanceLimit", 23: "BoundOverSamples", 24: "WriterInstances",
+    25: "KeepLastFilter", 26: "WriterDepth", 30: "TakeRaises", 31: "RuleRaises", 32: "WriteRaises", 33: "BoundNotShown",
+}
+
+
+def is_past(number, limit):
+    """Whether a number is above a finite limit."""
+    return limit != "unlimited" and number > limit
+
+
+class Case:
+    """A deployment, a certificate and which endpoints match, with the sums that conditions and reasons speak of."""
+
+    def __init__(self, deployment, certificate):
+        self.version = shown.document_of(deployment)["version"]
+        self.lists = shown.lists_of(deployment)
+        self.readers = {r["name"]: r for r in self.lists["readers"]}
+        self.writers = {w["name"]: w for w in self.lists["writers"]}
+        topics = {t["name"]: t["keys"] for t in self.lists["topics"]}
+        self.writer_keys = {name: topics[one["topic"]] for name, one in self.writers.items()}
+        self.reader_keys = {name: topics[one["topic"]] for name, one in self.readers.items()}
+        self.connected = {(c["writer"], c["reader"]) for c in self.lists["connections"]}
+        self.reasons, self.matched = {}, set()
+        for line in shown.answer_of(["match", deployment])[0].splitlines():
+            word, writer, reader, *reason = line.split(" ", 3)
+            if word == "match":
+                self.matched.add((writer, reader))
+            else:
+                self.reasons[writer, reader] = reason[0]
+        found = shown.document_of(certificate)
+        self.rows = {row["name"]: self.weights(row) for row in found.get("rows", [])}
+        self.bounds = [one for entry in found.get("bounds", []) for one in self.each_key(entry)]
+        self.totals = found.get("totals", [])
+
+    def each_key(self, entry):
+        """An entry without a key stands for one of each key."""
+        if "key" in entry:
+            return [entry]
+        keys = self.readers[entry["reader"]]["filter"] if "reader" in entry else self.writer_keys[entry["writer"]]
+        return [entry | {"key": key} for key in keys]
+
+    def weights(self, row):
+        def table(side, name):
+            return {(x[side], x["key"]): x["weight"] for entry in row.get(name, []) for x in self.each_key(entry)}
+
+        return {"samples": table("reader", "samples"), "takes": table("reader", "takes"), "permits": table("writer", "permits")}
+
+    def weight(self, row, what, endpoint, key):
+        return self.rows[row][what].get((endpoint, key), 0)
+
+    def pairs(self):
+        """Each writer with each reader."""
+        return ((writer, reader) for writer in self.writers for reader in self.readers)
+
+    def is_written(self, writer, key):
+        return any(x["writer"] == writer and x["key"] == key for rule in self.lists["rules"] for x in rule["writes"])
+
+    def written(self, writer):
+        return [key for key in self.writer_keys[writer] if self.is_written(writer, key)]
+
+    def hears(self, reader, key):
+        return key in self.readers[reader]["filter"]
+
+    def reaches(self, reader, key):
+        return self.hears(reader, key) and any(self.is_written(w, key) for w, r in self.matched if r == reader)
+
+    def reached(self, reader):
+        return [key for key in self.reader_keys[reader] if self.reaches(reader, key)]
+
+    def is_watcher(self, reader):
+        """A reader that is best-effort or may lose: of it the limits ask nothing."""
+        one = self.readers[reader]
+        return one["reliability"] == "BEST_EFFORT" or one.get("may_lose", False)
+
+    def strict(self):
+        """The readers that lose nothing."""
+        return [reader for reader in self.readers if not self.is_watcher(reader)]
+
+    def keeps_last(self, writer):
+        return self.writers[writer]["history"] == "KEEP_LAST"
+
+    def is_guarded(self, writer, reader):
+        """Whether the writer may drop what the reader may not lose."""
+        return self.keeps_last(writer) and (writer, reader) in self.matched and not self.is_watcher(reader)
+
+    def is_free(self, writer, key):
+        """Whether some rule lets the writer write the key without a permit, at any time."""
+        return any(rule["start"] == "unlimited" and (x["writer"], x["key"]) == (writer, key) for rule in self.lists["rules"] for x in rule["writes"])
+
+    def opening(self, writer, key):
+        """The permits at the opening. What a free rule names uses none, and it gives none."""
+        started = [rule for rule in self.lists["rules"] if rule["start"] != "unlimited"]
+        return sum(x["count"] * rule["start"] for rule in started for x in rule["writes"] if (x["writer"], x["key"]) == (writer, key))
+
+    def budget(self, row):
+        return sum(self.weight(row, "permits", w, k) * self.opening(w, k) for w in self.writers for k in self.writer_keys[w])
+
+    def permit(self, row, writer, key):
+        """What the permit weighs that a write uses: a free write uses none."""
+        return 0 if self.is_free(writer, key) else self.weight(row, "permits", writer, key)
+
+    def spread(self, row, writer, key):
+        """What a write puts in flight, by reader."""
+        return {r: self.weight(row, "samples", r, key) for r in self.readers if (writer, r) in self.matched and self.hears(r, key)}
+
+    def bound(self, reader, key):
+        return next((b["bound"] for b in self.bounds if (b["reader"], b["key"]) == (reader, key)), None)
+
+    def total(self, reader):
+        return next((t["bound"] for t in self.totals if t["reader"] == reader), None)
+
+    def instance_limit(self, reader):
+        """The name of the limit of an instance, and its number."""
+        one = self.readers[reader]
+        return ("depth", one["depth"]) if one["history"] == "KEEP_LAST" else ("max_samples_per_instance", one["max_samples_per_instance"])
+
+    def rule(self, words):
+        """The rule with this name, and of an entry with `each` with this key."""
+        return next(u for u in self.lists["rules"] if words == words_of(u))
+
+    def is_shown(self, row, reader, key, bound):
+        """Whether a sample weighs something, and one more than the bound weigh more than the permits at the opening."""
+        weight = self.weight(row, "samples", reader, key)
+        return weight > 0 and self.budget(row) < (bound + 1) * weight
+
+
+def words_of(rule):
+    return [rule["name"]] + ([rule["key"]] if "key" in rule else [])
+
+
+def weighed(case, row, terms, side, what):
+    return sum(x["count"] * case.weight(row, what, x[side], x["key"]) for x in terms)
+
+
+# The conditions that fail, in their order: a number and the names of what it speaks of
+
+
+def failing_pairs(case):
+    yield from ((10, pair) for pair in case.pairs() if pair in case.connected - case.matched)
+    yield from ((11, pair) for pair in case.pairs() if pair in case.matched - case.connected)
+
+
+def failing_profile(case):
+    """Versions 1 and 2 ask that each writer is reliable and keeps all."""
+    writers, readers, is_narrow = case.writers.values(), case.readers.values(), case.version < 3
+    yield from ((12, [w["name"]]) for w in writers if is_narrow and w["history"] == "KEEP_LAST")
+    yield from ((14, [x["name"]]) for x in (*writers, *readers) if x["ownership"] == "EXCLUSIVE")
+    yield from ((15, [r["name"]]) for r in readers if r["destination_order"] == "BY_SOURCE_TIMESTAMP")
+    yield from ((16, [r["name"]]) for r in readers if r["ordered"] or r["coherent"])
+    yield from ((17, [w["name"]]) for w in writers if is_narrow and w["reliability"] == "BEST_EFFORT")
+
+
+def failing_bounds(case):
+    """What 21 asks: at each reader its keys come first."""
+    for reader in case.strict():
+        unbounded = [key for key in case.reached(reader) if case.bound(reader, key) is None]
+        if case.instance_limit(reader)[1] != "unlimited":
+            yield from ((21, [reader, key]) for key in unbounded)
+        if case.readers[reader]["max_samples"] != "unlimited" and case.total(reader) is None and unbounded:
+            yield 21, [reader]
+
+
+def is_roomy(case, reader):
+    """Whether max_samples is unlimited, or the total or the sum of bounds of all keys is within it."""
+    limit, bounds = case.readers[reader]["max_samples"], [case.bound(reader, key) for key in case.reached(reader)]
+    numbers = [case.total(reader), None if None in bounds else sum(bounds)]
+    return limit == "unlimited" or any(number is not None and number <= limit for number in numbers)
+
+
+def failing_limits(case):
+    """Numbers 20 to 24; of a watcher they ask nothing."""
+    strict = case.strict()
+    yield from ((20, [r]) for r in strict if is_past(len(case.reached(r)), case.readers[r]["max_instances"]))
+    yield from failing_bounds(case)
+    yield from ((22, [r, k]) for r in strict for k in case.reached(r) if is_past(case.bound(r, k) or 0, case.instance_limit(r)[1]))
+    yield from ((23, [r]) for r in strict if not is_roomy(case, r))
+    yield from ((24, [w]) for w in case.writers if is_past(len(case.written(w)), case.writers[w]["max_instances"]))
+
+
+def failing_depths(case):
+    """Numbers 25 and 26: what a writer with KEEP_LAST drops each reader that loses nothing has taken."""
+    guarded = [pair for pair in case.pairs() if case.is_guarded(*pair)]
+    yield from ((25, (w, r)) for w, r in guarded if not all(case.hears(r, key) for key in case.written(w)))
+    for w, r in guarded:
+        for key in filter(lambda key: case.hears(r, key), case.written(w)):
+            if not any(n is not None and n <= case.writers[w]["depth"] for n in (case.bound(r, key), case.total(r))):
+                yield 26, [w, r, key]
+
+
+def raising_rule(case, row, rule):
+    return rule["takes"] and weighed(case, row, rule["writes"], "writer", "permits") > weighed(case, row, rule["takes"], "reader", "takes")
+
+
+def failing_rows(case):
+    def keys_of(table):
+        return [(name, key) for name, keys in table.items() for key in keys]
+
+    def raises(row, w, k):
+        return sum(case.spread(row, w, k).values()) > case.permit(row, w, k)
+
+    heard = [(r, k) for r, k in keys_of(case.reader_keys) if case.hears(r, k)]
+    yield from ((30, [n, r, k]) for n in case.rows for r, k in heard if case.weight(n, "takes", r, k) > case.weight(n, "samples", r, k))
+    yield from ((31, [n, *words_of(u)]) for n in case.rows for u in case.lists["rules"] if raising_rule(case, n, u))
+    yield from ((32, [n, w, k]) for n in case.rows for w, k in keys_of(case.writer_keys) if raises(n, w, k))
+
+
+def failing_claims(case):
+    for b in case.bounds:
+        if not case.is_shown(b["row"], b["reader"], b["key"], b["bound"]):
+            yield 33, [b["reader"], b["key"]]
+    for t in case.totals:
+        if not all(case.is_shown(t["row"], t["reader"], key, t["bound"]) for key in case.reached(t["reader"])):
+            yield 33, [t["reader"]]
+
+
+def refusal_of(case):
+    """The first condition that fails, `None` where the certificate is accepted."""
+    for part in (failing_pairs, failing_profile, failing_limits, failing_depths, failing_rows, failing_claims):
+        for number, words in part(case):
+            return number, list(words)
+    return None
+
+
+def answer_of(case, refusal):
+    """What `check` prints, with the first condition that fails."""
+    if refusal:
+        number, words = refusal
+        return " ".join(["no", str(number), NAMES[number], *words]) + "\n"
+    bounds = [f"bound {b['reader']} {b['key']} {b['bound']}\n" for b in case.bounds]
+    return "yes\n" + "".join(bounds + [f"total {t['reader']} {t['bound']}\n" for t in case.totals])
