@@ -9,9 +9,9 @@ use Rattle.dds_qos.specs.declared.notes.Due.TheVariants.{Data, Gap}
 use Rattle.dds_qos.specs.Notes.{Notes, due_number, due_of, is_due, watch_due_of}
 use Rattle.dds_match.specs.Network.{Network, IsNetwork}
 use Rattle.dds_match.specs.Plan.{network_of}
-use Rattle.dds_runs.specs.World.{World, is_kept, is_at_hand, is_relevant}
+use Rattle.dds_runs.specs.World.{World, is_pending, is_at_hand, is_relevant, is_offered as still_offered}
 use Rattle.dds_writer.specs.Proxies.{ProxyState, is_matched, proxy_of}
-use Rattle.dds_writer.specs.Writer.{WriterState, is_offered, keeps}
+use Rattle.dds_writer.specs.Writer.{WriterState, is_offered}
 use Rattle.dds_writer.specs.Writer as writer
 use Rattle.dds_reader.specs.Reader.{ReaderState, owes_to}
 use Rattle.dds_domain.specs.Noted.{Noted}
@@ -20,7 +20,7 @@ use Rattle.dds_domain.specs.Standing.{PartsState, PartsAt, IsRunning, WriterStan
 use Rattle.dds_domain.proofs.Endpoints.{matched_at, matched_within}
 use Rattle.dds_domain.proofs.Standing.{has_world}
 use Rattle.dds_domain.proofs.Worlds.{writer_at}
-use Rattle.dds_domain.proofs.Writers.{base_is, keeps_is, offered_is, relevant_is, watcher_is}
+use Rattle.dds_domain.proofs.Writers.{base_is, pending_is, offered_is, relevant_is, watcher_is}
 
 -- ── a writer's due
 -- what is due of a number: its DATA where it is relevant, and else its GAP
@@ -42,7 +42,7 @@ due_of_kept kept among relevant base notes written same = go (leb (due_number ke
 
 -- what a writer tells as due to the reader of a proxy
 abbrev pub told_due : WriterState → ProxyState → Option Due
-told_due x p = cond p.watcher (watch_due_of (is_offered x p) p.notes x.written) (due_of (keeps x) (writer.is_relevant x p) p.base p.notes x.written)
+told_due x p = cond p.watcher (watch_due_of (is_offered x p) p.notes x.written) (due_of (writer.is_pending x) (writer.is_relevant x p) p.base p.notes x.written)
 
 module _ (net : Network) (v : World) (noted : Noted) (w r : ℕ) (x : WriterState) (known : IsNetwork net) (h : WriterStands net w (v.written w) (v.acked w) x) (t : net.matched w r ≡ true) where
   -- it is the world's and the notes', where it noted of the reader what the notes say
@@ -50,9 +50,9 @@ module _ (net : Network) (v : World) (noted : Noted) (w r : ℕ) (x : WriterStat
   told_due_is notes =
       (λ i. cond (watcher_is net w r (v.written w) (v.acked w) x known h t i)
       (watch_due_of (λ n. offered_is net v w x known h r t n i) (notes i) (h.written i))
-      (due_of (λ n. keeps_is net v w x known h n i) (writer.is_relevant x (proxy_of r x.proxies)) (base_is net w r (v.written w) (v.acked w) x known h t i) (notes i) (h.written i)))
+      (due_of (λ n. pending_is net v w x known h n i) (writer.is_relevant x (proxy_of r x.proxies)) (base_is net w r (v.written w) (v.acked w) x known h t i) (notes i) (h.written i)))
       ∙ ap (cond (net.watcher r) (watch_due_of (λ n. is_at_hand net v w r n && is_relevant net v w r n) (noted.notes w r) (length (v.written w))))
-      (due_of_kept (is_kept net v w) (writer.is_relevant x (proxy_of r x.proxies)) (is_relevant net v w r) (v.acked w r) (noted.notes w r) (length (v.written w)) (relevant_is net v w x known h r t))
+      (due_of_kept (is_pending net v w) (writer.is_relevant x (proxy_of r x.proxies)) (still_offered net v w r) (v.acked w r) (noted.notes w r) (length (v.written w)) (relevant_is net v w x known h r t))
 
 -- ── of a domain
 module _ (d : PartsState) (w r : ℕ) (stands : IsRunning d) (pair : (network_of d.plan).matched w r ≡ true) where
@@ -98,9 +98,6 @@ module _ (d : PartsState) (w r : ℕ) (x : ReaderState) (pair : (network_of d.pl
   pub no_acknack_due : owes_to x w ≡ false → (v : World) (noted : Noted) → PartsAt v noted d → None ≡ acknack_due noted r w
   no_acknack_due none v noted at = sym (ap (λ b. cond b (Some (SendAckNack r w)) None) (sym (owes_at v noted at) ∙ none))
 
--- ── how many endpoints there are
-pub writer_entries : (d : PartsState) → IsRunning d → length d.writers ≡ length d.plan.writers.entries
-writer_entries d (known, v, noted, at) = at.world.writer_count
-
+-- ── how many readers there are
 pub reader_entries : (d : PartsState) → IsRunning d → length d.readers ≡ length d.plan.readers.entries
 reader_entries d (known, v, noted, at) = at.world.reader_count

@@ -11,8 +11,8 @@ use Rattle.dds_qos.specs.declared.notes.Due.TheVariants.{Data as DueData, Gap as
 use Rattle.dds_qos.specs.Writing.{heartbeat_of}
 use Rattle.dds_match.specs.Plan.{network_of}
 use Rattle.dds_runs.specs.Steps.{Event, Refused, Sent}
-use Rattle.dds_writer.specs.Proxies.{bases_of, is_matched, proxy_of}
-use Rattle.dds_writer.specs.Writer.{WriterState}
+use Rattle.dds_writer.specs.Proxies.{is_matched, proxy_of}
+use Rattle.dds_writer.specs.Writer.{WriterState, keeps}
 use Rattle.dds_reader.specs.Notes.{pays}
 use Rattle.dds_reader.specs.Reader.{ReaderState, acknack_of, heeds, SameMarks, SameReader, SameSamples}
 use Rattle.dds_domain.specs.Bus.{sent_to, with_packet}
@@ -81,7 +81,7 @@ module _ (d old : PartsState) (w r i : ℕ) (x : WriterState) (olds : d ≡ old)
   pub heartbeat_pair : (network_of d.plan).watcher r ≡ false → (proxy_of r x.proxies).watcher ≡ false
   heartbeat_pair reliable = reliable_at d w r x (subst HasWorld (sym olds) stands) pair reliable at
 
-  pub heartbeat_sent : (h : HeartbeatFor) (place : Option ℕ) (bus : List (Option Packet)) → (network_of d.plan).watcher r ≡ false → h ≡ heartbeat_of x.me r (bases_of x.proxies) x.written → place ≡ sent_to d.bus → bus ≡ with_packet d.bus (Heartbeat h) place →
+  pub heartbeat_sent : (h : HeartbeatFor) (place : Option ℕ) (bus : List (Option Packet)) → (network_of d.plan).watcher r ≡ false → h ≡ heartbeat_of x.me r (keeps x) x.written → place ≡ sent_to d.bus → bus ≡ with_packet d.bus (Heartbeat h) place →
       Steps (SendHeartbeat w r) old (Sent place) (record d { bus = bus })
   heartbeat_sent h place bus reliable is placed carried = (
     renamed (λ a reply b. StepsWorld a (SendHeartbeat w r) reply b) d old _ _ _ _ olds (ap Sent placed) (λ k. record d { bus = (carried ∙ ap (with_packet d.bus (Heartbeat h)) placed) k }) (heartbeat_done d w r x h pair reliable within at is),

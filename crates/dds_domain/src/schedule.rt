@@ -117,12 +117,9 @@ impl Parts {
         requires { IsRunning self.now }
         ensures { (v : World) (noted : Noted) → PartsAt v noted self.now → result ≡ first_by_writer self.now.plan participant (due_to (network_of self.now.plan) v noted sending) }
     {
-        for w in 0..self.writers.len() {
-            let writer = WriterNo::new(w);
-            if self.plan.lists().writer(writer).participant == participant {
-                if let Some(event) = self.due_of_writer(writer, sending) {
-                    return Some(event);
-                }
+        for writer in self.plan.writers_at(participant) {
+            if let Some(event) = self.due_of_writer(*writer, sending) {
+                return Some(event);
             }
         }
         None
@@ -133,12 +130,9 @@ impl Parts {
         requires { IsRunning self.now }
         ensures { (v : World) (noted : Noted) → PartsAt v noted self.now → result ≡ first_of_writer self.now.plan writer (due_to (network_of self.now.plan) v noted sending) }
     {
-        for r in 0..self.readers.len() {
-            let reader = ReaderNo::new(r);
-            if self.plan.matched(writer, reader) {
-                if let Some(event) = self.due_to(writer, reader, sending) {
-                    return Some(event);
-                }
+        for reader in self.plan.readers_of(writer) {
+            if let Some(event) = self.due_to(writer, *reader, sending) {
+                return Some(event);
             }
         }
         None
@@ -167,7 +161,7 @@ impl Parts {
         self.writers[writer.number()].due(reader)
     }
 
-    // A HEARTBEAT is due to a reliable reader that has not acknowledged all that is written.
+    // A HEARTBEAT is due to a strict reader that has not acknowledged all that is written.
     fn heartbeat_due(&self, writer: WriterNo, reader: ReaderNo) -> Option<Event>
         requires standing { IsRunning self.now }
         requires pair { matched self.now.plan writer reader ≡ true }
@@ -188,12 +182,9 @@ impl Parts {
         requires { IsRunning self.now }
         ensures { (v : World) (noted : Noted) → PartsAt v noted self.now → result ≡ first_by_reader self.now.plan participant (acknack_due noted) }
     {
-        for r in 0..self.readers.len() {
-            let reader = ReaderNo::new(r);
-            if self.plan.lists().reader(reader).participant == participant {
-                if let Some(event) = self.due_of_reader(reader) {
-                    return Some(event);
-                }
+        for reader in self.plan.readers_at(participant) {
+            if let Some(event) = self.due_of_reader(*reader) {
+                return Some(event);
             }
         }
         None
@@ -206,12 +197,12 @@ impl Parts {
         ensures { (v : World) (noted : Noted) → PartsAt v noted self.now → result ≡ first_of_reader self.now.plan reader (acknack_due noted) }
     {
         let from = &self.readers[reader.number()];
-        for w in 0..self.writers.len() {
-            let writer = WriterNo::new(w);
-            if self.plan.matched(writer, reader) {
-                if from.owes(writer) {
-                    return Some(Event::SendAckNack { reader, writer });
-                }
+        for writer in self.plan.writers_of(reader) {
+            if from.owes(*writer) {
+                return Some(Event::SendAckNack {
+                    reader,
+                    writer: *writer,
+                });
             }
         }
         None

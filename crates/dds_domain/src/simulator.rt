@@ -1,7 +1,7 @@
 //! A simulator: a plan that is run, whether a certificate is accepted for it or not.
 ghost use Rattle.std.specs.Prelude.{◌≡◌, ◌≤◌, ◌++◌, ◌∷◌, [], List, length, option_map, IfOk, IfErr, OnErr, MatchResult};
 ghost use Rattle.dds_runs.specs.Steps.{Event as EventValue, Reply as ReplyValue};
-ghost use Rattle.dds_domain.specs.Standing.{GoesOn, OnRefused, StandsAfter, paired, world_after};
+ghost use Rattle.dds_domain.specs.Standing.{GoesOn, IsRunning, OnRefused, Runs, StandsAfter, paired, world_after};
 
 use crate::opening::open;
 use crate::parts::Parts;
@@ -50,6 +50,7 @@ impl Simulator {
     /// is a run of the plan, and the simulator stands for the world after it. A `Refused` changes nothing. An `Err` means that memory ran
     /// out; it changes nothing.
     pub fn step(&mut self, event: Event) -> Result<Reply, NoMemory>
+        ensures stood { IsRunning self.old }
         ensures steps { IfOk result (λ reply. GoesOn self.old ((event, reply) ∷ []) self.new) }
         ensures refused { IfOk result (λ reply. OnRefused reply (self.new ≡ self.old)) }
         ensures plan { self.new.plan ≡ self.old.plan }
@@ -59,12 +60,14 @@ impl Simulator {
     }
 
     /// Makes events one after the other, and tells what came of each: after whatever run the simulator stood for its world, that run with
-    /// these events and their replies is a run of the plan, and the simulator stands for the world after it. An `Err` means that memory ran
-    /// out: then it has the replies of the events that were done, which stay done, and no later event was.
+    /// these events and their replies is a run of the plan, and the simulator stands for the world after it. A `Refused` changes nothing. An
+    /// `Err` means that memory ran out: then it has the replies of the events that were done, which stay done, and no later event was.
     pub fn run(&mut self, events: &[Event]) -> Result<Vec<Reply>, (NoMemory, Vec<Reply>)>
         ensures all { IfOk result (λ replies. length replies.items ≡ length events.now) }
         ensures some { IfErr result (λ e. length e.1.items ≤ length events.now) }
+        ensures stood { IsRunning self.old }
         ensures runs { MatchResult result (λ replies. GoesOn self.old (paired events.now replies.items) self.new) (λ e. GoesOn self.old (paired events.now e.1.items) self.new) }
+        ensures each { MatchResult result (λ replies. Runs self.old (paired events.now replies.items) self.new) (λ e. Runs self.old (paired events.now e.1.items) self.new) }
         ensures plan { self.new.plan ≡ self.old.plan }
     {
         self.parts.run(self.alloc, events)

@@ -5,4 +5,4 @@ use Rattle.dds_writer.proofs.sending.note_sent_each.Given as goal
 
 abbrev pub invariant-loop-proxy : goal.invariant-loop-proxy
 invariant-loop-proxy l =
-    l.proxies ≡ map (after_message l.reader (is_silent_in l.kept.items) l.sn) (take l.proxy-index l.initial.proxies) ++ drop l.proxy-index l.initial.proxies
+    l.proxies ≡ map (after_message l.reader (is_silent_in l.history.kept.items l.me l.low l.written) l.sn) (take l.proxy-index l.initial.proxies) ++ drop l.proxy-index l.initial.proxies

@@ -1,13 +1,14 @@
-use Rattle.std.proofs.Common.{◌≡◌, None}
-use Rattle.dds_match.specs.Plan.{matched, network_of}
-use Rattle.dds_runs.specs.First.{first_below}
+use Rattle.std.proofs.Common.{◌≡◌, drop}
+use Rattle.dds_match.specs.Plan.{network_of}
 use Rattle.dds_runs.specs.World.{World}
 use Rattle.dds_domain.specs.Noted.{Noted}
-use Rattle.dds_domain.specs.Schedule.{due_to}
+use Rattle.dds_domain.specs.Schedule.{due_to, first_of_writer}
 use Rattle.dds_domain.specs.Standing.{PartsAt}
-use Rattle.dds_domain.proofs.SchedulePairs.{where_passes}
+use Rattle.dds_domain.proofs.SchedulePairs.{first_of}
 use Rattle.dds_domain.proofs.parts.Parts.due_of_writer.Given as goal
 
--- nothing is due to the readers so far
-abbrev pub invariant-loop-r : goal.invariant-loop-r
-invariant-loop-r l = (v : World) (noted : Noted) → PartsAt v noted l.self → first_below l.r (where_passes (matched l.self.plan l.writer) (due_to (network_of l.self.plan) v noted l.sending l.writer)) ≡ None
+-- what is due first is due to the readers that are left
+abbrev pub invariant-loop-reader : goal.invariant-loop-reader
+invariant-loop-reader l = (v : World) (noted : Noted) → PartsAt v noted l.self →
+    first_of (due_to (network_of l.self.plan) v noted l.sending l.writer) (drop l.reader-index l.reader-items)
+    ≡ first_of_writer l.self.plan l.writer (due_to (network_of l.self.plan) v noted l.sending)

@@ -1,10 +1,11 @@
 -- A write: refused, or one more sample.
-use Rattle.std.proofs.Common.{◌≡◌, ◌≢◌, ◌<◌, Some, length, set, sym, subst, rules}
+use Rattle.std.proofs.Common.{◌⊎◌, inl, inr, true, refl, ◌≡◌, ◌≢◌, ◌<◌, Some, length, set, sym, subst, rules}
 use Rattle.std.proofs.lemmas.Result.{IfOk-at_ok}
 use Rattle.dds_base.specs.declared.events.Event.TheVariants.{Write}
 use Rattle.dds_base.specs.declared.events.Refusal.{Refusal}
 use Rattle.dds_base.specs.declared.events.Refusal.TheVariants.{Foreign, NoPermit}
 use Rattle.dds_base.specs.declared.events.Reply.TheVariants.{Refused, Written}
+use Rattle.dds_match.specs.Plan.{network_of}
 use Rattle.dds_rules.specs.Counts.{count_at}
 use Rattle.dds_writer.specs.Writer.{Tells}
 use Rattle.dds_domain.specs.Standing.{HasWorld, PartsState}
@@ -12,7 +13,7 @@ use Rattle.dds_domain.specs.View.{view_of}
 use Rattle.dds_domain.proofs.Endpoints.{writes_within}
 use Rattle.dds_domain.proofs.Steps.{Steps, refused_kept, refused_now}
 use Rattle.dds_domain.proofs.StepWrite.{write_foreign, write_no_permit, writes_not, writes_one}
-use Rattle.dds_domain.proofs.parts.Parts.write.Goals.{After-unwrap, In-Err, in-Some, in-None}
+use Rattle.dds_domain.proofs.parts.Parts.write.Goals.{Joined-not-free-2, In-Err, in-Some, in-None, then-not-free-2, else-not-free-2, else-not-free-via-then-not-free+else-permits-eq0, else-not-free-via-else-not-free}
 use Rattle.dds_domain.proofs.parts.Parts.write.Goals as goal
 
 pub returns-then-not-writes_key-clause-steps : goal.returns-then-not-writes_key-clause-steps
@@ -24,7 +25,7 @@ pub returns-then-permits-eq0-clause-steps : goal.returns-then-permits-eq0-clause
 returns-then-permits-eq0-clause-steps c =
     let d : PartsState = view_of c.self.inside in
     let spent : count_at d.ledger.permits c.args.writer c.args.key ≡ 0 = search rules in
-    (refused_now (Write c.args.writer c.args.key c.args.payload) NoPermit d _ c.self.view_is (write_no_permit d c.args.writer c.args.key c.args.payload (sym c.if-not-writes_key.ensures) spent)).0
+    (refused_now (Write c.args.writer c.args.key c.args.payload) NoPermit d _ c.self.view_is (write_no_permit d c.args.writer c.args.key c.args.payload (sym c.if-not-writes_key.ensures) (sym c.if-not-free.ensures) spent)).0
 
 pub index_mut-requires : goal.index_mut-requires
 index_mut-requires c =
@@ -33,20 +34,28 @@ index_mut-requires c =
     search rules
 
 -- one sample more
-one : (c : After-unwrap) → Steps (Write c.args.writer c.args.key c.args.payload) c.args.self.now (Written c.in-Ok.sn) (record (view_of c.self.inside) { writers = set c.self.inside.writers.items c.number.result c.write.new.self; ledger = c.use_permit.new.self })
+one : (c : Joined-not-free-2) → Steps (Write c.args.writer c.args.key c.args.payload) c.args.self.now (Written c.in-Ok.sn) c.if-not-free-2.self
 one c =
-    let some : count_at (view_of c.self.inside).ledger.permits c.args.writer c.args.key ≢ 0 = search rules in
     let e = c.in-Ok.ensures in
-    writes_one (view_of c.self.inside) _ c.args.writer c.args.key _ c.args.payload _ _ c.self.view_is c.requires (sym c.if-not-writes_key.ensures) some c.number.ensures c.index_mut.ensures.value
-    c.in-Ok.sn c.use_permit.new.self e.ok e.number e.state (IfOk-at_ok _ c.unwrap.ensures c.use_permit.ensures.world c.args.payload)
+    let some : ((network_of (view_of c.self.inside).plan).free c.args.writer c.args.key ≡ true) ⊎ (count_at (view_of c.self.inside).ledger.permits c.args.writer c.args.key ≢ 0) =
+    elim c.else-not-free.branch [ else-not-free-via-then-not-free+else-permits-eq0 w ↦ inr (search rules) | else-not-free-via-else-not-free w ↦ inl (sym w.if-not-free.ensures) ] in
+    elim c.if-not-free-2.branch [
+      | then-not-free-2 w ↦ subst (Steps (Write c.args.writer c.args.key c.args.payload) c.args.self.now (Written c.in-Ok.sn)) (sym w.self-is)
+          (writes_one (view_of c.self.inside) _ c.args.writer c.args.key _ c.args.payload _ _ c.self.view_is c.requires (sym c.if-not-writes_key.ensures) some c.number.ensures c.index_mut.ensures.value
+          c.in-Ok.sn w.use_permit.new.self e.ok e.number e.state (inr (sym w.if-not-free-2.ensures, IfOk-at_ok _ w.unwrap.ensures w.use_permit.ensures.world c.args.payload)))
+      | else-not-free-2 w ↦ subst (Steps (Write c.args.writer c.args.key c.args.payload) c.args.self.now (Written c.in-Ok.sn)) (sym w.self-is)
+          (writes_one (view_of c.self.inside) _ c.args.writer c.args.key _ c.args.payload _ _ c.self.view_is c.requires (sym c.if-not-writes_key.ensures) some c.number.ensures c.index_mut.ensures.value
+          c.in-Ok.sn (view_of c.self.inside).ledger e.ok e.number e.state (inl (sym w.if-not-free-2.ensures, refl)))
+    ]
 
-pub returns-in-Ok-clause-steps : goal.returns-in-Ok-clause-steps
-returns-in-Ok-clause-steps c = (one (goal.at.returns-in-Ok-clause-steps c).After-unwrap).0
+pub returns-after-not-free-2-clause-steps : goal.returns-after-not-free-2-clause-steps
+returns-after-not-free-2-clause-steps c = (one c).0
 
 -- the writer refuses
 none : (c : In-Err) (refusal : Refusal) → Tells c.in-Err.why (Some refusal) → Steps (Write c.args.writer c.args.key c.args.payload) c.args.self.now (Refused refusal) (record (view_of c.self.inside) { writers = set c.self.inside.writers.items c.number.result c.write.new.self })
 none c refusal tells =
-    let some : count_at (view_of c.self.inside).ledger.permits c.args.writer c.args.key ≢ 0 = search rules in
+    let some : ((network_of (view_of c.self.inside).plan).free c.args.writer c.args.key ≡ true) ⊎ (count_at (view_of c.self.inside).ledger.permits c.args.writer c.args.key ≢ 0) =
+    elim c.else-not-free.branch [ else-not-free-via-then-not-free+else-permits-eq0 w ↦ inr (search rules) | else-not-free-via-else-not-free w ↦ inl (sym w.if-not-free.ensures) ] in
     let e = c.in-Err.ensures in
     writes_not (view_of c.self.inside) _ c.args.writer c.args.key _ c.args.payload _ _ c.self.view_is c.requires (sym c.if-not-writes_key.ensures) some c.number.ensures c.index_mut.ensures.value c.in-Err.why refusal e.refused tells e.err
 
@@ -61,8 +70,8 @@ returns-then-not-writes_key-clause-notes c = refused_kept c.args.self.now (Write
 pub returns-then-permits-eq0-clause-notes : goal.returns-then-permits-eq0-clause-notes
 returns-then-permits-eq0-clause-notes c = refused_kept c.args.self.now (Write c.args.writer c.args.key c.args.payload) NoPermit
 
-pub returns-in-Ok-clause-notes : goal.returns-in-Ok-clause-notes
-returns-in-Ok-clause-notes c = (one (goal.at.returns-in-Ok-clause-notes c).After-unwrap).1
+pub returns-after-not-free-2-clause-notes : goal.returns-after-not-free-2-clause-notes
+returns-after-not-free-2-clause-notes c = (one c).1
 
 pub returns-after-refusal_of-clause-notes : goal.returns-after-refusal_of-clause-notes
 returns-after-refusal_of-clause-notes c =

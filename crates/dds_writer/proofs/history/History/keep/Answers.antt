@@ -1,9 +1,6 @@
-use Rattle.std.proofs.Common.{◌+◌, rules}
+use Rattle.std.proofs.Common.{rules}
 use Rattle.dds_qos.proofs.KeySets.{keys_more}
 use Rattle.dds_writer.proofs.history.History.keep.Goals as goal
 
-pub returns-then-awaited-clause-keys : goal.returns-then-awaited-clause-keys
-returns-then-awaited-clause-keys c = keys_more c.args.self.now.counts c.insert.new.self c.args.sample.now.key (c.count-count.result + 1) (search rules)
-
 pub returns-clause-keys : goal.returns-clause-keys
-returns-clause-keys c = keys_more c.args.self.now.counts c.insert-2.new.self c.args.sample.now.key c.count-count.result (search rules)
+returns-clause-keys c = keys_more c.args.self.now.counts c.insert.new.self c.args.sample.now.key c.count-count.result (search rules)
