@@ -17,6 +17,8 @@ HERE = os.path.dirname(os.path.dirname(os.path.abspath(__file__)))
 PROGRAM = os.path.join(HERE, "crates", "ddscheck", "out", "ddscheck")
 CASES = os.path.join(HERE, "tools", "search-cases")
 OWED = {"certificate": ("safe", 0), "unsafe": ("unsafe", 1), "no run": ("unknown exhausted", 1)}
+# the first words of the reply that is a loss; of the other losses it is a rejection for that reason
+ENDS = {"Overwrote": ["overwrote"], "Lost": ["lost"]}
 
 
 def told(*words):
@@ -29,8 +31,8 @@ def fault_of_run(path, text):
     _, _, _, reason, count = head.split(" ")
     if int(count) != len(lines):
         return f"{len(lines)} lines in place of {count}"
-    end = lines[-1].split(" -> ")[1].split(" ")
-    if end[0] != ("overwrote" if reason == "Overwrote" else "rejected") or end[0] == "rejected" and end[1] != reason:
+    end, owed = lines[-1].split(" -> ")[1].split(" "), ENDS.get(reason, ["rejected", reason])
+    if end[: len(owed)] != owed:
         return f"the last reply is {' '.join(end)}"
     if any(" -> refused" in line for line in lines):
         return "an event is refused"

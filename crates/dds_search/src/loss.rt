@@ -2,7 +2,7 @@
 
 use dds_base::{Event, KeyNo, ReaderNo, Rejection, Reply};
 
-/// How a reliable reader lost a sample.
+/// How a strict reader, one that is no watcher, lost a sample.
 #[derive(Clone, Copy, Debug, PartialEq, Eq)]
 pub enum Loss {
     /// The cache was full, and rejected the arriving sample.
@@ -11,7 +11,7 @@ pub enum Loss {
     Overwrote,
 }
 
-/// A run at whose end a reliable reader loses a sample: each event with its reply. The last event delivers a sample of this key to this reader.
+/// A run at whose end a strict reader loses a sample: each event with its reply. The last event delivers a sample of this key to this reader.
 #[derive(Drop)]
 pub struct Counterexample {
     pub reader: ReaderNo,

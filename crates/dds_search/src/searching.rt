@@ -13,7 +13,7 @@ ghost use Rattle.dds_search.specs.Answers.{IsShownFor, IsShownLeast, IfCertifica
 use crate::answer::{Found, Least, Missing};
 use crate::attempt::{Attempt, Climber};
 use crate::collecting::Collected;
-use crate::limits::{Limited, limits_of};
+use crate::limits::{Limited, certified_limits};
 use crate::listing::{certificate_of, claim};
 use crate::net::Net;
 use crate::rows::cover;
@@ -111,7 +111,7 @@ fn add_limits(
 ) -> Result<Option<(Target, Least)>, NoMemory>
     ensures { IfOk result (λ missing. IfSome missing (λ m. IsShownLeast (network_of plan.now) m.0 m.1)) }
 {
-    let limits = limits_of(alloc, plan, &climber.net)?;
+    let limits = certified_limits(alloc, plan, &climber.net)?;
     for limited in &limits {
         if let Some(least) = add_limit(alloc, plan, climber, collected, limited)? {
             return Ok(Some((limited.target, least)));

@@ -9,8 +9,8 @@ ghost use Rattle.dds_deploy_file.specs.Document.{read as deployment_read};
 ghost use Rattle.dds_tool.specs.Searches.{MayFind, MayFindFor};
 
 use dds_answers::{Answer, Sources, ToolFault, certified, read_file, read_plan, structure_text};
-use dds_base::{NoMemory, ReaderNo};
-use dds_cert::naming::{name_at, reader_key};
+use dds_base::{KeyNo, NoMemory, ReaderNo, WriterNo};
+use dds_cert::naming::{name_at, reader_key, writer_key};
 use dds_check::No;
 use dds_match::Plan;
 use dds_propose::propose;
@@ -18,29 +18,82 @@ use dds_propose::targets::Target;
 use dds_search::{Found, Least, Missing, search};
 use std::alloc::Global;
 
-/// The name of the limit of a key of a reader: its depth where it keeps the last samples alone.
-fn instance_limit(plan: &Plan, reader: ReaderNo) -> &'static str {
+/// The limit of a key of a reader by its own policies, with its name: its depth where it keeps the last samples alone.
+fn own_limit(plan: &Plan, reader: ReaderNo) -> (&'static str, Option<u32>) {
     if reader.number() >= plan.lists().readers() {
-        return "the limit";
+        return ("the limit", None);
     }
-    match plan.reader_limits(reader).keep_last {
-        Some(_) => "the history depth",
-        None => "max_samples_per_instance",
+    let limits = plan.reader_limits(reader);
+    match limits.keep_last {
+        Some(depth) => ("the history depth", Some(depth)),
+        None => ("max_samples_per_instance", limits.max_samples_per_instance),
     }
 }
 
-/// The limit of a target, with the names of the reader and of the key.
-fn limit_text(alloc: Global, plan: &Plan, target: &Target) -> Result<String, NoMemory> {
-    let lists = plan.lists();
-    match target {
-        Target::Instance { reader, key } => {
-            let limit = instance_limit(plan, *reader);
-            let key = reader_key(lists, *reader, *key);
-            let reader = name_at(lists.reader_names(), reader.number());
-            format!(in alloc; "{limit} of {reader} {key}")
+/// How many samples of a key a writer keeps for a reader by KEEP_LAST. `None` where it keeps all, doesn't match the
+/// reader, or no rule writes the key.
+fn depth_for(plan: &Plan, writer: WriterNo, reader: ReaderNo, key: KeyNo) -> Option<u32> {
+    let is_there = writer.number() < plan.lists().writers();
+    if is_there && plan.matched(writer, reader) && plan.is_written(writer, key) {
+        plan.writer_limits(writer).keep_last
+    } else {
+        None
+    }
+}
+
+/// Whether a limit is lower than another, or the only one.
+fn is_lower(limit: u32, other: Option<u32>) -> bool {
+    match other {
+        Some(other) => limit < other,
+        None => true,
+    }
+}
+
+/// The first of the writers that keep the fewest samples of a key for a reader, where that is fewer than its own limit.
+fn lowest_writer(plan: &Plan, reader: ReaderNo, key: KeyNo, own: Option<u32>) -> Option<WriterNo> {
+    let mut lowest = own;
+    let mut found = None;
+    for w in 0..plan.lists().writers() {
+        let writer = WriterNo::new(w);
+        if let Some(depth) = depth_for(plan, writer, reader, key) {
+            if is_lower(depth, lowest) {
+                lowest = Some(depth);
+                found = Some(writer);
+            }
         }
-        Target::Reader(reader) => {
+    }
+    found
+}
+
+/// The limit of a key at a reader, with its names: the reader's own, or the depth of a writer where that is lower.
+fn instance_text(
+    alloc: Global,
+    plan: &Plan,
+    reader: ReaderNo,
+    key: KeyNo,
+) -> Result<String, NoMemory> {
+    let lists = plan.lists();
+    let (name, own) = own_limit(plan, reader);
+    match lowest_writer(plan, reader, key, own) {
+        Some(writer) => {
+            let key = writer_key(lists, writer, key);
+            let writer = name_at(lists.writer_names(), writer.number());
+            format!(in alloc; "the history depth of {writer} {key}")
+        }
+        None => {
+            let key = reader_key(lists, reader, key);
             let reader = name_at(lists.reader_names(), reader.number());
+            format!(in alloc; "{name} of {reader} {key}")
+        }
+    }
+}
+
+/// The limit of a target, with the names of the endpoint and of the key.
+fn limit_text(alloc: Global, plan: &Plan, target: &Target) -> Result<String, NoMemory> {
+    match target {
+        Target::Instance { reader, key } => instance_text(alloc, plan, *reader, *key),
+        Target::Reader(reader) => {
+            let reader = name_at(plan.lists().reader_names(), reader.number());
             format!(in alloc; "max_samples of {reader}")
         }
     }
