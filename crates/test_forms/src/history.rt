@@ -1,26 +1,15 @@
 //! The kept samples of a plain writer, in order of number.
 
-ghost use Rattle.std.specs.Prelude.{◌≡◌, ℕ, ◌+◌, ◌<◌, ◌≤◌, ◌==◌, cond, true, false, [], ◌∷◌, ◌++◌, length, MatchOption, vec_len, vec_capacity, position};
-ghost use Rattle.dds_base.specs.declared.sample.Sample.{Sample};
-ghost use Rattle.dds_qos.specs.Samples.{in_instance};
-ghost use Rattle.dds_qos.specs.Writing.{still_kept};
-ghost use Rattle.dds_writer.specs.Proxies.{bases_of, is_unsent, wants};
-ghost use Rattle.dds_writer.specs.History.{FollowOn, IsPlace, IsNowhere, IsRunStart, hears_at, is_silent_in};
+ghost use Rattle.std.specs.Prelude.{◌≡◌, ℕ, ◌<◌, ◌≤◌, ◌&&◌, nat_lt, cond, true, false, [], ◌∷◌, ◌++◌, MatchOption, vec_len, vec_capacity, position};
+ghost use Rattle.dds_qos.specs.Samples.{has_key, in_instance};
+ghost use Rattle.dds_qos.specs.Writing.{is_relevant_in, make_room, still_awaited};
+ghost use Rattle.dds_writer.specs.Proxies.{bases_of, hears, is_unsent, wants};
+ghost use Rattle.dds_writer.specs.History.{IsRunStart, is_found, is_silent_in};
 
 use crate::proxies::{MatchedReader, is_awaited};
-use dds_base::{KeyNo, Sample};
-
-// The place of the sample with the number.
-pub(crate) fn place_of(kept: &[Sample], sn: u64) -> Option<usize>
-    requires { FollowOn kept.now }
-    ensures { MatchOption result (IsNowhere kept.now sn) (IsPlace kept.now sn) }
-{
-    let first = kept.first()?.sn;
-    if sn < first || sn - first >= kept.len() as u64 {
-        return None;
-    }
-    Some((sn - first) as usize)
-}
+use dds_base::{KeyNo, Sample, WriterNo};
+use dds_qos::WriterLimits;
+use dds_qos::admission::is_reached;
 
 // How many have the key.
 pub(crate) fn count_of(kept: &[Sample], key: KeyNo) -> usize
@@ -29,37 +18,72 @@ pub(crate) fn count_of(kept: &[Sample], key: KeyNo) -> usize
     kept.iter().filter(|s| s.key == key).count()
 }
 
-// The first place from one on whose sample the reader takes, or the end.
-pub(crate) fn next_heard(kept: &[Sample], proxy: &MatchedReader, from: usize) -> usize
-    requires { from ≤ length kept.now }
-    ensures low { from ≤ result }
-    ensures high { result ≤ length kept.now }
-    ensures between { (i : ℕ) (d : Sample) → from ≤ i → i < result → hears_at proxy.now kept.now i d ≡ false }
-    ensures heard { (d : Sample) → result < length kept.now → hears_at proxy.now kept.now result d ≡ true }
+// The place of the first sample of the key.
+fn oldest_of(kept: &[Sample], key: KeyNo) -> Option<usize>
+    ensures { result ≡ position (has_key key) kept.now }
 {
-    for place in from..kept.len() {
-        if proxy.hears(kept[place].key) {
-            return place;
-        }
-    }
-    kept.len()
+    kept.iter().position(|s| s.key == key)
 }
 
-// The first place of the samples up to a place that the reader does not take, one after the other; the place itself where the
-// reader takes its sample.
-pub(crate) fn silent_from(kept: &[Sample], proxy: &MatchedReader, at: usize) -> usize
-    requires { at < length kept.now }
-    ensures high { result ≤ at }
-    ensures heard { (d : Sample) → hears_at proxy.now kept.now at d ≡ true → result ≡ at }
-    ensures silent { (i : ℕ) (d : Sample) → hears_at proxy.now kept.now at d ≡ false → result ≤ i → i ≤ at → hears_at proxy.now kept.now i d ≡ false }
-    ensures before { (i : ℕ) (d : Sample) → hears_at proxy.now kept.now at d ≡ false → result ≡ i + 1 → hears_at proxy.now kept.now i d ≡ true }
+// The place of the sample of the writer with the number, where the reader takes its key.
+pub(crate) fn place_of(
+    kept: &[Sample],
+    me: WriterNo,
+    proxy: &MatchedReader,
+    sn: u64,
+) -> Option<usize>
+    ensures { result ≡ position (is_found me sn proxy.now) kept.now }
 {
-    if proxy.hears(kept[at].key) {
-        return at;
+    kept.iter()
+        .position(|s| s.writer == me && s.sn == sn && proxy.hears(s.key))
+}
+
+// Whether a kept sample of the writer has the number, and the reader takes its key.
+pub(crate) fn is_relevant(kept: &[Sample], me: WriterNo, proxy: &MatchedReader, sn: u64) -> bool
+    ensures { result ≡ is_relevant_in (hears proxy.now) kept.now me sn }
+{
+    kept.iter()
+        .any(|s| s.writer == me && s.sn == sn && proxy.hears(s.key))
+}
+
+// The first place of a sample with a greater number whose key the reader takes.
+pub(crate) fn next_heard(kept: &[Sample], proxy: &MatchedReader, start: u64) -> Option<usize>
+    ensures { result ≡ position (λ s. nat_lt start s.sn && hears proxy.now s.key) kept.now }
+{
+    kept.iter().position(|s| start < s.sn && proxy.hears(s.key))
+}
+
+// Whether a number is written and none below the least awaited one, and no sample of it is kept whose key the reader takes.
+fn is_silent(
+    kept: &[Sample],
+    me: WriterNo,
+    low: u64,
+    written: u64,
+    proxy: &MatchedReader,
+    sn: u64,
+) -> bool
+    ensures { result ≡ is_silent_in kept.now me low written proxy.now sn }
+{
+    1 <= sn && sn <= written && low <= sn && !is_relevant(kept, me, proxy, sn)
+}
+
+// The least number of an unbroken run of silent numbers up to a number; the number itself where there is no such run.
+pub(crate) fn first_silent(
+    kept: &[Sample],
+    me: WriterNo,
+    low: u64,
+    written: u64,
+    proxy: &MatchedReader,
+    sn: u64,
+) -> u64
+    ensures { IsRunStart (is_silent_in kept.now me low written proxy.now) sn result }
+{
+    if !is_silent(kept, me, low, written, proxy, sn) {
+        return sn;
     }
-    let mut from = at;
+    let mut from = sn;
     while from > 0 {
-        if proxy.hears(kept[from - 1].key) {
+        if !is_silent(kept, me, low, written, proxy, from - 1) {
             return from;
         }
         from -= 1;
@@ -67,23 +91,23 @@ pub(crate) fn silent_from(kept: &[Sample], proxy: &MatchedReader, at: usize) -> 
     from
 }
 
-// The least number of an unbroken run of samples up to a number that the reader does not take; the number itself where there is
-// no such run.
-pub(crate) fn first_silent(kept: &[Sample], proxy: &MatchedReader, sn: u64) -> u64
-    requires { FollowOn kept.now }
-    ensures { IsRunStart (is_silent_in kept.now proxy.now) sn result }
+// The first number from one on that a reader wants, up to the last.
+pub(crate) fn next_wanted(proxy: &MatchedReader, from: u64, written: u64) -> Option<u64>
+    ensures { MatchOption result
+        ((n : ℕ) → from ≤ n → n ≤ written → wants proxy.now n ≡ false)
+        (λ m. (from ≤ m) × (m ≤ written) × (wants proxy.now m ≡ true) × ((n : ℕ) → from ≤ n → n < m → wants proxy.now n ≡ false)) }
 {
-    match place_of(kept, sn) {
-        Some(at) => sn - (at - silent_from(kept, proxy, at)) as u64,
-        None => sn,
+    let mut n = from;
+    while n <= written {
+        if proxy.wants(n) {
+            return Some(n);
+        }
+        if n == written {
+            return None;
+        }
+        n += 1;
     }
-}
-
-// The first place whose sample the reader is to be sent.
-pub(crate) fn next_wanted(kept: &[Sample], proxy: &MatchedReader) -> Option<usize>
-    ensures { result ≡ position (λ s. wants proxy.now s.sn) kept.now }
-{
-    kept.iter().position(|s| proxy.wants(s.sn))
+    None
 }
 
 // The first place whose sample a watcher is to be sent.
@@ -93,11 +117,24 @@ pub(crate) fn next_unsent(kept: &[Sample], proxy: &MatchedReader) -> Option<usiz
     kept.iter().position(|s| proxy.is_unsent(s.key, s.sn))
 }
 
-// Takes out what every reliable reader acknowledged.
+// Takes out what every strict reader acknowledged.
 pub(crate) fn trim(kept: &mut Vec<Sample>, proxies: &[MatchedReader])
-    ensures { kept.new.items ≡ still_kept (bases_of proxies.now) kept.old.items }
+    ensures { kept.new.items ≡ still_awaited (bases_of proxies.now) kept.old.items }
 {
     kept.retain(|s| is_awaited(proxies, s.sn));
+}
+
+// Takes out the oldest sample of the key, where as many of the key are kept as the depth of KEEP_LAST.
+pub(crate) fn make_room(kept: &mut Vec<Sample>, key: KeyNo, limits: &WriterLimits)
+    ensures kept { kept.new.items ≡ make_room limits.now key kept.old.items }
+    ensures room { vec_capacity kept.new ≡ vec_capacity kept.old }
+    ensures size { vec_len kept.new ≤ vec_len kept.old }
+{
+    if is_reached(limits.keep_last, count_of(kept, key)) {
+        if let Some(at) = oldest_of(kept, key) {
+            kept.remove(at);
+        }
+    }
 }
 
 // Adds a sample where some reader awaits it.

@@ -3,11 +3,11 @@
 ghost use Rattle.std.specs.Prelude.{◌≡◌, ◌≤◌, ◌&&◌, not, cond, leb, map, Some, None, IsTrue, IfOk};
 ghost use Rattle.dds_base.specs.Sets.{has, set_of, last_number};
 ghost use Rattle.dds_qos.specs.Writing.{is_awaited};
-ghost use Rattle.dds_writer.specs.Proxies.{is_of, is_matched, is_watched, is_unsent, proxy_of, bases_of, awaits, hears, wants, opening_proxy, after_acknack, after_message};
-ghost use Rattle.dds_writer.specs.History.{FollowOn, is_silent_in};
+ghost use Rattle.dds_writer.specs.Proxies.{is_of, is_matched, is_watched, is_unsent, proxy_of, bases_of, lowest, awaits, hears, wants, opening_proxy, after_acknack, after_message};
+ghost use Rattle.dds_writer.specs.History.{is_silent_in};
 
 use crate::history::first_silent;
-use dds_base::{KeyNo, NoMemory, ReaderNo, Sample, SnSet};
+use dds_base::{KeyNo, NoMemory, ReaderNo, Sample, SnSet, WriterNo};
 use dds_writer::Proxy;
 use std::alloc::Global;
 use std::marker::Model;
@@ -68,7 +68,7 @@ impl MatchedReader {
         self.watcher
     }
 
-    // Whether the reader is reliable and has not acknowledged the number.
+    // Whether the reader is strict and has not acknowledged the number.
     fn awaits(&self, n: u64) -> bool
         ensures { result ≡ awaits self.now n }
     {
@@ -89,7 +89,7 @@ impl MatchedReader {
         self.filter.iter().any(|k| *k == key)
     }
 
-    // Whether a kept number is to be sent: not acknowledged, and asked for or never sent.
+    // Whether a pending number is to be sent: not acknowledged, and asked for or never sent.
     pub(crate) fn wants(&self, n: u64) -> bool
         ensures { result ≡ wants self.now n }
     {
@@ -97,18 +97,25 @@ impl MatchedReader {
     }
 
     // A message went to a reader, up to a number.
-    fn note_sent(&mut self, reader: ReaderNo, kept: &[Sample], sn: u64)
-        requires { FollowOn kept.now }
-        ensures { self.new ≡ after_message reader (is_silent_in kept.now) sn self.old }
+    fn note_sent(
+        &mut self,
+        reader: ReaderNo,
+        kept: &[Sample],
+        me: WriterNo,
+        low: u64,
+        written: u64,
+        sn: u64,
+    )
+        ensures { self.new ≡ after_message reader (is_silent_in kept.now me low written) sn self.old }
     {
         if self.reader == reader {
-            let from = first_silent(kept, self, sn);
+            let from = first_silent(kept, me, low, written, self, sn);
             self.sent = self.sent.max(sn);
             self.asked = without(&self.asked, from, sn);
         }
     }
 
-    // An ACKNACK of a reliable reader came: its base counts where it is neither below the held one nor above the next number.
+    // An ACKNACK of a strict reader came: its base counts where it is neither below the held one nor above the next number.
     fn acknowledge(&mut self, reader: ReaderNo, set: &SnSet, written: u64)
         requires { written ≤ last_number }
         ensures { self.new ≡ after_acknack reader set.now written self.old }
@@ -121,11 +128,29 @@ impl MatchedReader {
     }
 }
 
-// Whether some reliable reader has not acknowledged the number.
+// Whether some strict reader has not acknowledged the number.
 pub(crate) fn is_awaited(proxies: &[MatchedReader], n: u64) -> bool
     ensures { result ≡ is_awaited (bases_of proxies.now) n }
 {
     proxies.iter().any(|p| p.awaits(n))
+}
+
+// The least base of a strict reader, or else the next number.
+pub(crate) fn lowest(proxies: &[MatchedReader], written: u64) -> u64
+    requires { written ≤ last_number }
+    ensures { result ≡ lowest written (bases_of proxies.now) }
+{
+    match proxies {
+        [] => written + 1,
+        [first, rest @ ..] => {
+            let least = lowest(rest, written);
+            if first.is_watcher() || least < first.base() {
+                least
+            } else {
+                first.base()
+            }
+        }
+    }
 }
 
 // Whether some reader is a watcher.
@@ -211,11 +236,18 @@ pub(crate) fn acknowledge(
 }
 
 // A message went to the reader, up to a number.
-pub(crate) fn note_sent(proxies: &mut [MatchedReader], reader: ReaderNo, kept: &[Sample], sn: u64)
-    requires { FollowOn kept.now }
-    ensures { proxies.new ≡ map (after_message reader (is_silent_in kept.now) sn) proxies.old }
+pub(crate) fn note_sent(
+    proxies: &mut [MatchedReader],
+    reader: ReaderNo,
+    kept: &[Sample],
+    me: WriterNo,
+    low: u64,
+    written: u64,
+    sn: u64,
+)
+    ensures { proxies.new ≡ map (after_message reader (is_silent_in kept.now me low written) sn) proxies.old }
 {
     for proxy in proxies.iter_mut() {
-        proxy.note_sent(reader, kept, sn);
+        proxy.note_sent(reader, kept, me, low, written, sn);
     }
 }

@@ -79,7 +79,7 @@ fn admit(world: &mut World, reader: ReaderNo, sample: &Sample) -> Result<Arrival
     Ok(arrival_of(&answer))
 }
 
-/// Whether the DATA of a number came before: at a reliable reader the number is marked, at a watcher it is below the base.
+/// Whether the DATA of a number came before: at a strict reader the number is marked, at a watcher it is below the base.
 fn is_repeat(world: &World, reader: ReaderNo, writer: WriterNo, sn: u64) -> bool {
     if world.layout.is_watcher(reader) {
         sn < world.base(reader, writer)

@@ -56,10 +56,18 @@ impl World {
         }
     }
 
+    /// The permits of a key that writes used up so far: one each, and none where they are free.
+    fn used(&self, writer: WriterNo, key: KeyNo) -> u128 {
+        if self.layout.is_free(writer, key) {
+            return 0;
+        }
+        self.entries(writer).iter().filter(|e| e.key == key).count() as u128
+    }
+
     /// The permits that a writer has left for a key.
     pub fn permits(&self, writer: WriterNo, key: KeyNo) -> u128 {
-        let used = self.entries(writer).iter().filter(|e| e.key == key).count();
-        self.given(writer, key).saturating_sub(used as u128)
+        self.given(writer, key)
+            .saturating_sub(self.used(writer, key))
     }
 
     /// The takes of a key at a reader that no firing has used up.

@@ -22,7 +22,7 @@ pub struct ReaderLayout {
     /// The keys that it takes.
     pub filter: Vec<KeyNo>,
     pub limits: ReaderLimits,
-    /// Whether it is best-effort: no writer waits for it.
+    /// Whether it is best-effort, or may lose: no writer waits for it.
     pub watcher: bool,
 }
 
@@ -34,6 +34,8 @@ pub struct RuleLayout {
     /// The permits that each start and each firing gives.
     pub gives: Vec<Portion<WriterNo>>,
     pub start: u16,
+    /// Whether what it names may be written without a permit, at any time.
+    pub free: bool,
 }
 
 /// A deployment.
@@ -42,6 +44,17 @@ pub struct Layout {
     pub writers: Vec<WriterLayout>,
     pub readers: Vec<ReaderLayout>,
     pub rules: Vec<RuleLayout>,
+}
+
+impl RuleLayout {
+    /// Whether the rule is free, and names the key at the writer.
+    fn frees(&self, writer: WriterNo, key: KeyNo) -> bool {
+        self.free
+            && self
+                .gives
+                .iter()
+                .any(|e| e.endpoint == writer && e.key == key)
+    }
 }
 
 impl Layout {
@@ -61,7 +74,7 @@ impl Layout {
         }
     }
 
-    /// Whether they match and the reader is reliable: the writer waits for what it acknowledges.
+    /// Whether they match and the reader is strict, no watcher: the writer waits for what it acknowledges.
     pub fn follows(&self, writer: WriterNo, reader: ReaderNo) -> bool {
         self.matched(writer, reader) && !self.is_watcher(reader)
     }
@@ -82,11 +95,17 @@ impl Layout {
         }
     }
 
+    /// Whether writes of the key at the writer use no permit: some free rule names them.
+    pub fn is_free(&self, writer: WriterNo, key: KeyNo) -> bool {
+        self.rules.iter().any(|rule| rule.frees(writer, key))
+    }
+
     /// The limits of a writer, none where there is no such writer.
     pub fn writer_limits(&self, writer: WriterNo) -> WriterLimits {
         match self.writers.get(writer.number()) {
             Some(layout) => layout.limits,
             None => WriterLimits {
+                keep_last: None,
                 max_samples: None,
                 max_instances: None,
                 max_samples_per_instance: None,

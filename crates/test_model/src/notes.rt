@@ -8,9 +8,9 @@ use dds_base::{Event, NoMemory, ReaderNo, WriterNo};
 use dds_qos::Due;
 
 impl World {
-    /// Whether a number is kept, and its key isn't in the reader's filter.
+    /// Whether a number is pending, and the reader won't get it: it is dropped, or its key isn't in the reader's filter.
     fn is_silent(&self, writer: WriterNo, reader: ReaderNo, sn: u64) -> bool {
-        self.is_kept(writer, sn) && !self.is_relevant(writer, reader, sn)
+        self.is_pending(writer, sn) && !self.is_offered(writer, reader, sn)
     }
 
     /// Whether all numbers from one to another are silent.
@@ -26,11 +26,11 @@ impl World {
         }
     }
 
-    /// Whether a number is to be sent to a reliable reader: kept, not acknowledged, and asked for or never sent.
+    /// Whether a number is to be sent to a strict reader: pending, not acknowledged, and asked for or never sent.
     fn is_due(&self, writer: WriterNo, reader: ReaderNo, sn: u64) -> bool {
         match self.for_reader(writer, reader) {
             Some(held) => {
-                self.is_kept(writer, sn)
+                self.is_pending(writer, sn)
                     && held.acked <= sn
                     && (held.sent < sn || has(&held.asked, sn))
             }
@@ -65,14 +65,14 @@ impl World {
         if self.layout.is_watcher(reader) {
             return self.watch_due(writer, reader);
         }
-        self.reliable_due(writer, reader)
+        self.strict_due(writer, reader)
     }
 
-    /// What a writer is to send a reliable reader next.
-    fn reliable_due(&self, writer: WriterNo, reader: ReaderNo) -> Option<Due> {
+    /// What a writer is to send a strict reader next.
+    fn strict_due(&self, writer: WriterNo, reader: ReaderNo) -> Option<Due> {
         for sn in 1..=self.written(writer) {
             if self.is_due(writer, reader, sn) {
-                if self.is_relevant(writer, reader, sn) {
+                if self.is_offered(writer, reader, sn) {
                     return Some(Due::Data(sn));
                 }
                 return Some(Due::Gap(sn));

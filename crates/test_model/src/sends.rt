@@ -15,22 +15,22 @@ fn data(world: &World, writer: WriterNo, reader: ReaderNo, sn: u64) -> Option<Pa
     Some(Packet::Data(message))
 }
 
-/// The first number after this one that is relevant to the reader or unwritten.
+/// The first number after this one that the reader may still get, or that is unwritten.
 pub(crate) fn gap_end(world: &World, writer: WriterNo, reader: ReaderNo, start: u64) -> u64 {
     for sn in start..world.written(writer) {
-        if world.is_relevant(writer, reader, sn + 1) {
+        if world.is_offered(writer, reader, sn + 1) {
             return sn + 1;
         }
     }
     world.written(writer).saturating_add(1)
 }
 
-/// The GAP from a number on. None where the reader is a watcher, or the number isn't kept or is relevant.
+/// The GAP from a number on. None where the reader is a watcher, or no matched strict reader awaits the number, or the reader may still get it.
 fn gap(world: &World, writer: WriterNo, reader: ReaderNo, start: u64) -> Option<Packet> {
     if world.layout.is_watcher(reader) {
         return None;
     }
-    if !world.is_kept(writer, start) || world.is_relevant(writer, reader, start) {
+    if !world.is_pending(writer, start) || world.is_offered(writer, reader, start) {
         return None;
     }
     let set = SnSet::new(gap_end(world, writer, reader, start), &[])?;
@@ -125,7 +125,7 @@ pub(crate) fn send_gap(world: &mut World, writer: WriterNo, reader: ReaderNo, st
     send_some(world, packet)
 }
 
-/// A writer sends its HEARTBEAT. It always has one for a reliable reader.
+/// A writer sends its HEARTBEAT. It always has one for a strict reader.
 pub(crate) fn send_heartbeat(world: &mut World, writer: WriterNo, reader: ReaderNo) -> Reply {
     if !world.layout.matched(writer, reader) {
         return Reply::Refused(Refusal::Foreign);
@@ -134,7 +134,7 @@ pub(crate) fn send_heartbeat(world: &mut World, writer: WriterNo, reader: Reader
     send_some(world, packet)
 }
 
-/// A reader sends its ACKNACK. A reliable one always has one.
+/// A reader sends its ACKNACK. A strict one always has one.
 pub(crate) fn send_acknack(
     world: &mut World,
     reader: ReaderNo,

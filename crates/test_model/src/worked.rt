@@ -18,6 +18,8 @@ pub enum Stage {
     Watched,
     /// As `Small(3)`, but the reader is a watcher.
     WatcherAlone,
+    /// As `Small(3)`, but the writer keeps the last two samples of an instance.
+    KeepsLast,
     /// Two writers and two readers. Rule 0 takes one of reader 1 and writes two of writer 0, which it may do twice at first. Rule 1 takes
     /// two of reader 0 and writes one of writer 1. The readers take four and two samples of an instance.
     Loop,
@@ -356,6 +358,76 @@ const WATCHER_ALONE: &[(Move, Told)] = &[
     (Move::Take(0, 0), Told::Took(2, 12)),
 ];
 
+/// A writer that keeps the last two samples drops the first one. A GAP tells of it, so that no HEARTBEAT makes the reader give it up.
+const DROPPED: &[(Move, Told)] = &[
+    (Move::Write(0, 0, 11), Told::Written(1)),
+    (Move::Write(0, 0, 12), Told::Written(2)),
+    (Move::Kept(0), Told::Number(2)),
+    (Move::Write(0, 0, 13), Told::Written(3)),
+    (Move::Kept(0), Told::Number(2)),
+    (
+        Move::SendData(0, 0, 1),
+        Told::Refused(Refusal::NothingToSend),
+    ),
+    (Move::SendHeartbeat(0, 0), Told::Sent(0)),
+    (Move::Look(0), Told::Heartbeat(2, 3)),
+    (Move::SendGap(0, 0, 1), Told::Sent(1)),
+    (Move::Look(1), Told::Gap(1, 2)),
+    (
+        Move::SendGap(0, 0, 2),
+        Told::Refused(Refusal::NothingToSend),
+    ),
+    (Move::Deliver(1, false), Told::Irrelevant(1)),
+    (Move::Deliver(0, false), Told::Heard),
+    (Move::SendData(0, 0, 2), Told::Sent(0)),
+    (Move::Deliver(0, false), Told::New),
+    (Move::Take(0, 0), Told::Took(2, 12)),
+    (Move::SendAckNack(0, 0), Told::Sent(0)),
+    (Move::Look(0), Told::Asks(3, 3)),
+    (Move::Deliver(0, false), Told::Acked),
+    (Move::Acked(0, 0), Told::Number(3)),
+    (Move::Kept(0), Told::Number(1)),
+    (
+        Move::SendGap(0, 0, 1),
+        Told::Refused(Refusal::NothingToSend),
+    ),
+    (Move::SendData(0, 0, 3), Told::Sent(0)),
+    (Move::Deliver(0, false), Told::New),
+    (Move::Take(0, 0), Told::Took(3, 13)),
+];
+
+/// A reader gives up the dropped sample where a HEARTBEAT comes before its DATA, which then is a repeat.
+const LOST: &[(Move, Told)] = &[
+    (Move::Write(0, 0, 11), Told::Written(1)),
+    (Move::SendData(0, 0, 1), Told::Sent(0)),
+    (Move::Write(0, 0, 12), Told::Written(2)),
+    (Move::Write(0, 0, 13), Told::Written(3)),
+    (Move::SendHeartbeat(0, 0), Told::Sent(1)),
+    (Move::SendData(0, 0, 2), Told::Sent(2)),
+    (Move::Deliver(2, false), Told::New),
+    (Move::Take(0, 0), Told::Refused(Refusal::Empty)),
+    (Move::Deliver(1, false), Told::Lost(1)),
+    (Move::Take(0, 0), Told::Took(2, 12)),
+    (Move::Deliver(0, false), Told::Repeat),
+    (Move::SendGap(0, 0, 1), Told::Sent(0)),
+    (Move::Deliver(0, false), Told::Irrelevant(0)),
+    (Move::Stored(0), Told::Number(0)),
+];
+
+/// The runs of writers with KEEP_LAST, which no checked deployment of versions 1 and 2 has.
+pub static KEEP_LAST_RUNS: [Run; 2] = [
+    Run {
+        about: "a GAP tells of a dropped sample",
+        stage: Stage::KeepsLast,
+        moves: DROPPED,
+    },
+    Run {
+        about: "a reader gives up a dropped sample",
+        stage: Stage::KeepsLast,
+        moves: LOST,
+    },
+];
+
 /// The worked runs.
 pub static RUNS: [Run; 8] = [
     Run {
@@ -389,12 +461,12 @@ pub static RUNS: [Run; 8] = [
         moves: HALF,
     },
     Run {
-        about: "a watcher beside a reliable reader",
+        about: "a watcher beside a strict reader",
         stage: Stage::Watched,
         moves: WATCHED,
     },
     Run {
-        about: "a watcher and no reliable reader",
+        about: "a watcher and no strict reader",
         stage: Stage::WatcherAlone,
         moves: WATCHER_ALONE,
     },

@@ -13,12 +13,12 @@ fn is_one_key_too_many(world: &World, writer: WriterNo, key: KeyNo) -> Result<bo
     Ok(is_reached(limit, keys.len()) && !keys.iter().any(|k| *k == key))
 }
 
-/// Why a write is refused: the first reason.
+/// Why a write is refused: the first reason. Where KEEP_LAST's depth of the key is kept, the sample takes the place of the oldest of them.
 fn refusal(world: &World, writer: WriterNo, key: KeyNo) -> Result<Option<Refusal>, NoMemory> {
     if !world.layout.writes_key(writer, key) {
         return Ok(Some(Refusal::Foreign));
     }
-    if world.permits(writer, key) == 0 {
+    if !world.layout.is_free(writer, key) && world.permits(writer, key) == 0 {
         return Ok(Some(Refusal::NoPermit));
     }
     if world.written(writer) >= LAST_NUMBER {
@@ -29,10 +29,14 @@ fn refusal(world: &World, writer: WriterNo, key: KeyNo) -> Result<Option<Refusal
     }
     let limits = world.layout.writer_limits(writer);
     let kept = world.kept(writer)?;
+    let of_key = count_of(&kept, key);
+    if is_reached(limits.keep_last, of_key) {
+        return Ok(None);
+    }
     if is_reached(limits.max_samples, kept.len()) {
         return Ok(Some(Refusal::Full));
     }
-    if is_reached(limits.max_samples_per_instance, count_of(&kept, key)) {
+    if is_reached(limits.max_samples_per_instance, of_key) {
         return Ok(Some(Refusal::InstanceFull));
     }
     Ok(None)

@@ -3,6 +3,7 @@
 ghost use Rattle.std.specs.Prelude.{◌≡◌};
 ghost use Rattle.dds_qos.specs.Samples.{in_instance};
 
+use crate::layout::is_reached;
 use crate::world::World;
 use dds_base::{KeyNo, NoMemory, ReaderNo, Sample, WriterNo};
 
@@ -44,7 +45,7 @@ impl World {
         })
     }
 
-    /// Whether some reliable reader that matches the writer has not acknowledged the number.
+    /// Whether some strict reader that matches the writer has not acknowledged the number.
     fn is_awaited(&self, writer: WriterNo, sn: u64) -> bool {
         match self.layout.writers.get(writer.number()) {
             Some(layout) => layout.readers.iter().any(|r| !self.layout.is_watcher(*r)
@@ -53,9 +54,31 @@ impl World {
         }
     }
 
-    /// Whether a number is written, and some matched reliable reader has not acknowledged it.
-    pub(crate) fn is_kept(&self, writer: WriterNo, sn: u64) -> bool {
+    /// Whether a number is written, and some matched strict reader has not acknowledged it.
+    pub(crate) fn is_pending(&self, writer: WriterNo, sn: u64) -> bool {
         1 <= sn && sn <= self.written(writer) && self.is_awaited(writer, sn)
+    }
+
+    /// How many samples of a key are written after a number.
+    fn count_after(&self, writer: WriterNo, sn: u64, key: KeyNo) -> usize {
+        let later = self.entries(writer).iter().skip(sn as usize);
+        later.filter(|e| e.key == key).count()
+    }
+
+    /// Whether the writer dropped a number: by KEEP_LAST, once as many later samples of its key are written as the depth.
+    fn is_dropped(&self, writer: WriterNo, sn: u64) -> bool {
+        match self.sample(writer, sn) {
+            Some(sample) => is_reached(
+                self.layout.writer_limits(writer).keep_last,
+                self.count_after(writer, sn, sample.key),
+            ),
+            None => false,
+        }
+    }
+
+    /// Whether a number is kept: it is pending, and not dropped.
+    pub(crate) fn is_kept(&self, writer: WriterNo, sn: u64) -> bool {
+        self.is_pending(writer, sn) && !self.is_dropped(writer, sn)
     }
 
     /// Whether a number is the last one written.
@@ -82,7 +105,7 @@ impl World {
     /// The samples that a writer keeps, in order of number.
     pub fn kept(&self, writer: WriterNo) -> Result<Vec<Sample>, NoMemory> {
         let mut kept = self.history(writer)?;
-        kept.retain(|s| self.is_awaited(writer, s.sn));
+        kept.retain(|s| self.is_kept(writer, s.sn));
         Ok(kept)
     }
 
@@ -92,5 +115,10 @@ impl World {
             Some(sample) => self.layout.hears(reader, sample.key),
             None => false,
         }
+    }
+
+    /// Whether a reader may still get a number: it is relevant, and not dropped.
+    pub(crate) fn is_offered(&self, writer: WriterNo, reader: ReaderNo, sn: u64) -> bool {
+        self.is_relevant(writer, reader, sn) && !self.is_dropped(writer, sn)
     }
 }

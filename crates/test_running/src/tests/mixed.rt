@@ -4,7 +4,7 @@ use crate::tests::chance::Chance;
 use crate::tests::comparing::{Both, expect_same};
 use crate::tests::plans::{NO_MEMORY, plan_of};
 use crate::tests::seen::{Kind, kind_of};
-use crate::tests::texts::{FILTERED, LAST, WATCHED};
+use crate::tests::texts::{DROPPING, FIELD, FILTERED, LAST, WATCHED};
 use dds_match::Plan;
 use std::alloc::Global;
 use std::process::Abort;
@@ -97,6 +97,26 @@ fn the_last_one_or_two(rt: HostRuntime) {
 fn a_reader_and_two_watchers(rt: HostRuntime) {
     let wanted = [Kind::Overwrote, Kind::SamplesLimit, Kind::Full];
     expect_kinds(&rt, rt.alloc(), WATCHED, &wanted);
+}
+
+#[test]
+fn writers_of_the_last_one_or_two(rt: HostRuntime) {
+    let wanted = [Kind::Lost, Kind::Irrelevant, Kind::Full, Kind::Overwrote];
+    expect_kinds(&rt, rt.alloc(), DROPPING, &wanted);
+}
+
+#[test]
+fn a_system_of_the_field(rt: HostRuntime) {
+    expect_kinds(&rt, rt.alloc(), FIELD, &[Kind::NoPermit]);
+}
+
+// With more permits than samples are written.
+#[test]
+fn a_system_of_the_field_with_permits(rt: HostRuntime) {
+    let alloc = rt.alloc();
+    let text = FIELD.replace(alloc, "start = 3", "start = 12");
+    let text = text.expect(&rt, NO_MEMORY);
+    expect_kinds(&rt, alloc, text.as_str(), &[Kind::Fired, Kind::Overwrote]);
 }
 
 #[test]

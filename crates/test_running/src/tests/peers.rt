@@ -81,14 +81,15 @@ impl Peers {
         if !plan.writes_key(writer, key) {
             return Ok(Reply::Refused(Refusal::Foreign));
         }
-        if self.accounts.ledger.permits(writer, key) == 0 {
+        let free = plan.is_free(writer, key);
+        if !free && self.accounts.ledger.permits(writer, key) == 0 {
             return Ok(Reply::Refused(Refusal::NoPermit));
         }
         let Some(speaker) = self.writers.get_mut(writer.number()) else {
             return Ok(Reply::Refused(Refusal::Foreign));
         };
         let reply = speaker.write(key, payload)?;
-        if let Reply::Written(_) = reply {
+        if !free && matches!(reply, Reply::Written(_)) {
             self.accounts.use_permit(writer, key);
         }
         Ok(reply)

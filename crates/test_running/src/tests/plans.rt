@@ -107,6 +107,7 @@ fn rule_layout(rt: &impl Abort, alloc: Global, plan: &Plan, rule: RuleNo) -> Rul
         needs: Vec::from_slice(alloc, &rule.takes).expect(rt, NO_MEMORY),
         gives: Vec::from_slice(alloc, &rule.writes).expect(rt, NO_MEMORY),
         start: rule.start,
+        free: rule.free,
     }
 }
 

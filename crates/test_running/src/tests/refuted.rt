@@ -2,6 +2,7 @@
 
 use crate::tests::comparing::expect_step;
 use crate::tests::plans::{NO_MEMORY, plan_of, world_of};
+use crate::tests::texts::CLOCK;
 use dds_match::Plan;
 use dds_search::{Counterexample, Refutation, refute};
 use std::alloc::Global;
@@ -46,6 +47,23 @@ fn a_run_of_a_loop_is_one_of_the_plain_world(rt: HostRuntime) {
         alloc,
         "reader = \"ra\", key = \"k\", count = 2",
         "reader = \"ra\", key = \"k\", count = 1",
+    );
+    let text = text.expect(&rt, NO_MEMORY);
+    assert!(rt; expect_refuted(&rt, alloc, text.as_str()));
+}
+
+/// A reader of the answers to what is written without permits overflows, and so does one of that itself, where it has a limit.
+#[test]
+fn free_writes_are_more_than_a_reader_takes(rt: HostRuntime) {
+    let alloc = rt.alloc();
+    assert!(rt; expect_refuted(&rt, alloc, CLOCK));
+    let text = CLOCK.replace(alloc, "max_samples_per_instance = 2", "max_instances = 1");
+    let text = text.expect(&rt, NO_MEMORY);
+    assert!(rt; !expect_refuted(&rt, alloc, text.as_str()));
+    let text = text.as_str().replace(
+        alloc,
+        "topic = \"scan\", reliability = \"RELIABLE\", history = \"KEEP_ALL\"",
+        "topic = \"scan\", reliability = \"RELIABLE\", history = \"KEEP_ALL\", max_samples = 3",
     );
     let text = text.expect(&rt, NO_MEMORY);
     assert!(rt; expect_refuted(&rt, alloc, text.as_str()));

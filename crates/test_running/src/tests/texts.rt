@@ -83,6 +83,45 @@ writes = [{ writer = "w", key = "a", count = 1 }, { writer = "w", key = "b", cou
 start = 100
 "#;
 
+/// Writers that keep the last two samples of a key, three in all, and the last one of each, with a reader of both keys, one of a alone and a
+/// watcher that stores the last sample of each.
+pub(crate) const DROPPING: &str = r#"version = 1
+participants = [{ name = "p", domain = 0 }, { name = "q", domain = 0 }]
+topics = [{ name = "t", type = "Num", keys = ["a", "b"] }]
+writers = [
+  { name = "two", participant = "p", topic = "t", history = "KEEP_LAST", depth = 2, max_samples = 3 },
+  { name = "one", participant = "p", topic = "t", history = "KEEP_LAST", depth = 1 },
+]
+readers = [
+  { name = "r", participant = "q", topic = "t", reliability = "RELIABLE", history = "KEEP_ALL" },
+  { name = "r2", participant = "q", topic = "t", filter = ["a"], reliability = "RELIABLE", history = "KEEP_ALL" },
+  { name = "last", participant = "q", topic = "t", reliability = "BEST_EFFORT", history = "KEEP_LAST", depth = 1 },
+]
+applications = [
+  { name = "aw", participant = "p", writers = ["two", "one"] },
+  { name = "ar", participant = "q", readers = ["r", "r2", "last"] },
+]
+connections = [
+  { writer = "two", reader = "r" },
+  { writer = "two", reader = "r2" },
+  { writer = "two", reader = "last" },
+  { writer = "one", reader = "r" },
+  { writer = "one", reader = "r2" },
+  { writer = "one", reader = "last" },
+]
+
+[[rules]]
+name = "seed"
+application = "aw"
+writes = [
+  { writer = "two", key = "a", count = 1 },
+  { writer = "two", key = "b", count = 1 },
+  { writer = "one", key = "a", count = 1 },
+  { writer = "one", key = "b", count = 1 },
+]
+start = 100
+"#;
+
 /// An application writes again what it takes, of three samples at first. Two watchers look on: one stores the last sample, the other one
 /// sample.
 pub(crate) const AGAIN: &str = r#"version = 1
@@ -106,4 +145,80 @@ application = "writing"
 takes = [{ reader = "r", key = "k", count = 1 }]
 writes = [{ writer = "w", key = "k", count = 1 }]
 start = 3
+"#;
+
+/// As the field configures a system, in version 3. An application writes again what it takes, of three samples at first, at a writer that keeps
+/// the last three; a viewer that may lose samples looks on. Two more writers publish by a clock, without permits: one is best-effort, the other
+/// keeps the last sample.
+pub(crate) const FIELD: &str = r#"version = 3
+participants = [{ name = "p", domain = 0 }, { name = "q", domain = 0 }]
+topics = [
+  { name = "t", type = "Num", keys = ["k"] },
+  { name = "scan", type = "sensor_msgs::msg::dds_::LaserScan_", keys = ["all"] },
+]
+writers = [
+  { name = "w", participant = "p", topic = "t", depth = 3 },
+  { name = "laser", participant = "p", topic = "scan", reliability = "BEST_EFFORT", depth = 5 },
+  { name = "clock", participant = "p", topic = "scan", depth = 1 },
+]
+readers = [
+  { name = "r", participant = "p", topic = "t", reliability = "RELIABLE", history = "KEEP_ALL", max_samples_per_instance = 3 },
+  { name = "viewer", participant = "q", topic = "t", may_lose = true, reliability = "RELIABLE", depth = 1 },
+  { name = "newest", participant = "q", topic = "scan", depth = 2 },
+]
+applications = [
+  { name = "writing", participant = "p", writers = ["w", "laser", "clock"], readers = ["r"] },
+  { name = "watching", participant = "q", readers = ["viewer", "newest"] },
+]
+connections = [
+  { writer = "w", reader = "r" },
+  { writer = "w", reader = "viewer" },
+  { writer = "laser", reader = "newest" },
+  { writer = "clock", reader = "newest" },
+]
+
+[[rules]]
+name = "again"
+application = "writing"
+takes = [{ reader = "r", key = "k", count = 1 }]
+writes = [{ writer = "w", key = "k", count = 1 }]
+start = 3
+
+[[rules]]
+name = "clock"
+application = "writing"
+writes = [{ writer = "laser", key = "all", count = 1 }, { writer = "clock", key = "all", count = 1 }]
+start = "unlimited"
+"#;
+
+/// A writer publishes by a clock, without permits, and an application answers each two samples that it takes of that. The reader of the answers
+/// has room for two.
+pub(crate) const CLOCK: &str = r#"version = 3
+participants = [{ name = "p", domain = 0 }, { name = "q", domain = 0 }]
+topics = [{ name = "scan", type = "Num", keys = ["all"] }, { name = "t", type = "Num", keys = ["k"] }]
+writers = [
+  { name = "clock", participant = "p", topic = "scan", history = "KEEP_ALL" },
+  { name = "w", participant = "q", topic = "t", history = "KEEP_ALL" },
+]
+readers = [
+  { name = "s", participant = "q", topic = "scan", reliability = "RELIABLE", history = "KEEP_ALL" },
+  { name = "r", participant = "p", topic = "t", reliability = "RELIABLE", history = "KEEP_ALL", max_samples_per_instance = 2 },
+]
+applications = [
+  { name = "publishing", participant = "p", writers = ["clock"], readers = ["r"] },
+  { name = "answering", participant = "q", writers = ["w"], readers = ["s"] },
+]
+connections = [{ writer = "clock", reader = "s" }, { writer = "w", reader = "r" }]
+
+[[rules]]
+name = "clock"
+application = "publishing"
+writes = [{ writer = "clock", key = "all", count = 1 }]
+start = "unlimited"
+
+[[rules]]
+name = "answer"
+application = "answering"
+takes = [{ reader = "s", key = "all", count = 2 }]
+writes = [{ writer = "w", key = "k", count = 1 }]
 "#;

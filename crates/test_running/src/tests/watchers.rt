@@ -1,32 +1,30 @@
-//! A long run of events drawn at random, made by the domain of a checked plan with two watchers and in the plain world, compared after each
-//! event.
+//! Long runs of events drawn at random, made by the domain of a checked plan with watchers and in the plain world, compared after each event.
 
 use crate::tests::chance::Chance;
 use crate::tests::comparing::{SOME_KEYS, SOME_PLACES, expect_equal, expect_step};
 use crate::tests::domains::{make, opened};
 use crate::tests::plans::{NO_MEMORY, plan_of, world_of};
 use crate::tests::seen::{Kind, kind_of};
-use crate::tests::texts::AGAIN;
+use crate::tests::texts::{AGAIN, FIELD};
 use dds_base::{Event, KeyNo, ReaderNo, WriterNo};
 use dds_domain::Domain;
 use std::alloc::Global;
 use std::process::Abort;
 use test_model::World;
 
-/// How many events the run has.
+/// How many events a run has.
 const EVENTS: usize = 2000;
 
 const SEED: u64 = 5;
 
-/// Kinds of replies that come.
-static WANTED: [Kind; 9] = [
+/// Kinds of replies that come in each run.
+static ALWAYS: [Kind; 8] = [
     Kind::Written,
     Kind::Took,
     Kind::Fired,
     Kind::New,
     Kind::Repeat,
     Kind::Overwrote,
-    Kind::SamplesPerInstanceLimit,
     Kind::NothingToSend,
     Kind::Acked,
 ];
@@ -99,20 +97,37 @@ fn kinds_of_run(
     kinds
 }
 
-/// Makes the run, and sees that each kind of reply came.
-fn expect_run(rt: &impl Abort, alloc: Global, domain: &mut Domain, world: &mut World) {
+/// Makes the run, and sees that each kind of reply came, this one too.
+fn expect_run(
+    rt: &impl Abort,
+    alloc: Global,
+    domain: &mut Domain,
+    world: &mut World,
+    wanted: Kind,
+) {
     let kinds = kinds_of_run(rt, alloc, domain, world);
-    for kind in &WANTED {
+    for kind in ALWAYS.iter().chain(&[wanted]) {
         assert!(rt; kinds.iter().any(|k| *k == *kind), "{kind:?} never came");
     }
 }
 
-#[test]
-fn a_domain_with_watchers(rt: HostRuntime) {
-    let plan = plan_of(&rt, rt.alloc(), AGAIN);
-    let mut world = world_of(&rt, rt.alloc(), &plan);
-    let mut domain = opened(&rt, rt.alloc(), plan);
-    expect_run(&rt, rt.alloc(), &mut domain, &mut world);
+/// Makes the run of a deployment, in which this kind of reply comes beside those that always do.
+fn expect_kinds(rt: &impl Abort, alloc: Global, text: &str, wanted: Kind) {
+    let plan = plan_of(rt, alloc, text);
+    let mut world = world_of(rt, alloc, &plan);
+    let mut domain = opened(rt, alloc, plan);
+    expect_run(rt, alloc, &mut domain, &mut world, wanted);
     drop(domain);
     drop(world);
+}
+
+#[test]
+fn a_domain_with_watchers(rt: HostRuntime) {
+    expect_kinds(&rt, rt.alloc(), AGAIN, Kind::SamplesPerInstanceLimit);
+}
+
+// Its clock writes without permits, and w is refused without one.
+#[test]
+fn a_domain_of_the_field(rt: HostRuntime) {
+    expect_kinds(&rt, rt.alloc(), FIELD, Kind::NoPermit);
 }

@@ -8,7 +8,9 @@ use std::alloc::Global;
 use std::process::Abort;
 use test_files::texts::{LOOP, SMALL};
 use test_model::PLACES;
-use test_model::worked::{Move, RUNS, Run, Stage, Told, event_of, told_of, told_of_packet};
+use test_model::worked::{
+    KEEP_LAST_RUNS, Move, RUNS, Run, Stage, Told, event_of, told_of, told_of_packet,
+};
 
 /// What stands in a text, and what is put in its place.
 type Edit = (&'static str, &'static str);
@@ -83,6 +85,7 @@ fn edits_of(stage: Stage) -> &'static [Edit] {
         ],
         Stage::Watched => WATCHED,
         Stage::WatcherAlone => &[(RELIABLE, "reliability = \"BEST_EFFORT\"")],
+        Stage::KeepsLast => &[(WRITER, "topic = \"t\", history = \"KEEP_LAST\", depth = 2")],
         Stage::Loop => &[],
     }
 }
@@ -158,6 +161,13 @@ fn expect(rt: &impl Abort, alloc: Global, run: &Run) {
 #[test]
 fn worked_runs(rt: HostRuntime) {
     for run in &RUNS {
+        expect(&rt, rt.alloc(), run);
+    }
+}
+
+#[test]
+fn worked_runs_of_keep_last(rt: HostRuntime) {
+    for run in &KEEP_LAST_RUNS {
         expect(&rt, rt.alloc(), run);
     }
 }

@@ -281,6 +281,7 @@ struct Run {
 }
 
 const NO_LIMITS: WriterLimits = WriterLimits {
+    keep_last: None,
     max_samples: None,
     max_instances: None,
     max_samples_per_instance: None,
@@ -376,10 +377,141 @@ const OF_A_WATCHER_BESIDE: &[(Call, Answer)] = &[
     (Call::Heartbeat(1), Answer::Heartbeat(Some((3, 2)))),
 ];
 
+const OF_DEPTH_TWO: &[(Call, Answer)] = &[
+    (Call::Write(0), Answer::Wrote(Ok(1))),
+    (Call::Write(0), Answer::Wrote(Ok(2))),
+    (Call::Write(0), Answer::Wrote(Ok(3))),
+    (Call::Counts, Answer::Counts(3, 2)),
+    (Call::Data(1, 1), Answer::Number(None)),
+    (Call::Data(1, 2), Answer::Number(Some(2))),
+    (Call::Data(1, 3), Answer::Number(Some(3))),
+    (Call::Gap(1, 1), Answer::Gap(Some((1, 2, true)))),
+    (Call::Gap(1, 2), Answer::Gap(None)),
+    (Call::Heartbeat(1), Answer::Heartbeat(Some((2, 3)))),
+    (Call::Due(1), Answer::Due(Some(Due::Gap(1)))),
+    (Call::NoteSent(1, 1), Answer::Noted),
+    (Call::Due(1), Answer::Due(Some(Due::Data(2)))),
+    (Call::NoteSent(1, 3), Answer::Noted),
+    (Call::Due(1), Answer::Due(None)),
+    (Call::AckNack(1, 1, &[1, 3]), Answer::Heard),
+    (Call::Due(1), Answer::Due(Some(Due::Gap(1)))),
+    (Call::NoteSent(1, 1), Answer::Noted),
+    (Call::Due(1), Answer::Due(Some(Due::Data(3)))),
+    (Call::AckNack(1, 2, &[2]), Answer::Heard),
+    (Call::Gap(1, 1), Answer::Gap(None)),
+    (Call::Due(1), Answer::Due(Some(Due::Data(2)))),
+    (Call::Kept, Answer::Kept(2)),
+    (Call::Write(0), Answer::Wrote(Ok(4))),
+    (Call::Kept, Answer::Kept(2)),
+    (Call::Due(1), Answer::Due(Some(Due::Gap(2)))),
+    (Call::Gap(1, 2), Answer::Gap(Some((2, 3, true)))),
+    (Call::Heartbeat(1), Answer::Heartbeat(Some((3, 4)))),
+    (Call::AckNack(1, 4, &[]), Answer::Heard),
+    (Call::Kept, Answer::Kept(1)),
+    (Call::Write(0), Answer::Wrote(Ok(5))),
+    (Call::Kept, Answer::Kept(2)),
+    (Call::Heartbeat(1), Answer::Heartbeat(Some((4, 5)))),
+    (Call::AckNack(1, 6, &[]), Answer::Heard),
+    (Call::Kept, Answer::Kept(0)),
+    (Call::Heartbeat(1), Answer::Heartbeat(Some((6, 5)))),
+];
+
+const OF_THE_OLDEST_OF_TWO_KEYS: &[(Call, Answer)] = &[
+    (Call::Write(0), Answer::Wrote(Ok(1))),
+    (Call::Write(1), Answer::Wrote(Ok(2))),
+    (Call::Write(0), Answer::Wrote(Ok(3))),
+    (Call::Counts, Answer::Counts(3, 2)),
+    (Call::Data(1, 1), Answer::Number(None)),
+    (Call::Data(1, 2), Answer::Number(Some(2))),
+    (Call::Data(1, 3), Answer::Number(Some(3))),
+    (Call::Gap(1, 1), Answer::Gap(Some((1, 2, true)))),
+    (Call::Heartbeat(1), Answer::Heartbeat(Some((2, 3)))),
+    (Call::Due(1), Answer::Due(Some(Due::Gap(1)))),
+    (Call::AckNack(1, 3, &[]), Answer::Heard),
+    (Call::Kept, Answer::Kept(1)),
+    (Call::Write(1), Answer::Wrote(Ok(4))),
+    (Call::Kept, Answer::Kept(2)),
+    (Call::Heartbeat(1), Answer::Heartbeat(Some((3, 4)))),
+];
+
+const OF_A_HOLE: &[(Call, Answer)] = &[
+    (Call::Write(0), Answer::Wrote(Ok(1))),
+    (Call::Write(1), Answer::Wrote(Ok(2))),
+    (Call::Write(1), Answer::Wrote(Ok(3))),
+    (Call::Counts, Answer::Counts(3, 2)),
+    (Call::Data(1, 1), Answer::Number(Some(1))),
+    (Call::Data(1, 2), Answer::Number(None)),
+    (Call::Data(1, 3), Answer::Number(Some(3))),
+    (Call::Gap(1, 2), Answer::Gap(Some((2, 3, true)))),
+    (Call::Gap(2, 2), Answer::Gap(Some((2, 4, true)))),
+    (Call::Heartbeat(1), Answer::Heartbeat(Some((1, 3)))),
+    (Call::Due(1), Answer::Due(Some(Due::Data(1)))),
+    (Call::NoteSent(1, 1), Answer::Noted),
+    (Call::Due(1), Answer::Due(Some(Due::Gap(2)))),
+    (Call::NoteSent(1, 2), Answer::Noted),
+    (Call::Due(1), Answer::Due(Some(Due::Data(3)))),
+    (Call::AckNack(1, 2, &[2]), Answer::Heard),
+    (Call::Due(1), Answer::Due(Some(Due::Gap(2)))),
+    (Call::Kept, Answer::Kept(2)),
+    (Call::Write(0), Answer::Wrote(Ok(4))),
+    (Call::Counts, Answer::Counts(4, 2)),
+    (Call::Data(2, 1), Answer::Number(None)),
+    (Call::Gap(2, 1), Answer::Gap(Some((1, 4, true)))),
+    (Call::Heartbeat(2), Answer::Heartbeat(Some((3, 4)))),
+    (Call::Due(2), Answer::Due(Some(Due::Gap(1)))),
+    (Call::AckNack(2, 1, &[1, 2, 4]), Answer::Heard),
+    (Call::NoteSent(2, 3), Answer::Noted),
+    (Call::Due(2), Answer::Due(Some(Due::Data(4)))),
+    (Call::AckNack(2, 5, &[]), Answer::Heard),
+    (Call::Kept, Answer::Kept(2)),
+    (Call::AckNack(1, 5, &[]), Answer::Heard),
+    (Call::Kept, Answer::Kept(0)),
+    (Call::Heartbeat(1), Answer::Heartbeat(Some((5, 4)))),
+];
+
+const OF_NO_MORE_ROOM: &[(Call, Answer)] = &[
+    (Call::Write(0), Answer::Wrote(Ok(1))),
+    (Call::Write(1), Answer::Wrote(Ok(2))),
+    (Call::Kept, Answer::Kept(2)),
+    (Call::Write(0), Answer::Wrote(Ok(3))),
+    (Call::Write(1), Answer::Wrote(Ok(4))),
+    (Call::Counts, Answer::Counts(4, 2)),
+    (Call::Write(2), Answer::Wrote(Err(WriteRefused::Full))),
+    (Call::AckNack(1, 4, &[]), Answer::Heard),
+    (Call::Kept, Answer::Kept(1)),
+    (Call::Write(2), Answer::Wrote(Ok(5))),
+    (Call::Write(0), Answer::Wrote(Err(WriteRefused::Full))),
+    (
+        Call::Write(3),
+        Answer::Wrote(Err(WriteRefused::InstanceLimit)),
+    ),
+    (Call::Write(2), Answer::Wrote(Ok(6))),
+    (Call::Counts, Answer::Counts(6, 2)),
+    (Call::Heartbeat(1), Answer::Heartbeat(Some((4, 6)))),
+];
+
+const OF_THE_LAST_AND_A_WATCHER: &[(Call, Answer)] = &[
+    (Call::Write(0), Answer::Wrote(Ok(1))),
+    (Call::Write(0), Answer::Wrote(Ok(2))),
+    (Call::Kept, Answer::Kept(1)),
+    (Call::Data(3, 1), Answer::Number(None)),
+    (Call::Data(3, 2), Answer::Number(Some(2))),
+    (Call::Gap(3, 1), Answer::Gap(None)),
+    (Call::Due(3), Answer::Due(Some(Due::Data(2)))),
+    (Call::Due(1), Answer::Due(Some(Due::Gap(1)))),
+    (Call::AckNack(1, 3, &[]), Answer::Heard),
+    (Call::Kept, Answer::Kept(0)),
+    (Call::Data(3, 2), Answer::Number(Some(2))),
+    (Call::Write(1), Answer::Wrote(Ok(3))),
+    (Call::Due(3), Answer::Due(None)),
+    (Call::Due(1), Answer::Due(Some(Due::Gap(3)))),
+];
+
 /// The first of the two takes key 0 alone.
 static TWO_READERS: Run = Run {
     about: "two readers",
     limits: WriterLimits {
+        keep_last: None,
         max_samples: Some(3),
         max_instances: Some(2),
         max_samples_per_instance: Some(2),
@@ -439,6 +571,63 @@ static AN_END: Run = Run {
     ],
 };
 
+/// Writers with KEEP_LAST.
+static KEEP_LAST: [Run; 5] = [
+    Run {
+        about: "two samples of a key",
+        limits: WriterLimits {
+            keep_last: Some(2),
+            ..NO_LIMITS
+        },
+        readers: &[(1, 1, false)],
+        at_the_end: false,
+        calls: OF_DEPTH_TWO,
+    },
+    Run {
+        about: "the oldest sample goes",
+        limits: WriterLimits {
+            keep_last: Some(1),
+            ..NO_LIMITS
+        },
+        readers: &[(1, 2, false)],
+        at_the_end: false,
+        calls: OF_THE_OLDEST_OF_TWO_KEYS,
+    },
+    // the second reader takes key 0 alone
+    Run {
+        about: "a sample in the middle goes",
+        limits: WriterLimits {
+            keep_last: Some(1),
+            ..NO_LIMITS
+        },
+        readers: &[(1, 2, false), (2, 1, false)],
+        at_the_end: false,
+        calls: OF_A_HOLE,
+    },
+    Run {
+        about: "all that may be kept is kept",
+        limits: WriterLimits {
+            keep_last: Some(1),
+            max_samples: Some(2),
+            max_instances: Some(3),
+            max_samples_per_instance: Some(1),
+        },
+        readers: &[(1, 4, false)],
+        at_the_end: false,
+        calls: OF_NO_MORE_ROOM,
+    },
+    Run {
+        about: "the last sample, and a watcher",
+        limits: WriterLimits {
+            keep_last: Some(1),
+            ..NO_LIMITS
+        },
+        readers: &[(1, 1, false), (3, 1, true)],
+        at_the_end: false,
+        calls: OF_THE_LAST_AND_A_WATCHER,
+    },
+];
+
 /// The writer of a run.
 fn writer_of<W: WriterForm>(alloc: Global, run: &Run) -> Result<Speaker<W>, NoMemory> {
     let mut proxies = Vec::new(alloc);
@@ -475,7 +664,7 @@ fn expect_on_both(rt: &impl Abort, alloc: Global, run: &Run) -> Result<(), NoMem
     expect::<PlainWriter>(rt, alloc, run)
 }
 
-// This test and the two below pass also where any one allocation is refused.
+// This test and the three below pass also where any one allocation is refused.
 #[test]
 fn two_readers_call_by_call(rt: HostRuntime) -> Result<(), Fail> {
     expect_on_both(&rt, rt.alloc(), &TWO_READERS)?;
@@ -491,6 +680,14 @@ fn a_watcher_call_by_call(rt: HostRuntime) -> Result<(), Fail> {
 #[test]
 fn a_watcher_beside_a_reader(rt: HostRuntime) -> Result<(), Fail> {
     expect_on_both(&rt, rt.alloc(), &A_WATCHER_BESIDE)?;
+    Ok(())
+}
+
+#[test]
+fn keep_last_call_by_call(rt: HostRuntime) -> Result<(), Fail> {
+    for run in &KEEP_LAST {
+        expect_on_both(&rt, rt.alloc(), run)?;
+    }
     Ok(())
 }
 

@@ -58,16 +58,24 @@ impl<W: WriterForm> Subject for Speaker<W> {
     }
 }
 
-const LIMITS: [WriterLimits; 2] = [
+const LIMITS: [WriterLimits; 3] = [
     WriterLimits {
+        keep_last: None,
         max_samples: None,
         max_instances: None,
         max_samples_per_instance: None,
     },
     WriterLimits {
+        keep_last: None,
         max_samples: Some(12),
         max_instances: Some(3),
         max_samples_per_instance: Some(6),
+    },
+    WriterLimits {
+        keep_last: Some(2),
+        max_samples: Some(7),
+        max_instances: None,
+        max_samples_per_instance: None,
     },
 ];
 
@@ -108,7 +116,7 @@ fn three_readers(alloc: Global) -> Result<Vec<Proxy>, NoMemory> {
 
 /// Compares writers of the limits that a seed has. Those of the last seeds begin near the end of the numbers.
 fn compare(rt: &impl Abort, alloc: Global, tally: &mut Tally, seed: usize) -> Result<(), NoMemory> {
-    let limits = LIMITS[seed % 2];
+    let limits = LIMITS[seed % 3];
     let written = if seed < 9 { 0 } else { NEAR_THE_END };
     let fast = Speaker::<Writer>::starting(alloc, limits, three_readers(alloc)?, written)?;
     let plain = Speaker::<PlainWriter>::starting(alloc, limits, three_readers(alloc)?, written)?;

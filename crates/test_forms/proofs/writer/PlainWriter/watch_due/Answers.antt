@@ -10,9 +10,9 @@ pub returns-in-Some : goal.returns-in-Some
 returns-in-Some c =
     let sound : IsKept c.args.self.now = subst IsKept c.self.view_is c.self.invariant.kept in
     let held : IsHeld c.args.self.now = subst IsHeld c.self.view_is c.self.invariant.held in
-    let proxy : c.proxy_of-proxy.result.now ≡ proxy_of c.args.reader c.args.self.now.proxies = c.proxy_of-proxy.ensures ∙ ap (proxy_of c.args.reader) (c.deref.ensures.value ∙ ap (λ (v : WriterState). v.proxies) c.self.view_is) in
-    let kept : c.deref-2.result.now ≡ c.args.self.now.kept = c.deref-2.ensures.value ∙ ap (λ (v : WriterState). v.kept) c.self.view_is in
-    let found = ap (λ (p : ProxyState). position (unsent p) c.args.self.now.kept) (sym proxy) ∙ ap (position (unsent c.proxy_of-proxy.result.now)) (sym kept) ∙ sym c.next_unsent.ensures ∙ c.in-Some.is in
+    let proxy : c.proxy-proxy.result.now ≡ proxy_of c.args.reader c.args.self.now.proxies = c.proxy-proxy.ensures in
+    let kept : c.deref.result.now ≡ c.args.self.now.kept = c.deref.ensures.value ∙ ap (λ (v : WriterState). v.kept) c.self.view_is in
+    let found = ap (λ (p : ProxyState). position (unsent p) c.args.self.now.kept) (sym proxy) ∙ ap (position (unsent c.proxy-proxy.result.now)) (sym kept) ∙ sym c.next_unsent.ensures ∙ c.in-Some.is in
     let sample : Sample = c.index.result.now in
     let read = c.index.ensures ∙ ap (λ (v : WriterState). get_or v.kept c.in-Some.at sample) c.self.view_is in
     due_kept c.args.self.now sound held (proxy_of c.args.reader c.args.self.now.proxies) c.in-Some.at sample found read
@@ -21,9 +21,9 @@ pub returns-in_err-sample : goal.returns-in_err-sample
 returns-in_err-sample c =
     let sound : IsKept c.args.self.now = subst IsKept c.self.view_is c.self.invariant.kept in
     let held : IsHeld c.args.self.now = subst IsHeld c.self.view_is c.self.invariant.held in
-    let proxy : c.proxy_of-proxy.result.now ≡ proxy_of c.args.reader c.args.self.now.proxies = c.proxy_of-proxy.ensures ∙ ap (proxy_of c.args.reader) (c.deref.ensures.value ∙ ap (λ (v : WriterState). v.proxies) c.self.view_is) in
-    let kept : c.deref-2.result.now ≡ c.args.self.now.kept = c.deref-2.ensures.value ∙ ap (λ (v : WriterState). v.kept) c.self.view_is in
-    let missing = ap (λ (p : ProxyState). position (unsent p) c.args.self.now.kept) (sym proxy) ∙ ap (position (unsent c.proxy_of-proxy.result.now)) (sym kept) ∙ sym c.next_unsent.ensures ∙ c.in_default.is in
+    let proxy : c.proxy-proxy.result.now ≡ proxy_of c.args.reader c.args.self.now.proxies = c.proxy-proxy.ensures in
+    let kept : c.deref.result.now ≡ c.args.self.now.kept = c.deref.ensures.value ∙ ap (λ (v : WriterState). v.kept) c.self.view_is in
+    let missing = ap (λ (p : ProxyState). position (unsent p) c.args.self.now.kept) (sym proxy) ∙ ap (position (unsent c.proxy-proxy.result.now)) (sym kept) ∙ sym c.next_unsent.ensures ∙ c.in_default.is in
     let none : c.args.self.now.last ≡ None = sym (ap (λ (v : WriterState). v.last) c.self.view_is) ∙ c.in_err-sample.was in
     c.from_residual.ensures ∙ due_none c.args.self.now sound held (proxy_of c.args.reader c.args.self.now.proxies) missing (λ x e. absurd (none-some x (sym none ∙ e)))
 
@@ -31,9 +31,9 @@ pub returns-then-is_unsent : goal.returns-then-is_unsent
 returns-then-is_unsent c =
     let sound : IsKept c.args.self.now = subst IsKept c.self.view_is c.self.invariant.kept in
     let held : IsHeld c.args.self.now = subst IsHeld c.self.view_is c.self.invariant.held in
-    let proxy : c.proxy_of-proxy.result.now ≡ proxy_of c.args.reader c.args.self.now.proxies = c.proxy_of-proxy.ensures ∙ ap (proxy_of c.args.reader) (c.deref.ensures.value ∙ ap (λ (v : WriterState). v.proxies) c.self.view_is) in
-    let kept : c.deref-2.result.now ≡ c.args.self.now.kept = c.deref-2.ensures.value ∙ ap (λ (v : WriterState). v.kept) c.self.view_is in
-    let missing = ap (λ (p : ProxyState). position (unsent p) c.args.self.now.kept) (sym proxy) ∙ ap (position (unsent c.proxy_of-proxy.result.now)) (sym kept) ∙ sym c.next_unsent.ensures ∙ c.in_default.is in
+    let proxy : c.proxy-proxy.result.now ≡ proxy_of c.args.reader c.args.self.now.proxies = c.proxy-proxy.ensures in
+    let kept : c.deref.result.now ≡ c.args.self.now.kept = c.deref.ensures.value ∙ ap (λ (v : WriterState). v.kept) c.self.view_is in
+    let missing = ap (λ (p : ProxyState). position (unsent p) c.args.self.now.kept) (sym proxy) ∙ ap (position (unsent c.proxy-proxy.result.now)) (sym kept) ∙ sym c.next_unsent.ensures ∙ c.in_default.is in
     let last : c.args.self.now.last ≡ Some c.in_ok-sample.sample = sym (ap (λ (v : WriterState). v.last) c.self.view_is) ∙ c.in_ok-sample.was in
     let new = ap (λ (p : ProxyState). unsent p c.in_ok-sample.sample) (sym proxy) ∙ sym c.is_unsent.ensures ∙ c.if-is_unsent.true in
     due_last c.args.self.now sound held (proxy_of c.args.reader c.args.self.now.proxies) missing c.in_ok-sample.sample c.requires.watching last new
@@ -42,9 +42,9 @@ pub returns-else-is_unsent : goal.returns-else-is_unsent
 returns-else-is_unsent c =
     let sound : IsKept c.args.self.now = subst IsKept c.self.view_is c.self.invariant.kept in
     let held : IsHeld c.args.self.now = subst IsHeld c.self.view_is c.self.invariant.held in
-    let proxy : c.proxy_of-proxy.result.now ≡ proxy_of c.args.reader c.args.self.now.proxies = c.proxy_of-proxy.ensures ∙ ap (proxy_of c.args.reader) (c.deref.ensures.value ∙ ap (λ (v : WriterState). v.proxies) c.self.view_is) in
-    let kept : c.deref-2.result.now ≡ c.args.self.now.kept = c.deref-2.ensures.value ∙ ap (λ (v : WriterState). v.kept) c.self.view_is in
-    let missing = ap (λ (p : ProxyState). position (unsent p) c.args.self.now.kept) (sym proxy) ∙ ap (position (unsent c.proxy_of-proxy.result.now)) (sym kept) ∙ sym c.next_unsent.ensures ∙ c.in_default.is in
+    let proxy : c.proxy-proxy.result.now ≡ proxy_of c.args.reader c.args.self.now.proxies = c.proxy-proxy.ensures in
+    let kept : c.deref.result.now ≡ c.args.self.now.kept = c.deref.ensures.value ∙ ap (λ (v : WriterState). v.kept) c.self.view_is in
+    let missing = ap (λ (p : ProxyState). position (unsent p) c.args.self.now.kept) (sym proxy) ∙ ap (position (unsent c.proxy-proxy.result.now)) (sym kept) ∙ sym c.next_unsent.ensures ∙ c.in_default.is in
     let last : c.args.self.now.last ≡ Some c.in_ok-sample.sample = sym (ap (λ (v : WriterState). v.last) c.self.view_is) ∙ c.in_ok-sample.was in
     let old = ap (λ (p : ProxyState). unsent p c.in_ok-sample.sample) (sym proxy) ∙ sym c.is_unsent.ensures ∙ c.if-is_unsent.false in
     due_none c.args.self.now sound held (proxy_of c.args.reader c.args.self.now.proxies) missing
