@@ -4,7 +4,6 @@
 
 #include <inttypes.h>
 #include <stdio.h>
-#include <string.h>
 
 void open_cache(struct cache *cache, const struct deployment *lists, int reader, struct change *change)
 {
@@ -105,7 +104,7 @@ static void check_order(struct cache *cache, int key, struct numbers numbers)
         fail(STATUS_DDS, "reader %s took a sample that no writer of this deployment wrote", cache->end->name);
     }
     uint64_t *last = &cache->last[numbers.writer][key];
-    bool follows = cache->end->policies.reliability == 1 ? numbers.number == *last + 1 : numbers.number > *last;
+    bool follows = is_watcher(cache->end) ? numbers.number > *last : numbers.number == *last + 1;
     if (!follows) {
         cache->out_of_order++;
         printf("order %s %s: number %" PRIu64 " of writer %" PRIu64 " came after %" PRIu64 "\n", cache->end->name, cache->topic->key[key], numbers.number,
@@ -116,8 +115,7 @@ static void check_order(struct cache *cache, int key, struct numbers numbers)
 
 bool take(struct cache *cache, int key, ddscheck_Sample *sample)
 {
-    ddscheck_Sample wanted = {.key = ""};
-    strcpy(wanted.key, cache->topic->key[key]);
+    ddscheck_Sample wanted = sample_of(cache->topic->key[key]);
     dds_instance_handle_t instance = dds_lookup_instance(cache->reader, &wanted);
     if (instance == DDS_HANDLE_NIL) {
         return false;

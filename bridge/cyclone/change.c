@@ -28,17 +28,13 @@ uint64_t seen_changes(struct change *change)
     return count;
 }
 
-bool wait_change(struct change *change, uint64_t seen)
+bool wait_change(struct change *change, uint64_t seen, int64_t until)
 {
-    struct timespec until;
-    clock_gettime(CLOCK_MONOTONIC, &until);
-    until.tv_nsec += 10000000;
-    if (until.tv_nsec >= 1000000000) {
-        until.tv_nsec -= 1000000000;
-        until.tv_sec++;
-    }
+    int64_t most = now() + 10000000;
+    until = until < most ? until : most;
+    struct timespec time = {.tv_sec = until / 1000000000, .tv_nsec = until % 1000000000};
     pthread_mutex_lock(&change->lock);
-    while (change->count == seen && pthread_cond_timedwait(&change->told, &change->lock, &until) == 0) {
+    while (change->count == seen && pthread_cond_timedwait(&change->told, &change->lock, &time) == 0) {
     }
     bool changed = change->count != seen;
     pthread_mutex_unlock(&change->lock);

@@ -16,8 +16,8 @@ void open_change(struct change *change);
 void tell_change(struct change *change);
 uint64_t seen_changes(struct change *change);
 
-// Waits at most 10 ms. True where there are more changes than were seen.
-bool wait_change(struct change *change, uint64_t seen);
+// Waits for a change at most 10 ms, and not past this time. True where there are more changes than were seen.
+bool wait_change(struct change *change, uint64_t seen, int64_t until);
 
 // Nanoseconds of a clock that only goes forward.
 int64_t now(void);

@@ -1,7 +1,7 @@
 #include "deployment.h"
 #include "fault.h"
+#include "json.h"
 
-#include <cjson/cJSON.h>
 #include <stdio.h>
 #include <stdlib.h>
 #include <string.h>
@@ -15,79 +15,31 @@ static const char *const RELIABILITY[] = {"BEST_EFFORT", "RELIABLE", NULL};
 static const char *const DESTINATION_ORDER[] = {"BY_RECEPTION_TIMESTAMP", "BY_SOURCE_TIMESTAMP", NULL};
 static const char *const HISTORY[] = {"KEEP_LAST", "KEEP_ALL", NULL};
 
-static const cJSON *field(const cJSON *entry, const char *name)
+// A list of at most so many entries.
+static const cJSON *short_list(const cJSON *entry, const char *name, int most)
 {
-    const cJSON *found = cJSON_GetObjectItemCaseSensitive(entry, name);
-    if (found == NULL) {
-        fail(STATUS_FILE, "the deployment has no field %s where one belongs", name);
+    const cJSON *entries = list(entry, name);
+    if (cJSON_GetArraySize(entries) > most) {
+        fail(STATUS_FILE, "%s has more entries than the %d that it may have", name, most);
     }
-    return found;
+    return entries;
 }
 
-static const cJSON *list(const cJSON *entry, const char *name)
+static unsigned long size_of(const cJSON *entries)
 {
-    const cJSON *found = field(entry, name);
-    if (!cJSON_IsArray(found)) {
-        fail(STATUS_FILE, "%s is no list", name);
-    }
-    return found;
+    return (unsigned long)cJSON_GetArraySize(entries);
 }
 
-static const char *text_of(const cJSON *value, const char *name)
+// A limit of a cache.
+static int limit(const cJSON *entry, const char *name)
 {
-    if (!cJSON_IsString(value)) {
-        fail(STATUS_FILE, "%s is no text", name);
-    }
-    return value->valuestring;
+    return (int)number_or(entry, name, "unlimited", UNLIMITED, 1, INT32_MAX);
 }
 
-static const char *text(const cJSON *entry, const char *name)
+// A number of nanoseconds.
+static int64_t span(const cJSON *entry, const char *name)
 {
-    return text_of(field(entry, name), name);
-}
-
-// A number, or the value that stands for this word.
-static int64_t number_or(const cJSON *entry, const char *name, const char *word, int64_t instead)
-{
-    const cJSON *found = field(entry, name);
-    if (cJSON_IsString(found) && word != NULL && strcmp(found->valuestring, word) == 0) {
-        return instead;
-    }
-    if (!cJSON_IsNumber(found)) {
-        fail(STATUS_FILE, "%s is no number", name);
-    }
-    // the library has each number as a double: above 2^53 the nearest one, and what is too great is for ever
-    return found->valuedouble >= 9223372036854774784.0 ? FOREVER : (int64_t)found->valuedouble;
-}
-
-static bool truth(const cJSON *entry, const char *name)
-{
-    return cJSON_IsTrue(field(entry, name));
-}
-
-static int word(const cJSON *entry, const char *name, const char *const *words)
-{
-    const char *found = text(entry, name);
-    for (int at = 0; words[at] != NULL; at++) {
-        if (strcmp(words[at], found) == 0) {
-            return at;
-        }
-    }
-    fail(STATUS_FILE, "%s is %s, which is none of its words", name, found);
-}
-
-// The place of the entry with this name.
-static int named(const cJSON *entries, const char *name)
-{
-    int at = 0;
-    const cJSON *entry;
-    cJSON_ArrayForEach(entry, entries) {
-        if (strcmp(text(entry, "name"), name) == 0) {
-            return at;
-        }
-        at++;
-    }
-    fail(STATUS_FILE, "nothing has the name %s", name);
+    return number_or(entry, name, "infinite", FOREVER, 0, FOREVER);
 }
 
 static struct policies read_policies(const cJSON *entry)
@@ -97,25 +49,22 @@ static struct policies read_policies(const cJSON *entry)
         .access_scope = word(entry, "access_scope", ACCESS_SCOPE),
         .coherent = truth(entry, "coherent"),
         .ordered = truth(entry, "ordered"),
-        .deadline = number_or(entry, "deadline", "infinite", FOREVER),
-        .latency_budget = number_or(entry, "latency_budget", "infinite", FOREVER),
+        .deadline = span(entry, "deadline"),
+        .latency_budget = span(entry, "latency_budget"),
         .ownership = word(entry, "ownership", OWNERSHIP),
         .liveliness = word(entry, "liveliness", LIVELINESS),
-        .lease = number_or(entry, "lease", "infinite", FOREVER),
+        .lease = span(entry, "lease"),
         .reliability = word(entry, "reliability", RELIABILITY),
         .destination_order = word(entry, "destination_order", DESTINATION_ORDER),
         .history = word(entry, "history", HISTORY),
-        .depth = (int)number_or(entry, "depth", NULL, 0),
-        .max_samples = (int)number_or(entry, "max_samples", "unlimited", UNLIMITED),
-        .max_instances = (int)number_or(entry, "max_instances", "unlimited", UNLIMITED),
-        .max_samples_per_instance = (int)number_or(entry, "max_samples_per_instance", "unlimited", UNLIMITED),
+        .depth = (int)number(entry, "depth", 1, INT32_MAX),
+        .max_samples = limit(entry, "max_samples"),
+        .max_instances = limit(entry, "max_instances"),
+        .max_samples_per_instance = limit(entry, "max_samples_per_instance"),
     };
     const cJSON *name;
-    cJSON_ArrayForEach(name, list(entry, "partitions")) {
-        if (found.partitions == MOST_PARTITIONS) {
-            fail(STATUS_FILE, "an endpoint has more than %d partitions", MOST_PARTITIONS);
-        }
-        found.partition[found.partitions++] = text_of(name, "a partition");
+    cJSON_ArrayForEach(name, short_list(entry, "partitions", MOST_PARTITIONS)) {
+        found.partition[found.partitions++] = partition_of(name);
     }
     return found;
 }
@@ -130,13 +79,39 @@ int key_named(const struct topic *topic, const char *name)
     return -1;
 }
 
+bool rule_writes(const struct rule *rule, int writer, int key)
+{
+    for (int at = 0; at < rule->writes; at++) {
+        if (rule->write[at].endpoint == writer && rule->write[at].key == key) {
+            return true;
+        }
+    }
+    return false;
+}
+
+bool is_free(const struct deployment *lists, int writer, int key)
+{
+    for (int at = 0; at < lists->rules; at++) {
+        if (lists->rule[at].is_free && rule_writes(&lists->rule[at], writer, key)) {
+            return true;
+        }
+    }
+    return false;
+}
+
+bool is_watcher(const struct endpoint *reader)
+{
+    return reader->policies.reliability == 0 || reader->may_lose;
+}
+
 int instance_limit(const struct policies *policies)
 {
     return policies->history == 0 ? policies->depth : policies->max_samples_per_instance;
 }
 
-static int key_of(const struct topic *topic, const char *name)
+static int key_of(const struct topic *topic, const cJSON *value)
 {
+    const char *name = name_of(value, "a key");
     int key = key_named(topic, name);
     if (key < 0) {
         fail(STATUS_FILE, "topic %s has no key %s", topic->name, name);
@@ -144,113 +119,159 @@ static int key_of(const struct topic *topic, const char *name)
     return key;
 }
 
-static void read_topic(const cJSON *entry, struct topic *topic)
+// ── the sections
+
+static void read_participants(const cJSON *all, struct deployment *found)
 {
-    topic->name = text(entry, "name");
-    topic->type = text(entry, "type");
-    const cJSON *key;
-    cJSON_ArrayForEach(key, list(entry, "keys")) {
-        if (topic->keys == MOST_KEYS) {
-            fail(STATUS_FILE, "topic %s has more than %d keys", topic->name, MOST_KEYS);
-        }
-        topic->key[topic->keys++] = text_of(key, "a key");
+    const cJSON *entries = short_list(all, "participants", MOST_PARTICIPANTS), *entry;
+    found->participant = room(size_of(entries), sizeof *found->participant);
+    cJSON_ArrayForEach(entry, entries) {
+        found->participant[found->participants++] =
+            (struct participant){.name = name_in(entry, "name"), .domain = (uint32_t)number(entry, "domain", 0, INT32_MAX)};
     }
 }
 
-static struct endpoint *read_endpoints(const cJSON *all, const char *section, const struct deployment *found, int *count)
+static void read_topics(const cJSON *all, struct deployment *found)
 {
-    const cJSON *entries = list(all, section), *entry;
-    *count = cJSON_GetArraySize(entries);
-    struct endpoint *ends = room((unsigned long)*count, sizeof *ends);
-    int at = 0;
+    const cJSON *entries = short_list(all, "topics", MOST_ENDPOINTS), *entry, *value;
+    found->topic = room(size_of(entries), sizeof *found->topic);
     cJSON_ArrayForEach(entry, entries) {
-        struct endpoint *end = &ends[at++];
-        end->name = text(entry, "name");
-        end->participant = named(list(all, "participants"), text(entry, "participant"));
-        end->topic = named(list(all, "topics"), text(entry, "topic"));
+        struct topic *topic = &found->topic[found->topics++];
+        topic->name = name_in(entry, "name");
+        topic->type = type_in(entry, "type");
+        cJSON_ArrayForEach(value, short_list(entry, "keys", MOST_KEYS)) {
+            const char *key = name_of(value, "a key");
+            if (key_named(topic, key) >= 0) {
+                fail(STATUS_FILE, "topic %s has the key %s twice", topic->name, key);
+            }
+            topic->key[topic->keys++] = key;
+        }
+    }
+}
+
+static void read_filter(const cJSON *entry, const struct topic *topic, struct endpoint *end)
+{
+    const cJSON *keys = short_list(entry, "filter", topic->keys), *value;
+    cJSON_ArrayForEach(value, keys) {
+        int key = key_of(topic, value);
+        if (end->hears[key]) {
+            fail(STATUS_FILE, "the filter of %s has %s twice", end->name, topic->key[key]);
+        }
+        end->hears[key] = true;
+    }
+    end->has_filter = cJSON_GetArraySize(keys) < topic->keys;
+}
+
+// The writers or the readers.
+static struct endpoint *read_endpoints(const cJSON *all, const char *name, const struct deployment *found, int *count)
+{
+    const cJSON *entries = short_list(all, name, MOST_ENDPOINTS), *entry;
+    struct endpoint *ends = room(size_of(entries), sizeof *ends);
+    cJSON_ArrayForEach(entry, entries) {
+        struct endpoint *end = &ends[(*count)++];
+        end->name = name_in(entry, "name");
+        end->participant = named(list(all, "participants"), name_in(entry, "participant"));
+        end->topic = named(list(all, "topics"), name_in(entry, "topic"));
         end->application = -1;
         end->policies = read_policies(entry);
-        if (cJSON_GetObjectItemCaseSensitive(entry, "filter") != NULL) {
-            const struct topic *topic = &found->topic[end->topic];
-            const cJSON *key;
-            cJSON_ArrayForEach(key, list(entry, "filter")) {
-                end->hears[key_of(topic, text_of(key, "a key"))] = true;
-            }
-            end->has_filter = cJSON_GetArraySize(list(entry, "filter")) < topic->keys;
+        if (strcmp(name, "readers") == 0) {
+            read_filter(entry, &found->topic[end->topic], end);
+            // only version 3 of the file tells of it
+            end->may_lose = truth_or_absent(entry, "may_lose");
         }
     }
     return ends;
 }
 
-static void own(const cJSON *all, const char *section, struct endpoint *ends, const cJSON *entry, int application)
+// Notes what of the writers, or of the readers, the next application owns.
+static void own(const cJSON *all, const char *kind, struct endpoint *ends, const cJSON *entry, const struct deployment *found)
 {
     const cJSON *name;
-    cJSON_ArrayForEach(name, list(entry, section)) {
-        ends[named(list(all, section), text_of(name, "an endpoint"))].application = application;
+    cJSON_ArrayForEach(name, list(entry, kind)) {
+        struct endpoint *end = &ends[named(list(all, kind), name_of(name, "an endpoint"))];
+        if (end->application >= 0 || end->participant != found->application[found->applications].participant) {
+            fail(STATUS_FILE, "%s has two owners, or one at another participant", end->name);
+        }
+        end->application = found->applications;
     }
 }
 
-static int read_portions(const cJSON *all, const cJSON *entry, const char *name, struct portion *portions, const struct deployment *found)
+static void all_owned(const struct endpoint *ends, int count)
+{
+    for (int at = 0; at < count; at++) {
+        if (ends[at].application < 0) {
+            fail(STATUS_FILE, "%s has no owner", ends[at].name);
+        }
+    }
+}
+
+static void read_applications(const cJSON *all, struct deployment *found)
+{
+    const cJSON *entries = short_list(all, "applications", MOST_APPLICATIONS), *entry;
+    found->application = room(size_of(entries), sizeof *found->application);
+    cJSON_ArrayForEach(entry, entries) {
+        found->application[found->applications] = (struct application){
+            .name = name_in(entry, "name"),
+            .participant = named(list(all, "participants"), name_in(entry, "participant")),
+        };
+        own(all, "writers", found->writer, entry, found);
+        own(all, "readers", found->reader, entry, found);
+        found->applications++;
+    }
+    all_owned(found->writer, found->writers);
+    all_owned(found->reader, found->readers);
+}
+
+// What a rule takes, or what it writes.
+static int read_portions(const cJSON *all, const cJSON *entry, const char *name, const struct rule *rule, struct portion *portions,
+                         const struct deployment *found)
 {
     bool takes = strcmp(name, "takes") == 0;
     const cJSON *each;
     int count = 0;
-    cJSON_ArrayForEach(each, list(entry, name)) {
-        if (count == MOST_PORTIONS) {
-            fail(STATUS_FILE, "a rule has more than %d %s", MOST_PORTIONS, name);
-        }
-        int end = named(list(all, takes ? "readers" : "writers"), text(each, takes ? "reader" : "writer"));
+    cJSON_ArrayForEach(each, short_list(entry, name, MOST_PORTIONS)) {
+        int end = named(list(all, takes ? "readers" : "writers"), name_in(each, takes ? "reader" : "writer"));
         const struct endpoint *at = takes ? &found->reader[end] : &found->writer[end];
+        if (at->application != rule->application) {
+            fail(STATUS_FILE, "rule %s has an element of another application", rule->name);
+        }
         portions[count++] = (struct portion){
             .endpoint = end,
-            .key = key_of(&found->topic[at->topic], text(each, "key")),
-            .count = (uint64_t)number_or(each, "count", NULL, 0),
+            .key = key_of(&found->topic[at->topic], field(each, "key")),
+            .count = (uint64_t)number(each, "count", 1, MOST_COUNT),
         };
     }
     return count;
 }
 
-static void read_lists(const cJSON *all, struct deployment *found)
+static void read_rules(const cJSON *all, struct deployment *found)
 {
-    const cJSON *entry, *entries = list(all, "participants");
-    found->participant = room((unsigned long)cJSON_GetArraySize(entries), sizeof *found->participant);
-    cJSON_ArrayForEach(entry, entries) {
-        found->participant[found->participants++] =
-            (struct participant){.name = text(entry, "name"), .domain = (uint32_t)number_or(entry, "domain", NULL, 0)};
-    }
-    entries = list(all, "topics");
-    found->topic = room((unsigned long)cJSON_GetArraySize(entries), sizeof *found->topic);
-    cJSON_ArrayForEach(entry, entries) {
-        read_topic(entry, &found->topic[found->topics++]);
-    }
-    found->writer = read_endpoints(all, "writers", found, &found->writers);
-    found->reader = read_endpoints(all, "readers", found, &found->readers);
-    entries = list(all, "applications");
-    found->application = room((unsigned long)cJSON_GetArraySize(entries), sizeof *found->application);
-    cJSON_ArrayForEach(entry, entries) {
-        own(all, "writers", found->writer, entry, found->applications);
-        own(all, "readers", found->reader, entry, found->applications);
-        found->application[found->applications++] = (struct application){
-            .name = text(entry, "name"),
-            .participant = named(list(all, "participants"), text(entry, "participant")),
-        };
-    }
-    entries = list(all, "rules");
-    found->rule = room((unsigned long)cJSON_GetArraySize(entries), sizeof *found->rule);
+    enum { UNENDING = -1 };
+    const cJSON *entries = short_list(all, "rules", MOST_RULES), *entry;
+    found->rule = room(size_of(entries), sizeof *found->rule);
     cJSON_ArrayForEach(entry, entries) {
         struct rule *rule = &found->rule[found->rules++];
-        rule->name = text(entry, "name");
-        rule->application = named(list(all, "applications"), text(entry, "application"));
-        rule->start = (uint64_t)number_or(entry, "start", NULL, 0);
-        rule->takes = read_portions(all, entry, "takes", rule->take, found);
-        rule->writes = read_portions(all, entry, "writes", rule->write, found);
+        rule->name = name_in(entry, "name");
+        rule->application = named(list(all, "applications"), name_in(entry, "application"));
+        rule->takes = read_portions(all, entry, "takes", rule, rule->take, found);
+        rule->writes = read_portions(all, entry, "writes", rule, rule->write, found);
+        int64_t start = number_or(entry, "start", "unlimited", UNENDING, 0, MOST_COUNT);
+        rule->is_free = start == UNENDING;
+        rule->start = rule->is_free ? 0 : (uint64_t)start;
+        if (rule->is_free && rule->takes > 0) {
+            fail(STATUS_FILE, "rule %s takes something, so its start is a number", rule->name);
+        }
     }
-    entries = list(all, "connections");
-    found->connection = room((unsigned long)cJSON_GetArraySize(entries), sizeof *found->connection);
+}
+
+static void read_connections(const cJSON *all, struct deployment *found)
+{
+    const cJSON *entries = short_list(all, "connections", MOST_ENDPOINTS * MOST_ENDPOINTS), *entry;
+    found->connection = room(size_of(entries), sizeof *found->connection);
     cJSON_ArrayForEach(entry, entries) {
         found->connection[found->connections++] = (struct connection){
-            .writer = named(list(all, "writers"), text(entry, "writer")),
-            .reader = named(list(all, "readers"), text(entry, "reader")),
+            .writer = named(list(all, "writers"), name_in(entry, "writer")),
+            .reader = named(list(all, "readers"), name_in(entry, "reader")),
         };
     }
 }
@@ -285,12 +306,18 @@ struct deployment *read_deployment(const char *path)
 {
     char *bytes = whole_file(path);
     // the texts of the document are used as long as the program runs, so it is never freed
-    const cJSON *all = cJSON_Parse(bytes);
+    const cJSON *all = cJSON_ParseWithOpts(bytes, NULL, true);
     free(bytes);
     if (!cJSON_IsObject(all)) {
         fail(STATUS_FILE, "%s is no JSON document as `ddscheck show` prints it", path);
     }
     struct deployment *found = room(1, sizeof *found);
-    read_lists(all, found);
+    read_participants(all, found);
+    read_topics(all, found);
+    found->writer = read_endpoints(all, "writers", found, &found->writers);
+    found->reader = read_endpoints(all, "readers", found, &found->readers);
+    read_applications(all, found);
+    read_rules(all, found);
+    read_connections(all, found);
     return found;
 }

@@ -5,7 +5,9 @@
 #include <stdbool.h>
 #include <stdint.h>
 
-enum { MOST_KEYS = 64, MOST_PORTIONS = 16, MOST_PARTITIONS = 16 };
+// The most that a list may have, and the greatest count.
+enum { MOST_PARTICIPANTS = 64, MOST_APPLICATIONS = 64, MOST_ENDPOINTS = 256, MOST_RULES = 256 };
+enum { MOST_KEYS = 64, MOST_PORTIONS = 16, MOST_PARTITIONS = 16, MOST_COUNT = 65535 };
 // What stands for "unlimited" and for "infinite".
 #define UNLIMITED (-1)
 #define FOREVER INT64_MAX
@@ -30,11 +32,11 @@ struct topic {
     const char *key[MOST_KEYS];
 };
 
-// A writer or a reader. Of a reader `hears` says which keys of the topic its filter lets pass.
+// A writer or a reader. Of a reader `hears` says which keys of the topic its filter lets pass, and `may_lose` whether it wants the newest samples alone.
 struct endpoint {
     const char *name;
     int participant, topic, application;
-    bool hears[MOST_KEYS], has_filter;
+    bool hears[MOST_KEYS], has_filter, may_lose;
     struct policies policies;
 };
 
@@ -48,10 +50,12 @@ struct portion {
     uint64_t count;
 };
 
+// What a free rule writes may be written at any time and without a permit; its start is 0.
 struct rule {
     const char *name;
     int application, takes, writes;
     uint64_t start;
+    bool is_free;
     struct portion take[MOST_PORTIONS], write[MOST_PORTIONS];
 };
 
@@ -74,6 +78,13 @@ struct deployment *read_deployment(const char *path);
 
 // The place of a key's name in a topic, -1 where it has none.
 int key_named(const struct topic *topic, const char *name);
+
+// Whether a rule writes the key at the writer, and whether a free rule does, so that no write of it uses a permit.
+bool rule_writes(const struct rule *rule, int writer, int key);
+bool is_free(const struct deployment *lists, int writer, int key);
+
+// A reader that may miss samples: a best-effort one, or one that may lose.
+bool is_watcher(const struct endpoint *reader);
 
 // The limit for one instance of a reader, `UNLIMITED` where it has none.
 int instance_limit(const struct policies *policies);

@@ -10,7 +10,7 @@ struct ledger {
     uint64_t (*permits)[MOST_KEYS], (*unspent)[MOST_KEYS];
 };
 
-// The ledger at the opening: each rule's start gives that many times its writes as permits.
+// The ledger at the opening: each rule's start gives that many times its writes as permits. A free rule gives none, and a write that is free uses none.
 struct ledger open_ledger(const struct deployment *lists);
 
 // Fires a rule: spends what it takes and gives permits for what it writes. False, and nothing changed, where a take is missing or it needs none.

@@ -33,6 +33,27 @@ static void choose(const struct deployment *lists, const struct options *options
     }
 }
 
+// Of each rule the period of its writes, 0 where they go by no clock.
+static int64_t *periods_of(const struct deployment *lists, const struct options *options)
+{
+    int64_t *periods = room((unsigned long)lists->rules, sizeof *periods);
+    for (int word = 0; word < options->rates; word++) {
+        const struct rate *rate = &options->rate[word];
+        bool is_found = false;
+        // a rule with a key for each entry stands there once for each
+        for (int at = 0; at < lists->rules; at++) {
+            if (lists->rule[at].is_free && strcmp(lists->rule[at].name, rate->rule) == 0) {
+                periods[at] = rate->period;
+                is_found = true;
+            }
+        }
+        if (!is_found) {
+            fail(STATUS_USAGE, "the deployment has no free rule %s", rate->rule);
+        }
+    }
+    return periods;
+}
+
 static void hold(const struct deployment *lists, const struct options *options, struct worker *workers, int64_t begun)
 {
     for (int word = 0; word < options->holds; word++) {
@@ -104,11 +125,9 @@ int main(int count, char **words)
 {
     struct options options = read_options(count, words);
     struct deployment *lists = read_deployment(options.path);
-    if (lists->applications > MOST_APPLICATIONS || lists->participants > MOST_PARTICIPANTS) {
-        fail(STATUS_FILE, "more applications or participants than a deployment may have");
-    }
     bool is_here[MOST_PARTICIPANTS];
     choose(lists, &options, is_here);
+    int64_t *periods = periods_of(lists, &options);
     configure(options.tag, options.loss);
     struct cyclone *system = open_system(lists, is_here);
     if (options.match) {
@@ -121,7 +140,7 @@ int main(int count, char **words)
     struct ledger ledger = open_ledger(lists);
     struct worker *workers = room((unsigned long)lists->applications, sizeof *workers);
     for (int at = 0; at < lists->applications; at++) {
-        ready_worker(&workers[at], system, &ledger, at, options.writes, options.takes);
+        ready_worker(&workers[at], system, &ledger, at, &options, periods);
     }
     if (!meet(&meeting, now() + MEETING)) {
         leave(STATUS_NO);

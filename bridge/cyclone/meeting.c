@@ -1,5 +1,6 @@
 #include "meeting.h"
 #include "fault.h"
+#include "numbers.h"
 
 #include <stdio.h>
 #include <stdlib.h>
@@ -54,8 +55,8 @@ static void say(struct meeting *meeting, enum stage stage)
         if (!meeting->system->is_here[at]) {
             continue;
         }
-        ddscheck_Sample sample = {.data = {(uint8_t)stage}};
-        strcpy(sample.key, lists->participant[at].name);
+        ddscheck_Sample sample = sample_of(lists->participant[at].name);
+        sample.data[0] = (uint8_t)stage;
         dds_write(meeting->writer, &sample);
     }
 }

@@ -2,7 +2,10 @@
 #ifndef NUMBERS_H
 #define NUMBERS_H
 
+#include "Sample.h"
+
 #include <stdint.h>
+#include <stdio.h>
 
 // Bytes 0 to 7, most significant first: the count of the application's writes, from 1. Bytes 8 to 15: the count of this writer's samples of this key, from 1.
 // Bytes 16 to 23: the place of the writer in the file. The others are 0.
@@ -40,6 +43,14 @@ static inline void put_numbers(uint8_t data[32], struct numbers numbers)
 static inline struct numbers get_numbers(const uint8_t data[32])
 {
     return (struct numbers){.written = get_number(data), .number = get_number(data + 8), .writer = get_number(data + 16)};
+}
+
+// A sample of a key, which is a name of at most 64 bytes; its 32 bytes are 0.
+static inline ddscheck_Sample sample_of(const char *key)
+{
+    ddscheck_Sample sample = {.key = ""};
+    snprintf(sample.key, sizeof sample.key, "%s", key);
+    return sample;
 }
 
 #endif

@@ -13,6 +13,7 @@ static const char USAGE[] =
     "  --participant NAME   run this participant alone; may be given several times; else all run in this process\n"
     "  --writes N           how many samples each application writes (10)\n"
     "  --takes N            how many samples each application takes (10)\n"
+    "  --rate RULE=HZ       each write of this free rule is made so many times a second; may be given several times; else it is made as fast as others\n"
     "  --hold APP=MS        this application begins to take only after so many milliseconds\n"
     "  --slow APP=MS        this application waits so many milliseconds after each circle in which it took\n"
     "  --loss N             Cyclone drops N percent of the packets that this process sends (0)\n"
@@ -51,58 +52,110 @@ static const char *text(const char *option, const char *word)
     return word;
 }
 
-static void hold(struct options *options, const char *option, char *word)
+// Cuts NAME=VALUE in two and gives the second part.
+static char *cut(const char *option, char *word)
 {
-    char *cut = word == NULL ? NULL : strchr(word, '=');
-    if (cut == NULL || options->holds == 2 * MOST_APPLICATIONS) {
-        usage("no APP=MS after ", option);
+    char *at = word == NULL ? NULL : strchr(word, '=');
+    if (at == NULL || at == word) {
+        usage("no name and number with = between them after ", option);
     }
-    *cut = '\0';
+    *at = '\0';
+    return at + 1;
+}
+
+static void read_hold(struct options *options, const char *option, char *word)
+{
+    if (options->holds == 2 * MOST_APPLICATIONS) {
+        usage("too many times ", option);
+    }
+    const char *value = cut(option, word);
     options->hold[options->holds++] =
-        (struct hold){.application = word, .milliseconds = number(option, cut + 1, 600000), .after_each = strcmp(option, "--slow") == 0};
+        (struct hold){.application = word, .milliseconds = number(option, value, 600000), .after_each = strcmp(option, "--slow") == 0};
+}
+
+static void read_rate(struct options *options, const char *option, char *word)
+{
+    if (options->rates == MOST_RULES) {
+        usage("too many times ", option);
+    }
+    char *value = cut(option, word), *end;
+    double hertz = strtod(value, &end);
+    // what is no number isn't in the range either
+    if (*value == '\0' || *end != '\0' || !(hertz >= 0.001 && hertz <= 1e6)) {
+        usage("no number from 0.001 to 1000000 after ", option);
+    }
+    options->rate[options->rates++] = (struct rate){.rule = word, .period = (int64_t)(1e9 / hertz)};
+}
+
+// The options that stand alone. False where this is none of them.
+static bool read_mark(struct options *options, const char *word)
+{
+    bool *mark = strcmp(word, "--match") == 0   ? &options->match
+                 : strcmp(word, "--keys") == 0  ? &options->keys
+                 : strcmp(word, "--times") == 0 ? &options->times
+                                                : NULL;
+    if (mark != NULL) {
+        *mark = true;
+    }
+    return mark != NULL;
+}
+
+// The options that a number follows. False where this is none of them.
+static bool read_number(struct options *options, const char *word, const char *next)
+{
+    if (strcmp(word, "--writes") == 0) {
+        options->writes = (uint64_t)number(word, next, 65535);
+    } else if (strcmp(word, "--takes") == 0) {
+        options->takes = (uint64_t)number(word, next, 65535);
+    } else if (strcmp(word, "--loss") == 0) {
+        options->loss = (int)number(word, next, 90);
+    } else if (strcmp(word, "--calls") == 0) {
+        options->calls = (int)number(word, next, 1000000000);
+    } else if (strcmp(word, "--idle") == 0) {
+        options->idle = (int)number(word, next, 100000);
+    } else if (strcmp(word, "--seconds") == 0) {
+        options->seconds = (int)number(word, next, 86400);
+    } else {
+        return false;
+    }
+    return true;
+}
+
+// The options that a name follows. False where this is none of them.
+static bool read_name(struct options *options, const char *word, char *next)
+{
+    if (strcmp(word, "--participant") == 0) {
+        if (options->named == MOST_PARTICIPANTS) {
+            usage("too many participants", "");
+        }
+        options->participant[options->named++] = text(word, next);
+    } else if (strcmp(word, "--hold") == 0 || strcmp(word, "--slow") == 0) {
+        read_hold(options, word, next);
+    } else if (strcmp(word, "--rate") == 0) {
+        read_rate(options, word, next);
+    } else if (strcmp(word, "--tag") == 0) {
+        options->tag = text(word, next);
+    } else {
+        return false;
+    }
+    return true;
 }
 
 struct options read_options(int count, char **words)
 {
     struct options options = {.writes = 10, .takes = 10, .idle = 500, .calls = 200000, .seconds = 120, .tag = "ddscheck"};
     for (int at = 1; at < count; at++) {
-        const char *word = words[at];
-        char *next = at + 1 < count ? words[at + 1] : NULL;
-        bool alone = false;
-        if (strcmp(word, "--match") == 0) {
-            options.match = alone = true;
-        } else if (strcmp(word, "--keys") == 0) {
-            options.keys = alone = true;
-        } else if (strcmp(word, "--times") == 0) {
-            options.times = alone = true;
-        } else if (strcmp(word, "--participant") == 0) {
-            if (options.named == MOST_PARTICIPANTS) {
-                usage("too many participants", "");
-            }
-            options.participant[options.named++] = text(word, next);
-        } else if (strcmp(word, "--writes") == 0) {
-            options.writes = (uint64_t)number(word, next, 65535);
-        } else if (strcmp(word, "--takes") == 0) {
-            options.takes = (uint64_t)number(word, next, 65535);
-        } else if (strcmp(word, "--hold") == 0 || strcmp(word, "--slow") == 0) {
-            hold(&options, word, next);
-        } else if (strcmp(word, "--loss") == 0) {
-            options.loss = (int)number(word, next, 90);
-        } else if (strcmp(word, "--calls") == 0) {
-            options.calls = (int)number(word, next, 1000000000);
-        } else if (strcmp(word, "--idle") == 0) {
-            options.idle = (int)number(word, next, 100000);
-        } else if (strcmp(word, "--seconds") == 0) {
-            options.seconds = (int)number(word, next, 86400);
-        } else if (strcmp(word, "--tag") == 0) {
-            options.tag = text(word, next);
+        char *word = words[at], *next = at + 1 < count ? words[at + 1] : NULL;
+        if (read_mark(&options, word)) {
+            continue;
+        }
+        if (read_number(&options, word, next) || read_name(&options, word, next)) {
+            at++;
         } else if (word[0] == '-' || options.path != NULL) {
             usage("what is ", word);
         } else {
             options.path = word;
-            alone = true;
         }
-        at += alone ? 0 : 1;
     }
     if (options.path == NULL) {
         usage("no deployment was named", "");

@@ -6,20 +6,23 @@
 
 #include <stdint.h>
 
-enum { MOST_APPLICATIONS = 64, MOST_PARTICIPANTS = 64 };
-
 struct options {
     const char *path, *tag;
     int named;
     const char *participant[MOST_PARTICIPANTS];
     uint64_t writes, takes;
-    int loss, calls, idle, seconds, holds;
+    int loss, calls, idle, seconds, holds, rates;
     // applications that are held back: they begin to take only after so many milliseconds, or wait so long after each circle in which they took
     struct hold {
         const char *application;
         int64_t milliseconds;
         bool after_each;
     } hold[2 * MOST_APPLICATIONS];
+    // free rules that write by a clock, each of their writes once in so many nanoseconds
+    struct rate {
+        const char *rule;
+        int64_t period;
+    } rate[MOST_RULES];
     bool match, keys, times;
 };
 

@@ -58,8 +58,7 @@ static bool report_reader(struct cache *cache, bool keys)
         printf("incompatible %s %u\n", name, incompatible);
     }
     // a watcher may miss samples
-    bool is_reliable = cache->end->policies.reliability == 1;
-    bool well = cache->out_of_order == 0 && (!is_reliable || (rejected == 0 && lost == 0));
+    bool well = cache->out_of_order == 0 && (is_watcher(cache->end) || (rejected == 0 && lost == 0));
     pthread_mutex_unlock(&cache->lock);
     return well;
 }

@@ -2,13 +2,12 @@
 #ifndef REPORT_H
 #define REPORT_H
 
-#include "options.h"
 #include "worker.h"
 
 // Prints which pairs match, in the words of `ddscheck match`, but without reasons. True where they are the connections.
 bool report_matches(const struct cyclone *system);
 
-// Prints a line for each application and each reader that is here. True where all stopped and no reader that is reliable rejected, lost or took out of order.
+// Prints a line for each application and each reader that is here. True where all stopped, all readers took in order, and none but a watcher rejected or lost.
 bool report_run(const struct cyclone *system, const struct worker *workers, const struct options *options, int64_t begun);
 
 #endif

@@ -2,58 +2,80 @@
 #include "fault.h"
 #include "numbers.h"
 
-#include <string.h>
-
-static void push(struct worker *worker, enum kind kind, int endpoint, int key)
+static void push(struct worker *worker, struct step step)
 {
-    worker->circle[worker->steps++] = (struct step){.kind = kind, .endpoint = endpoint, .key = key};
+    worker->circle[worker->steps++] = step;
 }
 
-// Whether a rule of the application writes the key at the writer.
-static bool is_written(const struct deployment *lists, int application, int writer, int key)
+// True where the application has readers.
+static bool push_takes(struct worker *worker)
 {
-    for (int at = 0; at < lists->rules; at++) {
-        const struct rule *rule = &lists->rule[at];
-        for (int place = 0; rule->application == application && place < rule->writes; place++) {
-            if (rule->write[place].endpoint == writer && rule->write[place].key == key) {
-                return true;
-            }
-        }
-    }
-    return false;
-}
-
-void ready_worker(struct worker *worker, struct cyclone *system, struct ledger *ledger, int application, uint64_t writes, uint64_t takes)
-{
-    const struct deployment *lists = system->lists;
-    *worker = (struct worker){.system = system, .ledger = ledger, .application = application};
-    worker->circle = room((unsigned long)(lists->readers * MOST_KEYS + lists->rules + lists->writers * MOST_KEYS), sizeof *worker->circle);
+    const struct deployment *lists = worker->system->lists;
     bool reads = false;
     for (int at = 0; at < lists->readers; at++) {
         const struct endpoint *end = &lists->reader[at];
-        reads = reads || end->application == application;
-        for (int key = 0; end->application == application && key < lists->topic[end->topic].keys; key++) {
+        reads = reads || end->application == worker->application;
+        for (int key = 0; end->application == worker->application && key < lists->topic[end->topic].keys; key++) {
             if (end->hears[key]) {
-                push(worker, STEP_TAKE, at, key);
+                push(worker, (struct step){.kind = STEP_TAKE, .endpoint = at, .key = key});
             }
         }
     }
+    return reads;
+}
+
+static void push_firings(struct worker *worker)
+{
+    const struct deployment *lists = worker->system->lists;
     for (int at = 0; at < lists->rules; at++) {
-        if (lists->rule[at].application == application && lists->rule[at].takes > 0) {
-            push(worker, STEP_FIRE, at, 0);
+        if (lists->rule[at].application == worker->application && lists->rule[at].takes > 0) {
+            push(worker, (struct step){.kind = STEP_FIRE, .endpoint = at});
         }
     }
-    int before = worker->steps;
+}
+
+// The writes of a key at a writer: one by the clock of each free rule that has one, and one for the other rules. Where writes are free, what gives permits for
+// them makes none.
+static void push_writes_of(struct worker *worker, int writer, int key, const int64_t *periods)
+{
+    const struct deployment *lists = worker->system->lists;
+    struct step step = {.kind = STEP_WRITE, .endpoint = writer, .key = key, .is_free = is_free(lists, writer, key)};
+    bool is_pushed = false;
+    for (int at = 0; at < lists->rules; at++) {
+        const struct rule *rule = &lists->rule[at];
+        if (!rule_writes(rule, writer, key) || rule->is_free != step.is_free) {
+            continue;
+        }
+        step.period = periods[at];
+        if (step.period > 0 || !is_pushed) {
+            push(worker, step);
+        }
+        is_pushed = is_pushed || step.period == 0;
+    }
+}
+
+static void push_writes(struct worker *worker, const int64_t *periods)
+{
+    const struct deployment *lists = worker->system->lists;
     for (int at = 0; at < lists->writers; at++) {
         const struct endpoint *end = &lists->writer[at];
-        for (int key = 0; end->application == application && key < lists->topic[end->topic].keys; key++) {
-            if (is_written(lists, application, at, key)) {
-                push(worker, STEP_WRITE, at, key);
-            }
+        for (int key = 0; end->application == worker->application && key < lists->topic[end->topic].keys; key++) {
+            push_writes_of(worker, at, key, periods);
         }
     }
-    worker->takes = reads ? takes : 0;
-    worker->writes = worker->steps > before ? writes : 0;
+}
+
+void ready_worker(struct worker *worker, struct cyclone *system, struct ledger *ledger, int application, const struct options *options, const int64_t *periods)
+{
+    const struct deployment *lists = system->lists;
+    int most = (lists->readers + lists->writers) * MOST_KEYS + lists->rules * (1 + MOST_PORTIONS);
+    *worker = (struct worker){.system = system, .ledger = ledger, .application = application};
+    worker->circle = room((unsigned long)most, sizeof *worker->circle);
+    worker->takes = push_takes(worker) ? options->takes : 0;
+    push_firings(worker);
+    int before = worker->steps;
+    push_writes(worker, periods);
+    worker->writes = worker->steps > before ? options->writes : 0;
 }
 
 static bool do_take(struct worker *worker, const struct step *step)
@@ -74,20 +96,37 @@ static bool do_take(struct worker *worker, const struct step *step)
     return true;
 }
 
-static bool do_write(struct worker *worker, const struct step *step)
+// Whether the ledger, or the clock of a free write, lets a write be made.
+static bool may_write(struct worker *worker, const struct step *step)
 {
-    uint64_t *permits = &worker->ledger->permits[step->endpoint][step->key];
-    if (worker->wrote == worker->writes) {
+    if (worker->wrote == worker->writes || (step->period > 0 && now() < step->due)) {
         return false;
     }
     worker->calls++;
-    if (*permits == 0) {
+    return step->is_free || worker->ledger->permits[step->endpoint][step->key] > 0;
+}
+
+static void note_write(struct worker *worker, struct step *step)
+{
+    if (!step->is_free) {
+        worker->ledger->permits[step->endpoint][step->key]--;
+    }
+    if (step->period > 0) {
+        // a period that has gone by without a write is left out
+        step->due += (1 + (now() - step->due) / step->period) * step->period;
+    }
+    worker->system->writer[step->endpoint].written[step->key]++;
+    worker->wrote++;
+}
+
+static bool do_write(struct worker *worker, struct step *step)
+{
+    if (!may_write(worker, step)) {
         return false;
     }
     struct writer *writer = &worker->system->writer[step->endpoint];
     const struct deployment *lists = worker->system->lists;
-    ddscheck_Sample sample = {.key = ""};
-    strcpy(sample.key, lists->topic[lists->writer[step->endpoint].topic].key[step->key]);
+    ddscheck_Sample sample = sample_of(lists->topic[lists->writer[step->endpoint].topic].key[step->key]);
     put_numbers(sample.data, (struct numbers){.written = worker->wrote + 1, .number = writer->written[step->key] + 1, .writer = (uint64_t)step->endpoint});
     if (worker->write_times != NULL) {
         worker->write_times[worker->wrote] = now();
@@ -101,13 +140,11 @@ static bool do_write(struct worker *worker, const struct step *step)
     if (answer < 0) {
         fail(STATUS_DDS, "a write at %s: %s", lists->writer[step->endpoint].name, dds_strretcode(-answer));
     }
-    --*permits;
-    writer->written[step->key]++;
-    worker->wrote++;
+    note_write(worker, step);
     return true;
 }
 
-static bool do_step(struct worker *worker, const struct step *step)
+static bool do_step(struct worker *worker, struct step *step)
 {
     switch (step->kind) {
     case STEP_TAKE:
@@ -120,34 +157,68 @@ static bool do_step(struct worker *worker, const struct step *step)
     }
 }
 
+// Goes round the circle once. True where something was taken, fired or written.
+static bool go_round(struct worker *worker)
+{
+    bool moved = false;
+    uint64_t before = worker->took;
+    worker->may_take = now() >= worker->held_until;
+    for (int at = 0; at < worker->steps && worker->calls < worker->most_calls; at++) {
+        moved = do_step(worker, &worker->circle[at]) || moved;
+    }
+    if (worker->slow > 0 && worker->took > before) {
+        worker->held_until = now() + worker->slow;
+    }
+    return moved;
+}
+
+static bool is_done(const struct worker *worker)
+{
+    return worker->took == worker->takes && worker->wrote == worker->writes;
+}
+
+// When the next write by a clock is due, where there is one to make.
+static int64_t next_due(const struct worker *worker)
+{
+    int64_t next = FOREVER;
+    for (int at = 0; at < worker->steps && worker->wrote < worker->writes; at++) {
+        const struct step *step = &worker->circle[at];
+        if (step->period > 0 && step->due < next) {
+            next = step->due;
+        }
+    }
+    return next;
+}
+
+static void start_clocks(struct worker *worker)
+{
+    for (int at = 0; at < worker->steps; at++) {
+        worker->circle[at].due = now();
+    }
+}
+
 void *work(void *argument)
 {
     struct worker *worker = argument;
     struct change *change = &worker->system->change[worker->application];
     int idle = 0;
-    while (worker->took < worker->takes || worker->wrote < worker->writes) {
+    start_clocks(worker);
+    while (!is_done(worker)) {
         if (now() >= worker->cut_at) {
             worker->end = END_CUT;
             return NULL;
         }
         uint64_t seen = seen_changes(change);
-        bool moved = false;
-        uint64_t before = worker->took;
-        worker->may_take = now() >= worker->held_until;
-        for (int at = 0; at < worker->steps && worker->calls < worker->most_calls; at++) {
-            moved = do_step(worker, &worker->circle[at]) || moved;
-        }
-        if (worker->calls >= worker->most_calls && (worker->took < worker->takes || worker->wrote < worker->writes)) {
+        bool moved = go_round(worker);
+        if (worker->calls >= worker->most_calls && !is_done(worker)) {
             worker->end = END_LIMIT;
             return NULL;
         }
-        if (worker->slow > 0 && worker->took > before) {
-            worker->held_until = now() + worker->slow;
-        }
+        int64_t due = next_due(worker);
         if (moved) {
             worker->last_success = now();
             idle = 0;
-        } else if (wait_change(change, seen) || now() < worker->held_until) {
+        } else if (wait_change(change, seen, due) || now() < worker->held_until || due != FOREVER) {
             idle = 0;
         } else if (++idle >= worker->idle_waits) {
             worker->end = END_IDLE;

@@ -3,15 +3,20 @@
 #define WORKER_H
 
 #include "ledger.h"
+#include "options.h"
 #include "system.h"
 
 enum end { END_STOPPED, END_LIMIT, END_IDLE, END_CUT };
 
 enum kind { STEP_TAKE, STEP_FIRE, STEP_WRITE };
 
+// A take or a write of a key, or the firing of a rule, which is its `endpoint`.
 struct step {
     enum kind kind;
     int endpoint, key;
+    // a write that uses no permit; by a clock, where it has a period, once in each and next when it is due
+    bool is_free;
+    int64_t period, due;
 };
 
 struct worker {
@@ -33,8 +38,9 @@ struct worker {
     enum end end;
 };
 
-// Readies an application with so many writes and takes to make: one without readers takes nothing, and one whose rules write nothing writes nothing.
-void ready_worker(struct worker *worker, struct cyclone *system, struct ledger *ledger, int application, uint64_t writes, uint64_t takes);
+// Readies an application with so many writes and takes to make: one without readers takes nothing, and one whose rules write nothing writes nothing. Of each
+// rule there is the period of its writes, 0 where they go by no clock.
+void ready_worker(struct worker *worker, struct cyclone *system, struct ledger *ledger, int application, const struct options *options, const int64_t *periods);
 
 // Goes in the circle until the end. It is the function of a thread.
 void *work(void *worker);

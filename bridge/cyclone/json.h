@@ -1,0 +1,38 @@
+// The fields of a JSON document. Where a field isn't what is asked for, each call says so and ends the program with the status of a bad file.
+#ifndef JSON_H
+#define JSON_H
+
+#include <cjson/cJSON.h>
+#include <stdbool.h>
+#include <stdint.h>
+
+enum { MOST_NAME = 64, MOST_TYPE = 256 };
+
+const cJSON *field(const cJSON *entry, const char *name);
+const cJSON *list(const cJSON *entry, const char *name);
+bool truth(const cJSON *entry, const char *name);
+
+// A truth value, false where the field isn't there.
+bool truth_or_absent(const cJSON *entry, const char *name);
+
+// A whole number in a range. The library has each number as a double: above 2^53 it is the nearest one, and what comes to 2^63 is INT64_MAX.
+int64_t number(const cJSON *entry, const char *name, int64_t least, int64_t most);
+
+// The same, or a text that stands for this value.
+int64_t number_or(const cJSON *entry, const char *name, const char *text, int64_t value, int64_t least, int64_t most);
+
+// The place of a text among words that end with NULL.
+int word(const cJSON *entry, const char *name, const char *const *words);
+
+// A name of 1 to 64 bytes, as a field and as an element of a list.
+const char *name_in(const cJSON *entry, const char *name);
+const char *name_of(const cJSON *value, const char *what);
+
+// The name of a type, 1 to 256 bytes and maybe with colons, and that of a partition, 0 to 64 bytes and maybe with wildcards.
+const char *type_in(const cJSON *entry, const char *name);
+const char *partition_of(const cJSON *value);
+
+// The place of the entry with this name.
+int named(const cJSON *entries, const char *name);
+
+#endif
