@@ -1,8 +1,9 @@
 -- How tight the bounds and totals of a certificate are: each beside the limit that it keeps, and what its row weighs.
-use Rattle.std.specs.Prelude.{codes, ℕ, List, [], ◌++◌, Option, Some, None, flat_map, slice_get}
+use Rattle.std.specs.Prelude.{codes, ℕ, List, [], ◌++◌, Option, Some, None, flat_map, map, slice_get}
 use Rattle.std.specs.Fmt.{decimal}
 use Rattle.std.specs.Option.{option_map_or}
 use Rattle.dds_deploy.specs.Lists.{Lists}
+use Rattle.dds_match.specs.Network.{Network}
 use Rattle.dds_match.specs.Plan.{network_of}
 use Rattle.dds_cert.specs.Lists.{Certificate, Row}
 use Rattle.dds_cert.specs.Naming.{reader_key}
@@ -12,6 +13,10 @@ use Rattle.dds_runs.specs.Accepted.{row_of, budget, instance_limit}
 use Rattle.dds_events.specs.Naming.{reader_name}
 use Rattle.dds_explain.specs.Pieces.{instance_limit_name}
 use Rattle.dds_explain.specs.Shown.{shown_text}
+
+-- what the permits at the opening weigh by each of these rows
+abbrev pub openings : Network → List Row → List ℕ
+openings net rows = map (λ row. budget net (row_of row)) rows
 
 -- a limit with the name of its policy, or that there is none
 abbrev pub named_limit : List ℕ → Option ℕ → List ℕ

@@ -1,18 +1,21 @@
 //! How tight the bounds and totals of a certificate are: each beside the limit that it keeps, and what its row weighs.
-ghost use Rattle.std.specs.Prelude.{◌≡◌, IfOk, string_bytes};
+ghost use Rattle.std.specs.Prelude.{◌≡◌, IfNone, IfOk, IfSome, None, Some, slice_get, string_bytes};
+ghost use Rattle.dds_match.specs.Plan.{network_of};
 ghost use Rattle.dds_cert.specs.Views.{certificate_view, row_view};
-ghost use Rattle.dds_explain.specs.Margin.{bound_line, bound_margin, bound_words, margin_lines, margin_text, named_instance_limit, named_limit, total_line, total_margin, total_words};
+ghost use Rattle.dds_runs.specs.Accepted.{budget, row_of};
+ghost use Rattle.dds_explain.specs.Margin.{bound_line, bound_margin, bound_words, margin_lines, margin_text, named_instance_limit, named_limit, openings, total_line, total_margin, total_words};
 
-use crate::pieces::{instance_limit_name, reader_limits, reader_name, text_of_row};
+use crate::pieces::{find_row, instance_limit_name, reader_limits, reader_name};
 use crate::shown::shown_text;
 use crate::weights::{budget, sample_weight};
-use dds_base::ReaderNo;
+use dds_base::{NoMemory, ReaderNo};
 use dds_cert::naming::reader_key;
 use dds_cert::{Bound, Certificate, Row, Total};
 use dds_check::instance_limit;
 use dds_match::Plan;
 use dds_show::texts::{TextResult, text_of_each};
 use std::alloc::Global;
+use std::marker::Model;
 
 /// A limit with the name of its policy, or that there is none.
 fn named_limit(alloc: Global, name: &str, limit: Option<u32>) -> TextResult
@@ -50,11 +53,79 @@ fn named_instance_limit(alloc: Global, plan: &Plan, reader: ReaderNo) -> TextRes
     named_limit(alloc, instance_limit_name(&limits), instance_limit(&limits))
 }
 
+/// A plan and a certificate, with what the permits at the opening weigh by each of its rows. Contracts see it as the two.
+#[derive(Drop)]
+struct Openings<'a> {
+    plan: &'a Plan,
+    certificate: &'a Certificate,
+    weights: Vec<u128>,
+}
+
+impl<'a> Model for Openings<'a> {
+    ghost use Rattle.std.specs.Prelude.{◌≡◌, map};
+    ghost use Rattle.dds_deploy.specs.Lists.{Lists};
+    ghost use Rattle.dds_match.specs.Plan.{network_of};
+    ghost use Rattle.dds_cert.specs.Lists.{Certificate};
+    ghost use Rattle.dds_cert.specs.Views.{certificate_view};
+    ghost use Rattle.dds_explain.specs.Margin.{openings};
+
+    ghost Value = { Lists × Certificate };
+
+    ghost view = { λ o. (o.plan.now, certificate_view o.certificate.now) };
+
+    ghost invariant = { λ o. o.weights.items ≡ openings (network_of o.plan.now) (certificate_view o.certificate.now).rows };
+}
+
+/// What the permits at the opening weigh by each row, in the order of the rows.
+fn weigh_openings(
+    alloc: Global,
+    plan: &Plan,
+    certificate: &Certificate,
+) -> Result<Vec<u128>, NoMemory>
+    ensures { IfOk result (λ weights. weights.items ≡ openings (network_of plan.now) (certificate_view certificate.now).rows) }
+{
+    let mut weights = Vec::new(alloc);
+    for row in &certificate.rows {
+        weights.push(budget(plan, row))?;
+    }
+    Ok(weights)
+}
+
+impl<'a> Openings<'a> {
+    /// Weighs the permits at the opening once by each row.
+    fn new(
+        alloc: Global,
+        plan: &'a Plan,
+        certificate: &'a Certificate,
+    ) -> Result<Openings<'a>, NoMemory>
+        ensures { IfOk result (λ o. o ≡ (plan.now, certificate_view certificate.now)) }
+    {
+        let weights = weigh_openings(alloc, plan, certificate)?;
+        Ok(Openings {
+            plan,
+            certificate,
+            weights,
+        })
+    }
+
+    /// The row at this place with what the permits weigh by it, if there is one.
+    fn row(&self, n: usize) -> Option<(&'a Row, u128)>
+        ensures some { IfSome result (λ found. (slice_get self.now.1.rows n ≡ Some (row_view found.0.now))
+            × (found.1 ≡ budget (network_of self.now.0) (row_of (row_view found.0.now)))) }
+        ensures none { IfNone result (slice_get self.now.1.rows n ≡ None) }
+    {
+        match (find_row(self.certificate, n), self.weights.get(n)) {
+            (Some(row), Some(opening)) => Some((row, *opening)),
+            _ => None,
+        }
+    }
+}
+
 /// A bound beside its limit, and the least that its row shows.
-fn bound_line(alloc: Global, plan: &Plan, row: &Row, bound: &Bound) -> TextResult
+fn bound_line(alloc: Global, plan: &Plan, row: &Row, opening: u128, bound: &Bound) -> TextResult
+    requires { opening ≡ budget (network_of plan.now) (row_of (row_view row.now)) }
     ensures { IfOk result (λ text. string_bytes text ≡ bound_line plan.now (row_view row.now) bound.now) }
 {
-    let opening = budget(plan, row);
     let weight = sample_weight(row, bound.reader, bound.key);
     let words = bound_words(alloc, plan, bound)?;
     let limit = named_instance_limit(alloc, plan, bound.reader)?;
@@ -64,12 +135,13 @@ fn bound_line(alloc: Global, plan: &Plan, row: &Row, bound: &Bound) -> TextResul
 }
 
 /// A bound beside its limit, and the least that its row shows.
-fn bound_margin(alloc: Global, plan: &Plan, certificate: &Certificate, bound: &Bound) -> TextResult
-    ensures { IfOk result (λ text. string_bytes text ≡ bound_margin plan.now (certificate_view certificate.now) bound.now) }
+fn bound_margin(alloc: Global, openings: &Openings, bound: &Bound) -> TextResult
+    ensures { IfOk result (λ text. string_bytes text ≡ bound_margin openings.now.0 openings.now.1 bound.now) }
 {
-    text_of_row(alloc, certificate, bound.row, |row| {
-        bound_line(alloc, plan, row, bound)
-    })
+    match openings.row(bound.row) {
+        Some((row, opening)) => bound_line(alloc, openings.plan, row, opening, bound),
+        None => Ok(String::new(alloc)),
+    }
 }
 
 /// The reader and the number of a total.
@@ -82,10 +154,10 @@ fn total_words(alloc: Global, plan: &Plan, total: &Total) -> TextResult
 }
 
 /// A total beside its limit.
-fn total_line(alloc: Global, plan: &Plan, row: &Row, total: &Total) -> TextResult
+fn total_line(alloc: Global, plan: &Plan, row: &Row, opening: u128, total: &Total) -> TextResult
+    requires { opening ≡ budget (network_of plan.now) (row_of (row_view row.now)) }
     ensures { IfOk result (λ text. string_bytes text ≡ total_line plan.now (row_view row.now) total.now) }
 {
-    let opening = budget(plan, row);
     let words = total_words(alloc, plan, total)?;
     let max_samples = reader_limits(plan, total.reader).max_samples;
     let limit = named_limit(alloc, "max_samples", max_samples)?;
@@ -94,23 +166,25 @@ fn total_line(alloc: Global, plan: &Plan, row: &Row, total: &Total) -> TextResul
 }
 
 /// A total beside its limit.
-fn total_margin(alloc: Global, plan: &Plan, certificate: &Certificate, total: &Total) -> TextResult
-    ensures { IfOk result (λ text. string_bytes text ≡ total_margin plan.now (certificate_view certificate.now) total.now) }
+fn total_margin(alloc: Global, openings: &Openings, total: &Total) -> TextResult
+    ensures { IfOk result (λ text. string_bytes text ≡ total_margin openings.now.0 openings.now.1 total.now) }
 {
-    text_of_row(alloc, certificate, total.row, |row| {
-        total_line(alloc, plan, row, total)
-    })
+    match openings.row(total.row) {
+        Some((row, opening)) => total_line(alloc, openings.plan, row, opening, total),
+        None => Ok(String::new(alloc)),
+    }
 }
 
 /// A line for each bound, then a line for each total.
 pub(crate) fn margin_lines(alloc: Global, plan: &Plan, certificate: &Certificate) -> TextResult
     ensures { IfOk result (λ text. string_bytes text ≡ margin_lines plan.now (certificate_view certificate.now)) }
 {
+    let openings = Openings::new(alloc, plan, certificate)?;
     let bounds = text_of_each(alloc, certificate.bounds.as_slice(), |bound| {
-        bound_margin(alloc, plan, certificate, bound)
+        bound_margin(alloc, &openings, bound)
     })?;
     let totals = text_of_each(alloc, certificate.totals.as_slice(), |total| {
-        total_margin(alloc, plan, certificate, total)
+        total_margin(alloc, &openings, total)
     })?;
     format!(in alloc; "{bounds}{totals}")
 }

@@ -13,7 +13,7 @@ returns c =
     let limit : c.as_str-2.result.now ≡ named_instance_limit c.args.plan.now c.args.bound.now.reader =
     c.as_str-2.ensures.value ∙ c.in_ok-limit.ensures in
     let margin : string_bytes c.in_ok-margin.margin ≡ margin_text (bound_words c.args.plan.now c.args.bound.now) (named_instance_limit c.args.plan.now c.args.bound.now.reader) (row_view c.args.row.now) (budget (network_of c.args.plan.now) (row_of (row_view c.args.row.now))) =
-    rw (words, limit, c.budget-opening.ensures) at c.in_ok-margin.ensures in
+    rw (words, limit, c.requires) at c.in_ok-margin.ensures in
     let shown : string_bytes c.in_ok-shown.shown ≡ shown_text (budget (network_of c.args.plan.now) (row_of (row_view c.args.row.now))) ((row_of (row_view c.args.row.now)).samples c.args.bound.now.reader c.args.bound.now.key) =
-    rw (c.budget-opening.ensures, c.sample_weight-weight.ensures) at c.in_ok-shown.ensures in
+    rw (c.requires, c.sample_weight-weight.ensures) at c.in_ok-shown.ensures in
     rw (margin, shown, c.sample_weight-weight.ensures) at c.format.ensures.ok

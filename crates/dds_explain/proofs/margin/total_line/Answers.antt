@@ -13,5 +13,5 @@ returns c =
     let limit : c.as_str-2.result.now ≡ named_limit (codes "max_samples") ((network_of c.args.plan.now).reader_limits c.args.total.now.reader).max_samples =
     c.as_str-2.ensures.value ∙ (c.in_ok-limit.ensures ∙ ap (λ (x : ReaderLimits). named_limit (codes "max_samples") x.max_samples) c.reader_limits-max_samples.ensures) in
     let margin : string_bytes c.in_ok-margin.margin ≡ margin_text (total_words c.args.plan.now c.args.total.now) (named_limit (codes "max_samples") ((network_of c.args.plan.now).reader_limits c.args.total.now.reader).max_samples) (row_view c.args.row.now) (budget (network_of c.args.plan.now) (row_of (row_view c.args.row.now))) =
-    rw (words, limit, c.budget-opening.ensures) at c.in_ok-margin.ensures in
+    rw (words, limit, c.requires) at c.in_ok-margin.ensures in
     rw (margin) at c.format.ensures.ok
