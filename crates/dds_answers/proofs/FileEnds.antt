@@ -64,7 +64,7 @@ pub large_of_two : (May : Outcome → Type 0) (d c : List ℕ) → (1048576 < le
 large_of_two May d c more = rw (many d c more) refl
 
 -- one of the ends that may be of bytes that are few enough
-few_gives : (b : Bool) (May : Outcome → Type 0) (r : Result Answer ToolFault) → b ≡ true → GivesOneOf May r → GivesOneOf (MayIf b May) r
+pub few_gives : (b : Bool) (May : Outcome → Type 0) (r : Result Answer ToolFault) → b ≡ true → GivesOneOf May r → GivesOneOf (MayIf b May) r
 few_gives b May (Ok answer) is (end, may, same) = (end, rw is may, same)
 few_gives b May (Err e) is (inl nothing) = inl nothing
 few_gives b May (Err e) is (inr (end, may, ends)) = inr (end, rw is may, ends)

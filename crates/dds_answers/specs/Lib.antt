@@ -6,6 +6,7 @@ pub mod Matches
 pub mod Outcome
 pub mod Proposals
 pub mod Migrations
+pub mod Notes
 pub mod Report
 pub mod Answers
 pub mod Opened

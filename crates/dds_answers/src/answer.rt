@@ -1,10 +1,11 @@
 //! What each command answers to the bytes of its files.
-ghost use Rattle.std.specs.Prelude.{◌≡◌, ◌≤◌, IfErr, IfOk, IsOk, Ok, OnOk, string_bytes};
+ghost use Rattle.std.specs.Prelude.{◌≡◌, ◌≤◌, IfErr, IfOk, IsOk, Ok, OnOk, option_map, string_bytes, true};
 ghost use Rattle.dds_cert.specs.Views.{certificate_view};
 ghost use Rattle.dds_answers.specs.Answers.{Gives, GivesOneOf, answer_exit};
 ghost use Rattle.dds_answers.specs.Fault.{IsAnswerFault};
 ghost use Rattle.dds_answers.specs.Outcome.{Outcome, compared, match_outcome, outcome, proposed, show_outcome, shown, told, unproposed};
 ghost use Rattle.dds_answers.specs.Migrations.{MayMigrate};
+ghost use Rattle.dds_answers.specs.Notes.{length_note};
 ghost use Rattle.dds_answers.specs.Proposals.{MayPropose};
 ghost use Rattle.dds_answers.specs.Report.{outcome_of, shown_text};
 ghost use Rattle.dds_answers.specs.Syntax.{IsFaultTold};
@@ -15,6 +16,7 @@ use crate::fault::ToolFault;
 use crate::format::Format;
 use crate::matches::{is_as_intended, match_text};
 use crate::planning::read_plan;
+use crate::reading::MAX_FILE;
 use crate::report::{Detail, Report, deployment_fault, detailed_check, detailed_text};
 use dds_base::NoMemory;
 use dds_cert::{Certificate, certificate_text};
@@ -143,20 +145,48 @@ pub fn show_answer(alloc: Global, deployment: &[u8], format: Format) -> Result<A
     }
 }
 
-/// The answer with the text of a certificate that was proposed.
-#[tactic(auto, unfolding(crate::specs::Report::output_of, crate::specs::Report::status_of))]
-pub fn certified(alloc: Global, plan: &Plan, certificate: &Certificate) -> Result<Answer, ToolFault>
-    ensures gives { Gives result (proposed plan.now (certificate_view certificate.now)) }
-    ensures fault { IfErr result IsAnswerFault }
+/// What the user is told of a text that commands read: that it's longer than a file may be, if it is.
+fn length_note(alloc: Global, text: &str) -> Result<Option<String>, NoMemory>
+    ensures { IfOk result (λ note. option_map string_bytes note ≡ length_note text.now) }
 {
-    match certificate_text(alloc, plan, certificate) {
-        Ok(text) => Ok(Answer {
+    let length = text.len();
+    if length <= MAX_FILE {
+        return Ok(None);
+    }
+    let note = format!(in alloc;
+        "ddscheck: this text has {length} bytes, and a file may have at most 1048576\n"
+    )?;
+    Ok(Some(note))
+}
+
+/// Yes with a text that commands read, if there was memory for it. The user is told where it's longer than a file may be.
+fn written(alloc: Global, text: Result<String, NoMemory>) -> Result<Answer, ToolFault>
+    ensures answer { IfOk result (λ a. (a.is_yes ≡ true) × IfOk text (λ t. a.text ≡ t)) }
+    ensures text { OnOk result (IsOk text) }
+    ensures note { IfOk result (λ a. option_map string_bytes a.note ≡ length_note (string_bytes a.text)) }
+    ensures memory { IfErr result (λ e. e ≡ ToolFault.NoMemory) }
+{
+    let Ok(text) = text else {
+        return Err(ToolFault::NoMemory);
+    };
+    match length_note(alloc, text.as_str()) {
+        Ok(note) => Ok(Answer {
             text,
             is_yes: true,
-            note: None,
+            note,
         }),
         Err(_) => Err(ToolFault::NoMemory),
     }
+}
+
+/// The answer with the text of a certificate that was proposed. The user is told where it's longer than a file may be.
+#[tactic(auto, unfolding(crate::specs::Report::output_of, crate::specs::Report::status_of))]
+pub fn certified(alloc: Global, plan: &Plan, certificate: &Certificate) -> Result<Answer, ToolFault>
+    ensures gives { Gives result (proposed plan.now (certificate_view certificate.now)) }
+    ensures note { IfOk result (λ a. option_map string_bytes a.note ≡ length_note (string_bytes a.text)) }
+    ensures fault { IfErr result IsAnswerFault }
+{
+    written(alloc, certificate_text(alloc, plan, certificate))
 }
 
 /// The answer where no certificate was found.
@@ -191,17 +221,15 @@ pub fn propose_answer(alloc: Global, deployment: &[u8]) -> Result<Answer, ToolFa
     answer
 }
 
-/// The answer of `migrate` to the bytes of a deployment of version 1: yes with a text of version 2 that stands for the same lists.
+/// The answer of `migrate` to the bytes of a deployment of version 1: yes with a text of version 2 that stands for the
+/// same lists. The user is told where it's longer than a file may be.
 pub fn migrate_answer(alloc: Global, deployment: &[u8]) -> Result<Answer, ToolFault>
     ensures gives { GivesOneOf (MayMigrate deployment.now (read_up_to 1 deployment.now)) result }
+    ensures note { IfOk result (λ a. option_map string_bytes a.note ≡ length_note (string_bytes a.text)) }
     ensures fault { IfErr result IsAnswerFault }
 {
     match migrate(alloc, deployment) {
-        Ok(text) => Ok(Answer {
-            text,
-            is_yes: true,
-            note: None,
-        }),
+        Ok(text) => written(alloc, Ok(text)),
         Err(fault) => Err(deployment_fault(fault)),
     }
 }

@@ -1,5 +1,5 @@
 //! What each command answers to its files, which are read whole before any is parsed.
-ghost use Rattle.std.specs.Prelude.{◌≡◌, ℕ, List, [], ◌∷◌, ◌≤◌, ◌<◌, ◌⊎◌, Some, None, IfOk, IfErr, IfSome, IsErrOf, OnOk, length};
+ghost use Rattle.std.specs.Prelude.{◌≡◌, ℕ, List, [], ◌∷◌, ◌≤◌, ◌<◌, ◌^◌, ◌⊎◌, Some, None, IfOk, IfErr, IfSome, IsErrOf, OnOk, length};
 ghost use Rattle.dds_answers.specs.Answers.{Gives, GivesOneOf};
 ghost use Rattle.dds_answers.specs.Causes.{IsFileFault};
 ghost use Rattle.dds_answers.specs.Opened.{Opens, OpensAll};
@@ -16,12 +16,12 @@ use crate::counted::Counted;
 use crate::drawing::draw_answer;
 use crate::fault::ToolFault;
 use crate::format::Format;
-use crate::reading::read_all;
+use crate::reading::{MAX_FILE, read_up_to};
 use crate::report::Detail;
 use crate::sources::Sources;
 use std::alloc::Global;
 
-/// The bytes of the file at a path. `Read` comes only where the file has failed. The file is given back before the answer.
+/// The bytes of the file at a path, at most `MAX_FILE`, as `read_file_up_to` reads them.
 pub fn read_file<S: Sources>(alloc: Global, files: &mut S, path: &str) -> Result<Vec<u8>, ToolFault>
     ensures bytes { IfOk result (λ bytes. IfSome (S.holds files.old path.now) (λ xs. (bytes.items ≡ xs) × (length xs ≤ 1048576))) }
     ensures faults { IfErr result IsReadingFault }
@@ -30,11 +30,30 @@ pub fn read_file<S: Sources>(alloc: Global, files: &mut S, path: &str) -> Result
     ensures others { S.holds files.new ≡ S.holds files.old }
     ensures opened { OpensAll (S.opened files.old) (S.opened files.new) (path.now ∷ []) }
 {
+    read_file_up_to(alloc, files, path, MAX_FILE)
+}
+
+/// The bytes of the file at a path, at most `most`: more are `TooLarge`. `Read` comes only where the file has failed.
+/// The file is given back before the answer.
+pub fn read_file_up_to<S: Sources>(
+    alloc: Global,
+    files: &mut S,
+    path: &str,
+    most: usize,
+) -> Result<Vec<u8>, ToolFault>
+    requires few { most < 2 ^ 63 }
+    ensures bytes { IfOk result (λ bytes. IfSome (S.holds files.old path.now) (λ xs. (bytes.items ≡ xs) × (length xs ≤ most))) }
+    ensures faults { IfErr result IsReadingFault }
+    ensures causes { IfErr result (IsFileFault (S.has_failed files.new)) }
+    ensures too_large { IsErrOf result ToolFault.TooLarge → IfSome (S.holds files.old path.now) (λ xs. most < length xs) }
+    ensures others { S.holds files.new ≡ S.holds files.old }
+    ensures opened { OpensAll (S.opened files.old) (S.opened files.new) (path.now ∷ []) }
+{
     let Some(reader) = files.open(path) else {
         return Err(ToolFault::Read);
     };
     let mut counted = Counted::new(reader);
-    let bytes = read_all(alloc, &mut counted);
+    let bytes = read_up_to(alloc, &mut counted, most);
     files.close(counted);
     bytes
 }

@@ -1,5 +1,5 @@
 //! How an answer or a fault is told.
-ghost use Rattle.std.specs.Prelude.{◌≡◌, ◌≢◌, ◌≤◌, ◌⊎◌, true, false, OnOk, OnErr, IfOk, IfErr, Err};
+ghost use Rattle.std.specs.Prelude.{◌≡◌, ◌≢◌, ◌≤◌, ◌⊎◌, true, false, OnOk, OnErr, IfNone, IfOk, IfErr, IfSome, Err, string_bytes};
 ghost use Rattle.std.specs.Io.KnownBytes.{Appends, Keeps};
 ghost use Rattle.dds_answers.specs.Answers.{Gives};
 ghost use Rattle.dds_answers.specs.Exit.{exit_status};
@@ -49,6 +49,8 @@ pub fn give<O: Output, E: Output>(
     ensures exit { IfOk result (λ exit. exit_status exit ≤ 1) }
     ensures nothing { IfErr result (λ e. (e ≡ ToolFault.Write) ⊎ Keeps (O.contents out.old) (O.contents out.new)) }
     ensures untold { OnErr result (err.new ≡ err.old) }
+    ensures noted { IfOk answer (λ a. OnOk result (IfNone a.note (err.new ≡ err.old) × IfSome a.note (λ note.
+        E.has_failed err.new ≡ false → Appends (E.contents err.old) (E.contents err.new) (string_bytes note)))) }
 {
     match answer {
         Ok(answer) => {

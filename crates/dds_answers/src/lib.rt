@@ -32,14 +32,14 @@ pub use exit::Exit;
 pub use fault::{ToolFault, exit_of, fault_text};
 pub use files::{
     check_files, draw_file, draw_files, match_file, migrate_file, propose_file, read_file,
-    read_files, show_file,
+    read_file_up_to, read_files, show_file,
 };
 pub use format::Format;
 pub use giving::{give, print, tell_fault};
 pub use matches::{is_as_intended, match_text};
 pub use output::{Output, Stream};
 pub use planning::{plan_of, read_plan};
-pub use reading::{MAX_FILE, read_all};
+pub use reading::{MAX_FILE, read_all, read_up_to};
 pub use report::{
     Detail, Report, answer_check, because_text, deployment_fault, detailed_check, detailed_text,
     report_text,

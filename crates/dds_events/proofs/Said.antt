@@ -1,6 +1,7 @@
 -- What is said by one line more.
-use Rattle.std.proofs.Common.{◌≡◌, ◌∙◌, ◌+◌, ◌-◌, ◌<◌, Some, ℕ, slice_get, zero, suc, true, false, List, [], ◌∷◌, ◌++◌, length, map, get_or, take, refl, sym, ap, arith, add-one, append-nil, Result, Ok, Err, IfErr, IsErrAnd}
+use Rattle.std.proofs.Common.{◌≡◌, ◌∙◌, ◌+◌, ◌-◌, ◌<◌, Some, ℕ, subst, slice_get, zero, suc, true, false, List, [], ◌∷◌, ◌++◌, length, map, get_or, take, refl, sym, ap, arith, add-one, append-nil, Result, Ok, Err, IfErr, IsErrAnd}
 use Rattle.std.specs.List.{All, filter}
+use Rattle.std.specs.Prelude.{IsUtf8}
 use Rattle.std.specs.Str.Lines.{lines}
 use Rattle.std.proofs.Math.Seq.{take-suc}
 use Rattle.std.proofs.lemmas.List.{map-append}
@@ -9,10 +10,10 @@ use Rattle.std.proofs.lemmas.Option.{slice_get_read}
 use Rattle.dds_base.specs.declared.events.Event.{Event}
 use Rattle.dds_deploy.specs.Lists.{Lists}
 use Rattle.dds_events.specs.Events.{event_text}
-use Rattle.dds_events.specs.Reading.{HasNoData, IsFaultOf, IsOfDeployment, SaysNoEvent, before_arrow, said_by, says_something}
+use Rattle.dds_events.specs.Reading.{HasNoData, IsFaultOf, IsLineFaultOf, IsOfDeployment, SaysNoEvent, before_arrow, said_by, says_something}
 use Rattle.dds_events.specs.declared.fault.EventsFault.{EventsFault}
-use Rattle.dds_events.specs.declared.fault.EventsFault.TheVariants.{At}
-use Rattle.dds_events.specs.declared.fault.EventsFaultKind.TheVariants.{NotAnEvent}
+use Rattle.dds_events.specs.declared.fault.EventsFault.TheVariants.{At, NoMemory}
+use Rattle.dds_events.specs.declared.fault.EventsFaultKind.TheVariants.{NotAnEvent, NotText}
 
 one_more : (all : List (List ℕ)) (n : ℕ) (line : List ℕ) → n < length all → line ≡ get_or all n line → said_by (take (n + 1) all) ≡ said_by (take n all) ++ said_by (line ∷ [])
 one_more all n line lt at =
@@ -46,7 +47,7 @@ and_known d events new event all one after = rw after (All-append (IsOfDeploymen
 
 -- the fault of a line that says something but no event, after lines that say events
 pub fault_of : (d : Lists) (bytes : List ℕ) (n number : ℕ) (line : List ℕ) (events : List Event) (fault : EventsFault) → n < length (lines bytes) → line ≡ get_or (lines bytes) n line →
-    says_something line ≡ true → All (IsOfDeployment d) events → map (event_text d) events ≡ said_by (take n (lines bytes)) → SaysNoEvent d (before_arrow line) → number ≡ n → fault ≡ At NotAnEvent (number + 1) → IsFaultOf d bytes fault
+    says_something line ≡ true → All (IsOfDeployment d) events → map (event_text d) events ≡ said_by (take n (lines bytes)) → SaysNoEvent d (before_arrow line) → number ≡ n → fault ≡ At NotAnEvent (number + 1) → IsLineFaultOf d bytes fault
 fault_of d bytes n number line events fault lt at says known before none same is =
     let here : number + 1 - 1 ≡ n = omega arith in
     let there : slice_get (lines bytes) n ≡ Some line = slice_get_read (lines bytes) (length (lines bytes)) n line refl lt at in
@@ -56,3 +57,14 @@ fault_of d bytes n number line events fault lt at says known before none same is
 pub of_error : {X E : Type 0} (r : Result X E) (Q P : E → Type 0) → ((e : E) → Q e → P e) → IsErrAnd r Q → IfErr r P
 of_error (Ok x) Q P gives h = tt
 of_error (Err e) Q P gives h = gives e h
+
+-- the fault of the lines of bytes that are UTF-8
+of_text : (d : Lists) (bytes : List ℕ) (fault : EventsFault) → IsUtf8 bytes → IsLineFaultOf d bytes fault → IsFaultOf d bytes fault
+of_text d bytes (At NotText n) is fault = absurd fault
+of_text d bytes (At NotAnEvent n) is fault = (is, fault)
+of_text d bytes NoMemory is fault = tt
+
+-- whatever was read of them
+pub read_of_text : {X : Type 0} (d : Lists) (bytes text : List ℕ) (r : Result X EventsFault) → text ≡ bytes → IsUtf8 bytes → IfErr r (IsLineFaultOf d text) → IfErr r (IsFaultOf d bytes)
+read_of_text d bytes text (Ok x) same is fault = tt
+read_of_text d bytes text (Err e) same is fault = of_text d bytes e is (subst (λ (t : List ℕ). IsLineFaultOf d t e) same fault)

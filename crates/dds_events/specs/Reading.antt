@@ -77,8 +77,14 @@ AreSaidBefore d lines n = (events : List Event) × All (IsOfDeployment d) events
 abbrev pub SaysNoEventAt : Lists → List (List ℕ) → ℕ → Type 0
 SaysNoEventAt d lines n = IfSome (slice_get lines (n - 1)) (λ line. SaysNoEvent d (before_arrow line))
 
--- a fault that bytes may have
+-- a fault that the lines of a text may have: the first line that says something, but no event of the deployment
+abbrev pub IsLineFaultOf : Lists → List ℕ → EventsFault → Type 0
+IsLineFaultOf d bytes (At NotText n) = ⊥
+IsLineFaultOf d bytes (At NotAnEvent n) = SaysAt (lines bytes) n × AreSaidBefore d (lines bytes) n × SaysNoEventAt d (lines bytes) n
+IsLineFaultOf d bytes NoMemory = Unit {0}
+
+-- a fault that bytes may have: they are no UTF-8, or they are, and their lines have it
 abbrev pub IsFaultOf : Lists → List ℕ → EventsFault → Type 0
 IsFaultOf d bytes (At NotText n) = (n ≡ 0) × (¬ IsUtf8 bytes)
-IsFaultOf d bytes (At NotAnEvent n) = SaysAt (lines bytes) n × AreSaidBefore d (lines bytes) n × SaysNoEventAt d (lines bytes) n
+IsFaultOf d bytes (At NotAnEvent n) = IsUtf8 bytes × IsLineFaultOf d bytes (At NotAnEvent n)
 IsFaultOf d bytes NoMemory = Unit {0}

@@ -1,8 +1,8 @@
 //! Events read from lines of text.
-ghost use Rattle.std.specs.Prelude.{◌≡◌, IfErr, IfNone, IfOk, IfSome, map};
+ghost use Rattle.std.specs.Prelude.{◌≡◌, IfErr, IfNone, IfOk, IfSome, IsUtf8, OnOk, map};
 ghost use Rattle.std.specs.List.{All};
 ghost use Rattle.dds_events.specs.Events.{event_text};
-ghost use Rattle.dds_events.specs.Reading.{HasNoData, IsFaultOf, IsOfDeployment, IsSaidBy, SaysNoEvent, before_arrow, said_of, says_something};
+ghost use Rattle.dds_events.specs.Reading.{HasNoData, IsFaultOf, IsLineFaultOf, IsOfDeployment, IsSaidBy, SaysNoEvent, before_arrow, said_of, says_something};
 
 use crate::fault::{EventsFault, EventsFaultKind};
 use crate::kinds::{
@@ -67,7 +67,7 @@ fn read_text(alloc: Global, lists: &Deployment, text: &str) -> Result<Vec<Event>
     ensures events { IfOk result (λ events. map (event_text lists.now) events.items ≡ said_of text.now) }
     ensures known { IfOk result (λ events. All (IsOfDeployment lists.now) events.items) }
     ensures no_data { IfOk result (λ events. All HasNoData events.items) }
-    ensures fault { IfErr result (IsFaultOf lists.now text.now) }
+    ensures fault { IfErr result (IsLineFaultOf lists.now text.now) }
 {
     let mut events = Vec::new(alloc);
     let mut number = 0;
@@ -80,9 +80,9 @@ fn read_text(alloc: Global, lists: &Deployment, text: &str) -> Result<Vec<Event>
     Ok(events)
 }
 
-/// The events of a file, in order. A line that is empty, or begins with `#` or `unsafe `, says nothing; of any other what stands before the first ` -> ` is
-/// the text of an event of the deployment. The fault is the first line of which that isn't so, or `NotText` where the bytes are not UTF-8, and `NoMemory`
-/// comes where memory ran out.
+/// The events of a file, in order. A line that is empty, or begins with `#` or `unsafe `, says nothing; of any other
+/// what stands before the first ` -> ` is the text of an event of the deployment. The fault is the first line of which
+/// that isn't so, or `NotText` just where the bytes are not UTF-8, and `NoMemory` comes where memory ran out.
 pub fn read_events(
     alloc: Global,
     lists: &Deployment,
@@ -91,6 +91,7 @@ pub fn read_events(
     ensures events { IfOk result (λ events. map (event_text lists.now) events.items ≡ said_of bytes.now) }
     ensures known { IfOk result (λ events. All (IsOfDeployment lists.now) events.items) }
     ensures no_data { IfOk result (λ events. All HasNoData events.items) }
+    ensures text { OnOk result (IsUtf8 bytes.now) }
     ensures fault { IfErr result (IsFaultOf lists.now bytes.now) }
 {
     match str::from_utf8(bytes) {

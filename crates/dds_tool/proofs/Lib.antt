@@ -1,5 +1,7 @@
 mod Requests
 mod FateLists
+mod Founds
+mod Helps
 mod Numbers
 mod Tallies
 mod Told

@@ -112,7 +112,7 @@ run_faulted : (style : Style) (checked : Outcome) (given : Result Answer ToolFau
     → (status ≡ fault_status f) ⊎ (status ≡ 3) → (status ≡ 3) ⊎ ((end : Outcome) × MayRun style checked end × Said end status old new)
 run_faulted style checked (Ok answer) f status old new gives ends nothing passed told = one_faulted (MayRun style checked) (Ok answer) f status old new gives ends nothing told
 run_faulted style checked (Err e) f status old new (inr gives) ends nothing passed told = one_faulted (MayRun style checked) (Err e) f status old new gives ends nothing told
-run_faulted style checked (Err e) f status old new (inl run) ends nothing passed told = inl (elim told [ inl h ↦ h ∙ ap fault_status (passed ∙ run) | inr h ↦ h ])
+run_faulted style checked (Err e) f status old new (inl run) ends nothing passed told = inl (elim told [ inl h ↦ h ∙ ap fault_status (passed ∙ run.1) | inr h ↦ h ])
 
 -- an answer that was written is what is said of the request
 pub answered : (holds : List ℕ → Option (List ℕ)) (request : Request) (given : Result Answer ToolFault) (r : Result Exit ToolFault) (old new : Option (List ℕ))

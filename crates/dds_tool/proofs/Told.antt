@@ -4,7 +4,8 @@ use Rattle.std.specs.Io.KnownBytes.{Appends, Keeps}
 use Rattle.dds_answers.specs.Causes.{IsFileFault}
 use Rattle.dds_answers.specs.declared.answer.Answer.{Answer}
 use Rattle.dds_answers.specs.Exit.{exit_status}
-use Rattle.dds_answers.specs.Fault.{exit_of, fault_status}
+use Rattle.dds_answers.specs.Fault.{exit_of, fault_line, fault_status}
+use Rattle.dds_answers.specs.Outcome.{Outcome, file_outcome}
 use Rattle.dds_answers.specs.declared.exit.Exit.{Exit}
 use Rattle.dds_answers.specs.declared.exit.Exit.TheVariants as exit
 use Rattle.dds_answers.specs.declared.fault.ToolFault.{ToolFault}
@@ -13,9 +14,11 @@ use Rattle.dds_json.specs.Fault.{fault_document}
 use Rattle.dds_json.specs.Line.{line_of}
 use Rattle.dds_json.specs.declared.style.Style.{Style}
 use Rattle.dds_json.specs.declared.style.Style.TheVariants.{Text, Json}
-use Rattle.dds_tool.specs.Asking.{Answers, GivesTo, Tells, style_of}
+use Rattle.dds_tool.specs.Asking.{Answers, GivesTo, IsAcceptedRun, Tells, TellsBadFile, style_of}
 use Rattle.dds_tool.specs.Causes.{IsCaused, IsRun}
+use Rattle.dds_tool.specs.RunEnds.{GivesRun, IsAccepted}
 use Rattle.dds_tool.specs.declared.request.Request.{Request}
+use Rattle.dds_tool.specs.declared.request.Request.TheVariants as asked
 
 -- how a command ends that tells this fault
 abbrev pub EndsTold : ToolFault → Bool → Exit → Type 0
@@ -81,3 +84,73 @@ pub styled_causes : (failed : Bool) (answer r : Result Answer ToolFault) → IfE
 styled_causes failed answer (Ok a) is causes = tt
 styled_causes failed answer (Err e) (inl memory) causes = subst (IsFileFault failed) (sym memory) tt
 styled_causes failed answer (Err e) (inr same) causes = subst (λ (a : Result Answer ToolFault). IfErr a (IsFileFault failed)) same causes
+
+-- a command ends like this only with that fault
+run_fault : (f : ToolFault) → exit_of f ≡ exit.Run → f ≡ fault.Run
+run_fault (fault.Usage text) is = absurd (let no : exit.Usage ≡ exit.Run = is in cc)
+run_fault (fault.Deployment flaw syntax) is = absurd (let no : exit.BadFile ≡ exit.Run = is in cc)
+run_fault (fault.Certificate flaw syntax) is = absurd (let no : exit.BadFile ≡ exit.Run = is in cc)
+run_fault (fault.Events kind line) is = absurd (let no : exit.BadFile ≡ exit.Run = is in cc)
+run_fault fault.TooLarge is = absurd (let no : exit.BadFile ≡ exit.Run = is in cc)
+run_fault fault.Read is = absurd (let no : exit.Device ≡ exit.Run = is in cc)
+run_fault fault.Write is = absurd (let no : exit.Device ≡ exit.Run = is in cc)
+run_fault fault.NoMemory is = absurd (let no : exit.NoMemory ≡ exit.Run = is in cc)
+run_fault fault.Run is = refl
+
+told_run : (f : ToolFault) (failed : Bool) (e : Exit) → EndsTold f failed e → e ≡ exit.Run → f ≡ fault.Run
+told_run f failed e (inl is) run = run_fault f (sym is ∙ run)
+told_run f failed e (inr (inl is)) run = absurd (let no : exit.NoMemory ≡ exit.Run = sym is ∙ run in cc)
+told_run f failed e (inr (inr is)) run = absurd (let no : exit.Device ≡ exit.Run = sym is.0 ∙ run in cc)
+
+-- a run that gives that fault was accepted
+given_run : (style : Style) (checked : Outcome) → GivesRun style checked (Err fault.Run) → IsAccepted checked
+given_run style checked (inl run) = run.0
+given_run style checked (inr (inl nothing)) = absurd nothing
+given_run style checked (inr (inr (end, may, ends))) = absurd ends
+
+accepted_run : (holds : List ℕ → Option (List ℕ)) (request : Request) → IsRun request → GivesTo holds request (Err fault.Run) → IsAcceptedRun holds request
+accepted_run holds (asked.Run d c wishes style) run gives = λ x y hx hy. given_run style (file_outcome x y) (gives x y hx hy)
+accepted_run holds (asked.Match d style) run gives = absurd run
+accepted_run holds (asked.Propose d style) run gives = absurd run
+accepted_run holds (asked.ProposeThoroughly d style) run gives = absurd run
+accepted_run holds (asked.Migrate d) run gives = absurd run
+accepted_run holds (asked.Refute d style) run gives = absurd run
+accepted_run holds (asked.Replay d e style) run gives = absurd run
+accepted_run holds (asked.Show d format) run gives = absurd run
+accepted_run holds (asked.Draw d c) run gives = absurd run
+accepted_run holds (asked.Check d c detail style) run gives = absurd run
+
+asked_run : (file_failed output_failed : Bool) (request : Request) → IsCaused file_failed output_failed request fault.Run → IsRun request
+asked_run file_failed output_failed request (inl write) = absurd (let no : fault.Run ≡ fault.Write = write.0 in cc)
+asked_run file_failed output_failed request (inr (inl run)) = run.0
+asked_run file_failed output_failed request (inr (inr file)) = absurd file
+
+-- a command that ends with the fault of a run was asked for a run that is accepted
+pub run_accepted : (holds : List ℕ → Option (List ℕ)) (request : Request) (f : ToolFault) (e : Exit) (failed file_failed output_failed : Bool) → EndsTold f failed e
+    → (f ≡ fault.Write) ⊎ GivesTo holds request (Err f) → IsCaused file_failed output_failed request f → e ≡ exit.Run → IsAcceptedRun holds request
+run_accepted holds request f e failed file_failed output_failed told gives caused run =
+    let is = told_run f failed e told run in
+    elim (subst (λ (g : ToolFault). (g ≡ fault.Write) ⊎ GivesTo holds request (Err g)) is gives) [
+      | inl write ↦ absurd (let no : fault.Run ≡ fault.Write = write in cc)
+      | inr given ↦ accepted_run holds request (asked_run file_failed output_failed request (subst (IsCaused file_failed output_failed request) is caused)) given
+    ]
+
+-- only a bad file has status 2
+two_is_bad : (e : Exit) → exit_status e ≡ 2 → e ≡ exit.BadFile
+two_is_bad exit.Yes is = omega is
+two_is_bad exit.No is = omega is
+two_is_bad exit.BadFile is = refl
+two_is_bad exit.Device is = omega is
+two_is_bad exit.NoMemory is = omega is
+two_is_bad exit.Run is = omega is
+two_is_bad exit.Usage is = omega is
+
+-- the line of a bad file's fault is told
+pub bad_told : (holds : List ℕ → Option (List ℕ)) (request : Request) (f : ToolFault) (e : Exit) (old new : Option (List ℕ)) → (f ≡ fault.Write) ⊎ GivesTo holds request (Err f)
+    → e ≡ exit_of f → exit_status e ≡ 2 → Appends old new (fault_line f) → TellsBadFile holds request old new
+bad_told holds request f e old new gives own two appends =
+    let bad : exit_of f ≡ exit.BadFile = sym own ∙ two_is_bad e two in
+    elim gives [
+      | inl write ↦ absurd (let no : exit.Device ≡ exit.BadFile = sym (ap exit_of write) ∙ bad in cc)
+      | inr given ↦ (f, given, bad, appends)
+    ]

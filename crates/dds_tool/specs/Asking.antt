@@ -4,7 +4,9 @@ use Rattle.std.specs.Option.{option_map_or}
 use Rattle.std.specs.Str.{bytes_eq}
 use Rattle.std.specs.Io.KnownBytes.{Appends}
 use Rattle.std.specs.Str.Parse.{IsNumeral, digits_value, without_leading_plus}
-use Rattle.clap.specs.Words.{Row, Text, subcommand_of, first_of, one_of}
+use Rattle.clap.specs.Words.{IsAmong, Row, Text, fault_of, subcommand_of, first_of, one_of}
+use Rattle.clap.specs.declared.error.kind.ErrorKind.{ErrorKind}
+use Rattle.clap.specs.declared.error.kind.ErrorKind.TheVariants as kind
 use Rattle.dds_peers.specs.Fates.{AreFates}
 use Rattle.dds_tool.specs.Command.{whole}
 use Rattle.dds_tool.specs.Wishes.{fates_text, format_word, style_word}
@@ -24,11 +26,12 @@ use Rattle.dds_answers.specs.Migrations.{MayMigrateFor}
 use Rattle.dds_answers.specs.Proposals.{MayProposeFor}
 use Rattle.dds_tool.specs.Refuting.{MayRefuteFor}
 use Rattle.dds_tool.specs.Replaying.{MayReplayFor}
-use Rattle.dds_tool.specs.RunEnds.{GivesRun, MayRun}
+use Rattle.dds_tool.specs.RunEnds.{GivesRun, IsAccepted, MayRun}
 use Rattle.dds_tool.specs.Searches.{MayFindFor}
 use Rattle.dds_answers.specs.Syntax.{IsFaultTold}
 use Rattle.dds_answers.specs.Report.{output_of, status_of}
-use Rattle.dds_answers.specs.Fault.{fault_status}
+use Rattle.dds_answers.specs.Fault.{exit_of, fault_line, fault_status}
+use Rattle.dds_answers.specs.declared.exit.Exit.TheVariants as exit
 use Rattle.dds_json.specs.Ends.{in_style}
 use Rattle.dds_json.specs.Fault.{fault_document}
 use Rattle.dds_json.specs.Line.{line_of}
@@ -156,6 +159,19 @@ style_of (asked.Draw d c) = style.Text
 style_of (asked.Check d c detail style) = style
 style_of (asked.Run d c wishes style) = style
 
+-- the kinds of error with which clap gives what was asked for: help, or the version
+abbrev pub IsHelpKind : ErrorKind → Type 0
+IsHelpKind k = (k ≡ kind.DisplayHelp) ⊎ (k ≡ kind.DisplayVersion)
+
+-- clap answers the words with help or with the version, and with nothing else
+abbrev pub AskForHelp : List Text → Type 0
+AskForHelp words = (fault_of whole words ≡ kind.DisplayHelp ∷ []) ⊎ (fault_of whole words ≡ kind.DisplayVersion ∷ [])
+
+-- clap refuses the words, and neither help nor the version is among what it may answer
+abbrev pub AreRefused : List Text → Type 0
+AreRefused words =
+    (fault_of whole words ≢ []) × (¬ IsAmong kind.DisplayHelp (fault_of whole words)) × (¬ IsAmong kind.DisplayVersion (fault_of whole words))
+
 -- help or the version was asked for
 abbrev pub IsHelp : NoRequest → Type 0
 IsHelp (none.Help text) = Unit {0}
@@ -205,6 +221,15 @@ Answers holds (asked.Run d c wishes style) status old new =
 abbrev pub TellsInJson : (List ℕ → Option (List ℕ)) → Request → ℕ → Option (List ℕ) → Option (List ℕ) → Type 0
 TellsInJson holds request status old new =
     (style_of request ≡ style.Json) × ((fault : ToolFault) × GivesTo holds request (Err fault) × (status ≡ fault_status fault) × Appends old new (line_of (fault_document fault)))
+
+-- where a run of files is asked for whose bytes are known, their check ends with a yes; nothing else is asked for
+abbrev pub IsAcceptedRun : (List ℕ → Option (List ℕ)) → Request → Type 0
+IsAcceptedRun holds (asked.Run d c wishes style) = (x y : List ℕ) → holds d.now ≡ Some x → holds c.now ≡ Some y → IsAccepted (file_outcome x y)
+IsAcceptedRun holds _ = ⊥
+
+-- the line of a fault of a file is added with which the request may end: where its bytes are known, the fault that they have
+abbrev pub TellsBadFile : (List ℕ → Option (List ℕ)) → Request → (old new : Option (List ℕ)) → Type 0
+TellsBadFile holds request old new = (fault : ToolFault) × GivesTo holds request (Err fault) × (exit_of fault ≡ exit.BadFile) × Appends old new (fault_line fault)
 
 -- what a command says that ends with this status: its answer; a bad file has none, and only where a document is asked for one that tells the fault
 abbrev pub Tells : (List ℕ → Option (List ℕ)) → Request → ℕ → Option (List ℕ) → Option (List ℕ) → Type 0

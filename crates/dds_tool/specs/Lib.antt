@@ -8,3 +8,4 @@ pub mod Causes
 pub mod Refuting
 pub mod Replaying
 pub mod Searches
+pub mod Missing

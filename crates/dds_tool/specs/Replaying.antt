@@ -1,5 +1,5 @@
 -- What is answered to events that are made again.
-use Rattle.std.specs.Prelude.{codes, ℕ, ◌≡◌, ◌⊎◌, true, List, length, map, Ok, Err, string_bytes}
+use Rattle.std.specs.Prelude.{codes, ℕ, ◌≡◌, ◌⊎◌, ◌&&◌, nat_le, true, List, length, map, Ok, Err, IsUtf8, string_bytes}
 use Rattle.dds_fields.specs.Reading.{Read}
 use Rattle.dds_deploy.specs.Lists.{Lists}
 use Rattle.dds_deploy_file.specs.Document as deployment
@@ -20,7 +20,7 @@ use Rattle.dds_json.specs.declared.style.Style.TheVariants.{Text, Json}
 use Rattle.dds_answers.specs.declared.answer.Answer.{Answer}
 use Rattle.dds_answers.specs.declared.fault.ToolFault.{ToolFault}
 use Rattle.dds_answers.specs.declared.fault.ToolFault.TheVariants as fault
-use Rattle.dds_answers.specs.Outcome.{MayOfFiles, Outcome, bad_deployment, bad_events, said}
+use Rattle.dds_answers.specs.Outcome.{MayIf, Outcome, bad_deployment, bad_events, said}
 
 -- the document of events with their replies: the lines of both
 abbrev pub replay_document : Lists → List Event → List Reply → Data
@@ -31,10 +31,10 @@ abbrev pub told_replay : Style → Lists → List Event → List Reply → List 
 told_replay Text lists events replies = lines_of lists events replies
 told_replay Json lists events replies = line_of (replay_document lists events replies)
 
--- the events that these bytes say are made, with replies that make them a run of the deployment, and both are told in this style
+-- the bytes are UTF-8, and the events that they say are made, with replies that make them a run of the deployment, and both are told in this style
 abbrev pub IsReplay : Style → Lists → List ℕ → Outcome → Type 0
 IsReplay style lists bytes end =
-    (events : List Event) × (replies : List Reply) × (map (event_text lists) events ≡ said_of bytes) × (length replies ≡ length events)
+    IsUtf8 bytes × (events : List Event) × (replies : List Reply) × (map (event_text lists) events ≡ said_of bytes) × (length replies ≡ length events)
     × IsRun (network_of lists) (paired events replies) × (end ≡ said (told_replay style lists events replies) true)
 
 -- of a deployment that can be read: its events are made, or a flaw of theirs is told
@@ -47,9 +47,9 @@ abbrev pub MayReplay : Style → Read Lists → List ℕ → Outcome → Type 0
 MayReplay style (Ok lists) bytes end = MayReplayLists style lists bytes end
 MayReplay style (Err flaw) bytes end = end ≡ bad_deployment flaw
 
--- the same of two files with these bytes
+-- the same of two files with these bytes, if neither is too large: a file of events may have 64 MiB
 abbrev pub MayReplayFor : Style → List ℕ → List ℕ → Outcome → Type 0
-MayReplayFor style d e end = MayOfFiles d e (MayReplay style (deployment.read d) e) end
+MayReplayFor style d e end = MayIf (nat_le (length d) 1048576 && nat_le (length e) 67108864) (MayReplay style (deployment.read d) e) end
 
 -- ── for the parts of an answer
 -- the answer tells the events in this style, with replies that make them a run of the plan

@@ -22,8 +22,13 @@ MayRun style (accepted d c) end =
     × (end ≡ said (told_run style (app_names d) journal ends) (all_stopped ends))
 MayRun style checked end = end ≡ in_style style checked
 
+-- the certificate is accepted
+abbrev pub IsAccepted : Outcome → Type 0
+IsAccepted (accepted d c) = Unit {0}
+IsAccepted _ = ⊥
+
 -- what is given for a run of files whose check ends so: the answer of an end that may be, or the fault with which one that may be ends, or a
--- fault of memory, of a device or of the run
+-- fault of memory or of a device, or, but only where the certificate is accepted, that of the run
 abbrev pub GivesRun : Style → Outcome → Result Answer ToolFault → Type 0
 GivesRun style checked (Ok answer) = (end : Outcome) × MayRun style checked end × IsAnswer answer end
-GivesRun style checked (Err e) = (e ≡ fault.Run) ⊎ (SaysNothing e ⊎ ((end : Outcome) × MayRun style checked end × Ends e end))
+GivesRun style checked (Err e) = (IsAccepted checked × (e ≡ fault.Run)) ⊎ (SaysNothing e ⊎ ((end : Outcome) × MayRun style checked end × Ends e end))

@@ -3,7 +3,7 @@ ghost use Rattle.std.specs.Prelude.{◌≡◌, ◌≢◌, ℕ, List, [], ◌∷�
 ghost use Rattle.std.specs.Io.KnownBytes.{Keeps};
 ghost use Rattle.clap.specs.Words.{takes};
 ghost use Rattle.dds_json.specs.declared.style.Style.TheVariants.{Json};
-ghost use Rattle.dds_tool.specs.Asking.{Answers, Asks, GivesTo, IsHelp, Tells, paths_of, style_of};
+ghost use Rattle.dds_tool.specs.Asking.{Answers, AreRefused, AskForHelp, Asks, GivesTo, IsAcceptedRun, IsHelp, Tells, TellsBadFile, paths_of, style_of};
 ghost use Rattle.dds_tool.specs.Command.{whole};
 ghost use Rattle.dds_answers.specs.Answers.{GivesOneOf};
 ghost use Rattle.dds_answers.specs.Causes.{IsFileFault};
@@ -12,7 +12,7 @@ ghost use Rattle.dds_answers.specs.Fault.{fault_status};
 ghost use Rattle.dds_answers.specs.Opened.{Opens, OpensAll};
 ghost use Rattle.dds_answers.specs.Outcome.{file_outcome};
 ghost use Rattle.dds_answers.specs.Telling.{TellsFault};
-ghost use Rattle.dds_tool.specs.Causes.{IsCaused, IsRequestFault, IsRun};
+ghost use Rattle.dds_tool.specs.Causes.{IsCaused, IsRequestFault};
 ghost use Rattle.dds_tool.specs.Refuting.{MayRefuteFor};
 ghost use Rattle.dds_tool.specs.Replaying.{MayReplayFor};
 ghost use Rattle.dds_tool.specs.RunEnds.{GivesRun};
@@ -26,7 +26,7 @@ use crate::telling::tell_in_style;
 use crate::wishes::Wishes;
 use dds_answers::{
     Answer, Exit, Output, Sources, ToolFault, draw_file, draw_files, give, migrate_file, print,
-    read_file, read_files, show_file, tell_fault,
+    read_file, read_file_up_to, read_files, show_file, tell_fault,
 };
 use dds_json::Style;
 use std::alloc::Global;
@@ -79,6 +79,9 @@ fn refute_file<S: Sources>(
     }
 }
 
+/// The most bytes that a file of events may have: 64 MiB. The longest run that `refute` prints has fewer.
+const MAX_EVENTS: usize = 67_108_864;
+
 /// The answer of `replay` to two files. Both are read whole, the deployment first, before either is parsed.
 fn replay_files<S: Sources>(
     alloc: Global,
@@ -92,7 +95,8 @@ fn replay_files<S: Sources>(
     ensures opened { Opens (S.opened files.old) (S.opened files.new) (deployment.now ∷ events.now ∷ []) }
     ensures all_opened { OnOk result (OpensAll (S.opened files.old) (S.opened files.new) (deployment.now ∷ events.now ∷ [])) }
 {
-    let (deployment, events) = read_files(alloc, files, deployment, events)?;
+    let deployment = read_file(alloc, files, deployment)?;
+    let events = read_file_up_to(alloc, files, events, MAX_EVENTS)?;
     replay_answer(alloc, deployment.as_slice(), events.as_slice(), style)
 }
 
@@ -104,6 +108,8 @@ fn explain<O: Output, E: Output>(alloc: Global, reason: NoRequest, out: &mut O, 
     ensures exit { (result ≡ Exit.Yes) ⊎ ((result ≡ Exit.Usage) ⊎ ((result ≡ Exit.NoMemory) ⊎ (result ≡ Exit.Device))) }
     ensures device { result ≡ Exit.Device → O.has_failed out.new ≡ true }
     ensures told { E.has_failed err.new ≡ false → 2 ≤ exit_status result → TellsFault result (E.contents err.old) (E.contents err.new) }
+    ensures help { IsHelp reason → result ≢ Exit.Usage }
+    ensures quiet { result ≡ Exit.Yes → err.new ≡ err.old }
 {
     match reason {
         NoRequest::Help(text) => match print(out, text.as_str()) {
@@ -198,8 +204,9 @@ fn obey<R: Threads + Wait + Clock + Sync, S: Sources, O: Output, E: Output>(
     ensures nothing { 2 ≤ exit_status result → exit_status result ≢ 3 → Keeps (O.contents out.old) (O.contents out.new) ⊎ (style_of request.entry ≡ Json) }
     ensures no_usage { result ≢ Exit.Usage }
     ensures device { result ≡ Exit.Device → (S.has_failed files.new ≡ true) ⊎ (O.has_failed out.new ≡ true) }
-    ensures run { result ≡ Exit.Run → IsRun request.entry }
+    ensures run { result ≡ Exit.Run → IsAcceptedRun (S.holds files.old) request.entry }
     ensures told { E.has_failed err.new ≡ false → 2 ≤ exit_status result → TellsFault result (E.contents err.old) (E.contents err.new) }
+    ensures bad_file { E.has_failed err.new ≡ false → exit_status result ≡ 2 → TellsBadFile (S.holds files.old) request.entry (E.contents err.old) (E.contents err.new) }
     ensures opened { Opens (S.opened files.old) (S.opened files.new) (paths_of request.entry) }
     ensures all_opened { exit_status result ≤ 1 → OpensAll (S.opened files.old) (S.opened files.new) (paths_of request.entry) }
 {
@@ -210,9 +217,13 @@ fn obey<R: Threads + Wait + Clock + Sync, S: Sources, O: Output, E: Output>(
     }
 }
 
-/// Does what the words ask for, of which the first is the program's name, and tells how the command ended. The answer goes to `out`, and a fault is told to
-/// `err`, as is why no certificate was found; where `err` fails, it is not told. Where a JSON document is asked for, that of a fault goes to `out` too. The files are opened in the order of the words, each once; words that ask for
-/// nothing open none. The command ends with `Device` only where a file or the output has failed, and with `Run` only where a run was asked for.
+/// Does what the words ask for, of which the first is the program's name, and returns how the command ended. The answer
+/// goes to `out`, and a fault goes to `err`, as does why no certificate was found; where `err` fails, it isn't told.
+/// Where a JSON document is asked for, that of a fault goes to `out` too. The files are opened in the order of the
+/// words, each once; words that ask for nothing open none, nor do those that ask for help or the version, which end with
+/// `Yes`. A bad file ends the command with the line of the very fault that its bytes have. The command ends with
+/// `Device` only where a file or the output has failed, and with `Run` only where a run was asked for and the check
+/// said yes.
 pub fn tool<R: Threads + Wait + Clock + Sync, W: AsStr, S: Sources, O: Output, E: Output>(
     rt: &R,
     alloc: Global,
@@ -227,8 +238,13 @@ pub fn tool<R: Threads + Wait + Clock + Sync, W: AsStr, S: Sources, O: Output, E
         → Keeps (O.contents out.old) (O.contents out.new) ⊎ ((r : _) × Asks (map W.text words.now) r × (style_of r ≡ Json)) }
     ensures no_usage { takes whole (map W.text words.now) ≡ true → (r : _) → Asks (map W.text words.now) r → result ≢ Exit.Usage }
     ensures device { result ≡ Exit.Device → (S.has_failed files.new ≡ true) ⊎ (O.has_failed out.new ≡ true) }
-    ensures run { takes whole (map W.text words.now) ≡ true → result ≡ Exit.Run → (r : _) × Asks (map W.text words.now) r × IsRun r }
+    ensures run { result ≡ Exit.Run → (r : _) × Asks (map W.text words.now) r × IsAcceptedRun (S.holds files.old) r }
     ensures told { E.has_failed err.new ≡ false → 2 ≤ exit_status result → TellsFault result (E.contents err.old) (E.contents err.new) }
+    ensures bad_file { E.has_failed err.new ≡ false → exit_status result ≡ 2
+        → (r : _) × Asks (map W.text words.now) r × TellsBadFile (S.holds files.old) r (E.contents err.old) (E.contents err.new) }
+    ensures help { AskForHelp (map W.text words.now)
+        → (files.new ≡ files.old) × (((result ≡ Exit.Yes) × (err.new ≡ err.old)) ⊎ ((result ≡ Exit.NoMemory) ⊎ (result ≡ Exit.Device))) }
+    ensures refused { AreRefused (map W.text words.now) → (files.new ≡ files.old) × ((result ≡ Exit.Usage) ⊎ (result ≡ Exit.NoMemory)) }
     ensures opened { takes whole (map W.text words.now) ≡ true
         → (files.new ≡ files.old) ⊎ ((r : _) × Asks (map W.text words.now) r × Opens (S.opened files.old) (S.opened files.new) (paths_of r)) }
     ensures all_opened { takes whole (map W.text words.now) ≡ true → exit_status result ≤ 1

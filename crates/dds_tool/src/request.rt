@@ -1,9 +1,9 @@
 //! What the words of a command line ask for.
-ghost use Rattle.std.specs.Prelude.{◌≡◌, ℕ, List, IfNone, IfOk, IfErr, IfSome, Some, true, false, codes, map, option_map};
+ghost use Rattle.std.specs.Prelude.{◌≡◌, ◌⊎◌, ℕ, List, IsErrAnd, IfNone, IfOk, IfErr, IfSome, Some, true, false, codes, map, option_map};
 ghost use Rattle.clap.specs.Words.{Text, first_of, found_of, kind_of, rows_of, subcommand_of, subcommand_rows_of, takes};
 ghost use Rattle.dds_answers.specs.declared.format.Format.{Format};
 ghost use Rattle.dds_json.specs.declared.style.Style.{Style};
-ghost use Rattle.dds_tool.specs.Asking.{Asks, Counts, IsHelp, IsStyled, Misses, NamesBoth, NamesStyled, Reads, Wants, detail_of, is_input_twice, is_set, style_of};
+ghost use Rattle.dds_tool.specs.Asking.{AreRefused, AskForHelp, Asks, Counts, IsHelp, IsHelpKind, IsStyled, Misses, NamesBoth, NamesStyled, Reads, Wants, detail_of, is_input_twice, is_set, style_of};
 ghost use Rattle.dds_tool.specs.Command.{whole};
 ghost use Rattle.dds_tool.specs.Wishes.{format_word};
 
@@ -132,7 +132,9 @@ fn usage(alloc: Global, text: &str) -> NoRequest
 
 /// What to tell the user of an error of the command line.
 fn told(alloc: Global, error: &clap::Error) -> NoRequest
-    ensures { kind_of error.now ≡ ErrorKind.OutOfMemory → result ≡ NoRequest.NoMemory }
+    ensures memory { kind_of error.now ≡ ErrorKind.OutOfMemory → result ≡ NoRequest.NoMemory }
+    ensures help { IsHelpKind (kind_of error.now) → IsHelp result ⊎ (result ≡ NoRequest.NoMemory) }
+    ensures usage { ¬ IsHelpKind (kind_of error.now) → ¬ IsHelp result }
 {
     if error.kind() == ErrorKind::OutOfMemory {
         return NoRequest::NoMemory;
@@ -163,6 +165,8 @@ fn matches_of<'a, S: AsStr>(alloc: Global, words: &'a [S]) -> Result<ArgMatches<
     ensures rows { IfOk result (λ m. subcommand_rows_of m ≡ subcommand_of whole (map S.text words.entry.now)) }
     ensures taken { IfErr result (λ e. takes whole (map S.text words.entry.now) ≡ true → ¬ IsHelp e) }
     ensures memory { IfErr result (λ e. takes whole (map S.text words.entry.now) ≡ true → e ≡ NoRequest.NoMemory) }
+    ensures help { AskForHelp (map S.text words.entry.now) → IsErrAnd result (λ e. IsHelp e ⊎ (e ≡ NoRequest.NoMemory)) }
+    ensures refused { AreRefused (map S.text words.entry.now) → IsErrAnd result (λ e. ¬ IsHelp e) }
 {
     let Ok(command) = whole_command(alloc) else {
         return Err(NoRequest::NoMemory);
@@ -427,12 +431,15 @@ fn request_of<'a>(alloc: Global, matches: &ArgMatches<'a>) -> Result<Request<'a>
     }
 }
 
-/// What the words ask for, of which the first is the program's name. Words that the command does not take are `Usage`, unless they ask for help or the
-/// version; words that it takes are never `Help`. No file is opened.
+/// What the words ask for, of which the first is the program's name. Words that clap answers with help or with the
+/// version are `Help`; words that it refuses otherwise are `Usage`, and words that it takes are never `Help`. Only
+/// `NoMemory` may come in place of either. No file is opened.
 pub fn read_request<'a, S: AsStr>(alloc: Global, words: &'a [S]) -> Result<Request<'a>, NoRequest>
     ensures asked { IfOk result (Asks (map S.text words.entry.now)) }
     ensures taken { IfErr result (λ e. takes whole (map S.text words.entry.now) ≡ true → ¬ IsHelp e) }
     ensures unasked { takes whole (map S.text words.entry.now) ≡ true → (r : _) → Asks (map S.text words.entry.now) r → IfErr result (λ e. e ≡ NoRequest.NoMemory) }
+    ensures help { AskForHelp (map S.text words.entry.now) → IsErrAnd result (λ e. IsHelp e ⊎ (e ≡ NoRequest.NoMemory)) }
+    ensures refused { AreRefused (map S.text words.entry.now) → IsErrAnd result (λ e. ¬ IsHelp e) }
 {
     let matches = matches_of(alloc, words)?;
     let request = request_of(alloc, &matches);

@@ -2,7 +2,7 @@
 ghost use Rattle.std.specs.Prelude.{◌≡◌, ◌≢◌, ◌⊎◌, Err, IfErr, OnOk, false, true};
 ghost use Rattle.std.specs.Io.KnownBytes.{Appends};
 ghost use Rattle.dds_answers.specs.Exit.{exit_status};
-ghost use Rattle.dds_answers.specs.Fault.{exit_of};
+ghost use Rattle.dds_answers.specs.Fault.{exit_of, fault_line};
 ghost use Rattle.dds_answers.specs.Telling.{TellsFault};
 ghost use Rattle.dds_json.specs.Fault.{fault_document};
 ghost use Rattle.dds_json.specs.Line.{line_of};
@@ -39,6 +39,8 @@ pub(crate) fn tell_in_style<O: Output, E: Output>(
     ensures document { style ≡ Style.Json → exit_status result ≢ 3 → Appends (O.contents out.old) (O.contents out.new) (line_of (fault_document fault.now)) }
     ensures kept { fault.now ≡ ToolFault.Write → out.new ≡ out.old }
     ensures told { E.has_failed err.new ≡ false → TellsFault result (E.contents err.old) (E.contents err.new) }
+    ensures bad_file { exit_status result ≡ 2
+        → (result ≡ exit_of fault.now) × (E.has_failed err.new ≡ false → Appends (E.contents err.old) (E.contents err.new) (fault_line fault.now)) }
 {
     match style {
         Style::Text => tell_fault(alloc, err, fault),

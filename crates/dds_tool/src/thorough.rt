@@ -1,15 +1,24 @@
 //! What `propose --thorough` answers to the bytes of a deployment.
-ghost use Rattle.std.specs.Prelude.{◌≡◌, ◌∷◌, ℕ, List, [], IfErr, Ok, Some};
+ghost use Rattle.std.specs.Prelude.{◌≡◌, ◌∷◌, ◌<◌, ℕ, List, [], IfErr, IfOk, IfSome, IsOk, IsTrue, None, Ok, OnOk, Some, string_bytes, true};
+ghost use Rattle.dds_match.specs.Plan.{network_of};
+ghost use Rattle.dds_cert.specs.Fits.{fits};
+ghost use Rattle.dds_cert.specs.Views.{certificate_view};
+ghost use Rattle.dds_check.specs.Accepts.{first_no};
 ghost use Rattle.dds_answers.specs.Answers.{Gives};
 ghost use Rattle.dds_answers.specs.Causes.{IsFileFault};
 ghost use Rattle.dds_answers.specs.Fault.{IsAnswerFault};
 ghost use Rattle.dds_answers.specs.Opened.{OpensAll};
 ghost use Rattle.dds_answers.specs.Outcome.{Outcome, unproposed};
 ghost use Rattle.dds_deploy_file.specs.Document.{read as deployment_read};
+ghost use Rattle.dds_runs.specs.Accepted.{instance_limit};
+ghost use Rattle.dds_tool.specs.Missing.{IsDepthFor, IsLimitText, IsMissingText, least_line, length_line, own_name, shower};
 ghost use Rattle.dds_tool.specs.Searches.{MayFind, MayFindFor};
 
-use dds_answers::{Answer, Sources, ToolFault, certified, read_file, read_plan, structure_text};
+use dds_answers::{
+    Answer, MAX_FILE, Sources, ToolFault, certified, read_file, read_plan, structure_text,
+};
 use dds_base::{KeyNo, NoMemory, ReaderNo, WriterNo};
+use dds_cert::Certificate;
 use dds_cert::naming::{name_at, reader_key, writer_key};
 use dds_check::No;
 use dds_match::Plan;
@@ -19,7 +28,10 @@ use dds_search::{Found, Least, Missing, search};
 use std::alloc::Global;
 
 /// The limit of a key of a reader by its own policies, with its name: its depth where it keeps the last samples alone.
-fn own_limit(plan: &Plan, reader: ReaderNo) -> (&'static str, Option<u32>) {
+fn own_limit(plan: &Plan, reader: ReaderNo) -> (&'static str, Option<u32>)
+    ensures name { result.0.now ≡ own_name (network_of plan.now) reader }
+    ensures limit { reader < (network_of plan.now).readers → result.1 ≡ instance_limit ((network_of plan.now).reader_limits reader) }
+{
     if reader.number() >= plan.lists().readers() {
         return ("the limit", None);
     }
@@ -32,7 +44,9 @@ fn own_limit(plan: &Plan, reader: ReaderNo) -> (&'static str, Option<u32>) {
 
 /// How many samples of a key a writer keeps for a reader by KEEP_LAST. `None` where it keeps all, doesn't match the
 /// reader, or no rule writes the key.
-fn depth_for(plan: &Plan, writer: WriterNo, reader: ReaderNo, key: KeyNo) -> Option<u32> {
+fn depth_for(plan: &Plan, writer: WriterNo, reader: ReaderNo, key: KeyNo) -> Option<u32>
+    ensures { IfSome result (IsDepthFor (network_of plan.now) writer reader key) }
+{
     let is_there = writer.number() < plan.lists().writers();
     if is_there && plan.matched(writer, reader) && plan.is_written(writer, key) {
         plan.writer_limits(writer).keep_last
@@ -42,7 +56,9 @@ fn depth_for(plan: &Plan, writer: WriterNo, reader: ReaderNo, key: KeyNo) -> Opt
 }
 
 /// Whether a limit is lower than another, or the only one.
-fn is_lower(limit: u32, other: Option<u32>) -> bool {
+fn is_lower(limit: u32, other: Option<u32>) -> bool
+    ensures { IsTrue result → IfSome other (λ o. limit < o) }
+{
     match other {
         Some(other) => limit < other,
         None => true,
@@ -50,7 +66,9 @@ fn is_lower(limit: u32, other: Option<u32>) -> bool {
 }
 
 /// The first of the writers that keep the fewest samples of a key for a reader, where that is fewer than its own limit.
-fn lowest_writer(plan: &Plan, reader: ReaderNo, key: KeyNo, own: Option<u32>) -> Option<WriterNo> {
+fn lowest_writer(plan: &Plan, reader: ReaderNo, key: KeyNo, own: Option<u32>) -> Option<WriterNo>
+    ensures { IfSome result (λ w. (depth : ℕ) × IsDepthFor (network_of plan.now) w reader key depth × IfSome own (λ o. depth < o)) }
+{
     let mut lowest = own;
     let mut found = None;
     for w in 0..plan.lists().writers() {
@@ -71,7 +89,9 @@ fn instance_text(
     plan: &Plan,
     reader: ReaderNo,
     key: KeyNo,
-) -> Result<String, NoMemory> {
+) -> Result<String, NoMemory>
+    ensures { IfOk result (λ text. IsLimitText plan.now (Target.Instance reader key) (string_bytes text)) }
+{
     let lists = plan.lists();
     let (name, own) = own_limit(plan, reader);
     match lowest_writer(plan, reader, key, own) {
@@ -89,7 +109,9 @@ fn instance_text(
 }
 
 /// The limit of a target, with the names of the endpoint and of the key.
-fn limit_text(alloc: Global, plan: &Plan, target: &Target) -> Result<String, NoMemory> {
+fn limit_text(alloc: Global, plan: &Plan, target: &Target) -> Result<String, NoMemory>
+    ensures { IfOk result (λ text. IsLimitText plan.now target.now (string_bytes text)) }
+{
     match target {
         Target::Instance { reader, key } => instance_text(alloc, plan, *reader, *key),
         Target::Reader(reader) => {
@@ -100,7 +122,9 @@ fn limit_text(alloc: Global, plan: &Plan, target: &Target) -> Result<String, NoM
 }
 
 /// What shows the bounds that are compared: of the samples of a reader a single row.
-fn shown_by(target: &Target) -> &'static str {
+fn shown_by(target: &Target) -> &'static str
+    ensures { result.now ≡ shower target.now }
+{
     match target {
         Target::Instance { .. } => "weights show",
         Target::Reader(_) => "one row of weights shows",
@@ -108,7 +132,9 @@ fn shown_by(target: &Target) -> &'static str {
 }
 
 /// What is known of the bounds for a limit that has no certificate.
-fn least_text(alloc: Global, limit: &str, shower: &str, least: Least) -> Result<String, NoMemory> {
+fn least_text(alloc: Global, limit: &str, shower: &str, least: Least) -> Result<String, NoMemory>
+    ensures { IfOk result (λ text. string_bytes text ≡ least_line limit.now shower.now least) }
+{
     match least {
         Least::Shown(bound) => format!(in alloc;
             "ddscheck: no weights show {limit}; the least bound that {shower} is {bound}\n"
@@ -123,7 +149,9 @@ fn least_text(alloc: Global, limit: &str, shower: &str, least: Least) -> Result<
 }
 
 /// Why no certificate was found.
-fn missing_text(alloc: Global, plan: &Plan, missing: Missing) -> Result<String, NoMemory> {
+fn missing_text(alloc: Global, plan: &Plan, missing: Missing) -> Result<String, NoMemory>
+    ensures { IfOk result (λ text. IsMissingText plan.now missing (string_bytes text)) }
+{
     match missing {
         Missing::Structure(no) => {
             let line = structure_text(alloc, plan.lists(), no)?;
@@ -144,13 +172,15 @@ fn missing_text(alloc: Global, plan: &Plan, missing: Missing) -> Result<String, 
     }
 }
 
-/// The answer where no certificate was found: why is told to the user.
+/// The answer `none`, with this note for the user.
 #[tactic(auto, unfolding(dds_answers::specs::Report::output_of, dds_answers::specs::Report::status_of))]
-fn unfound(alloc: Global, plan: &Plan, missing: Missing) -> Result<Answer, ToolFault>
+fn none_with(alloc: Global, note: Result<String, NoMemory>) -> Result<Answer, ToolFault>
     ensures gives { Gives result unproposed }
+    ensures note { IfOk result (λ a. IfOk note.entry (λ note. a.note ≡ Some note)) }
+    ensures there { OnOk result (IsOk note.entry) }
     ensures fault { IfErr result IsAnswerFault }
 {
-    let Ok(note) = missing_text(alloc, plan, missing) else {
+    let Ok(note) = note else {
         return Err(ToolFault::NoMemory);
     };
     match String::from_str(alloc, "none\n") {
@@ -163,13 +193,52 @@ fn unfound(alloc: Global, plan: &Plan, missing: Missing) -> Result<Answer, ToolF
     }
 }
 
+/// The answer where no certificate was found: why is told to the user.
+fn unfound(alloc: Global, plan: &Plan, missing: Missing) -> Result<Answer, ToolFault>
+    ensures gives { Gives result unproposed }
+    ensures note { IfOk result (λ a. (note : _) × (a.note ≡ Some note) × IsMissingText plan.now missing (string_bytes note)) }
+    ensures fault { IfErr result IsAnswerFault }
+{
+    none_with(alloc, missing_text(alloc, plan, missing))
+}
+
+/// What the user is told of a certificate whose text is longer than a file may be.
+fn length_text(alloc: Global, length: usize) -> Result<String, NoMemory>
+    ensures { IfOk result (λ text. string_bytes text ≡ length_line length) }
+{
+    format!(in alloc;
+        "ddscheck: a certificate was found, but its text has {length} bytes, and a file may have at most 1048576\n"
+    )
+}
+
+/// The answer with a certificate that is accepted, unless its text is longer than a file may be, so that `check`
+/// couldn't read it: then it is `none`, and the user is told why.
+fn found(alloc: Global, plan: &Plan, certificate: &Certificate) -> Result<Answer, ToolFault>
+    requires fit { fits (network_of plan.now) (certificate_view certificate.now) ≡ true }
+    requires accepted { first_no plan.now (certificate_view certificate.now) ≡ None }
+    ensures gives { (end : Outcome) × MayFind (Ok plan.now) end × Gives result end }
+    ensures fault { IfErr result IsAnswerFault }
+{
+    match certified(alloc, plan, certificate) {
+        Ok(answer) => {
+            let length = answer.text.len();
+            if length <= MAX_FILE {
+                return Ok(answer);
+            }
+            drop(answer);
+            none_with(alloc, length_text(alloc, length))
+        }
+        Err(fault) => Err(fault),
+    }
+}
+
 /// The answer where the search found nothing: the rounds may still find a certificate, since their numbers are smaller.
 fn by_rounds(alloc: Global, plan: &Plan, missing: Missing) -> Result<Answer, ToolFault>
     ensures gives { (end : Outcome) × MayFind (Ok plan.now) end × Gives result end }
     ensures fault { IfErr result IsAnswerFault }
 {
     match propose(alloc, plan) {
-        Ok(Some(certificate)) => certified(alloc, plan, &certificate),
+        Ok(Some(certificate)) => found(alloc, plan, &certificate),
         Ok(None) => unfound(alloc, plan, missing),
         Err(_) => Err(ToolFault::NoMemory),
     }
@@ -181,14 +250,14 @@ fn sought(alloc: Global, plan: &Plan) -> Result<Answer, ToolFault>
     ensures fault { IfErr result IsAnswerFault }
 {
     match search(alloc, plan) {
-        Ok(Found::Certificate(certificate)) => certified(alloc, plan, &certificate),
+        Ok(Found::Certificate(certificate)) => found(alloc, plan, &certificate),
         Ok(Found::Missing(missing)) => by_rounds(alloc, plan, missing),
         Err(_) => Err(ToolFault::NoMemory),
     }
 }
 
-/// The answer of `propose --thorough` to the bytes of a deployment: yes with the text of a certificate that is accepted, or no where none was
-/// found, and then with a note that says why.
+/// The answer of `propose --thorough` to the bytes of a deployment: yes with the text of a certificate that is accepted,
+/// of at most 1,048,576 bytes, or no where none was found, and then with a note that says why.
 pub fn thorough_answer(alloc: Global, deployment: &[u8]) -> Result<Answer, ToolFault>
     ensures gives { (end : Outcome) × MayFind (deployment_read deployment.now) end × Gives result end }
     ensures fault { IfErr result IsAnswerFault }

@@ -1,12 +1,12 @@
-use Rattle.std.proofs.Common.{true, None, refl, string_bytes}
+use Rattle.std.proofs.Common.{refl}
 use Rattle.dds_deploy_file.specs.Document.{read_up_to}
 use Rattle.dds_answers.specs.Migrations.{MayMigrate}
-use Rattle.dds_answers.proofs.Migrations.{migrated_ends}
+use Rattle.dds_answers.proofs.Migrations.{written_gives}
 use Rattle.dds_answers.proofs.Unread.{is_unread, unread_one}
 use Rattle.dds_answers.proofs.answer.migrate_answer.Goals as goal
 
 pub returns-in-Ok-clause-gives : goal.returns-in-Ok-clause-gives
-returns-in-Ok-clause-gives c = migrated_ends c.args.deployment.now (string_bytes c.in-Ok.text) (record { text = c.in-Ok.text; is_yes = true; note = None }) c.in-Ok.ensures.text refl refl
+returns-in-Ok-clause-gives c = written_gives c.args.deployment.now c.in-Ok.text c.written.result c.in-Ok.ensures.text c.written.ensures.answer c.written.ensures.memory
 
 pub returns-in-Err-clause-gives : goal.returns-in-Err-clause-gives
 returns-in-Err-clause-gives c =

@@ -1,0 +1,9 @@
+-- What is told beside an answer, on the error output.
+use Rattle.std.specs.Prelude.{ℕ, List, ◌++◌, codes, length, nat_le, Option, Some, None, if◌then◌else◌}
+use Rattle.std.specs.Fmt.{decimal}
+
+-- a text that is longer than a file may be is told with its length
+abbrev pub length_note : List ℕ → Option (List ℕ)
+length_note text =
+    if nat_le (length text) 1048576 then None
+    else Some (codes "ddscheck: this text has " ++ (decimal (length text) ++ codes " bytes, and a file may have at most 1048576\n"))
