@@ -1,0 +1,127 @@
+"""A deployment file of an XML file: what `import.py` runs."""
+
+from __future__ import annotations
+
+import argparse
+import gc
+import os
+import sys
+from dataclasses import dataclass
+
+from model import Deployment
+from names import is_name
+from notes import Notes
+from profiles import Profiles
+from reading import Element, Refused, parse, printable, read_bytes
+from systems import System
+from vendors import Endpoints, add_fast_dds, add_profiles
+from writing import deployment_text
+
+DESCRIPTION = """\
+Prints a deployment file made of FILE, which is OMG DDS-XML, a file of RTI Connext's QoS profiles, or one of Fast DDS's profiles; - is standard input.
+
+A file with participants gives these, with their topics, writers, readers and applications. One with profiles alone gives a writer for each QoS of a writer and a
+reader for each QoS of a reader:
+
+  RTI Connext, OMG  on the topic of the profile's name; where it has a topic_filter, on each topic of the file that the filter matches, or if there is none, on
+                    one that is named like the filter
+  Fast DDS          on the topic that the profile names, else on the one of the profile's name
+
+What isn't imported, or has another name in the deployment, is listed on standard error, with its line and path."""
+EPILOG = "Status: 0 written; 2 the file is refused, and a line says why; 3 a file, the output or memory failed; 4 a fault of usage."
+
+
+@dataclass(frozen=True)
+class Converted:
+    """A deployment, its text, and what isn't in it."""
+
+    deployment: Deployment
+    text: str
+    notes: list[str]
+
+
+def convert(data: bytes, topic: str | None = None) -> Converted:
+    """What a file becomes; with a topic all that its profiles stand for is on that one. Raises `Refused`."""
+    root = parse(data)
+    if root.tag not in ("dds", "profiles"):
+        raise Refused(f"line {root.line}: the outermost element is {printable(root.tag)}, and neither dds nor profiles")
+    root.is_read = True
+    notes = Notes()
+    deployment = Deployment(notes)
+    profiles = Profiles(root, notes)
+    system = System(root, profiles, deployment)
+    system.read()
+    if not any(deployment.endpoints.values()):
+        add_what_profiles_say(root, profiles, Endpoints(deployment, system.topics, topic))
+    if not deployment.participants and not deployment.topics:
+        raise Refused("it has no participant, no topic, and no profile of a writer or reader")
+    notes.add_unread(root)
+    return Converted(deployment, deployment_text(deployment), notes.lines())
+
+
+def add_what_profiles_say(root: Element, profiles: Profiles, endpoints: Endpoints) -> None:
+    holders = [root] if root.tag == "profiles" else root.elements("profiles")
+    add_fast_dds(holders, endpoints)
+    add_profiles(profiles, endpoints)
+
+
+class Parser(argparse.ArgumentParser):
+    def error(self, message: str) -> None:
+        self.exit(4, f"import.py: {printable(message, 200)}\n")
+
+
+def arguments(words: list[str]) -> argparse.Namespace:
+    parser = Parser(prog="import.py", description=DESCRIPTION, epilog=EPILOG, formatter_class=argparse.RawDescriptionHelpFormatter, allow_abbrev=False)
+    parser.add_argument("--topic", metavar="NAME", help="put all that profiles stand for on this topic, so that `ddscheck match` says which go together")
+    parser.add_argument("file", metavar="FILE")
+    found = parser.parse_args(words)
+    if found.topic is not None and not is_name(found.topic):
+        parser.error(f"{printable(found.topic)} is no name of a topic")
+    return found
+
+
+def say(*lines: str) -> None:
+    """Writes lines to standard error. Where that fails or is closed, nothing is said."""
+    if sys.stderr is None:
+        return
+    try:
+        sys.stderr.write("".join(f"import.py: {line}\n" for line in lines))
+        sys.stderr.flush()
+    except OSError:
+        os.dup2(os.open(os.devnull, os.O_WRONLY), sys.stderr.fileno())
+
+
+def write(text: str) -> str | None:
+    """Writes the text to standard output, and says why that failed, if it did."""
+    if sys.stdout is None:
+        return "it is closed"
+    try:
+        sys.stdout.write(text)
+        sys.stdout.flush()
+    except OSError as why:
+        os.dup2(os.open(os.devnull, os.O_WRONLY), sys.stdout.fileno())
+        return why.strerror
+    return None
+
+
+def main(words: list[str]) -> int:
+    found = arguments(words)
+    gc.disable()  # the tree is one large cycle that lives to the end, and looking for garbage takes half of the time
+    name = printable(found.file, 200)
+    try:
+        converted = convert(read_bytes(found.file), found.topic)
+    except Refused as why:
+        say(f"{name}: {why}")
+        return 2
+    except OSError as why:
+        say(f"{name}: {why.strerror}")
+        return 3
+    except MemoryError:
+        say(f"{name}: memory ran out")
+        return 3
+    failed = write(converted.text)
+    if failed:
+        say(f"the output failed: {failed}")
+        return 3
+    say(*converted.notes)
+    return 0

@@ -1,0 +1,161 @@
+"""QoS profiles of OMG DDS-XML and RTI Connext: libraries, inheritance and topic filters."""
+
+from __future__ import annotations
+
+import fnmatch
+import re
+from collections.abc import Iterator
+from dataclasses import dataclass
+
+from notes import Notes
+from policies import OMG, Settings, Side, read_policies
+from reading import Element, Refused, quoted
+
+MAX_STEPS = 128
+MAX_PATTERN = 256
+# How much inheritance and matching of topic filters a file may ask for, in about as many microseconds.
+MAX_WORK = 250_000
+ENTITIES = {side.entity for side in Side} | {side.group for side in Side}
+# The libraries that RTI Connext has built in, whose values no file has.
+BUILT_IN = ("BuiltinQosLib", "BuiltinQosLibExp", "BuiltinQosSnippetLib")
+WILDCARD = re.compile(r"\[(.)[^\]]*\]|[*?]", re.DOTALL)
+
+
+@dataclass(frozen=True, eq=False)
+class Profile:
+    """A `qos_profile`, or the QoS of one entity that a library has by itself."""
+
+    library: str
+    name: str
+    element: Element
+    place: int
+
+
+class Work:
+    """What a file has asked for so far."""
+
+    def __init__(self) -> None:
+        self._done = 0
+
+    def spend(self, amount: int) -> None:
+        self._done += amount
+        if self._done > MAX_WORK:
+            raise Refused("its profiles inherit or match too much to be followed")
+
+
+class TopicFilters:
+    """Matches the patterns of `topic_filter` attributes: shell patterns, with commas between them."""
+
+    def __init__(self, work: Work) -> None:
+        self._work = work
+        self._patterns: dict[str, re.Pattern[str]] = {}
+
+    def matches(self, pattern: str, topic: str) -> bool:
+        """Whether the topic is one of the pattern's. A pattern or topic of more than 256 characters matches nothing."""
+        if len(pattern) > MAX_PATTERN or len(topic) > MAX_PATTERN:
+            return False
+        if pattern not in self._patterns:
+            self._work.spend(8 * len(pattern))
+            self._patterns[pattern] = re.compile("|".join(fnmatch.translate(part) for part in parts_of(pattern)))
+        self._work.spend(1 + len(pattern) * len(topic) // 64)
+        return self._patterns[pattern].match(topic) is not None
+
+
+def parts_of(pattern: str) -> list[str]:
+    """The patterns of a topic filter."""
+    return [part.strip() for part in pattern[:MAX_PATTERN].split(",")]
+
+
+def topic_of(part: str) -> str:
+    """A topic that a pattern stands for where the file names none that it matches: the pattern, with `_` for `*` and `?`."""
+    return WILDCARD.sub(lambda found: found[1] if found[1] and found[1] not in "!^" else "_", part)
+
+
+class Profiles:
+    def __init__(self, root: Element, notes: Notes) -> None:
+        self.notes = notes
+        self.all: dict[str, Profile] = {}
+        self._work = Work()
+        self.filters = TopicFilters(self._work)
+        for library in root.elements("qos_library"):
+            library_name = library.attribute("name") or ""
+            for element in library.elements("qos_profile", *ENTITIES):
+                self._add(element, library_name)
+
+    def _add(self, element: Element, library: str) -> None:
+        name = element.attribute("name") or ""
+        key = f"{library}::{name}"
+        if key in self.all:
+            self.notes.add(element, f"a profile {quoted(key)} stands above, and is the one that holds")
+        else:
+            self.all[key] = Profile(library, name, element, len(self.all))
+
+    def _find(self, base: str, library: str | None, element: Element) -> Profile | None:
+        """The profile of a name, which without a library is one of the same library."""
+        key = base if "::" in base or library is None else f"{library}::{base}"
+        found = self.all.get(key)
+        if found is None:
+            built_in = base.split("::")[0] in BUILT_IN
+            why = "is built in at RTI Connext, and its values aren't in this file" if built_in else "isn't in this file"
+            self.notes.add(element, f"the profile {quoted(base)} {why}")
+        return found
+
+    def bases(self, element: Element, library: str | None) -> Iterator[Profile]:
+        """What an element inherits: first the attribute's profile, then those of the list."""
+        named = [element.attribute("base_name") or element.attribute("base_profile_name") or ""]
+        for several in element.elements("base_name"):
+            named += [one.value() for one in several.elements("element")]
+            if several.value():
+                self.notes.add(several, f"{quoted(several.value())} stands in no element of a list, and isn't inherited")
+        for base in named:
+            found = self._find(base, library, element) if base else None
+            if found:
+                yield found
+
+    def selected(self, profile: Element, entity: str, topic: str | None) -> list[Element]:
+        """The QoS of a profile that is a topic's: the first whose filter matches, else those without a filter."""
+        filtered = [one for one in profile.children if one.tag == entity and "topic_filter" in one.attributes]
+        for one in filtered:
+            if topic is not None and self.filters.matches(one.attribute("topic_filter") or "", topic):
+                one.is_read = True
+                return [one]
+        found = [one for one in profile.children if one.tag == entity and "topic_filter" not in one.attributes]
+        for one in found:
+            one.is_read = True
+        return found
+
+    def settings(self, element: Element, entity: str, library: str | None, topic: str | None, above: tuple[Element, ...] = ()) -> Settings:
+        """The policies of an entity's element, or of its part of a profile, over those that it inherits."""
+        self._work.spend(1 + len(element.children))
+        found: Settings = {}
+        for base in self.bases(element, library):
+            if base.element in above or base.element is element:
+                self.notes.add(element, f"it inherits itself by {quoted(base.name)}")
+            elif len(above) >= MAX_STEPS:
+                self.notes.add(element, f"it inherits in more than {MAX_STEPS} steps, and {quoted(base.name)} isn't followed")
+            else:
+                found |= self.settings(base.element, entity, base.library, topic, (*above, element))
+        if element.tag == "qos_profile":
+            for own in self.selected(element, entity, topic):
+                found |= self.settings(own, entity, library, topic, (*above, element))
+        elif element.tag == entity:
+            found |= read_policies(element, OMG, self.notes)
+        else:
+            self.notes.add(element, f"a {entity} inherits nothing of it")
+        return found
+
+    def has(self, element: Element, entity: str, library: str | None, above: tuple[Element, ...] = ()) -> bool:
+        """Whether a profile has this entity's QoS without a topic filter, itself or by inheritance."""
+        return any(True for one in self.sources(element, entity, library, above) if "topic_filter" not in one.attributes)
+
+    def sources(self, element: Element, entity: str, library: str | None, above: tuple[Element, ...] = ()) -> Iterator[Element]:
+        """The elements of an entity that a profile has, its own first and then those that it inherits."""
+        self._work.spend(1 + len(element.children))
+        if element.tag == entity:
+            yield element
+        for child in element.children:
+            if child.tag == entity:
+                yield child
+        if len(above) < MAX_STEPS and element not in above:
+            for base in self.bases(element, library):
+                yield from self.sources(base.element, entity, base.library, (*above, element))
