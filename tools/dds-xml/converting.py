@@ -18,13 +18,14 @@ from vendors import Endpoints, add_fast_dds, add_profiles
 from writing import deployment_text
 
 DESCRIPTION = """\
-Prints a deployment file made of FILE, which is OMG DDS-XML, a file of RTI Connext's QoS profiles, or one of Fast DDS's profiles; - is standard input.
+Prints a deployment file made of FILE, which is OMG DDS-XML, a file of RTI Connext's QoS profiles, or one of
+Fast DDS's profiles; - is standard input.
 
-A file with participants gives these, with their topics, writers, readers and applications. One with profiles alone gives a writer for each QoS of a writer and a
-reader for each QoS of a reader:
+A file with writers and readers gives these, with their participants, topics and applications. One with
+profiles alone gives a writer for each QoS of a writer and a reader for each QoS of a reader:
 
-  RTI Connext, OMG  on the topic of the profile's name; where it has a topic_filter, on each topic of the file that the filter matches, or if there is none, on
-                    one that is named like the filter
+  RTI Connext, OMG  on the topic of the profile's name; where it has a topic_filter, on each topic of the file
+                    that the filter matches, or on one that is named like the filter where there is none
   Fast DDS          on the topic that the profile names, else on the one of the profile's name
 
 What isn't imported, or has another name in the deployment, is listed on standard error, with its line and path."""
@@ -51,7 +52,10 @@ def convert(data: bytes, topic: str | None = None) -> Converted:
     profiles = Profiles(root, notes)
     system = System(root, profiles, deployment)
     system.read()
-    if not any(deployment.endpoints.values()):
+    if any(deployment.endpoints.values()):
+        if topic:
+            notes.add(root, "it has endpoints, so --topic isn't used")
+    else:
         add_what_profiles_say(root, profiles, Endpoints(deployment, system.topics, topic))
     if not deployment.participants and not deployment.topics:
         raise Refused("it has no participant, no topic, and no profile of a writer or reader")
@@ -71,8 +75,10 @@ class Parser(argparse.ArgumentParser):
 
 
 def arguments(words: list[str]) -> argparse.Namespace:
-    parser = Parser(prog="import.py", description=DESCRIPTION, epilog=EPILOG, formatter_class=argparse.RawDescriptionHelpFormatter, allow_abbrev=False)
-    parser.add_argument("--topic", metavar="NAME", help="put all that profiles stand for on this topic, so that `ddscheck match` says which go together")
+    form = argparse.RawDescriptionHelpFormatter
+    parser = Parser(prog="import.py", description=DESCRIPTION, epilog=EPILOG, formatter_class=form, allow_abbrev=False)
+    topic = "put all that profiles stand for on this topic, so that `ddscheck match` says which go together"
+    parser.add_argument("--topic", metavar="NAME", help=topic)
     parser.add_argument("file", metavar="FILE")
     found = parser.parse_args(words)
     if found.topic is not None and not is_name(found.topic):

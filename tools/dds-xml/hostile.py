@@ -104,7 +104,8 @@ def work() -> list[Attack]:
     diamond = b"".join(b'<qos_profile name="p%d">' % i + twice % (i - 1, i - 1) + b"<datawriter_qos/></qos_profile>" for i in range(60))
     stars = b"".join(b'<datawriter_qos topic_filter="%d%s"/>' % (i, b"*a" * 120) for i in range(20_000))
     blanks = b'<dds><domain_participant_library name="L"><domain_participant name="p" domain_id="0"><topic name="t" register_type_ref="T"/>'
-    blanks += b'<data_reader name="r" topic_ref="t">\n<content_filter><expression>key' + b" " * 500_000 + b"&lt;</expression></content_filter></data_reader>"
+    blanks += b'<data_reader name="r" topic_ref="t">\n<content_filter><expression>key' + b" " * 500_000
+    blanks += b"&lt;</expression></content_filter></data_reader></domain_participant></domain_participant_library></dds>"
     named = b"<profiles>" + b"".join(b'<data_writer profile_name="%d"/>' % i for i in range(60_000)) + b"</profiles>"
     same = b"<profiles>" + b'<data_writer profile_name="w"/>' * 60_000 + b"</profiles>"
     return [
@@ -112,7 +113,7 @@ def work() -> list[Attack]:
         Attack("profiles that inherit one twice", library(diamond), 2, TOO_MUCH),
         Attack("20,000 topic filters with 120 stars", library(b'<qos_profile name="p">' + stars + b"</qos_profile>"), 2, TOO_MUCH),
         Attack(
-            "a content filter of 500,000 blanks", blanks + b"</domain_participant></domain_participant_library></dds>", 0,
+            "a content filter of 500,000 blanks", blanks, 0,
             "line 2: /dds/domain_participant_library[L]/domain_participant[p]/data_reader[r]/content_filter: "
             "it isn't one filter by keys of the topic alone, and isn't imported",
         ),

@@ -44,7 +44,8 @@ TOKENS = [
     b"\xc3\xa9", b"\xef\xbb\xbf", b"\xff\xfe", b"<!--", b"-->", b"<![CDATA[", b"]]>", b"<?x?>", b"<!DOCTYPE d [<!ENTITY a \"b\">]>", b"xmlns:a=\"b\"",
     b"-1", b"0", b"1_0", b"+1", b"1e9", b"nan", b"2147483647", b"2147483648", b"4294967296", b"9223372036854775808", b"9" * 40, "٣".encode(),
     b"DURATION_INFINITY", b"DURATION_ZERO_SEC", b"LENGTH_UNLIMITED", b"KEEP_ALL", b"KEEP_LAST_HISTORY_QOS", b"", b" ", b"::", b"%0", b"key = 'k'",
-    b"a" * 70, b"a b", b"*", b"[a-", b"x\"]\n[[rules]]\nname = \"y", b"base_name=\"one\"", b"name=\"w\"", b"topic_filter=\"*\"", b"<base_name><element>one</element></base_name>",
+    b"a" * 70, b"a b", b"*", b"[a-", b"x\"]\n[[rules]]\nname = \"y", b"base_name=\"one\"", b"name=\"w\"", b"topic_filter=\"*\"",
+    b"<base_name><element>one</element></base_name>",
     b"<qos_profile/>", b"<topic/>", b"<data_writer/>", b"<domain_participant/>", b"<application/>", b"<profiles>", b"</dds>",
 ]
 VALUE = re.compile(rb">[^<>]*<|\"[^\"<>]*\"")

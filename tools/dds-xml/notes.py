@@ -1,8 +1,8 @@
-"""What isn't imported, or became something else: a line for each, in the order of the file."""
+"""What isn't imported, or is something else in the deployment: a line for each, in the order of the file."""
 
 from __future__ import annotations
 
-from reading import Element, printable
+from reading import Element, printable, quoted
 
 MAX_LINES = 1000
 
@@ -31,6 +31,8 @@ class Notes:
             for name in element.attributes:
                 if name not in (*element.read_attributes, "name", "profile_name") and not name.startswith("xml") and ":" not in name:
                     self.add(element, f"the attribute {printable(name)} isn't imported")
+            if not element.is_text_read and element.value():
+                self.add(element, f"the text {quoted(element.value())} isn't imported")
             for child in element.children:
                 if child.is_read:
                     waiting.append(child)

@@ -41,6 +41,7 @@ class Element:
     text: str = ""
     children: list[Element] = field(default_factory=list)
     is_read: bool = False
+    is_text_read: bool = False
     read_attributes: tuple[str, ...] = ()
 
     def attribute(self, name: str) -> str | None:
@@ -57,7 +58,8 @@ class Element:
         return found
 
     def value(self) -> str:
-        """The text without the blanks around it."""
+        """The text without the blanks around it, which counts as read from here on."""
+        self.is_text_read = True
         return self.text.strip(BLANKS)
 
     def path(self) -> str:

@@ -35,10 +35,10 @@ class Contents:
 
 @dataclass(eq=False)
 class Claim:
-    """What an application says that it owns: these endpoints, or where it names none, what no other claims."""
+    """The endpoints that an application names as its own, or `None` where it names nothing and owns what no other claims."""
 
     application: Application
-    endpoints: list[Endpoint]
+    endpoints: list[Endpoint] | None
     element: Element
 
 
@@ -235,7 +235,7 @@ class System:
             base = one.attribute("base_name")
             if base in self._libraries:
                 contents: Contents | None = self._libraries[base]
-                owned = self._listed(one, contents, base)
+                owned: list[Endpoint] | None = self._listed(one, contents, base)
                 if one.attribute("name") not in (None, base.rpartition("::")[2]):
                     self.notes.add(one, f"a participant of its own that inherits of {quoted(base)} became one with that")
             else:
@@ -248,20 +248,20 @@ class System:
             if application:
                 self._claims.append(Claim(application, owned, one))
 
-    def _listed(self, element: Element, contents: Contents, base: str) -> list[Endpoint]:
-        """The endpoints of the publishers and subscribers that an application names."""
+    def _listed(self, element: Element, contents: Contents, base: str) -> list[Endpoint] | None:
+        """The endpoints of the publishers and subscribers that an application names; `None` where it names none of these."""
         named: list[tuple[Side, str | None]] = [(Side.WRITER, one.attribute("name") or "") for one in element.elements("publisher")]
         named += [(Side.READER, one.attribute("name") or "") for one in element.elements("subscriber")]
         for side, name in named:
             if (side, name) not in contents.groups:
                 self.notes.add(element, f"{quoted(name or '')} is no publisher or subscriber of {quoted(base)}")
-        return [end for group in named for end in contents.groups.get(group, [])]
+        return [end for group in named for end in contents.groups.get(group, [])] if named else None
 
     def _give_owners(self) -> None:
         """Gives each endpoint one owner: who claims it first, who claims nothing in particular, or an application of its own."""
         owners: dict[Endpoint, Application] = {}
         for claim in self._claims:
-            for end in claim.endpoints:
+            for end in claim.endpoints or []:
                 if owners.setdefault(end, claim.application) is not claim.application:
                     self.notes.add(claim.element, f"{end.name} is owned by {owners[end].name}, which stands above")
         for element, contents in self._all:
@@ -278,7 +278,7 @@ class System:
 
     def _heir(self, element: Element, contents: Contents, free: list[Endpoint]) -> Application | None:
         """The application that owns what none of a participant claims."""
-        heirs = [claim for claim in self._claims if claim.application.participant is contents.participant and not claim.endpoints]
+        heirs = [claim for claim in self._claims if claim.application.participant is contents.participant and claim.endpoints is None]
         if not free:
             return None
         for claim in heirs[1:]:

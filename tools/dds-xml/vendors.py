@@ -1,11 +1,12 @@
 """A deployment of profiles alone: of RTI Connext's and OMG's libraries, and of Fast DDS's profiles.
 
-Profiles name no endpoints. Each QoS of a writer becomes one writer and each of a reader one reader, on the topic that the profile speaks of; all writers are in
-one participant and all readers in another.
+Profiles name no endpoints. Each QoS of a writer becomes one writer and each of a reader one reader, on the topic that the profile
+speaks of; all writers are in one participant and all readers in another.
 """
 
 from __future__ import annotations
 
+from collections.abc import Iterator
 from dataclasses import dataclass
 
 from model import MAX_DOMAIN, Application, Deployment, Topic
@@ -66,22 +67,23 @@ class Endpoints:
 
 def add_patterns(profiles: Profiles, endpoints: Endpoints, names: list[str]) -> None:
     """Adds to the names of topics one for each pattern of a topic filter that matches none of them."""
+    for element, part in patterns_of(profiles):
+        if any(profiles.filters.matches(part, name) for name in names):
+            continue
+        name = topic_of(part)
+        if name and profiles.filters.matches(part, name):
+            names.append(name)
+        else:
+            endpoints.notes.add(element, f"no topic can be made of the topic filter {quoted(part)}, and it is left out")
+
+
+def patterns_of(profiles: Profiles) -> Iterator[tuple[Element, str]]:
+    """Each pattern of the topic filters of all profiles, with its element."""
     for profile in profiles.all.values():
-        for side in Side:
-            for element in profiles.sources(profile.element, side.entity, profile.library):
-                if "topic_filter" in element.attributes:
-                    for part in parts_of(element.attributes["topic_filter"]):
-                        add_pattern(part, element, profiles, endpoints, names)
-
-
-def add_pattern(part: str, element: Element, profiles: Profiles, endpoints: Endpoints, names: list[str]) -> None:
-    if any(profiles.filters.matches(part, name) for name in names):
-        return
-    name = topic_of(part)
-    if name and profiles.filters.matches(part, name):
-        names.append(name)
-    else:
-        endpoints.notes.add(element, f"no topic can be made of the topic filter {quoted(part)}, and it is left out")
+        sources = (one for side in Side for one in profiles.sources(profile.element, side.entity, profile.library))
+        for element in sources:
+            if "topic_filter" in element.attributes:
+                yield from ((element, part) for part in parts_of(element.attributes["topic_filter"]))
 
 
 def add_profile(profile: Profile, profiles: Profiles, endpoints: Endpoints, names: list[str]) -> None:
