@@ -33,6 +33,7 @@ def entities() -> list[Attack]:
     declared = {
         "billion laughs": document(laughs, b"&a39;"),
         "quadratic blowup": document(b'<!ENTITY a "' + b"x" * 100_000 + b'">', b"&a;" * 100_000),
+        "quadratic blowup in 10 MiB": document(b'<!ENTITY a "' + b"x" * 100_000 + b'">', b"<!--%s-->" % (b"x" * MIB)[:-99] * 9 + b"<b/>" + b"&a;" * 300_000),
         "an external entity": document(b'<!ENTITY a SYSTEM "file:///etc/passwd">', b"&a;"),
         "a parameter entity": document(b'<!ENTITY % a SYSTEM "http://127.0.0.1:9/x"> %a;'),
         "an external document type": b'<?xml version="1.0"?>\n<!DOCTYPE dds SYSTEM "http://127.0.0.1:9/x.dtd"><dds/>',
@@ -106,16 +107,26 @@ def work() -> list[Attack]:
     blanks = b'<dds><domain_participant_library name="L"><domain_participant name="p" domain_id="0"><topic name="t" register_type_ref="T"/>'
     blanks += b'<data_reader name="r" topic_ref="t">\n<content_filter><expression>key' + b" " * 500_000
     blanks += b"&lt;</expression></content_filter></data_reader></domain_participant></domain_participant_library></dds>"
+    policies = b'<qos_profile name="all"><datawriter_qos>' + b"<durability><kind>VOLATILE</kind></durability>" * 30_000
+    policies += b"</datawriter_qos></qos_profile>" + b"".join(b'<qos_profile name="p%d" base_name="all"/>' % i for i in range(200))
     named = b"<profiles>" + b"".join(b'<data_writer profile_name="%d"/>' % i for i in range(60_000)) + b"</profiles>"
+    crowd = b"".join(b'\n<domain_participant name="p%d" domain_id="0"/>' % i for i in range(70))
+    crowd = b'<dds><domain_participant_library name="L">' + crowd + b"</domain_participant_library></dds>"
     same = b"<profiles>" + b'<data_writer profile_name="w"/>' * 60_000 + b"</profiles>"
     return [
         Attack("30,000 profiles, each of which inherits the last one", library(chain), 2, TOO_MUCH),
+        Attack("200 profiles that inherit 30,000 policies", library(policies), 2, TOO_MUCH),
         Attack("profiles that inherit one twice", library(diamond), 2, TOO_MUCH),
         Attack("20,000 topic filters with 120 stars", library(b'<qos_profile name="p">' + stars + b"</qos_profile>"), 2, TOO_MUCH),
         Attack(
             "a content filter of 500,000 blanks", blanks, 0,
             "line 2: /dds/domain_participant_library[L]/domain_participant[p]/data_reader[r]/content_filter: "
             "it isn't one filter by keys of the topic alone, and isn't imported",
+        ),
+        Attack(
+            "70 participants", crowd, 0,
+            "line 71: /dds/domain_participant_library[L]/domain_participant[p69]: a deployment has at most 64 participants, "
+            "and this one is left out",
         ),
         Attack("60,000 profiles", named, 0, "58744 more notes are left out"),
         Attack("a profile 60,000 times", same, 0, "118998 more notes are left out"),

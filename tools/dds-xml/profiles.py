@@ -126,7 +126,7 @@ class Profiles:
 
     def settings(self, element: Element, entity: str, library: str | None, topic: str | None, above: tuple[Element, ...] = ()) -> Settings:
         """The policies of an entity's element, or of its part of a profile, over those that it inherits."""
-        self._work.spend(1 + len(element.children))
+        self._work.spend(2 + len(element.children) // 4)
         found: Settings = {}
         for base in self.bases(element, library):
             if base.element in above or base.element is element:
@@ -139,6 +139,7 @@ class Profiles:
             for own in self.selected(element, entity, topic):
                 found |= self.settings(own, entity, library, topic, (*above, element))
         elif element.tag == entity:
+            self._work.spend(len(element.children))
             found |= read_policies(element, OMG, self.notes)
         else:
             self.notes.add(element, f"a {entity} inherits nothing of it")
@@ -150,7 +151,7 @@ class Profiles:
 
     def sources(self, element: Element, entity: str, library: str | None, above: tuple[Element, ...] = ()) -> Iterator[Element]:
         """The elements of an entity that a profile has, its own first and then those that it inherits."""
-        self._work.spend(1 + len(element.children))
+        self._work.spend(2 + len(element.children) // 4)
         if element.tag == entity:
             yield element
         for child in element.children:

@@ -18,7 +18,6 @@ MAX_SPAN = 1024 * 1024
 BLANKS = " \t\r\n"
 
 DECLARATION = re.compile(rb"""<\?xml[ \t\r\n][^>]{0,200}?encoding[ \t\r\n]{0,20}=[ \t\r\n]{0,20}["']([A-Za-z0-9._-]{1,40})["']""")
-LEADING_BLANKS = re.compile(rb"[ \t\r\n]*")
 UTF_16_MARKS = (b"\xff\xfe", b"\xfe\xff")
 UTF_16_STARTS = {b"<\0": "utf-16-le", b"\0<": "utf-16-be"}
 UTF_8_MARK = b"\xef\xbb\xbf"
@@ -114,25 +113,6 @@ def as_utf_8(data: bytes) -> bytes:
     return data
 
 
-def refuse_types(data: bytes) -> None:
-    """Refuses a document type, which would have to stand before the outermost element. Nothing is expanded before that is known."""
-    at = 0
-    while True:
-        at = LEADING_BLANKS.match(data, at).end()
-        if data.startswith(b"<!--", at):
-            end = data.find(b"-->", at + 4)
-        elif data.startswith(b"<?", at):
-            end = data.find(b"?>", at + 2)
-        else:
-            break
-        if end < 0:
-            break
-        at = end + 2
-        at += data.startswith(b">", at)
-    if data.startswith(b"<!D", at):
-        raise Refused(f"line {data.count(10, 0, at) + 1}: it has a document type, and entities aren't read")
-
-
 def refuse_bombs(data: bytes) -> None:
     """Refuses a document with more tags, or longer ones, than are read in time and memory."""
     if data.count(b"<") > MAX_TAGS:
@@ -185,6 +165,7 @@ class Builder:
         self.texts[-1].append(text)
 
     def refuse(self, *_declared: object) -> None:
+        """Refuses a document type where it begins, before anything in it is read."""
         raise Refused(f"line {self.parser.CurrentLineNumber}: it has a document type, and entities aren't read")
 
 
@@ -192,7 +173,6 @@ def parse(data: bytes) -> Element:
     """The outermost element. Raises `Refused` where the bytes are no XML document within the limits."""
     data = as_utf_8(data)
     refuse_bombs(data)
-    refuse_types(data)
     builder = Builder()
     try:
         builder.parser.Parse(data, True)
