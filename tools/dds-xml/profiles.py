@@ -145,10 +145,6 @@ class Profiles:
             self.notes.add(element, f"a {entity} inherits nothing of it")
         return found
 
-    def has(self, element: Element, entity: str, library: str | None, above: tuple[Element, ...] = ()) -> bool:
-        """Whether a profile has this entity's QoS without a topic filter, itself or by inheritance."""
-        return any(True for one in self.sources(element, entity, library, above) if "topic_filter" not in one.attributes)
-
     def sources(self, element: Element, entity: str, library: str | None, above: tuple[Element, ...] = ()) -> Iterator[Element]:
         """The elements of an entity that a profile has, its own first and then those that it inherits."""
         self._work.spend(2 + len(element.children) // 4)

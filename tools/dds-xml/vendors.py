@@ -20,10 +20,10 @@ FAST_DDS_SIDES = {"data_writer": Side.WRITER, "publisher": Side.WRITER, "data_re
 
 @dataclass(frozen=True)
 class TopicName:
-    """A topic as a file names it, with its type, and its keys where these are known."""
+    """A topic as a file names it, with its type and its keys where these are known."""
 
     name: str
-    type: str = "Type"
+    type: str | None = None
     keys: tuple[str, ...] | None = None
 
 
@@ -48,10 +48,10 @@ class Endpoints:
     def _topic(self, element: Element, topic: TopicName) -> Topic | None:
         found = self.topics.get(topic.name)
         if found is None:
-            found = self.deployment.add_topic(element, [topic.name], topic.type, list(topic.keys) if topic.keys else None)
+            found = self.deployment.add_topic(element, [topic.name], topic.type or "Type", list(topic.keys) if topic.keys else None)
             if found:
                 self.topics[topic.name] = found
-        elif type_like(topic.type) not in ("Type", found.type):
+        elif topic.type and type_like(topic.type) != found.type:
             self.notes.add(element, f"its topic {found.name} has the type {found.type} above, which is the one that holds")
         return found
 
@@ -120,7 +120,7 @@ def add_profiles(profiles: Profiles, endpoints: Endpoints) -> None:
 
 def fast_dds_topic(element: Element, profile_name: str) -> TopicName:
     """The topic that a profile names, else one of the profile's name, as ROS 2 looks its profiles up."""
-    name, type_name, keys = profile_name, "Type", None
+    name, type_name, keys = profile_name, None, None
     for topic in element.elements("topic"):
         for one in topic.elements("name"):
             name = one.value() or name
