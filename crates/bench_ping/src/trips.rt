@@ -136,6 +136,8 @@ impl Timed {
 impl App for Timed {
     ghost notes = { λ t. t.steady.diary };
 
+    ghost identity = { λ t. t.steady.app };
+
     fn act(&mut self) -> Result<Act, NoMemory> {
         if self.is_short {
             return Err(NoMemory);

@@ -6,6 +6,8 @@ use dds_base::{NoMemory, Reply};
 impl App for Box<dyn App + Send> {
     ghost notes = { λ b. (App-box b).notes b.value };
 
+    ghost identity = { λ b. (App-box b).identity b.value };
+
     fn act(&mut self) -> Result<Act, NoMemory> {
         (**self).act()
     }

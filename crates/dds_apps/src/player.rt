@@ -51,7 +51,7 @@ pub struct Player<A: App + Drop, N: Name> {
     pub calls: u64,
     /// In how many waits in a row nothing changed.
     pub idle: u64,
-    /// The last change of the book that it has seen.
+    /// How many changes of the book it has seen, its own among them.
     pub seen: u64,
     /// Why its thread ended, once it has.
     pub end: AppEnd,
@@ -117,9 +117,14 @@ impl<A: App, N: Name> Player<A, N> {
         requires counted { IsCounted gauge.now.table self.old.seat self.old.counter }
         ensures counted { IsCounted gauge.now.table self.new.seat self.new.counter }
         ensures number { self.new.seat.number ≡ self.old.seat.number }
+        ensures identity { A.identity self.new.app ≡ A.identity self.old.app }
         ensures diary { done_by self.old.seat ≡ (A.notes self.old.app).entries → done_by self.new.seat ≡ (A.notes self.new.app).entries }
     {
         let reply = self.enter(rt, book, gauge, event)?;
+        if !matches!(reply, Reply::Refused(_)) {
+            self.seen = self.seen.saturating_add(1);
+            self.idle = 0;
+        }
         self.app.hear(&reply);
         Ok(())
     }
@@ -138,6 +143,7 @@ impl<A: App, N: Name> Player<A, N> {
         requires counted { IsCounted gauge.now.table self.old.seat self.old.counter }
         ensures counted { IsCounted gauge.now.table self.new.seat self.new.counter }
         ensures number { self.new.seat.number ≡ self.old.seat.number }
+        ensures identity { A.identity self.new.app ≡ A.identity self.old.app }
         ensures diary { done_by self.old.seat ≡ (A.notes self.old.app).entries → done_by self.new.seat ≡ (A.notes self.new.app).entries }
     {
         if self.calls >= calls {
@@ -160,17 +166,25 @@ impl<A: App, N: Name> Player<A, N> {
     fn rest<R: Wait + Clock>(&mut self, rt: &R, book: &Book<N>, idle_waits: u64) -> bool
         ensures { (self.new.app ≡ self.old.app) × (self.new.seat ≡ self.old.seat) × (self.new.counter ≡ self.old.counter) }
     {
-        if let Some(seen) = book.wait_change(rt, self.seen) {
-            self.seen = seen;
-            self.idle = 0;
-            return true;
+        match book.rest(rt, self.seen) {
+            Ok(Some(seen)) => {
+                self.seen = seen;
+                self.idle = 0;
+                true
+            }
+            Ok(None) => {
+                self.idle = self.idle.saturating_add(1);
+                if self.idle >= idle_waits {
+                    self.end = AppEnd::Idle;
+                    return false;
+                }
+                true
+            }
+            Err(fault) => {
+                self.end = end_of(fault);
+                false
+            }
         }
-        self.idle = self.idle.saturating_add(1);
-        if self.idle >= idle_waits {
-            self.end = AppEnd::Idle;
-            return false;
-        }
-        true
     }
 
     // Asks the application once. It says whether the thread goes on.
@@ -185,6 +199,7 @@ impl<A: App, N: Name> Player<A, N> {
         requires counted { IsCounted gauge.now.table self.old.seat self.old.counter }
         ensures counted { IsCounted gauge.now.table self.new.seat self.new.counter }
         ensures number { self.new.seat.number ≡ self.old.seat.number }
+        ensures identity { A.identity self.new.app ≡ A.identity self.old.app }
         ensures diary { done_by self.old.seat ≡ (A.notes self.old.app).entries → done_by self.new.seat ≡ (A.notes self.new.app).entries }
     {
         let Ok(act) = self.app.act() else {
@@ -213,6 +228,7 @@ impl<A: App, N: Name> Player<A, N> {
         requires counted { IsCounted gauge.now.table self.seat self.counter }
         ensures counted { IsCounted gauge.now.table result.seat result.counter }
         ensures number { result.seat.number ≡ self.seat.number }
+        ensures identity { A.identity result.app ≡ A.identity self.app }
         ensures diary { done_by self.seat ≡ (A.notes self.app).entries → done_by result.seat ≡ (A.notes result.app).entries }
     {
         let mut player = self;

@@ -1,11 +1,13 @@
 //! The book that threads share.
 ghost use Rattle.std.specs.Prelude.{◌≡◌, ◌<◌, true, length, map, All, IfOk, IfErr, IfSome, IfNone, OnErr};
 ghost use Rattle.std.specs.List.{range_with_len};
+ghost use Rattle.dds_book.specs.declared.fault.BookFault.TheVariants.{Closed};
 ghost use Rattle.dds_book.specs.Journal.{IsCall, IsFront, IsJournal};
 ghost use Rattle.dds_book.specs.Kit.{IsKitOf};
 ghost use Rattle.dds_book.specs.Owning.{is_participant};
 ghost use Rattle.dds_book.specs.Seat.{new_seat};
 
+use crate::entry::is_refused;
 use crate::fault::BookFault;
 use crate::journal::Journal;
 use crate::kit::{Kit, Name};
@@ -16,8 +18,8 @@ use std::alloc::Global;
 use std::sync::{Condvar, Mutex, Wait};
 use std::time::{Clock, Duration};
 
-/// A book's state under a lock, and a bell that tells of what is entered. Whenever the lock is free the entries are a journal of the plan,
-/// and the domain stands for where it leads to.
+/// A book's state under a lock, and a bell that rings at each change and when the book is stopped. Whenever the lock is
+/// free the entries are a journal of the plan, and the domain stands for where it leads to.
 #[derive(Drop)]
 pub struct Book<N: Name> {
     state: Mutex<BookState<N>>,
@@ -53,7 +55,9 @@ impl<N: Name> Book<N> {
         ensures fault { OnErr result (seat.new ≡ seat.old) }
     {
         let answer = self.state.lock(rt).enter(seat, event);
-        self.changed.notify_all();
+        if let Ok(reply) = &answer {
+            self.ring_after(reply);
+        }
         answer
     }
 
@@ -72,27 +76,25 @@ impl<N: Name> Book<N> {
         ensures fault { OnErr result (seat.new ≡ seat.old) }
     {
         let answer = self.state.lock(rt).pump(seat, turn, fate);
-        self.changed.notify_all();
+        if let Ok(Some((_, reply))) = &answer {
+            self.ring_after(reply);
+        }
         answer
     }
 
-    /// Waits for at most 10 ms until more than so many entries are no refusals, and tells how many they are.
+    // Rings where the count of changes grew: a refusal is entered and changes nothing.
+    fn ring_after(&self, reply: &Reply) {
+        if !is_refused(reply) {
+            self.changed.notify_all();
+        }
+    }
+
+    /// Waits for at most 10 ms until more than so many entries are no refusals, and tells how many they are. It waits as
+    /// long for a stopped book.
     pub fn wait_change<R: Wait + Clock>(&self, rt: &R, seen: u64) -> Option<u64>
         ensures { IfSome result (λ count. seen < count) }
     {
-        self.wait_at_most(rt, seen, Duration::from_millis(10))
-    }
-
-    /// As `wait_change`, for at most 1 ms: for a thread that has more to do, and gives way to the others first.
-    pub fn wait_briefly<R: Wait + Clock>(&self, rt: &R, seen: u64) -> Option<u64>
-        ensures { IfSome result (λ count. seen < count) }
-    {
-        self.wait_at_most(rt, seen, Duration::from_millis(1))
-    }
-
-    fn wait_at_most<R: Wait + Clock>(&self, rt: &R, seen: u64, limit: Duration) -> Option<u64>
-        ensures { IfSome result (λ count. seen < count) }
-    {
+        let limit = Duration::from_millis(10);
         let (state, _) = self
             .changed
             .wait_timeout_while(rt, self.state.lock(rt), limit, |s| s.changes() <= seen);
@@ -100,7 +102,50 @@ impl<N: Name> Book<N> {
         if count > seen { Some(count) } else { None }
     }
 
-    /// From now on each event is refused as `Closed`.
+    /// Waits as `wait_change` does, but no longer than until the book is stopped: then the answer is `Closed`, unless more
+    /// entries than so many are no refusals.
+    pub fn rest<R: Wait + Clock>(&self, rt: &R, seen: u64) -> Result<Option<u64>, BookFault>
+        ensures change { IfOk result (λ told. IfSome told (λ count. seen < count)) }
+        ensures closed { IfErr result (λ f. f ≡ Closed) }
+    {
+        self.wait_past(rt, seen, Duration::from_millis(10))
+    }
+
+    /// Waits for at most 1 ms until more entries are no refusals than at the start of the call, and tells how many they
+    /// are: for a thread that has more to do, and gives way to the others first. `Closed` where the book is stopped.
+    pub fn give_way<R: Wait + Clock>(&self, rt: &R) -> Result<Option<u64>, BookFault>
+        ensures { IfErr result (λ f. f ≡ Closed) }
+    {
+        let seen = self.state.lock(rt).changes();
+        self.wait_past(rt, seen, Duration::from_millis(1))
+    }
+
+    // Waits for at most so long until more than so many entries are no refusals, or the book is stopped.
+    fn wait_past<R: Wait + Clock>(
+        &self,
+        rt: &R,
+        seen: u64,
+        limit: Duration,
+    ) -> Result<Option<u64>, BookFault>
+        ensures change { IfOk result (λ told. IfSome told (λ count. seen < count)) }
+        ensures closed { IfErr result (λ f. f ≡ Closed) }
+    {
+        let (state, _) = self
+            .changed
+            .wait_timeout_while(rt, self.state.lock(rt), limit, |s| {
+                s.changes() <= seen && !s.is_closed()
+            });
+        let count = state.changes();
+        if count > seen {
+            Ok(Some(count))
+        } else if state.is_closed() {
+            Err(BookFault::Closed)
+        } else {
+            Ok(None)
+        }
+    }
+
+    /// From now on each event is refused as `Closed`, and whoever rests or gives way is woken.
     pub fn stop<R: Wait>(&self, rt: &R) {
         self.state.lock(rt).stop();
         self.changed.notify_all();

@@ -143,6 +143,13 @@ impl<N: Name> BookState<N> {
         self.closed = true;
     }
 
+    /// Whether the book was stopped.
+    pub fn is_closed(&self) -> bool
+        ensures { result ≡ self.now.closed }
+    {
+        self.closed
+    }
+
     /// Whether the seat is a participant's.
     pub fn is_participant(&self, seat: &Seat<N>) -> bool
         ensures { result ≡ is_participant N.plan seat.now.number }

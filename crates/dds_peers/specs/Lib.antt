@@ -1,2 +1,3 @@
 pub mod Fates
+pub mod RunFault
 pub mod Steady

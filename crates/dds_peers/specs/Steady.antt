@@ -49,8 +49,9 @@ all_writes d app = flat_map (writes_of d app) (filter (has (writers_at d.applica
 abbrev pub circle_of : Lists → ℕ → List Step
 circle_of d app = all_takes d app ++ (all_firings d app ++ all_writes d app)
 
--- what a contract sees of the application: its diary, its circle, and how many takes and writes are still to come
+-- what a contract sees of the application: its number, its diary, its circle, and how many takes and writes are still to come
 pub record SteadyState : Type 0 where
+  pub app : ℕ
   pub diary : DiaryState
   pub circle : List Step
   pub takes : ℕ
@@ -66,7 +67,7 @@ wanted things count = if length things == 0 then 0 else count
 
 -- the application at its start: one without readers takes nothing, and one whose rules write nothing writes nothing
 abbrev pub steady_of : Lists → (app writes takes : ℕ) → SteadyState
-steady_of d app writes takes = record { diary = empty_diary; circle = circle_of d app; takes = wanted (readers_at d.applications app) takes; writes = wanted (all_writes d app) writes }
+steady_of d app writes takes = record { app = app; diary = empty_diary; circle = circle_of d app; takes = wanted (readers_at d.applications app) takes; writes = wanted (all_writes d app) writes }
 
 -- the step is still to be made: not all takes, or not all writes, are made, and a firing is always wanted
 abbrev pub is_wanted : SteadyState → Step → Bool
@@ -87,6 +88,6 @@ event_of (Write w k) count = write_event w k (data_of count)
 
 -- one take or one write fewer is still to come, where that is what came of an event
 abbrev pub counted : SteadyState → Reply → SteadyState
-counted s (Took sample) = record { diary = s.diary; circle = s.circle; takes = s.takes - 1; writes = s.writes }
-counted s (Written sn) = record { diary = s.diary; circle = s.circle; takes = s.takes; writes = s.writes - 1 }
+counted s (Took sample) = record { app = s.app; diary = s.diary; circle = s.circle; takes = s.takes - 1; writes = s.writes }
+counted s (Written sn) = record { app = s.app; diary = s.diary; circle = s.circle; takes = s.takes; writes = s.writes - 1 }
 counted s _ = s

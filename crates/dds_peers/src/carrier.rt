@@ -3,7 +3,7 @@ ghost use Rattle.std.specs.Prelude.{◌≡◌, true};
 ghost use Rattle.dds_book.specs.Owning.{is_participant};
 
 use crate::fates::Fates;
-use dds_base::Event;
+use dds_base::{Event, Reply};
 use dds_book::{Book, BookFault, Name, Seat};
 use std::sync::Wait;
 use std::time::Clock;
@@ -52,10 +52,13 @@ impl<N: Name> Carrier<N> {
         self.is_full
     }
 
-    // Counts an event that it made, which is a change that it has seen. The next fate comes where a packet of the bus was moved.
-    fn count(&mut self, event: &Event) {
+    // Counts an event that it made, which is a change that it has seen unless it was refused. The next fate comes where a packet
+    // of the bus was moved.
+    fn count(&mut self, event: &Event, reply: &Reply) {
         self.events = self.events.saturating_add(1);
-        self.seen = self.seen.saturating_add(1);
+        if !matches!(reply, Reply::Refused(_)) {
+            self.seen = self.seen.saturating_add(1);
+        }
         self.quiet = 0;
         match event {
             Event::Deliver { .. } | Event::Lose { .. } => {
@@ -66,12 +69,12 @@ impl<N: Name> Carrier<N> {
         }
     }
 
-    // Waits for a short time for a change that another thread makes, if it has sent HEARTBEATs alone and this is one more.
+    // Waits for a short time for a change that another thread makes from now on, if it has sent HEARTBEATs alone and this is one more.
     fn give_way<R: Wait + Clock>(&mut self, rt: &R, book: &Book<N>, event: &Event) {
         if self.heartbeats <= HEARTBEATS || !matches!(event, Event::SendHeartbeat { .. }) {
             return;
         }
-        if let Some(seen) = book.wait_briefly(rt, self.seen) {
+        if let Ok(Some(seen)) = book.give_way(rt) {
             self.seen = seen;
         }
     }
@@ -83,7 +86,7 @@ impl<N: Name> Carrier<N> {
             return;
         }
         self.quiet = 0;
-        if let Some(seen) = book.wait_change(rt, self.seen) {
+        if let Ok(Some(seen)) = book.rest(rt, self.seen) {
             self.seen = seen;
         }
     }
@@ -97,8 +100,8 @@ impl<N: Name> Carrier<N> {
         let answer = book.pump(rt, &mut self.seat, self.turn, fate);
         self.turn = self.turn.wrapping_add(1);
         match answer {
-            Ok(Some((event, _))) => {
-                self.count(&event);
+            Ok(Some((event, reply))) => {
+                self.count(&event, &reply);
                 self.give_way(rt, book, &event);
                 true
             }

@@ -12,6 +12,7 @@ ghost use Rattle.dds_book.specs.Owning.{is_participant, seat_count};
 ghost use Rattle.dds_book.specs.Seat.{new_seat};
 ghost use Rattle.dds_apps.specs.Kept.{AreOwners, parts_of};
 ghost use Rattle.dds_peers.specs.declared.run.RunFault.TheVariants.{AppCount, DiaryMismatch};
+ghost use Rattle.dds_peers.specs.RunFault.{number_of};
 
 use crate::carrier::Carrier;
 use crate::fates::Fates;
@@ -57,6 +58,21 @@ pub enum RunFault<A: App> {
     DiaryMismatch,
     /// 5: a thread couldn't be made.
     Spawn,
+}
+
+impl<A: App> RunFault<A> {
+    /// The number of the fault, 1 to 5.
+    pub fn number(&self) -> u8
+        ensures { result ≡ number_of self.now }
+    {
+        match self {
+            RunFault::AppCount { .. } => 1,
+            RunFault::NoMemory => 2,
+            RunFault::JournalFull => 3,
+            RunFault::DiaryMismatch => 4,
+            RunFault::Spawn => 5,
+        }
+    }
 }
 
 // The participants with their seats.
@@ -173,6 +189,7 @@ fn perform<A: App + Send, N: Name + Send + Sync, R: Threads + Wait + Clock + Syn
     requires gauge { length apps.items ≤ gauge.now.apps }
     requires counters { AreOwners gauge.now (length apps.items) counters.items }
     ensures journal { IfOk result (λ o. IsJournal N.plan o.journal) }
+    ensures identities { IfOk result (λ o. map (λ a. A.identity a) o.apps.items ≡ map (λ a. A.identity a) apps.items) }
     ensures diaries { IfOk result (λ o. map (λ a. (A.notes a).entries) o.apps.items ≡ parts_of (length apps.items) o.journal) }
     ensures gauge { IfOk result (λ o. o.gauge.items ≡ map length (parts_of (length apps.items) o.journal)) }
     ensures ends { IfOk result (λ o. length o.ends.items ≡ length apps.items) }
@@ -234,6 +251,7 @@ fn run_all<A: App + Send, R: Threads + Wait + Clock + Sync, G: Gate>(
     requires seats { AreOwners gauge.now (length checked.plan.applications.entries) seats.items }
     ensures journal { IfOk result (λ o. IsJournal checked.plan o.journal) }
     ensures safe { IfOk result (λ o. SafeRun (network_of checked.plan) (certificate_of checked.certificate) (as_moves (pairs_of o.journal))) }
+    ensures identities { IfOk result (λ o. map (λ a. A.identity a) o.apps.items ≡ map (λ a. A.identity a) apps.items) }
     ensures diaries { IfOk result (λ o. map (λ a. (A.notes a).entries) o.apps.items ≡ parts_of (length apps.items) o.journal) }
     ensures gauge { IfOk result (λ o. o.gauge.items ≡ map length (parts_of (length apps.items) o.journal)) }
     ensures ends { IfOk result (λ o. length o.ends.items ≡ length apps.items) }
@@ -264,7 +282,7 @@ fn run_all<A: App + Send, R: Threads + Wait + Clock + Sync, G: Gate>(
 /// stopped, the participants' are joined. The seats are those of the gauge's owners, in the order of the plan's applications, and each of their
 /// counts is 0; others may read the gauge while the run goes on.
 ///
-/// With `Ok` the applications come back in order. The journal is a journal of the plan, so all that the checker promises of a run holds of it: no
+/// With `Ok` the applications come back in order: at each place is the one that was given there, by its identity. The journal is a journal of the plan, so all that the checker promises of a run holds of it: no
 /// reliable reader rejected, overwrote or gave up a sample, unread samples stayed within their bounds, and each reader took what was written, in
 /// order, once. Each application's diary is its part of the journal, and its count is the length of that part.
 pub fn run_peers<R: Threads + Wait + Clock + Sync, G: Gate>(
@@ -282,6 +300,7 @@ pub fn run_peers<R: Threads + Wait + Clock + Sync, G: Gate>(
     requires seats { AreOwners gauge.now (length checked.plan.applications.entries) seats.items }
     ensures journal { IfOk result (λ o. IsJournal checked.plan o.journal) }
     ensures safe { IfOk result (λ o. SafeRun (network_of checked.plan) (certificate_of checked.certificate) (as_moves (pairs_of o.journal))) }
+    ensures identities { IfOk result (λ o. map (λ a. ⟦<Box<dyn App + Send> as App>⟧.identity a) o.apps.items ≡ map (λ a. ⟦<Box<dyn App + Send> as App>⟧.identity a) apps.items) }
     ensures diaries { IfOk result (λ o. map (λ a. (⟦<Box<dyn App + Send> as App>⟧.notes a).entries) o.apps.items ≡ parts_of (length apps.items) o.journal) }
     ensures gauge { IfOk result (λ o. o.gauge.items ≡ map length (parts_of (length apps.items) o.journal)) }
     ensures ends { IfOk result (λ o. length o.ends.items ≡ length apps.items) }

@@ -43,6 +43,7 @@ pub(crate) fn sit<A: App, N: Name>(
     requires gauge { length apps.items ≤ _gauge.now.apps }
     requires fresh { _fresh ≡ true → All (λ a. (A.notes a).entries ≡ []) apps.items }
     ensures numbers { map (λ p. p.seat.number) result.items ≡ range_with_len 0 (length apps.items) }
+    ensures identities { map (λ p. A.identity p.app) result.items ≡ map (λ a. A.identity a) apps.items }
     ensures players { All (λ p. IsKept _gauge.now _fresh p.seat p.counter (A.notes p.app).entries) result.items }
 {
     let mut players = players;
@@ -83,6 +84,7 @@ pub(crate) fn settle<A: App, N: Name>(
     requires room { (vec_len players ≤ vec_capacity room.apps) × (vec_len players ≤ vec_capacity room.ends) × (vec_len players ≤ vec_capacity room.counts) × (vec_len players ≤ vec_capacity room.seats) }
     requires players { All (λ p. IsKept gauge.now _fresh p.seat p.counter (A.notes p.app).entries) players.items }
     ensures numbers { map (λ s. s.number) result.seats.items ≡ map (λ p. p.seat.number) players.items }
+    ensures identities { map (λ a. A.identity a) result.apps.items ≡ map (λ p. A.identity p.app) players.items }
     ensures diaries { _fresh ≡ true → map (λ a. (A.notes a).entries) result.apps.items ≡ map done_by result.seats.items }
     ensures counts { result.counts.items ≡ map (λ s. length (done_by s)) result.seats.items }
     ensures ends { length result.ends.items ≡ length players.items }

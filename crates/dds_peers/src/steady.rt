@@ -11,10 +11,11 @@ use std::marker::Model;
 
 /// An application that goes in a circle: it takes at each of its readers and keys, fires each of its rules that needs takes, and writes each key that
 /// its rules write. After so many successes it takes no more, or writes no more; a circle in which nothing succeeded is followed by a rest. It
-/// stops when both numbers are reached. The first eight bytes of what it writes are the count of its writes from 1, most significant first; the
+/// stops when both numbers are reached. Its identity is its number in the plan. The first eight bytes of what it writes are the count of its writes from 1, most significant first; the
 /// others are 0.
 #[derive(Drop)]
 pub struct Steady {
+    app: AppNo,
     diary: Diary,
     circle: Vec<Step>,
     place: usize,
@@ -29,7 +30,7 @@ impl Model for Steady {
 
     ghost Value = { SteadyState };
 
-    ghost view = { λ s. record { diary = s.diary; circle = s.circle.items; takes = s.takes; writes = s.writes } };
+    ghost view = { λ s. record { app = s.app; diary = s.diary; circle = s.circle.items; takes = s.takes; writes = s.writes } };
 }
 
 impl Steady {
@@ -51,6 +52,7 @@ impl Steady {
         };
         let reads = !lists.application(app).readers.is_empty();
         Ok(Steady {
+            app,
             diary: Diary::new(alloc),
             circle,
             place: 0,
@@ -126,6 +128,8 @@ impl Steady {
 
 impl App for Steady {
     ghost notes = { λ s. s.diary };
+
+    ghost identity = { λ s. s.app };
 
     fn act(&mut self) -> Result<Act, NoMemory> {
         if self.takes == 0 && self.writes == 0 {

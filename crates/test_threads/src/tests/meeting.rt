@@ -19,7 +19,7 @@ use std::thread;
 use std::thread::Threads;
 use std::time::{Clock, Duration};
 
-/// How often a wait of 1 ms is made at most.
+/// How many waits of 1 ms hold a first call at most, and how many a monitor makes.
 const WAITS: usize = 10_000;
 
 /// Rings once at one end, and is heard once at the other.
@@ -44,14 +44,14 @@ impl Bell {
         self.ear.try_recv(rt).is_ok()
     }
 
-    /// Whether it rings in time.
-    fn is_heard<R: Wait + Clock>(&self, rt: &R) -> bool {
-        for _ in 0..WAITS {
+    /// Waits until it rings, at most so many times, and tells how many of these waits are left. `None` where it doesn't ring in time.
+    fn hear<R: Wait + Clock>(&self, rt: &R, waits: usize) -> Option<usize> {
+        for made in 0..waits {
             if self.ear.recv_timeout(rt, Duration::from_millis(1)).is_ok() {
-                return true;
+                return Some(waits - made - 1);
             }
         }
-        false
+        None
     }
 }
 
@@ -89,13 +89,15 @@ impl<'a, R: Wait + Clock + Sync> Gate for Meeting<'a, R> {
         if app.number() == 0 {
             if self.one.first.has_rung(self.rt) {
                 self.one.came.ring(self.rt);
-                if self.two.came.is_heard(self.rt) && self.seen.is_heard(self.rt) {
-                    self.one.met.ring(self.rt);
+                if let Some(left) = self.two.came.hear(self.rt, WAITS) {
+                    if self.seen.hear(self.rt, left).is_some() {
+                        self.one.met.ring(self.rt);
+                    }
                 }
             }
         } else if self.two.first.has_rung(self.rt) {
             self.two.came.ring(self.rt);
-            if self.one.came.is_heard(self.rt) {
+            if self.one.came.hear(self.rt, WAITS).is_some() {
                 self.two.met.ring(self.rt);
             }
         }

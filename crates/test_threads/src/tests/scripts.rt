@@ -51,6 +51,8 @@ impl Script {
 impl App for Script {
     ghost notes = { λ s. s.diary };
 
+    ghost identity = { λ _. 0 };
+
     fn act(&mut self) -> Result<Act, NoMemory> {
         if self.short_in == Some(0) {
             return Err(NoMemory);

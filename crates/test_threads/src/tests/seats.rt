@@ -81,9 +81,29 @@ fn expect_book<N: Name, R: Wait + Clock + Abort>(rt: &R, alloc: Global, kit: Kit
     expect_calls(rt, &book, &mut seats);
     expect_equal(rt, book.wait_change(rt, 4), Some(5), "a change");
     expect_equal(rt, book.wait_change(rt, 5), None, "no change");
-    expect_equal(rt, book.wait_briefly(rt, 4), Some(5), "a change, briefly");
-    expect_equal(rt, book.wait_briefly(rt, 5), None, "no change, briefly");
+    expect_equal(rt, book.rest(rt, 4), Ok(Some(5)), "a rest after a change");
+    expect_equal(rt, book.rest(rt, 5), Ok(None), "a rest without a change");
+    expect_equal(rt, book.give_way(rt), Ok(None), "no change by another");
     book.stop(rt);
+    expect_equal(
+        rt,
+        book.rest(rt, 4),
+        Ok(Some(5)),
+        "a change before the stop",
+    );
+    expect_equal(
+        rt,
+        book.rest(rt, 5),
+        Err(BookFault::Closed),
+        "a stopped book",
+    );
+    expect_equal(
+        rt,
+        book.give_way(rt),
+        Err(BookFault::Closed),
+        "a stopped book",
+    );
+    expect_equal(rt, book.wait_change(rt, 5), None, "a wait in vain");
     expect_closed(rt, &book, &mut seats);
     let journal = book.close(rt, seats);
     expect_entries(rt, &journal);

@@ -50,6 +50,11 @@ returns-then-not-fresh-clause-mismatch g c is all =
     let no_ : c.are_fresh-fresh.result ≡ false = search rules in
     no c.are_fresh-fresh.result _ _ c.are_fresh-fresh.ensures no_ (subst (All (λ a. (g.A.App.notes a).entries ≡ [])) (sym c.as_slice.ensures.value) all)
 
+pub returns-clause-identities : goal.returns-clause-identities
+returns-clause-identities g c =
+    let all : c.together-players.result.1 ≡ true = search rules in
+    c.settle-left.ensures.identities ∙ c.together-players.ensures.identities all ∙ c.sit-players.ensures.identities
+
 pub returns-clause-diaries : goal.returns-clause-diaries
 returns-clause-diaries g c =
     let sat = mapped_len (λ p. p.seat.number) c.sit-players.result.items _ c.sit-players.ensures.numbers in

@@ -15,6 +15,7 @@ invariant-loop-player g l = record {
   counts_room : vec_len l.counts + into_iter_len l.player-iterator ≤ vec_capacity l.counts;
   seats_room : vec_len l.seats + into_iter_len l.player-iterator ≤ vec_capacity l.seats;
   numbers : map (λ s. s.number) l.seats.items ≡ map (λ p. p.seat.number) l.yielded;
+  identities : map (λ a. g.A.App.identity a) l.apps.items ≡ map (λ p. g.A.App.identity p.app) l.yielded;
   diaries : l.fn._fresh ≡ true → map (λ a. (g.A.App.notes a).entries) l.apps.items ≡ map done_by l.seats.items;
   counts : l.counts.items ≡ map (λ s. length (done_by s)) l.seats.items;
   ends : length l.ends.items ≡ length l.yielded;

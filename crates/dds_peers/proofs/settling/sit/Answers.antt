@@ -4,7 +4,7 @@ use Rattle.std.specs.Vec.Iter.{into_iter_items, into_iter_len}
 use Rattle.dds_book.specs.Seat.{new_seat}
 use Rattle.dds_apps.specs.Kept.{IsKept, claim_of, new_claim}
 use Rattle.dds_apps.proofs.KeptLaws.{kept_new}
-use Rattle.dds_peers.proofs.ListLaws.{all_next, all_more, map_more, next_made, length_map, made_len, range_more, walked}
+use Rattle.dds_peers.proofs.ListLaws.{all_next, all_more, map_more, next_made, length_map, made_len, map_both, range_more, walked, whole}
 use Rattle.dds_peers.proofs.settling.sit.Goals as goal
 
 pub unreachable-requires : goal.unreachable-requires
@@ -58,6 +58,7 @@ loop-app-preserved g c =
       seats_len = omega arith;
       counters_len = omega arith;
       numbers = map_more (λ p. p.seat.number) c.loop-app.players.items c.push_reserved.new.self.items c.new.result more ∙ (λ k. i.numbers k ++ (ap (λ s. s.number) (made.1 ∙ seats.0)) k ∷ []) ∙ sym (range_more n);
+      identities = map_both (λ p. g.A.App.identity p.app) (λ a. g.A.App.identity a) c.loop-app.players.items c.push_reserved.new.self.items c.new.result c.loop-app.yielded c.in-Some.app i.identities more (ap (λ a. g.A.App.identity a) made.0);
       players = all_more (λ p. IsKept c.args._gauge.now c.args._fresh p.seat p.counter (g.A.App.notes p.app).entries) c.loop-app.players.items c.push_reserved.new.self.items c.new.result more i.players kept;
     }
 
@@ -66,7 +67,9 @@ returns g c =
     let i = c.loop-app.invariant in
     let number = i.number in
     let none = c.in-None.ensures.steps.0 in
-    let all : c.loop-app.number ≡ length c.args.apps.items = omega arith in record {
+    let all : c.loop-app.number ≡ length c.args.apps.items = omega arith in
+    let came = whole c.args.apps.items c.loop-app.yielded (into_iter_items c.loop-app.app-iterator) _ i.walk.whole i.walk.counted none in record {
       numbers = i.numbers ∙ ap (range_with_len 0) all;
+      identities = i.identities ∙ ap (map (λ a. g.A.App.identity a)) (sym came);
       players = i.players;
     }

@@ -19,5 +19,6 @@ invariant-loop-app g l = record {
   seats_len : into_iter_len l.seats ≡ length (into_iter_items l.seats);
   counters_len : into_iter_len l.counters ≡ length (into_iter_items l.counters);
   numbers : map (λ p. p.seat.number) l.players.items ≡ range_with_len 0 l.number;
+  identities : map (λ p. g.A.App.identity p.app) l.players.items ≡ map (λ a. g.A.App.identity a) l.yielded;
   players : All (λ p. IsKept l.fn._gauge l.fn._fresh p.seat p.counter (g.A.App.notes p.app).entries) l.players.items;
 }

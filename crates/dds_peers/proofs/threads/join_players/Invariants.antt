@@ -12,5 +12,6 @@ invariant-loop-handle g l = record {
   walk : Walks l.fn.handles.items l.yielded (into_iter_items l.handle-iterator) (into_iter_len l.handle-iterator);
   room : vec_len l.players + into_iter_len l.handle-iterator ≤ vec_capacity l.players;
   numbers : map (λ p. p.seat.number) l.players.items ≡ map (λ h. h.promise.app) l.yielded;
+  identities : map (λ p. g.A.App.identity p.app) l.players.items ≡ map (λ h. g.A.App.identity h.promise.was.value) l.yielded;
   players : All (λ p. IsKept l.fn._gauge l.fn._fresh p.seat p.counter (g.A.App.notes p.app).entries) l.players.items;
 }

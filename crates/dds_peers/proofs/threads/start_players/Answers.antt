@@ -26,6 +26,8 @@ loop-player-preserved g c =
       room = search rules;
       len = search rules;
       apps = map_both (λ h. h.promise.app) (λ p. p.seat.number) c.loop-player.handles.items c.push_reserved.new.self.items c.in-Ok.handle c.loop-player.yielded c.in-Some.player i.apps more (ap (λ p. p.app) promise ∙ c.number.ensures);
+      identities = map_both (λ h. g.A.App.identity h.promise.was.value) (λ p. g.A.App.identity p.app) c.loop-player.handles.items c.push_reserved.new.self.items c.in-Ok.handle c.loop-player.yielded c.in-Some.player i.identities more
+          (ap (λ p. g.A.App.identity p.was.value) promise ∙ ap (λ a. g.A.App.identity a) c.of-in-loop-player.ensures);
       promises = all_more (λ h. (h.promise.gauge.value ≡ c.args.gauge.now) × (h.promise.fresh ≡ c.args.fresh)) c.loop-player.handles.items c.push_reserved.new.self.items c.in-Ok.handle more i.promises
           (ap (λ p. p.gauge.value) promise ∙ c.of.ensures, ap (λ p. p.fresh) promise);
     }
@@ -35,3 +37,9 @@ returns-clause-all g c _ =
     let i = c.loop-player.invariant in
     let all = whole c.args.players.items c.loop-player.yielded (into_iter_items c.loop-player.player-iterator) _ i.walk.whole i.walk.counted c.in-None.ensures.steps.0 in
     i.apps ∙ ap (map (λ p. p.seat.number)) (sym all) ∙ c.requires.numbers
+
+pub returns-clause-identities : goal.returns-clause-identities
+returns-clause-identities g c _ =
+    let i = c.loop-player.invariant in
+    let all = whole c.args.players.items c.loop-player.yielded (into_iter_items c.loop-player.player-iterator) _ i.walk.whole i.walk.counted c.in-None.ensures.steps.0 in
+    i.identities ∙ ap (map (λ p. g.A.App.identity p.app)) (sym all)

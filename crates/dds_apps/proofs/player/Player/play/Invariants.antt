@@ -8,5 +8,6 @@ invariant-loop g l = record {
   is_finite : (goal.iterator-loop g).is_finite l.iterator';
   counted : IsCounted l.initial.gauge.table l.player.seat l.player.counter;
   number : l.player.seat.number ≡ l.initial.player.seat.number;
+  identity : g.A.App.identity l.player.app ≡ g.A.App.identity l.initial.player.app;
   diary : done_by l.initial.player.seat ≡ (g.A.App.notes l.initial.player.app).entries → done_by l.player.seat ≡ (g.A.App.notes l.player.app).entries;
 }
