@@ -76,10 +76,15 @@ impl<N: Name> Book<N> {
         ensures fault { OnErr result (seat.new ≡ seat.old) }
     {
         let answer = self.state.lock(rt).pump(seat, turn, fate);
-        if let Ok(Some((_, reply))) = &answer {
+        self.ring_after_turn(&answer);
+        answer
+    }
+
+    // Rings where an event was due, and changed something.
+    fn ring_after_turn(&self, told: &Result<Option<(Event, Reply)>, BookFault>) {
+        if let Ok(Some((_, reply))) = told {
             self.ring_after(reply);
         }
-        answer
     }
 
     // Rings where the count of changes grew: a refusal is entered and changes nothing.
