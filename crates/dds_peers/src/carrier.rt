@@ -52,8 +52,8 @@ impl<N: Name> Carrier<N> {
         self.is_full
     }
 
-    // Counts an event that it made, which is a change that it has seen unless it was refused. The next fate comes where a packet
-    // of the bus was moved.
+    // Counts an event that it made, which is a change that it has seen unless it was refused. The next fate comes
+    // where a packet of the bus was moved.
     fn count(&mut self, event: &Event, reply: &Reply) {
         self.events = self.events.saturating_add(1);
         if !matches!(reply, Reply::Refused(_)) {
@@ -69,7 +69,8 @@ impl<N: Name> Carrier<N> {
         }
     }
 
-    // Waits for a short time for a change that another thread makes from now on, if it has sent HEARTBEATs alone and this is one more.
+    // Waits for a short time for a change that another thread makes from now on, if it has sent HEARTBEATs alone and
+    // this is one more.
     fn give_way<R: Wait + Clock>(&mut self, rt: &R, book: &Book<N>, event: &Event) {
         if self.heartbeats <= HEARTBEATS || !matches!(event, Event::SendHeartbeat { .. }) {
             return;

@@ -282,9 +282,11 @@ fn run_all<A: App + Send, R: Threads + Wait + Clock + Sync, G: Gate>(
 /// stopped, the participants' are joined. The seats are those of the gauge's owners, in the order of the plan's applications, and each of their
 /// counts is 0; others may read the gauge while the run goes on.
 ///
-/// With `Ok` the applications come back in order: at each place is the one that was given there, by its identity. The journal is a journal of the plan, so all that the checker promises of a run holds of it: no
-/// reliable reader rejected, overwrote or gave up a sample, unread samples stayed within their bounds, and each reader took what was written, in
-/// order, once. Each application's diary is its part of the journal, and its count is the length of that part.
+/// With `Ok` the applications come back in order: at each place is the one that was given there, by its identity. The
+/// journal is a journal of the plan, so all that the checker promises of a run holds of it: no reliable reader
+/// rejected, overwrote or gave up a sample, unread samples stayed within their bounds, and each reader took what was
+/// written, in order, once. Each application's diary is its part of the journal, and its count is the length of that
+/// part.
 pub fn run_peers<R: Threads + Wait + Clock + Sync, G: Gate>(
     rt: &R,
     alloc: Global,

@@ -9,10 +9,11 @@ use dds_match::Plan;
 use std::alloc::Global;
 use std::marker::Model;
 
-/// An application that goes in a circle: it takes at each of its readers and keys, fires each of its rules that needs takes, and writes each key that
-/// its rules write. After so many successes it takes no more, or writes no more; a circle in which nothing succeeded is followed by a rest. It
-/// stops when both numbers are reached. Its identity is its number in the plan. The first eight bytes of what it writes are the count of its writes from 1, most significant first; the
-/// others are 0.
+/// An application that goes in a circle: it takes at each of its readers and keys, fires each of its rules that needs
+/// takes, and writes each key that its rules write. After so many successes it takes no more, or writes no more; a
+/// circle in which nothing succeeded is followed by a rest. It stops when both numbers are reached. Its identity is
+/// its number in the plan. The first eight bytes of what it writes are the count of its writes from 1, most
+/// significant first; the others are 0.
 #[derive(Drop)]
 pub struct Steady {
     app: AppNo,

@@ -14,8 +14,8 @@ use std::thread;
 use std::thread::{JoinHandle, Promise, PromisedHandle, Scope, Threads};
 use std::time::Clock;
 
-/// What an application's thread promises: it gives back the application that it was given, at the seat of this number; its count at this gauge and
-/// its diary, if it was empty at first, are those of what was done.
+/// What an application's thread promises: it gives back the application that it was given, at the seat of this
+/// number; its count at this gauge and its diary, if it was empty at first, are those of what was done.
 #[derive(Drop)]
 pub(crate) struct Plays<A> {
     app: usize,

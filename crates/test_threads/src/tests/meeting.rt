@@ -44,7 +44,8 @@ impl Bell {
         self.ear.try_recv(rt).is_ok()
     }
 
-    /// Waits until it rings, at most so many times, and tells how many of these waits are left. `None` where it doesn't ring in time.
+    /// Waits until it rings, at most so many times, and tells how many of these waits are left. `None` where it
+    /// doesn't ring in time.
     fn hear<R: Wait + Clock>(&self, rt: &R, waits: usize) -> Option<usize> {
         for made in 0..waits {
             if self.ear.recv_timeout(rt, Duration::from_millis(1)).is_ok() {
