@@ -9,16 +9,14 @@ it stands what it writes to its output; after a line `errors:`, where it writes 
 `often` is given fifty times, and has to answer alike. All other lines are empty, or headings that begin with `#`. The last line is 'N passed, M failed'; the status is 1
 if one failed.
 """
-import os
 import re
-import subprocess
 import sys
-from concurrent.futures import ThreadPoolExecutor
 from dataclasses import dataclass
 from pathlib import Path
 
-ROOT = Path(__file__).resolve().parent.parent
-PROGRAM = ROOT / "crates/ddscheck/out/ddscheck"
+sys.dont_write_bytecode = True
+from harness import ROOT, Tally, ddscheck, need_program, side_by_side  # noqa: E402
+
 FOLDER = ROOT / "tools/commands"
 DATA = FOLDER / "data"
 
@@ -60,18 +58,11 @@ def cases(names=()):
     return [case for file in sorted(FOLDER.glob("*.txt")) if not names or file.stem in names for case in cases_of(file)]
 
 
-def text_of(written):
-    try:
-        return written.decode()
-    except UnicodeDecodeError:
-        return "(bytes that are no text)\n"
-
-
 def outcome(words):
     """What comes of a command."""
-    done = subprocess.run([PROGRAM, *words], cwd=DATA, stdin=subprocess.DEVNULL, capture_output=True, timeout=120, check=False)
-    errors = f"errors:\n{text_of(done.stderr)}" if done.stderr else ""
-    return f"{text_of(done.stdout)}{errors}status {done.returncode}\n"
+    done = ddscheck(*words, cwd=DATA)
+    errors = f"errors:\n{done.err}" if done.err else ""
+    return f"{done.out}{errors}status {done.status}\n"
 
 
 def wrong_outcome(case):
@@ -80,17 +71,15 @@ def wrong_outcome(case):
 
 
 def main(names):
+    need_program()
     every = cases(names)
     if unknown := set(names) - {case.file.stem for case in every}:
         sys.exit(f"no cases: {' '.join(sorted(unknown))}")
-    failed = 0
-    with ThreadPoolExecutor(os.cpu_count()) as threads:
-        for case, found in zip(every, threads.map(wrong_outcome, every)):
-            if found is not None:
-                failed += 1
-                print(f"{case.file}:{case.line}: ddscheck {' '.join(case.words)}\nexpected:\n{case.expected}found:\n{found}")
-    print(f"{len(every) - failed} passed, {failed} failed")
-    return 1 if failed or not every else 0
+    tally = Tally()
+    for case, found in zip(every, side_by_side(wrong_outcome, every)):
+        what = f"{case.file.relative_to(ROOT)}:{case.line}: ddscheck {' '.join(case.words)}"
+        tally.check(found is None, what, f"\nexpected:\n{case.expected}found:\n{found}")
+    return tally.finish()
 
 
 if __name__ == "__main__":

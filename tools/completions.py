@@ -11,7 +11,8 @@ import sys
 from dataclasses import dataclass, field
 
 sys.dont_write_bytecode = True
-from commands import ROOT, cases  # noqa: E402
+from commands import cases  # noqa: E402
+from harness import ROOT, Tally  # noqa: E402
 
 
 @dataclass
@@ -235,20 +236,16 @@ def pages():
 
 
 def main(words):
-    failed = 0
-    made = pages()
-    for name, text in made.items():
+    tally = Tally()
+    for name, text in pages().items():
         path = ROOT / name
         if words == ["--check"]:
-            if not path.exists() or path.read_text() != text:
-                failed += 1
-                print(f"failed: {name} falls behind the program's help: run tools/completions.py")
+            tally.check(path.exists() and path.read_text() == text, f"{name} falls behind the program's help: run tools/completions.py")
         else:
             path.parent.mkdir(parents=True, exist_ok=True)
             path.write_text(text)
-    if words == ["--check"]:
-        print(f"{len(made) - failed} passed, {failed} failed")
-    return 1 if failed else 0
+    return tally.finish() if words == ["--check"] else 0
 
 
-sys.exit(main(sys.argv[1:]))
+if __name__ == "__main__":
+    sys.exit(main(sys.argv[1:]))

@@ -15,8 +15,9 @@ import sys
 import tempfile
 from pathlib import Path
 
-ROOT = Path(__file__).resolve().parent.parent
-PROGRAM = ROOT / "crates/ddscheck/out/ddscheck"
+sys.dont_write_bytecode = True
+from harness import PROGRAM, ROOT, SECONDS, Tally, need_program  # noqa: E402
+
 PING = (ROOT / "examples/ping/ping.toml").read_text(encoding="utf-8")
 PING_CERT = (ROOT / "examples/ping/ping.cert.toml").read_text(encoding="utf-8")
 # what is proposed for it, as the tests of the merge gate have it
@@ -60,36 +61,36 @@ def ran(room, words, deployment, certificate, limit=None):
     (room / "c").write_text(certificate, encoding="utf-8")
     with open(room / "out", "w+b") as out:
         how = {"stdin": subprocess.DEVNULL, "stdout": out, "stderr": subprocess.PIPE, "cwd": room}
-        done = subprocess.run([PROGRAM, *words, "--format", "json"], **how, preexec_fn=limited if limit is not None else None)
+        done = subprocess.run([PROGRAM, *words, "--format", "json"], **how, timeout=SECONDS, preexec_fn=limited if limit is not None else None)
     return done.returncode, (room / "out").read_bytes(), done.stderr
 
 
-def is_read(room, words, deployment, certificate, status, answer, place, text):
-    """Whether a document is as it is to be."""
+def fault_of_document(room, words, deployment, certificate, status, answer, place, text):
+    """What is wrong with a document, if anything is."""
     ended, out, _ = ran(room, words, deployment, certificate)
     document = json.loads(out)
-    return (ended, document["answer"], at(document, place)) == (status, answer, text)
+    given, owed = (ended, document["answer"], at(document, place)), (status, answer, text)
+    return None if given == owed else f"{given} in place of {owed}"
 
 
-def is_told(room, deployment, limit):
-    """Whether a check tells that its document was not written whole."""
-    ended, out, errors = ran(room, ["check", "d", "c"], deployment, PING_CERT, limit)
-    return (ended, len(out), errors) == (3, limit, b"ddscheck: 6 Write\n")
+def fault_of_want(room, deployment, limit):
+    """What is wrong where a check can't write its document whole, which it has to tell."""
+    given = ran(room, ["check", "d", "c"], deployment, PING_CERT, limit)
+    given = given[0], len(given[1]), given[2]
+    return None if given == (3, limit, b"ddscheck: 6 Write\n") else f"{given}"
 
 
 def main():
-    passed = failed = 0
+    need_program()
+    tally = Tally()
     with tempfile.TemporaryDirectory() as name:
         room = Path(name)
-        rows = [(f"{case[0]}: {case[5]}", is_read(room, *case)) for case in CASES]
+        for case in CASES:
+            tally.judge(f"{' '.join(case[0])} with the answer {case[4]} and {case[5]}", fault_of_document, room, *case)
         for limit in (0, 1, 5):
-            rows += [(f"{limit} bytes of {what}", is_told(room, text, limit)) for what, text in (("an answer", PING), ("a fault", ""))]
-    for what, is_well in rows:
-        passed, failed = passed + is_well, failed + (not is_well)
-        if not is_well:
-            print(f"failed: {what}")
-    print(f"{passed} passed, {failed} failed")
-    return 1 if failed else 0
+            for what, text in (("an answer", PING), ("a fault", "")):
+                tally.judge(f"{limit} bytes of {what}", fault_of_want, room, text, limit)
+    return tally.finish()
 
 
 if __name__ == "__main__":

@@ -8,21 +8,22 @@ of the commands of tools/commands. Deployments are read by tools/shown.py and ce
 is decided here a second time (OMG DDS 1.4, clause 2.2.3). The picture is read line by line, and has to have the clusters, nodes and edges that the files say, each
 with its attributes, at its place and in its order. Where `dot` is installed, a picture of at most 400 edges is rendered too: the SVG has to have a title for each
 node, each edge and each cluster with a node in it, and for nothing else. Of a file with a fault `draw` owes what `match` or `check` answers: nothing, the same line
-and the status 2. A file that is TOML 1.1 and not 1.0 is left out, and told. The last line is 'N passed, M failed'; the status is 1 if one failed.
+and the status 2. A file that is TOML 1.1 and not 1.0 counts as skipped, and so does the rendering without `dot`. The last line is 'N passed, M failed'; the status is 1 if one failed.
 """
 import math
 import re
 import shutil
-import subprocess
 import sys
 import tomllib
 import xml.etree.ElementTree as xml
 
 sys.dont_write_bytecode = True
 import commands  # noqa: E402
-from shown import ROOT, answer_of, deployments, document_of, lists_of  # noqa: E402
+from harness import ROOT, Tally, need_program, run  # noqa: E402
+from shown import TOML_1_1, answer_of, deployments, document_of, lists_of  # noqa: E402
 
 MOST_EDGES = 400
+HAS_DOT = shutil.which("dot") is not None
 LIMITS = ("max_samples", "max_instances", "max_samples_per_instance")
 RANKS = {
     "durability": ("VOLATILE", "TRANSIENT_LOCAL", "TRANSIENT", "PERSISTENT"),
@@ -230,11 +231,11 @@ def clusters_of(lines):
 
 def is_rendered(text, lines):
     """Whether the SVG has a title for each cluster, node and edge of the picture, and no other."""
-    done = subprocess.run(["dot", "-Tsvg"], input=text.encode(), capture_output=True, check=False)
-    if done.returncode != 0:
+    done = run(["dot", "-Tsvg"], stdin=text.encode())
+    if done.status != 0:
         return False
     titles = {"cluster": [], "node": [], "edge": []}
-    for group in xml.fromstring(done.stdout).iter("{http://www.w3.org/2000/svg}g"):
+    for group in xml.fromstring(done.out.encode()).iter("{http://www.w3.org/2000/svg}g"):
         if group.get("class") in titles:
             titles[group.get("class")].append(group.findtext("{http://www.w3.org/2000/svg}title"))
     owed = {
@@ -262,39 +263,35 @@ def cases():
             yield files
 
 
-def is_as_owed(files):
-    """Whether `draw` gives what it owes; `None` where Python can't read a file, since it reads TOML 1.0 alone."""
+def fault_of(files):
+    """What is wrong with what `draw` gives, if anything is."""
     given = answer_of(["draw", *files])
     _, err, status = answer_of(["check" if len(files) == 2 else "match", *files])
     if status == 2:
-        return given == ("", err, 2)
+        return None if given == ("", err, 2) else f"{given[1:]} in place of the fault that is told"
     try:
         owed = picture_of(*files) if len(files) == 2 else picture_of(files[0], None)
     except tomllib.TOMLDecodeError:
-        return None
+        return TOML_1_1
     text, err, status = given
-    if (err, status) != ("", 0) or not text.endswith("}\n") or [line_of(line) for line in text.splitlines()] != owed:
-        return False
+    if (err, status) != ("", 0):
+        return f"status {status}, {err}"
+    if not text.endswith("}\n") or [line_of(line) for line in text.splitlines()] != owed:
+        return "another picture"
     edges = sum(line[1] == "edge" for line in owed)
-    return not shutil.which("dot") or edges > MOST_EDGES or is_rendered(text, owed)
+    if not HAS_DOT or edges > MOST_EDGES:
+        return None
+    return None if is_rendered(text, owed) else "dot renders another picture"
 
 
 def main():
-    passed = failed = 0
+    need_program()
+    tally = Tally()
+    if not HAS_DOT:
+        tally.skip("Graphviz's dot, which renders the pictures, isn't installed")
     for files in cases():
-        names = " ".join(str(file.relative_to(ROOT)) for file in files)
-        right = is_as_owed(files)
-        if right is None:
-            print(f"left out, being TOML 1.1: {names}")
-        elif right:
-            passed += 1
-        else:
-            failed += 1
-            print(f"failed: draw {names}")
-    if not shutil.which("dot"):
-        print("not rendered: dot is not installed")
-    print(f"{passed} passed, {failed} failed")
-    return 1 if failed else 0
+        tally.judge(f"draw {' '.join(str(file.relative_to(ROOT)) for file in files)}", fault_of, files)
+    return tally.finish()
 
 
 if __name__ == "__main__":

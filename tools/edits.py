@@ -1,42 +1,59 @@
 #!/usr/bin/env python3
 """Compares the wrong bodies, those of the gate and those of tools/more-edits, with the sources.
 
-Each text that a wrong body replaces has to stand exactly once in its file: else the wrong body can't be tried any longer, which nobody would notice before
-somebody tries it. The last line is 'N passed, M failed'; the status is 1 if one failed.
+An edit has a line `file:`, and then pairs of a line `old:` and a line `new:`. Each text that it replaces has to stand exactly once in its file: else the wrong body can't be
+tried any longer, which nobody would notice before somebody tries it. An edit that replaces nothing, or a text by itself, can't be refused either. The last line
+is 'N passed, M failed'; the status is 1 if one failed.
 """
-
 import sys
-from pathlib import Path
+
+sys.dont_write_bytecode = True
+from harness import ROOT, Tally  # noqa: E402
+
+CRATES = ROOT / "crates"
+FIELDS = ("file: ", "old: ", "new: ")
 
 
-def replaced(edit):
-    """The files and texts that an edit replaces."""
-    file = ""
+def lines_of(edit):
+    """The fields of an edit with their texts, in its order."""
     for line in edit.read_text(encoding="utf-8").splitlines():
-        if line.startswith("file: "):
-            file = line.removeprefix("file: ").strip()
-        elif line.startswith("old: "):
-            yield file, line.removeprefix("old: ")
+        field = next((field for field in FIELDS if line.startswith(field)), None)
+        if field:
+            yield field.strip(": "), line.removeprefix(field)
 
 
-def stale(edit, crate):
-    """The texts of an edit that don't stand exactly once in their files."""
-    return [text for file, text in replaced(edit) if (crate / file).read_text(encoding="utf-8").count(text) != 1]
+def fault_of(edit, crate):
+    """What is wrong with an edit, if anything is."""
+    fields = list(lines_of(edit))
+    if [name for name, _ in fields[:1]] != ["file"]:
+        return "it doesn't begin with a line file:"
+    text, pairs, file = None, 0, ""
+    while fields:
+        name, value = fields.pop(0)
+        if name == "file":
+            file = value.strip()
+            if not (crate / file).is_file():
+                return f"there is no file {file}"
+            text = (crate / file).read_text(encoding="utf-8")
+        elif name == "new" or [field for field, _ in fields[:1]] != ["new"]:
+            return f"a line {name}: stands alone"
+        else:
+            new = fields.pop(0)[1]
+            if text.count(value) != 1:
+                return f"it stands {text.count(value)} times in {file}: {value}"
+            if value == new:
+                return f"it replaces a text by itself: {value}"
+            text, pairs = text.replace(value, new), pairs + 1
+    return None if pairs else "it replaces nothing"
 
 
 def main():
-    crates = Path(__file__).resolve().parent.parent / "crates"
-    edits = [(edit, edit.parent.parent) for edit in sorted(crates.glob("*/must-fail/*.edit"))]
-    more = Path(__file__).resolve().parent / "more-edits"
-    edits += [(edit, crates / edit.parent.name) for edit in sorted(more.glob("*/*.edit"))]
-    failed = 0
+    edits = [(edit, edit.parent.parent) for edit in sorted(CRATES.glob("*/must-fail/*.edit"))]
+    edits += [(edit, CRATES / edit.parent.name) for edit in sorted((ROOT / "tools/more-edits").glob("*/*.edit"))]
+    tally = Tally()
     for edit, crate in edits:
-        texts = stale(edit, crate)
-        failed += bool(texts)
-        for text in texts:
-            print(f"{crate.name}/{edit.name}: doesn't stand once in its file: {text}")
-    print(f"{len(edits) - failed} passed, {failed} failed")
-    return 1 if failed or not edits else 0
+        tally.judge(str(edit.relative_to(ROOT)), fault_of, edit, crate)
+    return tally.finish()
 
 
 if __name__ == "__main__":

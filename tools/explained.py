@@ -5,7 +5,7 @@
   tools/explained.py DEPLOYMENT CERTIFICATE   # prints what is owed
 
 The answer is found a second time by tools/judged.py, and each number of a reason is added up here a second time. From the built program come the faults of files and,
-by `match`, which endpoints match. A file that Python can't read, being TOML 1.1 and not 1.0, is left out, and told. The last line is 'N passed, M failed';
+by `match`, which endpoints match. A file that Python can't read, being TOML 1.1 and not 1.0, counts as skipped. The last line is 'N passed, M failed';
 the status is 1 if one failed.
 """
 import re
@@ -17,7 +17,7 @@ sys.dont_write_bytecode = True
 import judged  # noqa: E402
 import shown  # noqa: E402
 from commands import DATA, cases  # noqa: E402
-from shown import ROOT  # noqa: E402
+from harness import ROOT, Tally, need_program  # noqa: E402
 
 
 # The reasons of a refusal, by number: lines without `because`
@@ -192,24 +192,25 @@ def checks():
                 yield deployment, certificate
 
 
+def fault_of(deployment, certificate):
+    """What is wrong with what `check --explain` gives, if anything is."""
+    try:
+        wanted = owed(deployment, certificate)
+    except (tomllib.TOMLDecodeError, UnicodeDecodeError):
+        return shown.TOML_1_1
+    given = shown.answer_of(["check", "--explain", deployment, certificate])
+    return None if agrees(given, wanted) else f"{given} and not {wanted}"
+
+
 def main(words):
     if words:
         sys.stdout.write(owed(Path(words[0]), Path(words[1]))[0])
         return 0
-    passed = failed = 0
+    need_program()
+    tally = Tally()
     for deployment, certificate in dict.fromkeys(checks()):
-        try:
-            wanted = owed(deployment, certificate)
-        except (tomllib.TOMLDecodeError, UnicodeDecodeError):
-            print(f"left out, being TOML 1.1: {deployment.relative_to(ROOT)} {certificate.relative_to(ROOT)}")
-            continue
-        given = shown.answer_of(["check", "--explain", deployment, certificate])
-        passed += agrees(given, wanted)
-        failed += not agrees(given, wanted)
-        if not agrees(given, wanted):
-            print(f"failed: check --explain {deployment.relative_to(ROOT)} {certificate.relative_to(ROOT)}: {given} and not {wanted}")
-    print(f"{passed} passed, {failed} failed")
-    return 1 if failed else 0
+        tally.judge(f"check --explain {deployment.relative_to(ROOT)} {certificate.relative_to(ROOT)}", fault_of, deployment, certificate)
+    return tally.finish()
 
 
 if __name__ == "__main__":

@@ -7,7 +7,7 @@
 A file that is read without a fault has to pass its schema. One whose first fault is WrongVersion, UnknownKey, MissingKey, WrongKind, OutOfRange, BadName or
 TooMany has to fail it, but for what a schema can't see: a whole number that is written as a float, and what short forms of version 2 come to. Of the other
 kinds a schema sees nothing: that a name is there, that names and entries stand once, who owns an endpoint, that depth and limits agree, and that the bytes
-are TOML. It wants Python's jsonschema (Debian's python3-jsonschema) and ends with status 2 where that is missing.
+are TOML. Without Python's jsonschema (Debian's python3-jsonschema) everything counts as skipped. The last line is 'N passed, M failed'; the status is 1 if one failed.
 """
 import json
 import re
@@ -16,7 +16,8 @@ import tomllib
 from pathlib import Path
 
 sys.dont_write_bytecode = True
-from commands import DATA, ROOT, cases  # noqa: E402
+from commands import DATA, cases  # noqa: E402
+from harness import ROOT, Tally  # noqa: E402
 
 SEEN = {"WrongVersion", "UnknownKey", "MissingKey", "WrongKind", "OutOfRange", "BadName", "TooMany"}
 FAULT = re.compile(r"ddscheck: (deployment|certificate) \d+ (\w+)")
@@ -66,20 +67,16 @@ def answers(folder, words, errors):
         yield folder / files[1], "certificate", told[1] if told else ""
 
 
-def main():
-    try:
-        from jsonschema import Draft202012Validator
-    except ImportError:
-        print("Python's jsonschema is not installed", file=sys.stderr)
-        return 2
-    validators = {}
-    for kind in ("deployment", "certificate"):
-        schema = json.loads((ROOT / f"docs/schemas/{kind}.schema.json").read_text())
-        Draft202012Validator.check_schema(schema)
-        validators[kind] = Draft202012Validator(schema)
-    sources = [commands_of(Path(name)) for name in sys.argv[1:]] or [commands_of_the_repository()]
-    owed = {(path, kind, fault) for source in sources for case in source for path, kind, fault in answers(*case)}
-    passed = failed = 0
+def fault_of(validator, kind, fault, document):
+    """What is wrong with what a schema says of a document, if anything is."""
+    wrong = next(validator.iter_errors(document), None)
+    if bool(fault) == bool(wrong):
+        return None
+    return f"{kind} {fault or 'without a fault'}: {wrong.message[:200] if wrong else 'passes the schema'}"
+
+
+def documents(owed):
+    """The documents of which a schema has something to say, with their paths, kinds and faults."""
     for path, kind, fault in sorted(owed):
         if fault and fault not in SEEN:
             continue
@@ -87,16 +84,33 @@ def main():
             document = plain(tomllib.loads(path.read_bytes().decode()))
         except (OSError, ValueError):
             continue
-        if fault == "TooMany" and has_short_rules(document):
-            continue
-        wrong = next(validators[kind].iter_errors(document), None)
-        if bool(fault) == bool(wrong):
-            passed += 1
-        else:
-            failed += 1
-            print(f"{path}: {kind} {fault or 'without a fault'}: {wrong.message[:200] if wrong else 'passes the schema'}")
-    print(f"{passed} passed, {failed} failed")
-    return 1 if failed or not passed else 0
+        if fault != "TooMany" or not has_short_rules(document):
+            yield path, kind, fault, document
+
+
+def validators():
+    """The validator of each kind of file, or `None` where jsonschema isn't installed."""
+    try:
+        from jsonschema import Draft202012Validator
+    except ImportError:
+        return None
+    schemas = {kind: json.loads((ROOT / f"docs/schemas/{kind}.schema.json").read_text()) for kind in ("deployment", "certificate")}
+    for schema in schemas.values():
+        Draft202012Validator.check_schema(schema)
+    return {kind: Draft202012Validator(schema) for kind, schema in schemas.items()}
+
+
+def main():
+    tally, known = Tally(), validators()
+    if not known:
+        tally.skip("Python's jsonschema isn't installed (Debian's python3-jsonschema)")
+        tally.finish()
+        return 0
+    sources = [commands_of(Path(name)) for name in sys.argv[1:]] or [commands_of_the_repository()]
+    owed = {(path, kind, fault) for source in sources for case in source for path, kind, fault in answers(*case)}
+    for path, kind, fault, document in documents(owed):
+        tally.judge(str(path), fault_of, known[kind], kind, fault, document)
+    return tally.finish()
 
 
 if __name__ == "__main__":

@@ -6,16 +6,17 @@
 
 A deployment is read by Python's TOML parser, with the defaults of docs/FORMAT.md, and its rules with `each` are expanded as that page says; the text is put together here
 a second time, and Python's JSON parser has to read the lists out of it. Of a deployment with a fault `show` owes what `match` answers: nothing, the same line
-and the status 2. A file that is TOML 1.1 and not 1.0 is left out, and told. The last line is 'N passed, M failed'; the status is 1 if one failed.
+and the status 2. A file that is TOML 1.1 and not 1.0 counts as skipped. The last line is 'N passed, M failed'; the status is 1 if one failed.
 """
 import json
-import subprocess
 import sys
 import tomllib
 from pathlib import Path
 
-ROOT = Path(__file__).resolve().parent.parent
-PROGRAM = ROOT / "crates/ddscheck/out/ddscheck"
+sys.dont_write_bytecode = True
+from harness import ROOT, Skipped, Tally, ddscheck, need_program  # noqa: E402
+
+TOML_1_1 = Skipped("files of TOML 1.1, of which Python reads 1.0 alone")
 POLICIES = [
     ("durability", "VOLATILE"),
     ("access_scope", "INSTANCE"),
@@ -120,8 +121,8 @@ def json_text(lists):
 
 
 def answer_of(words):
-    done = subprocess.run([PROGRAM, *words], capture_output=True, check=False)
-    return done.stdout.decode(), done.stderr.decode(), done.returncode
+    done = ddscheck(*words)
+    return done.out, done.err, done.status
 
 
 def deployments():
@@ -131,35 +132,30 @@ def deployments():
                 yield path
 
 
-def is_as_owed(path):
-    """Whether `show` gives what it owes; `None` where Python can't read the file, since it reads TOML 1.0 alone."""
+def fault_of(path):
+    """What is wrong with what `show` gives, if anything is."""
     given = answer_of(["show", path])
     _, err, status = answer_of(["match", path])
     if status == 2:
-        return given == ("", err, 2)
+        return None if given == ("", err, 2) else f"{given[1:]} in place of the fault that match tells"
     try:
         lists = lists_of(path)
     except tomllib.TOMLDecodeError:
-        return None
-    return given == (json_text(lists), "", 0) and json.loads(given[0]) == lists
+        return TOML_1_1
+    if given != (json_text(lists), "", 0):
+        return f"another text, status {given[2]}, {given[1]}"
+    return None if json.loads(given[0]) == lists else "other lists are read of it"
 
 
 def main(words):
     if words:
         sys.stdout.write(json_text(lists_of(Path(words[0]))))
         return 0
-    passed = failed = 0
+    need_program()
+    tally = Tally()
     for path in deployments():
-        right = is_as_owed(path)
-        if right is None:
-            print(f"left out, being TOML 1.1: {path.relative_to(ROOT)}")
-        elif right:
-            passed += 1
-        else:
-            failed += 1
-            print(f"failed: show {path.relative_to(ROOT)}")
-    print(f"{passed} passed, {failed} failed")
-    return 1 if failed else 0
+        tally.judge(f"show {path.relative_to(ROOT)}", fault_of, path)
+    return tally.finish()
 
 
 if __name__ == "__main__":
