@@ -1,0 +1,363 @@
+#!/usr/bin/env python3
+"""Tries `./ddscheck`, the script that finds the built program, has the interpreter answer, builds and installs.
+
+  tools/wrapper.py
+
+It works on small trees of its own, in folders with a blank in their names, with a stand-in for the toolchain's `rt`: `rt ci` makes a program that prints which source it was made of,
+`rt try` answers as the interpreter does. So each case has known answers. The last line is 'N passed, M failed'; the status is 1 if one failed.
+"""
+import os
+import shutil
+import signal
+import subprocess
+import sys
+import tempfile
+import time
+from pathlib import Path
+
+sys.dont_write_bytecode = True
+from harness import ROOT, Tally, run  # noqa: E402
+
+# what the script needs of the system
+TOOLS = ["awk", "cat", "chmod", "cp", "find", "grep", "head", "install", "ls", "mkdir", "mktemp", "mv", "rm", "readlink", "sed", "sha256sum", "sh", "sleep", "sort", "stat", "tail", "xargs"]
+# `rt ci` makes the program of the sources that it finds; `rt try` answers by the words after `--`. Where the file `slow` is there, both wait, and note their process.
+RT = r"""#!/bin/sh
+here=${0%/*}
+echo "$1" >>"$here/calls"
+[ ! -e "$here/slow" ] || { echo $$ >"$here/slow" && mkdir -p "$TMPDIR/rt-own" && exec sleep 60; }
+case $1 in
+ci)
+    [ ! -e "$here/refuses" ] || { echo 'rt: base NOT PROVED' && exit 1; }
+    [ ! -e "$here/edits" ] || . "$here/edits"
+    mkdir -p crates/ddscheck/out
+    { echo '#!/bin/sh'; echo "echo built of $(cat crates/ddscheck/src/main.rt) and $(cat crates/base/src/lib.rt), \$*"; } >crates/ddscheck/out/ddscheck
+    chmod 755 crates/ddscheck/out/ddscheck
+    echo 'rt: base proved'
+    ls crates >"$here/crates"
+    ;;
+try)
+    [ ! -e "$here/fails" ] || { echo 'interpreter: no-answer: too much' >&2 && exit 6; }
+    echo "interpreted in ${PWD##*/}: $*"
+    echo "run=ended status=$(cat "$here/status" 2>/dev/null || echo 0)" >&2
+    exit 0
+    ;;
+esac
+"""
+NEEDS_BUILD = "so this needs the built program: ./ddscheck --build makes it\n"
+
+
+class Tree:
+    """A small tree with the script, and the stand-in for `rt` beside it."""
+
+    def __init__(self, room):
+        self.top = Path(room) / "a tree"
+        self.tools = Path(room) / "the tools"
+        self.temporary = Path(room) / "a temporary folder"
+        for folder in (self.top, self.tools, self.temporary):
+            folder.mkdir()
+        self.script = self.top / "ddscheck"
+        shutil.copy(ROOT / "ddscheck", self.script)
+        self.write("crates.txt", "# the crates\nbase:\nfirst_answer: base\nddscheck: base first_answer\ntests: ddscheck base\n")
+        self.write("HANDLES", "Handles allowed: none.\n")
+        for name, text in (("base/src/lib.rt", "b1"), ("first_answer/src/main.rt", "f1"), ("ddscheck/src/main.rt", "d1"), ("tests/src/lib.rt", "t1")):
+            self.write(f"crates/{name}", text)
+        self.write("crates/base/specs/Lib.antt", "specs")
+        for name in ("man/ddscheck.1", "completions/ddscheck.bash", "completions/ddscheck.zsh", "completions/ddscheck.fish"):
+            self.write(f"docs/{name}", name)
+        self.write("d.toml", "a deployment")
+        self.write("c.toml", "a certificate")
+        (self.tools / "rt").write_text(RT)
+        (self.tools / "rt").chmod(0o755)
+        for tool in TOOLS:
+            if found := shutil.which(tool):
+                (self.tools / tool).symlink_to(found)
+
+    def write(self, name, text):
+        path = self.top / name
+        path.parent.mkdir(parents=True, exist_ok=True)
+        path.write_text(text)
+
+    def environment(self, **more):
+        return {"PATH": str(self.tools), "TMPDIR": str(self.temporary), "HOME": str(self.top.parent / "home")} | more
+
+    def ask(self, *words, script=None, cwd=None, **more):
+        """Calls the script with these words."""
+        return run([script or self.script, *words], cwd=cwd or self.top, env=self.environment(**more), seconds=30, stdin=b"a deployment")
+
+    def ask_by_shell(self, line):
+        """Calls the script as this line of a shell does, in which $1 is the script."""
+        return run([shutil.which("sh"), "-c", line, "sh", self.script], cwd=self.top, env=self.environment(), seconds=30)
+
+    def calls(self):
+        """The first words of the calls of `rt` since the last time this was asked."""
+        file = self.tools / "calls"
+        words = file.read_text().split() if file.exists() else []
+        file.unlink(missing_ok=True)
+        return words
+
+    def build(self):
+        built = self.ask("--build")
+        assert built.status == 0, built
+        self.calls()
+
+
+def is_answer_of(given, first, second):
+    return (given.status, given.out, given.err) == (0, f"built of {first} and {second}, check d.toml c.toml\n", "")
+
+
+def is_failure(given, *words):
+    """Whether there is the status 3, no output, and one line with these words."""
+    return given.status == 3 and given.out == "" and given.err.count("\n") == 1 and all(word in given.err for word in words)
+
+
+CHECK = ("check", "d.toml", "c.toml")
+
+
+def build_and_answer(tree, tally):
+    first = tree.ask(*CHECK)
+    tally.check(first.status == 0 and first.out.startswith("interpreted in first_answer: ") and "not the proved program" in first.err, "an answer where nothing is built", first)
+    built = tree.ask("--build")
+    tally.check((built.status, built.out, tree.calls()) == (0, "", ["try", "ci"]), "a build", built)
+    crates = (tree.tools / "crates").read_text().split()
+    tally.check(crates == ["base", "ddscheck", "first_answer"], "the build has the program's crates alone", crates)
+    tally.check(is_answer_of(tree.ask(*CHECK), "d1", "b1"), "the built program answers")
+    again = tree.ask("--build")
+    tally.check((again.status, tree.calls()) == (0, []), "a second build has nothing to do", again)
+    tally.check(not list(tree.temporary.iterdir()), "nothing is left in the temporary folder")
+
+
+def follow_sources(tree, tally):
+    """What makes the program stale, and what doesn't."""
+    tree.build()
+    for name in ("crates/base/src/lib.rt", "crates/base/specs/Lib.antt", "HANDLES", "crates.txt"):
+        path = tree.top / name
+        before, times = path.read_text(), path.stat()
+        path.write_text(before.replace("first_answer: base", "first_answer:") if name == "crates.txt" else before + "x")
+        os.utime(path, ns=(times.st_atime_ns, times.st_mtime_ns))
+        given = tree.ask(*CHECK)
+        tally.check(given.out.startswith("interpreted"), f"another {name} with the old time", given)
+        path.write_text(before)
+        tally.check(is_answer_of(tree.ask(*CHECK), "d1", "b1"), f"the old {name} again, with a new time")
+    tree.write("crates/base/proofs/Lib.antt", "")
+    tally.check(tree.ask(*CHECK).out.startswith("interpreted"), "a new source")
+    shutil.rmtree(tree.top / "crates/base/proofs")
+    for name in ("crates/tests/src/lib.rt", "crates/base/must-fail/wrong.edit", "crates/base/stdout"):
+        tree.write(name, "another text")
+        tally.check(is_answer_of(tree.ask(*CHECK), "d1", "b1"), f"{name} makes nothing stale")
+    tree.write("crates.txt", (tree.top / "crates.txt").read_text() + "# a comment\nmore_tests: base\n")
+    tally.check(is_answer_of(tree.ask(*CHECK), "d1", "b1"), "a line of crates.txt for another crate makes nothing stale")
+    program = tree.top / "crates/ddscheck/out/ddscheck"
+    program.write_text("#!/bin/sh\necho another program\n")
+    tally.check(tree.ask(*CHECK).out.startswith("interpreted"), "another program in its place")
+
+
+def edit_during_build(tree, tally):
+    """A source that is edited while the build runs."""
+    (tree.tools / "edits").write_text(f"echo b2 >'{tree.top}/crates/base/src/lib.rt'\n")
+    built = tree.ask("--build")
+    (tree.tools / "edits").unlink()
+    given = tree.ask(*CHECK)
+    tally.check(built.status == 0 and given.out.startswith("interpreted"), "a source that was edited during the build", given)
+    tree.build()
+    tally.check(is_answer_of(tree.ask(*CHECK), "d1", "b2"), "it is in the next build")
+    (tree.tools / "refuses").touch()
+    tree.write("crates/base/src/lib.rt", "b3")
+    failed = tree.ask("--build")
+    tally.check(failed.status == 3 and "the build failed" in failed.err and "base NOT PROVED" in failed.err, "a build that fails", failed)
+    tally.check(tree.ask(*CHECK).out.startswith("interpreted"), "after it no older program answers")
+
+
+def take_over(tree, tally):
+    """What the merge gate makes in the tree itself: the folders `out` of all crates, and the program."""
+    time.sleep(0.05)
+    for name in ("base", "first_answer", "ddscheck"):
+        (tree.top / "crates" / name / "out").mkdir()
+    program = tree.top / "crates/ddscheck/out/ddscheck"
+    program.write_text("#!/bin/sh\necho made by the gate\n")
+    program.chmod(0o755)
+    given = tree.ask(*CHECK)
+    tally.check(given.out.startswith("interpreted"), "a program of the gate doesn't answer before --build", given)
+    tree.calls()
+    taken = tree.ask("--build")
+    tally.check((taken.status, tree.calls(), tree.ask(*CHECK).out) == (0, [], "made by the gate\n"), "--build takes it over", taken)
+    (tree.top / "crates/ddscheck/out/ddscheck.sources").unlink()
+    time.sleep(0.05)
+    tree.write("crates/base/src/lib.rt", "b2")
+    old = time.time() - 1000
+    os.utime(tree.top / "crates/base/src/lib.rt", (old, old))
+    taken = tree.ask("--build")
+    tally.check((taken.status, tree.calls()) == (0, ["ci"]), "not where a source was written since the gate began, whatever its time", taken)
+    tally.check(is_answer_of(tree.ask(*CHECK), "d1", "b2"), "then it is built")
+
+
+def say_what_needs_a_build(tree, tally):
+    for words in (("check", "-", "c.toml"), ("check", "d.toml", "-"), ("match", "/dev/stdin"), ("match", "/proc/self/fd/0"), ("run", "d.toml", "c.toml")):
+        given = tree.ask(*words)
+        tally.check(is_failure(given, NEEDS_BUILD), f"{' '.join(words)} without a build", given)
+    os.mkfifo(tree.top / "pipe")
+    tally.check(is_failure(tree.ask("match", "pipe"), "pipe", NEEDS_BUILD), "a pipe without a build")
+    tally.check(tree.calls() == [], "the toolchain isn't asked then")
+    (tree.tools / "fails").touch()
+    given = tree.ask(*CHECK)
+    tally.check(given.status == 3 and given.out == "" and given.err.endswith(f"ddscheck: the interpreter gave no answer, {NEEDS_BUILD}"), "an interpreter without an answer", given)
+    (tree.tools / "fails").unlink()
+    for status in (0, 1, 2, 3, 4):
+        (tree.tools / "status").write_text(str(status))
+        tally.check(tree.ask(*CHECK).status == status, f"the interpreter's status {status}")
+    (tree.tools / "rt").unlink()
+    for words in (CHECK, ("--build",)):
+        given = tree.ask(*words)
+        tally.check(is_failure(given, "rt is not on PATH"), f"{' '.join(words)} without the toolchain", given)
+
+
+def fail_by_devices(tree, tally):
+    """What fails of the system ends with the status 3, and never as an answer."""
+    nowhere = str(tree.top / "nowhere")
+    for words in (CHECK, ("--build",)):
+        given = tree.ask(*words, TMPDIR=nowhere)
+        tally.check(is_failure(given, nowhere), f"{' '.join(words)} with a missing TMPDIR", given)
+        closed = tree.ask_by_shell(f"\"$1\" {' '.join(words)} 2>&-")
+        tally.check((closed.status, closed.out) == (3, ""), f"{' '.join(words)} with a closed error output", closed)
+    full = tree.ask_by_shell('"$1" check d.toml c.toml >/dev/full')
+    tally.check(full.status == 3 and full.err.endswith("\nddscheck: 6 Write\n"), "a full output", full)
+    closed = tree.ask_by_shell('"$1" check d.toml c.toml >&-')
+    tally.check(closed.status == 3 and closed.err.endswith("\nddscheck: 6 Write\n"), "a closed output", closed)
+    told = tree.ask_by_shell('"$1" check d.toml c.toml 2>/dev/full')
+    tally.check((told.status, told.out) == (3, ""), "a full error output", told)
+    shutil.rmtree(tree.top / "crates/ddscheck/out", ignore_errors=True)
+    tree.write("crates/ddscheck/out", "a file where the folder belongs")
+    given = tree.ask("--build")
+    tally.check(is_failure(given, "can't be written"), "a tree in which nothing can be written", given)
+    tally.check(tree.ask(*CHECK).status == 0, "the interpreter answers there")
+
+
+def write_nothing(tree, tally):
+    """A tree that is read-only. Who may write everywhere can't try it."""
+    if os.geteuid() == 0:
+        tally.skip("a read-only tree, and a TMPDIR without permission, are nothing to root")
+        return
+    (tree.top / "crates/ddscheck").chmod(0o555)
+    given = tree.ask("--build")
+    (tree.top / "crates/ddscheck").chmod(0o755)
+    tally.check(is_failure(given, "can't be written"), "a read-only tree", given)
+    tree.temporary.chmod(0o555)
+    given = tree.ask(*CHECK)
+    tree.temporary.chmod(0o755)
+    tally.check(is_failure(given, str(tree.temporary)), "a TMPDIR without permission", given)
+
+
+def follow_links(tree, tally):
+    tree.build()
+    folder = tree.top.parent / "links"
+    folder.mkdir()
+    (folder / "first").symlink_to(tree.script)
+    (folder / "second").symlink_to("first")
+    for link in ("first", "second"):
+        tally.check(is_answer_of(tree.ask(*CHECK, script=folder / link, cwd=folder), "d1", "b1"), f"by the {link} of two links")
+    given = tree.ask_by_shell(f"PATH=\"{folder}:$PATH\"; cd / && first check d.toml c.toml")
+    tally.check(is_answer_of(given, "d1", "b1"), "by a link on PATH", given)
+    given = tree.ask_by_shell("sh ddscheck check d.toml c.toml")
+    tally.check(is_answer_of(given, "d1", "b1"), "by a name without a folder", given)
+
+
+def lack_tools(tree, tally):
+    """Where a tool is missing that finds out whether the program is current, no stale one answers."""
+    tree.build()
+    tree.write("crates/base/src/lib.rt", "b2")
+    for tool in ("awk", "find", "sort", "xargs", "sha256sum"):
+        (tree.tools / tool).rename(tree.tools / "away")
+        given = tree.ask(*CHECK)
+        tally.check(is_failure(given, "whether the program is current is not known"), f"without {tool}", given)
+        (tree.tools / "away").rename(tree.tools / tool)
+    given = tree.ask(*CHECK, PATH=str(tree.top))
+    tally.check(given.status not in (0, 1, 2, 4), "without any tool", given)
+    tally.check(tree.ask(*CHECK).out.startswith("interpreted"), "with all of them")
+    for tool in ("mktemp", "sed", "tail"):
+        (tree.tools / tool).rename(tree.tools / "away")
+        given = tree.ask(*CHECK)
+        tally.check(given.status == 3 and given.out == "", f"an interpreter without {tool}", given)
+        (tree.tools / "away").rename(tree.tools / tool)
+
+
+def is_gone(process):
+    """Whether a process has ended, or ends within a moment."""
+    for _ in range(50):
+        try:
+            if Path(f"/proc/{process}/stat").read_text().rpartition(")")[2].split()[0] == "Z":
+                return True
+        except OSError:
+            return True
+        time.sleep(0.1)
+    return False
+
+
+def end_by_signals(tree, tally):
+    """A signal ends the script by that signal, and `rt` with it, and leaves nothing behind."""
+    slow = tree.tools / "slow"
+    for words in (CHECK, ("--build",)):
+        for number in (signal.SIGINT, signal.SIGTERM, signal.SIGHUP):
+            slow.write_text("")
+            how = {"cwd": tree.top, "env": tree.environment(), "stdin": subprocess.DEVNULL, "stdout": subprocess.DEVNULL, "stderr": subprocess.DEVNULL}
+            # a background command of a shell ignores SIGINT, and hands that on
+            started = subprocess.Popen([str(tree.script), *words], preexec_fn=lambda: signal.signal(signal.SIGINT, signal.SIG_DFL), **how)
+            for _ in range(100):
+                if slow.read_text():
+                    break
+                time.sleep(0.1)
+            process = slow.read_text().strip()
+            time.sleep(0.2)
+            started.send_signal(number)
+            try:
+                status = started.wait(20)
+            except subprocess.TimeoutExpired:
+                started.kill()
+                status = None
+            left = [path.name for path in tree.temporary.iterdir()]
+            what = f"{' '.join(words)} and {number.name}"
+            tally.check(process and (status, left) == (-number, []) and is_gone(process), what, f"status {status}, left {left}, rt was {process or 'not started'}")
+    slow.unlink()
+
+
+def install(tree, tally):
+    given = tree.ask("--install")
+    tally.check(is_failure(given, NEEDS_BUILD), "nothing is installed before a build", given)
+    tree.build()
+    places = {
+        "bin/ddscheck": "crates/ddscheck/out/ddscheck",
+        "share/man/man1/ddscheck.1": "docs/man/ddscheck.1",
+        "share/bash-completion/completions/ddscheck": "docs/completions/ddscheck.bash",
+        "share/zsh/site-functions/_ddscheck": "docs/completions/ddscheck.zsh",
+        "share/fish/vendor_completions.d/ddscheck.fish": "docs/completions/ddscheck.fish",
+    }
+    for words, prefix in (((), tree.top.parent / "home/.local"), ((str(tree.top / "my prefix"),), tree.top / "my prefix")):
+        given = tree.ask("--install", *words)
+        tally.check(given.status == 0 and given.out == "".join(f"{prefix}/{name}\n" for name in places), f"--install {' '.join(words)}", given)
+        right = all((prefix / name).read_bytes() == (tree.top / of).read_bytes() for name, of in places.items())
+        tally.check(right and os.access(prefix / "bin/ddscheck", os.X_OK), "what is installed")
+        tally.check(is_answer_of(run([prefix / "bin/ddscheck", *CHECK], env=tree.environment()), "d1", "b1"), "the installed program answers")
+    (tree.top / "file").touch()
+    tally.check(is_failure(tree.ask("--install", str(tree.top / "file")), "can't be written"), "a prefix in which nothing can be written")
+    tally.check(is_failure(tree.ask("--install", HOME=""), "HOME"), "no prefix and no HOME")
+    for words in (("--install", "a", "b"), ("--build", "a")):
+        tally.check(tree.ask(*words).status == 4, f"{' '.join(words)} is a fault of usage")
+
+
+CASES = [
+    build_and_answer, follow_sources, edit_during_build, take_over, say_what_needs_a_build, fail_by_devices, write_nothing, follow_links, lack_tools,
+    end_by_signals, install,
+]
+
+
+def main():
+    tally = Tally()
+    for case in CASES:
+        with tempfile.TemporaryDirectory() as room:
+            try:
+                case(Tree(room), tally)
+            except (OSError, AssertionError) as error:
+                tally.check(False, case.__name__, f"{type(error).__name__}: {error}")
+    return tally.finish()
+
+
+if __name__ == "__main__":
+    sys.exit(main())
