@@ -1,41 +1,13 @@
 #!/bin/sh
 # Runs the built program with each of its allocations refused in turn. Each run has to answer as with ample memory, or to tell of want of memory:
-# nothing on standard output, 'ddscheck: 7 NoMemory' on standard error, status 3. The last line is 'N passed, M failed'; the status is 1 if one failed.
+# nothing on standard output, 'ddscheck: 7 NoMemory' on standard error, status 3. Words that allocate nothing fail. The last line is 'N passed, M failed'; the status is 1 if one failed.
 here=$(CDPATH='' cd -- "$(dirname -- "$0")/.." && pwd)
 program=$here/crates/ddscheck/out/ddscheck
-room=$(mktemp -d) || exit 1
-trap 'rm -rf "$room"' EXIT
-passed=0
-failed=0
-
-pass() { passed=$((passed + 1)); }
-
-fail() {
-    failed=$((failed + 1))
-    echo "failed: $*"
-}
-
-finish() {
-    echo "$passed passed, $failed failed"
-    [ "$failed" = 0 ]
-    exit
-}
-
-# The library that refuses, built with the first compiler that is there: the caller's, those on PATH, the toolchain's.
-build_library() {
-    toolchain=$(readlink -f "$(command -v rt)")
-    for compiler in "$CC" clang gcc cc "$(dirname "$toolchain")/../toolchain/bin/clang"; do
-        if [ -n "$compiler" ] && "$compiler" -shared -fPIC -O1 -fno-builtin -nostdlib -o "$room/refuse.so" "$here/tools/refuse.c" 2>>"$room/compilers"; then
-            return 0
-        fi
-    done
-    cat "$room/compilers"
-    return 1
-}
+. "$here/tools/refusing.sh"
 
 # Runs the program with ample memory into $room/want.*; the rest are its words.
 run_with_memory() {
-    "$program" "$@" >"$room/want.out" 2>"$room/want.err" </dev/null
+    (cd "$room" && timeout "$limit" "$program" "$@") >"$room/want.out" 2>"$room/want.err" </dev/null
     echo $? >"$room/want.status"
 }
 
@@ -47,34 +19,26 @@ is_want_of_memory() {
     [ ! -s "$room/got.out" ] && [ "$(cat "$room/got.err")" = 'ddscheck: 7 NoMemory' ] && [ "$(cat "$room/got.status")" = 3 ]
 }
 
-# Runs the program with its allocation number $1 refused; the rest are its words. Answers whether there was such an allocation.
-run_refused() {
-    number=$1
-    shift
-    rm -f "$room/seen"
-    REFUSE=$number REFUSE_SEEN=$room/seen LD_PRELOAD=$room/refuse.so "$program" "$@" >"$room/got.out" 2>"$room/got.err" </dev/null
-    echo $? >"$room/got.status"
-    [ -s "$room/seen" ]
-}
-
-# Refuses each allocation of the program with these words.
+# Refuses each allocation of the program with these words. There has to be one: else the library has no effect, and nothing is shown.
 sweep() {
     run_with_memory "$@"
-    number=1
-    while run_refused "$number" "$@"; do
+    count=0
+    while run_refused "$((count + 1))" "$program" "$@"; do
+        count=$((count + 1))
         if is_wanted || is_want_of_memory; then
             pass
         else
-            fail "$* with allocation $number refused: status $(cat "$room/got.status"), $(cat "$room/got.out" "$room/got.err")"
+            fail "$* with allocation $count refused: status $(cat "$room/got.status"), $(cat "$room/got.out" "$room/got.err")"
         fi
-        number=$((number + 1))
     done
-    if is_wanted; then
-        pass
+    if ! is_wanted; then
+        fail "$* with no allocation refused: status $(cat "$room/got.status"), $(cat "$room/got.out" "$room/got.err")"
+    elif [ "$count" = 0 ]; then
+        fail "$*: no allocation was refused"
     else
-        fail "$* with no allocation refused"
+        pass
     fi
-    echo "$*: $((number - 1)) allocations, each refused once"
+    echo "$*: $count allocations, each refused once"
 }
 
 if [ ! -x "$program" ]; then

@@ -2,58 +2,22 @@
 # Runs tests of cache, reader, writer, domain and book with each of their allocations refused in turn. Each makes a refused call once more, after it
 # saw that nothing changed, and has to pass as with ample memory. The last line is 'N passed, M failed'; the status is 1 if one failed.
 here=$(CDPATH='' cd -- "$(dirname -- "$0")/.." && pwd)
-room=$(mktemp -d) || exit 1
-trap 'rm -rf "$room"' EXIT
-passed=0
-failed=0
-
-pass() { passed=$((passed + 1)); }
-
-fail() {
-    failed=$((failed + 1))
-    echo "failed: $*"
-}
-
-finish() {
-    echo "$passed passed, $failed failed"
-    [ "$failed" = 0 ]
-    exit
-}
-
-# The library that refuses, built with the first compiler that is there: the caller's, those on PATH, the toolchain's.
-build_library() {
-    toolchain=$(readlink -f "$(command -v rt)")
-    for compiler in "$CC" clang gcc cc "$(dirname "$toolchain")/../toolchain/bin/clang"; do
-        if [ -n "$compiler" ] && "$compiler" -shared -fPIC -O1 -fno-builtin -nostdlib -o "$room/refuse.so" "$here/tools/refuse.c" 2>>"$room/compilers"; then
-            return 0
-        fi
-    done
-    cat "$room/compilers"
-    return 1
-}
+. "$here/tools/refusing.sh"
 
 # The built tests of a crate.
 tests_of() { echo "$here/crates/$1/out/$1_tests"; }
 
-# Runs the test $2 of the crate $1 with its allocation number $3 refused. Answers whether there was such an allocation.
-run_refused() {
-    rm -f "$room/seen"
-    REFUSE=$3 REFUSE_SEEN=$room/seen LD_PRELOAD=$room/refuse.so "$(tests_of "$1")" "$2" >"$room/got" 2>&1 </dev/null
-    echo $? >"$room/status"
-    [ -s "$room/seen" ]
-}
-
-has_passed() { [ "$(cat "$room/status")" = 0 ]; }
+has_passed() { [ "$(cat "$room/got.status")" = 0 ]; }
 
 # Refuses each allocation of the test $2 of the crate $1. A test that makes none shows nothing, and fails.
 sweep() {
-    number=1
-    while run_refused "$1" "$2" "$number"; do
-        if has_passed; then pass; else fail "$2 with allocation $number refused: $(cat "$room/got")"; fi
-        number=$((number + 1))
+    count=0
+    while run_refused "$((count + 1))" "$(tests_of "$1")" "$2"; do
+        count=$((count + 1))
+        if has_passed; then pass; else fail "$2 with allocation $count refused: $(cat "$room/got.out" "$room/got.err")"; fi
     done
-    if has_passed && [ "$number" -gt 1 ]; then pass; else fail "$2 with no allocation refused: $(cat "$room/got")"; fi
-    echo "$2: $((number - 1)) allocations, each refused once"
+    if has_passed && [ "$count" -gt 0 ]; then pass; else fail "$2 with no allocation refused: $(cat "$room/got.out" "$room/got.err")"; fi
+    echo "$2: $count allocations, each refused once"
 }
 
 # The gate leaves the built tests of a crate behind; they are built here where they are missing or older than a source.
