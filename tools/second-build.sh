@@ -17,6 +17,7 @@ fail() {
 sum_of() { sha256sum "$1" | cut -d ' ' -f 1; }
 
 libraries_are_current() {
+    [ -d "$here/crates/dds_tool/out/rlib/dds_tool.rlib" ] || return 1
     for library in "$here"/crates/*/out/rlib/*.rlib; do
         folder=${library%/out/rlib/*}
         newer=$(find "$folder/src" "$folder/specs" "$folder/proofs" -type f -newer "$library" -print 2>/dev/null | head -n 1)

@@ -10,12 +10,16 @@ isn't there or a source is newer. The last line is 'N passed, M failed'; the sta
 """
 import os
 import resource
-import subprocess
 import sys
 
-HERE = os.path.dirname(os.path.dirname(os.path.abspath(__file__)))
-CRATE = os.path.join(HERE, "crates", "bench_ping")
-PROGRAM = os.path.join(CRATE, "out", "bench_ping")
+sys.dont_write_bytecode = True
+from harness import ROOT, Tally, run  # noqa: E402
+
+CRATE = ROOT / "crates/bench_ping"
+PROGRAM = CRATE / "out/bench_ping"
+# an hour for a build that proves what is below it, ten minutes for the round trips
+BUILD_SECONDS = 3600
+SECONDS = 600
 SHORT = 1_000
 UNACKNOWLEDGED = 100_000
 MARGIN = 256
@@ -23,27 +27,24 @@ MOST = 1 << 20
 
 
 def newest_source():
-    paths = [os.path.join(HERE, "crates.txt")]
-    for crate in os.listdir(os.path.join(HERE, "crates")):
-        for folder, _, names in os.walk(os.path.join(HERE, "crates", crate, "src")):
-            paths += [os.path.join(folder, name) for name in names]
-    return max(os.path.getmtime(path) for path in paths)
+    paths = [ROOT / "crates.txt", *(ROOT / "crates").glob("*/src/**/*")]
+    return max(path.stat().st_mtime for path in paths)
 
 
 def build():
-    if os.path.exists(PROGRAM) and os.path.getmtime(PROGRAM) >= newest_source():
+    if PROGRAM.exists() and PROGRAM.stat().st_mtime >= newest_source():
         return
-    made = subprocess.run(["rt", "run", "--", "1", "1", "0", "0"], cwd=CRATE, capture_output=True, text=True)
-    if made.returncode != 0:
-        sys.exit(f"{CRATE} was not built:\n{made.stdout[-2000:]}{made.stderr[-2000:]}")
+    made = run(["rt", "run", "--", "1", "1", "0", "0"], cwd=CRATE, seconds=BUILD_SECONDS)
+    if made.status != 0:
+        print(f"{made.out[-2000:]}{made.err[-2000:]}\nfailed: {CRATE} wasn't built\n0 passed, 1 failed")
+        sys.exit(1)
     os.utime(PROGRAM)
 
 
 def answers(trips, every, room):
     """Whether the program makes so many round trips within so many KiB of address space, and keeps and stores nothing at the end."""
-    limit = lambda: resource.setrlimit(resource.RLIMIT_AS, (room << 10, room << 10))
-    done = subprocess.run([PROGRAM, str(trips), str(every), "0", "0"], stdin=subprocess.DEVNULL, capture_output=True, preexec_fn=limit)
-    return (done.stdout.decode(), done.returncode) == (f"{trips} round trips; kept 0 and 0, stored 0 and 0\n", 0)
+    done = run([PROGRAM, trips, every, 0, 0], limits=[(resource.RLIMIT_AS, room << 10)], seconds=SECONDS)
+    return (done.out, done.status) == (f"{trips} round trips; kept 0 and 0, stored 0 and 0\n", 0)
 
 
 def least_room(every):
@@ -55,25 +56,30 @@ def least_room(every):
     return high
 
 
-def is_steady(trips, every):
-    room = least_room(every) + MARGIN
-    right = answers(trips, every, room)
-    print(f"acknowledged after {every}: {room - MARGIN} KiB of address space are enough for {SHORT} round trips, and {MARGIN} more are {'' if right else 'not '}enough for {trips}")
-    return right
+def fault_of(trips, every):
+    """What is wrong with the memory of so many round trips, if anything is."""
+    room = least_room(every)
+    print(f"acknowledged after {every}: {room} KiB of address space are enough for {SHORT} round trips")
+    return None if answers(trips, every, room + MARGIN) else f"{MARGIN} KiB more aren't enough for {trips}"
 
 
-def grows():
-    """Whether a domain that has to keep 100,000 samples of each writer is seen to need more."""
-    room = least_room(1) + MARGIN
-    return answers(UNACKNOWLEDGED, 10 * UNACKNOWLEDGED, MOST) and not answers(UNACKNOWLEDGED, 10 * UNACKNOWLEDGED, room)
+def fault_of_growth():
+    """What is wrong with how a domain is seen to grow that has to keep 100,000 samples of each writer, if anything is."""
+    trips, every = UNACKNOWLEDGED, 10 * UNACKNOWLEDGED
+    if not answers(trips, every, MOST):
+        return f"{MOST} KiB aren't enough"
+    return "it needs no more memory" if answers(trips, every, least_room(1) + MARGIN) else None
 
 
 def main():
     trips = int(sys.argv[1]) if len(sys.argv) > 1 else 1_000_000
     build()
-    results = [grows()] + [is_steady(trips, every) for every in (1, 3)]
-    print(f"{sum(results)} passed, {len(results) - sum(results)} failed")
-    return 0 if all(results) else 1
+    tally = Tally()
+    tally.judge("a domain in which nothing is acknowledged", fault_of_growth)
+    for every in (1, 3):
+        tally.judge(f"{trips} round trips, acknowledged after {every}", fault_of, trips, every)
+    return tally.finish()
 
 
-sys.exit(main())
+if __name__ == "__main__":
+    sys.exit(main())

@@ -352,10 +352,7 @@ def main():
     tally = Tally()
     for case in CASES:
         with tempfile.TemporaryDirectory() as room:
-            try:
-                case(Tree(room), tally)
-            except (OSError, AssertionError) as error:
-                tally.check(False, case.__name__, f"{type(error).__name__}: {error}")
+            tally.attempt(case.__name__, lambda: case(Tree(room), tally))
     return tally.finish()
 
 

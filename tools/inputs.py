@@ -1,0 +1,88 @@
+"""Deployments and certificates of the greatest sizes that the formats allow, for tests of what cost, memory, stack and texts they come to.
+
+Each function gives the text of a file. The names are as short as can be where a file is to be filled.
+"""
+import sys
+from pathlib import Path
+
+sys.dont_write_bytecode = True
+sys.path.insert(0, str(Path(__file__).resolve().parent / "benchmark"))
+from largest import KEYS, LIMIT, Largest, inline, most, quoted, short_names  # noqa: E402
+from proposals import pairs, ring  # noqa: E402, F401
+
+HEAD = 'participants=[{name="p",domain=0}]'
+ENDPOINTS = 256
+PER_RULE = 16
+
+
+def largest_deployment():
+    """A deployment of version 1 that fills its file, with 256 writers, readers and rules."""
+    largest = Largest(ENDPOINTS)
+    limited = most(largest.half, lambda n: largest.certificate(n, False))
+    return largest.deployment(limited, most(largest.half, lambda n: largest.deployment(limited, n)))
+
+
+def largest_certificate():
+    """The certificate of the deployment above, which fills its file too: 64 rows, 24,576 weights, thousands of bounds."""
+    largest = Largest(ENDPOINTS)
+    return largest.certificate(most(largest.half, lambda n: largest.certificate(n, False)), False)
+
+
+def keyed_deployment(topics=ENDPOINTS, limit=None, version=2):
+    """So many topics of 64 keys, each with a writer and a reader, and four rules with `each` that write at 16 writers, once for each key."""
+    names = short_names(topics)
+    limits = "" if limit is None else f",max_samples_per_instance={limit}"
+    sections = {
+        "topics": [f'{{name="{t}",type="t",keys={quoted(KEYS)}}}' for t in names],
+        "writers": [f'{{name="{w}",participant="p",topic="{w}",history="KEEP_ALL"}}' for w in names],
+        "readers": [f'{{name="{r}",participant="p",topic="{r}",reliability="RELIABLE",history="KEEP_ALL"{limits}}}' for r in names],
+        "applications": [f'{{name="a",participant="p",writers={quoted(names)},readers={quoted(names)}}}'],
+        "rules": [rule(f"e{at}", names[at * PER_RULE : (at + 1) * PER_RULE], version) for at in range(rules_of(topics))],
+        "connections": [f'{{writer="{n}",reader="{n}"}}' for n in names],
+    }
+    lines = [f"version={version}", HEAD] + [f"{name}={inline(entries)}" for name, entries in sections.items()]
+    return "\n".join(lines) + "\n"
+
+
+def rules_of(topics):
+    """How many rules with `each` there are: four of them stand for the 256 that a deployment may have."""
+    return min(4, topics // PER_RULE)
+
+
+def rule(name, writers, version):
+    """A rule that writes at these writers: in version 2 one with `each`, in version 1 of the first key."""
+    each, key = (",each=true", "") if version > 1 else ("", f',key="{KEYS[0]}"')
+    writes = inline(f'{{writer="{w}"{key},count=1}}' for w in writers)
+    return f'{{name="{name}",application="a"{each},start=1,writes={writes}}}'
+
+
+def keyed_certificate(topics=ENDPOINTS):
+    """One row without keys and a bound without a key for each reader of the deployment above: 16,384 bounds, each of which the row shows."""
+    names = short_names(topics)
+    budget = rules_of(topics) * PER_RULE * len(KEYS)
+    of_readers = inline(f'{{reader="{n}",weight=1}}' for n in names)
+    permits = inline(f'{{writer="{n}",weight=1}}' for n in names)
+    bounds = (f'{{reader="{n}",row="r",bound={budget}}}' for n in names)
+    return "\n".join(["version=2", f'rows=[{{name="r",samples={of_readers},takes={of_readers},permits={permits}}}]', f"bounds={inline(bounds)}"]) + "\n"
+
+
+def limited_ring(stages, limited):
+    """A ring of `stages` stages, of which the first readers are limited."""
+    text = ring(stages)
+    for at in range(1, limited):
+        reader = f'name = "r{at}"\nparticipant = "p"\ntopic = "t{at}"\nreliability = "RELIABLE"\nhistory = "KEEP_ALL"\n'
+        text = text.replace(reader, reader + "max_samples_per_instance = 3\n", 1)
+    return text
+
+
+def crowded_pair(start):
+    """A writer with so many permits and a reader with room for one sample less: the shortest run that loses a sample has three events for each write."""
+    return f"""version = 1
+{HEAD}
+topics = [{{ name = "t", type = "n", keys = ["k"] }}]
+writers = [{{ name = "w", participant = "p", topic = "t", history = "KEEP_ALL" }}]
+readers = [{{ name = "r", participant = "p", topic = "t", reliability = "RELIABLE", history = "KEEP_ALL", max_samples_per_instance = {start - 1} }}]
+applications = [{{ name = "a", participant = "p", writers = ["w"], readers = ["r"] }}]
+rules = [{{ name = "u", application = "a", start = {start}, writes = [{{ writer = "w", key = "k", count = 1 }}] }}]
+connections = [{{ writer = "w", reader = "r" }}]
+"""

@@ -1,0 +1,174 @@
+#!/usr/bin/env python3
+"""Holds the built program to the stack that docs/HOSTILE.md says, and has it tell where memory runs out.
+
+  tools/resources.py            # every command
+  tools/resources.py NAME ..    # these commands
+
+The least stack, heap and address space with which a command answers as with ample ones are found by bisection, so that nothing here depends on the machine.
+
+- Stack: on every input, the largest legal ones among them, no command may need more than the table of docs/HOSTILE.md says.
+- Heap (the system's limit on data) and address space: below the least size a command has to answer `7 NoMemory`, or what it answers with ample memory, and `NoMemory` has to
+  be met. Of address space only sizes are tried in which the program starts and its stack has room, since the system ends a program by a signal whose stack can't grow.
+
+What was found is printed. The last line is 'N passed, M failed'; the status is 1 if one failed.
+"""
+import re
+import resource
+import sys
+import tempfile
+from pathlib import Path
+
+sys.dont_write_bytecode = True
+import inputs  # noqa: E402
+from harness import ROOT, Tally, ddscheck, need_program  # noqa: E402
+
+KIB = 1024
+# how near a least size is found, how many sizes below it are tried, and the most that is tried, in KiB
+STEP = {resource.RLIMIT_STACK: 32, resource.RLIMIT_DATA: 16, resource.RLIMIT_AS: 64}
+MOST = {resource.RLIMIT_STACK: 1 << 14, resource.RLIMIT_DATA: 1 << 20, resource.RLIMIT_AS: 1 << 22}
+PROBES = 16
+SECONDS = 300
+MEMORIES = {resource.RLIMIT_DATA: "heap", resource.RLIMIT_AS: "address space"}
+# words on the files that an input has
+COMMANDS = {
+    "check": "check d c", "check --explain": "check d c --explain", "match": "match d", "propose": "propose d", "propose --thorough": "propose d --thorough",
+    "migrate": "migrate d", "show": "show d", "show --format dds-xml": "show d --format dds-xml", "draw": "draw d c", "run": "run d c --writes 2 --takes 2",
+    "refute": "refute d", "replay": "replay d e",
+}
+STYLED = ("check", "match", "propose", "run", "refute", "replay")
+# the searches and reasons on the largest inputs take minutes
+NOT_ON_LARGEST = ("check --explain", "propose --thorough", "refute", "run")
+EVENTS = "write ping_w k\nsend ping_w ping_r 1\ndeliver 0\ntake ping_r k\nfire answer\nheartbeat ping_w ping_r\n"
+
+
+def example(name):
+    return [(ROOT / f"examples/{name}/{name}{end}").read_text() for end in (".toml", ".cert.toml")]
+
+
+def small_inputs():
+    """Inputs of a few kB: deployment, certificate and events of each name."""
+    ping, certificate = example("ping")
+    return {
+        "ping": (ping, certificate, EVENTS),
+        "ping with less room": (ping.replace("max_samples_per_instance = 3", "max_samples_per_instance = 2"), certificate, EVENTS),
+        "plant": (*example("plant"), "deliver 0\n"),
+        "robot": (*example("robot"), "deliver 0\n"),
+        "1,000 open brackets": ("version = 1\ntopics = " + "[" * 1000, certificate, EVENTS),
+        "60 brackets in one another": ("version = 1\ntopics = " + "[" * 60 + "]" * 60, certificate, EVENTS),
+        "60 tables in one another": ("version = 1\ntopics = " + "{a=" * 60 + "1" + "}" * 60, certificate, EVENTS),
+    }
+
+
+def large_inputs():
+    return {
+        "the largest deployment and certificate": (inputs.largest_deployment(), inputs.largest_certificate(), "deliver 0\n" * 100_000),
+        "256 topics of 64 keys": (inputs.keyed_deployment(), inputs.keyed_certificate(), "deliver 0\n"),
+        "a ring of 255 stages": (inputs.ring(255), "version = 1\n", "deliver 0\n"),
+    }
+
+
+def write(room, files):
+    for name, text in zip(("d", "c", "e"), files):
+        (room / name).write_text(text)
+
+
+def ask(room, words, kind=None, size=0):
+    """What comes of the words with so many KiB of a resource."""
+    limits = [(kind, size * KIB)] if kind is not None else []
+    return ddscheck(*words.split(), cwd=room, limits=limits, seconds=SECONDS)
+
+
+def answer(given):
+    return given.status, given.out, given.err
+
+
+def least(room, words, kind, wanted, low=0):
+    """The least size, in KiB, with which the words have this answer, to within a step; `None` where the most that is tried isn't enough."""
+    high = MOST[kind]
+    if answer(ask(room, words, kind, high)) != wanted:
+        return None
+    while high - low > STEP[kind]:
+        middle = (low + high) // 2
+        low, high = (low, middle) if answer(ask(room, words, kind, middle)) == wanted else (middle, high)
+    return high
+
+
+def owed_stacks():
+    """The stack of each command by docs/HOSTILE.md, in KiB."""
+    text = (ROOT / "docs/HOSTILE.md").read_text()
+    return {name: int(size.replace(",", "")) for name, size in re.findall(r"(?m)^\| `([^`]+)` \| ([\d,]+) KiB \|", text)}
+
+
+def commands_of(name):
+    """The words of a command, in each style."""
+    return [COMMANDS[name]] + [f"{COMMANDS[name]} --format json"] * (name.split()[0] in STYLED)
+
+
+def try_stack(tally, room, name, owed):
+    """Finds what stack a command needs on every input, and holds it to what is owed."""
+    found = 0
+    groups = [small_inputs()] + [large_inputs()] * (name not in NOT_ON_LARGEST)
+    for what, files in (pair for group in groups for pair in group.items()):
+        write(room, files)
+        for words in commands_of(name):
+            ample = ask(room, words)
+            if ample.status not in (0, 1, 2):
+                tally.check(False, f"{words} on {what}", str(ample))
+                continue
+            wanted = answer(ample)
+            if answer(ask(room, words, resource.RLIMIT_STACK, max(found, STEP[resource.RLIMIT_STACK]))) != wanted:
+                found = least(room, words, resource.RLIMIT_STACK, wanted, found) or MOST[resource.RLIMIT_STACK] + 1
+    tally.check(found <= owed, f"the stack of {name}", f"{found} KiB are needed, and docs/HOSTILE.md says {owed}")
+    print(f"{name}: {found} KiB of stack")
+
+
+def is_want_of_memory(name, given):
+    """Whether memory ran out, and that is what was told. An application of a run may be the one to meet it."""
+    if (given.status, given.out) == (3, "") and given.err in ("ddscheck: 7 NoMemory\n",) + ("ddscheck: 8 Run\n",) * (name == "run"):
+        return True
+    return name == "run" and given.status == 1 and " memory" in given.out and given.err == ""
+
+
+def try_memory(tally, room, name, kind, stack):
+    """Finds what memory a command needs, and goes below."""
+    words, what = COMMANDS[name], f"the {MEMORIES[kind]} of {name}"
+    starts = least(room, "--version", kind, answer(ask(room, "--version")))
+    if starts is None:
+        tally.skip(f"with {MOST[kind]:,} KiB of {MEMORIES[kind]} the program doesn't start, as one with sanitizers doesn't")
+        return
+    wanted = answer(ask(room, words))
+    needed = least(room, words, kind, wanted, starts)
+    if needed is None:
+        tally.check(False, what, f"{MOST[kind]:,} KiB aren't enough")
+        return
+    floor = starts + (stack if kind == resource.RLIMIT_AS else 0)
+    sizes = sorted({floor + (needed - floor) * at // PROBES for at in range(PROBES)}) if floor < needed else []
+    told = 0
+    for size in sizes:
+        given = ask(room, words, kind, size)
+        told += is_want_of_memory(name, given)
+        tally.check(answer(given) == wanted or is_want_of_memory(name, given), f"{what}, {size} KiB", str(given))
+    print(f"{name}: {needed} KiB of {MEMORIES[kind]}, {starts} to start; NoMemory at {told} of {len(sizes)} sizes below")
+    if kind == resource.RLIMIT_DATA:
+        tally.check(told > 0, what, "NoMemory was never met")
+
+
+def main(names):
+    need_program()
+    tally, owed = Tally(), owed_stacks()
+    if unknown := set(names) - set(COMMANDS):
+        sys.exit(f"no commands: {', '.join(sorted(unknown))}")
+    with tempfile.TemporaryDirectory() as name:
+        room = Path(name)
+        for command in names or COMMANDS:
+            if not tally.check(command in owed, f"docs/HOSTILE.md says the stack of {command}"):
+                continue
+            tally.attempt(f"the stack of {command}", try_stack, tally, room, command, owed[command])
+            write(room, small_inputs()["ping"])
+            for kind in MEMORIES:
+                tally.attempt(f"the memory of {command}", try_memory, tally, room, command, kind, owed[command])
+    return tally.finish()
+
+
+if __name__ == "__main__":
+    sys.exit(main(sys.argv[1:]))

@@ -1,0 +1,160 @@
+#!/usr/bin/env python3
+"""Has each text that a command prints read by the command that it is for.
+
+  tools/round-trips.py           # every deployment
+  tools/round-trips.py NAME ..   # those in whose name or path one of these stands
+
+On every deployment of the examples and of tools/search-cases, and on the largest inputs: `check` accepts what `propose` and `propose --thorough` print; what `migrate`
+prints stands for the same lists, by `show`; `replay` of what `refute` prints gives the same lines. Of a JSON document the certificate and the events are the same texts.
+What is printed passes its schema in docs/schemas, where Python's jsonschema is installed. A text that is above the 1,048,576 bytes of a file has to be refused as too
+large, and counts as skipped. The last line is 'N passed, M failed'; the status is 1 if one failed.
+"""
+import json
+import sys
+import tempfile
+import tomllib
+from pathlib import Path
+
+sys.dont_write_bytecode = True
+import inputs  # noqa: E402
+import schemas  # noqa: E402
+from harness import ROOT, Skipped, Tally, ddscheck, need_program, side_by_side  # noqa: E402
+
+LIMIT = 1 << 20
+# the searches on the largest inputs take longest
+SECONDS = 300
+VALIDATORS = schemas.validators()
+LARGEST = {
+    "the largest deployment": inputs.largest_deployment,
+    "256 topics of 64 keys": inputs.keyed_deployment,
+    "256 topics of 64 keys in version 1": lambda: inputs.keyed_deployment(version=1),
+    "16 topics of 64 limited keys": lambda: inputs.keyed_deployment(16, limit=16),
+    "a ring of 255 stages with a limited reader": lambda: inputs.ring(255),
+    "a ring of 255 stages with 64 limited readers": lambda: inputs.limited_ring(255, 64),
+    "64 pairs with 64 limited readers": lambda: inputs.pairs(64, False),
+    "a pair with 65,535 permits": lambda: inputs.crowded_pair(65535),
+}
+
+
+def ask(*words):
+    return ddscheck(*words, seconds=SECONDS)
+
+
+def passes(kind, text):
+    """Whether a printed text passes its schema."""
+    return not VALIDATORS or VALIDATORS[kind].is_valid(schemas.plain(tomllib.loads(text)))
+
+
+def above_limit(text, reader, *words):
+    """What to say of a text above a file's limit, which its reader has to refuse."""
+    answer = ask(*words)
+    if (answer.status, answer.out, answer.err) != (2, "", "ddscheck: 4 TooLarge\n"):
+        return f"{reader} of {len(text)} bytes: {answer}"
+    return Skipped(f"{reader} reads no text above {LIMIT:,} bytes, and some that are printed for it are longer")
+
+
+def propose(path, room, *options):
+    """`propose` and then `check`."""
+    words = ["propose", path, *options]
+    given, document = ask(*words), ask(*words, "--format", "json")
+    if given.status not in (0, 1) or document.status != given.status:
+        return f"{given}; {document}"
+    answer = json.loads(document.out)
+    if given.status == 1:
+        return None if given.out == "none\n" and answer == {"answer": "no"} else f"{given}; {document}"
+    if answer != {"answer": "yes", "certificate": given.out}:
+        return "the document has another certificate"
+    certificate = room / "certificate"
+    certificate.write_text(given.out)
+    if len(given.out) > LIMIT:
+        return above_limit(given.out, "check", "check", path, certificate)
+    checked = ask("check", path, certificate)
+    if checked.status != 0 or not checked.out.startswith("yes\n"):
+        return f"check: {checked}"
+    return None if passes("certificate", given.out) else "the certificate doesn't pass its schema"
+
+
+def propose_thoroughly(path, room):
+    return propose(path, room, "--thorough")
+
+
+def migrate(path, room):
+    """`migrate` and then `show`. A file of a later version has nothing to migrate."""
+    given, first = ask("migrate", path), ask("show", path)
+    if tomllib.loads(path.read_text())["version"] != 1:
+        return None if (given.status, given.err) == (2, "ddscheck: deployment 2 WrongVersion version\n") else str(given)
+    if given.status != 0:
+        return str(given)
+    migrated = room / "migrated"
+    migrated.write_text(given.out)
+    if len(given.out) > LIMIT:
+        return above_limit(given.out, "every command on a migrated file", "show", migrated)
+    if first.status != 0 or ask("show", migrated).out != first.out:
+        return "other lists"
+    return None if passes("deployment", given.out) else "the deployment doesn't pass its schema"
+
+
+def refute(path, room):
+    """`refute` and then `replay`."""
+    given = ask("refute", path)
+    if given.status not in (0, 1):
+        return str(given)
+    document = ask("refute", path, "--format", "json")
+    if document.status != given.status:
+        return str(document)
+    if not given.out.startswith("unsafe "):
+        return None
+    first, _, lines = given.out.partition("\n")
+    if json.loads(document.out)["events"] not in (lines, given.out):
+        return "the document has other events"
+    events = room / "events"
+    events.write_text(given.out)
+    if len(given.out) > LIMIT:
+        return above_limit(given.out, "replay", "replay", path, events)
+    again = ask("replay", path, events)
+    if (again.status, again.out) != (0, lines):
+        return f"replay: {again}"
+    last = lines.splitlines()[-1]
+    return None if int(first.split()[-1]) == lines.count("\n") and " -> " in last else "the count of the events"
+
+
+WAYS = [propose, propose_thoroughly, migrate, refute]
+
+
+def try_way(item):
+    """What comes of a way on a deployment: what it is called, and what is wrong, if anything is."""
+    name, path, way = item
+    tally = Tally()
+    with tempfile.TemporaryDirectory() as room:
+        tally.judge(f"{way.__name__} of {name}", way, path, Path(room))
+    return tally
+
+
+def deployments(room):
+    """The deployments and what they are called. The largest are written into this folder."""
+    for number, (name, text_of) in enumerate(LARGEST.items()):
+        path = room / f"{number}.toml"
+        path.write_text(text_of())
+        yield name, path
+    for folder in ("examples", "tools/search-cases"):
+        for path in sorted((ROOT / folder).rglob("*.toml")):
+            if not path.name.endswith(".cert.toml"):
+                yield str(path.relative_to(ROOT)), path
+
+
+def main(names):
+    need_program()
+    tally = Tally()
+    if not VALIDATORS:
+        tally.skip("Python's jsonschema isn't installed (Debian's python3-jsonschema)")
+    with tempfile.TemporaryDirectory() as room:
+        items = [(name, path, way) for name, path in deployments(Path(room)) for way in WAYS if not names or any(it in name for it in names)]
+        for one in side_by_side(try_way, items):
+            tally.passed, tally.failed = tally.passed + one.passed, tally.failed + one.failed
+            for reason, count in one.skipped.items():
+                tally.skip(reason, count)
+    return tally.finish()
+
+
+if __name__ == "__main__":
+    sys.exit(main(sys.argv[1:]))
