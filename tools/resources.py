@@ -71,6 +71,8 @@ def memory_input(name):
     """The files on which a command's memory is tried: some that need more than the least that an allocator takes at once."""
     if name in ("run", "replay"):
         return small_inputs()["ping"]
+    if name == "check --explain":
+        return small_inputs()["plant"]
     return inputs.keyed_deployment(32), inputs.keyed_certificate(32), ""
 
 
