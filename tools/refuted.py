@@ -3,8 +3,8 @@
 
   tools/refuted.py
 
-What is owed stands in the file `refuted` there, as a search in exact numbers found it: `certificate`, `unsafe`, or `no run` where neither a certificate nor a run that loses a
-sample exists. `refute` has to answer `safe`, `unsafe ..` and `unknown exhausted`, each within a second. A run has as many events as its first line says, ends with the loss that it names,
+What is owed stands in the file `refuted` there, as a search in exact numbers found it, and of the last six cases as it was worked out by hand: `certificate`, `unsafe`, or `no run`
+where neither a certificate nor a run that loses a sample exists. `refute` has to answer `safe`, `unsafe ..` and `unknown exhausted`, each within a second. A run has as many events as its first line says, ends with the loss that it names,
 loses nothing before, and `replay` of what was printed has to print the same lines. The last line is 'N passed, M failed'; the status is 1 if one failed.
 """
 import sys

@@ -1,4 +1,6 @@
 pub mod Claimed
+mod Asking
+mod GivenUp
 mod Witnessed
 mod Unaccepted
 mod Never

@@ -23,7 +23,7 @@ pub enum Missing {
     Structure(No),
     /// No weights were found that show a bound within this limit.
     Limit { target: Target, least: Least },
-    /// Each limit has weights, but they make no certificate: no 64 rows of those that were found show all limits.
+    /// Each limit has weights, but they make no certificate: no 64 rows were found that show all limits, neither among theirs nor among sums of these.
     Rows,
     /// What was found isn't accepted, for this reason.
     Refused(No),

@@ -16,6 +16,26 @@ pub(crate) struct Collected {
     pub(crate) entries: Vec<Entry>,
 }
 
+/// What is found of the bound of a key, as a part of a sum that is to stay within a limit.
+#[derive(Clone, Copy)]
+enum Part {
+    /// This bound, which is within what the sum has left.
+    Within(u32),
+    /// No weights show a bound within that.
+    Beyond,
+    /// The search gave up.
+    Unknown,
+}
+
+/// A bound as a part of a sum that has so much left.
+fn part_within(bound: Option<u32>, left: u32) -> Part {
+    match bound {
+        Some(bound) if bound <= left => Part::Within(bound),
+        Some(_) => Part::Beyond,
+        None => Part::Unknown,
+    }
+}
+
 /// A copy of a limit.
 fn copied(alloc: Global, limited: &Limited) -> Result<Limited, NoMemory> {
     Ok(Limited {
@@ -60,20 +80,20 @@ impl Collected {
         Some(entry.bound)
     }
 
-    /// Adds a bound within `left` of the key of a place as a part of a sum, and gives it; `None` where none is found.
+    /// Adds a bound within `left` of the key of a place as a part of a sum.
     fn add_part(
         &mut self,
         alloc: Global,
         climber: &mut Climber,
         place: usize,
         left: u32,
-    ) -> Result<Option<u32>, NoMemory> {
+    ) -> Result<Part, NoMemory> {
         let Some(known) = climber.net.places.get(place) else {
-            return Ok(None);
+            return Ok(Part::Unknown);
         };
         let (reader, key) = (known.reader, known.key);
         if let Some(entry) = find(&self.entries, reader, key) {
-            return Ok(self.fixed(entry).filter(|bound| *bound <= left));
+            return Ok(part_within(self.fixed(entry), left));
         }
         let places = vec![in alloc; place]?;
         match climber.attempt(alloc, &places, left)? {
@@ -85,27 +105,28 @@ impl Collected {
                     limit: bound,
                 };
                 self.add(limited, row, bound)?;
-                Ok(Some(bound))
+                Ok(Part::Within(bound))
             }
-            _ => Ok(None),
+            Attempt::Unknown => Ok(Part::Unknown),
+            _ => Ok(Part::Beyond),
         }
     }
 
-    /// Bounds of the keys of a reader whose sum is within its limit. Tells whether they were found.
+    /// Bounds of the keys of a reader whose sum is within its limit, which then is the last part. Else the first part that isn't.
     fn add_parts(
         &mut self,
         alloc: Global,
         climber: &mut Climber,
         limited: &Limited,
-    ) -> Result<bool, NoMemory> {
+    ) -> Result<Part, NoMemory> {
         let mut left = limited.limit;
         for place in &limited.places {
             match self.add_part(alloc, climber, *place, left)? {
-                Some(bound) => left = left.saturating_sub(bound),
-                None => return Ok(false),
+                Part::Within(bound) => left = left.saturating_sub(bound),
+                part => return Ok(part),
             }
         }
-        Ok(true)
+        Ok(Part::Within(limited.limit.saturating_sub(left)))
     }
 
     /// Adds a row for a limit with the bound that it shows, or for the samples of a reader a bound for each of its keys. `None` where that
@@ -126,9 +147,10 @@ impl Collected {
         if let Target::Instance { .. } = limited.target {
             return Ok(Some(attempt));
         }
-        if self.add_parts(alloc, climber, limited)? {
-            return Ok(None);
+        match self.add_parts(alloc, climber, limited)? {
+            Part::Within(_) => Ok(None),
+            Part::Beyond => Ok(Some(attempt)),
+            Part::Unknown => Ok(Some(Attempt::Unknown)),
         }
-        Ok(Some(attempt))
     }
 }

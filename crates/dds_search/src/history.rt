@@ -69,6 +69,28 @@ impl History {
         }
     }
 
+    /// Whether a number of a writer came to a reader.
+    pub(crate) fn has_come(&self, writer: WriterNo, reader: ReaderNo) -> bool {
+        match self.came(writer, reader) {
+            Some(came) => came > 0,
+            None => false,
+        }
+    }
+
+    /// How many samples of the keys were written that have not come to a reader.
+    pub(crate) fn under_way(&self, writer: WriterNo, reader: ReaderNo, keys: &[KeyNo]) -> usize {
+        let Some(rest) = self.rest(writer, reader) else {
+            return 0;
+        };
+        rest.iter().filter(|key| keys.contains(key)).count()
+    }
+
+    /// The keys of the samples that have not come to a reader, in the order of their numbers.
+    fn rest(&self, writer: WriterNo, reader: ReaderNo) -> Option<&[KeyNo]> {
+        let came = usize::try_from(self.came(writer, reader)?).ok()?;
+        self.written.get(writer.number())?.get(came..)
+    }
+
     /// How many numbers come before the first sample of one of the keys that has not come to a reader, if there is such a sample.
     pub(crate) fn before(
         &self,
@@ -76,8 +98,7 @@ impl History {
         reader: ReaderNo,
         keys: &[KeyNo],
     ) -> Option<usize> {
-        let came = usize::try_from(self.came(writer, reader)?).ok()?;
-        let rest = self.written.get(writer.number())?.get(came..)?;
+        let rest = self.rest(writer, reader)?;
         rest.iter().position(|key| keys.contains(key))
     }
 }

@@ -1,9 +1,11 @@
-//! The rows that were found: equal ones are one, and where there are too many, some that show each limit.
+//! The rows that were found: equal ones are one, and where there are too many, some that show each limit, or sums of these.
 ghost use Rattle.std.specs.Prelude.{◌≡◌, Some, IfOk};
 ghost use Rattle.dds_search.specs.Rows.{weights_at};
 
 use crate::limits::Limited;
 use crate::lists::push;
+use crate::net::Net;
+use crate::summing::summed;
 use crate::weights::WeighedRow;
 use dds_base::NoMemory;
 use std::alloc::Global;
@@ -104,7 +106,7 @@ fn close(open: &mut Vec<bool>, served: &[bool]) {
     }
 }
 
-/// At most 64 of the rows, by their places, that serve each entry: the one that serves the most open entries, time and again.
+/// Some of the rows, by their places, that serve each entry: the one that serves the most open entries, time and again. `None` where some entry isn't served.
 fn chosen(
     alloc: Global,
     table: &[Vec<bool>],
@@ -112,7 +114,7 @@ fn chosen(
 ) -> Result<Option<Vec<usize>>, NoMemory> {
     let mut open = vec![in alloc; true; entries]?;
     let mut chosen = Vec::new(alloc);
-    for _ in 0..ROWS {
+    for _ in 0..table.len() {
         let Some(row) = best(table, &open) else {
             break;
         };
@@ -155,18 +157,35 @@ fn choose_again(entries: &mut Vec<Entry>, rows: &[WeighedRow], chosen: &[usize])
     }
 }
 
-/// The rows of a certificate, by their places: all of them, and where they are more than 64 a choice that serves each entry. The entries
-/// name them by their places in it. `None` where no such choice is found.
+/// At most 64 rows, by their places, that serve each entry: some of them, or sums of some, which are added at the end. `None` where no such ones are found.
+fn few(
+    alloc: Global,
+    net: &Net,
+    rows: &mut Vec<WeighedRow>,
+    entries: &[Entry],
+) -> Result<Option<Vec<usize>>, NoMemory> {
+    let table = served(alloc, rows, entries)?;
+    let Some(chosen) = chosen(alloc, &table, entries.len())? else {
+        return Ok(None);
+    };
+    if chosen.len() <= ROWS {
+        return Ok(Some(chosen));
+    }
+    summed(alloc, net, rows, &chosen, &table, entries)
+}
+
+/// The rows of a certificate, by their places: all of them, and where they are more than 64 some that serve each entry, or sums of some, which are added to the
+/// rows. The entries name them by their places in it. `None` where no 64 such rows are found.
 pub(crate) fn cover(
     alloc: Global,
-    rows: &[WeighedRow],
+    net: &Net,
+    rows: &mut Vec<WeighedRow>,
     entries: &mut Vec<Entry>,
 ) -> Result<Option<Vec<usize>>, NoMemory> {
     if rows.len() <= ROWS {
         return Ok(Some(every_place(alloc, rows.len())?));
     }
-    let table = served(alloc, rows, entries)?;
-    let Some(chosen) = chosen(alloc, &table, entries.len())? else {
+    let Some(chosen) = few(alloc, net, rows, entries)? else {
         return Ok(None);
     };
     choose_again(entries, rows, &chosen);

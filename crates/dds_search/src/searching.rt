@@ -134,7 +134,7 @@ fn concluded(
     ensures structure { IfOk result (λ f. IfStructure f (λ no. ⊥)) }
     ensures least { IfOk result (λ f. IfLimit f (λ target least. ⊥)) }
 {
-    let Some(chosen) = cover(alloc, &collected.rows, &mut collected.entries)? else {
+    let Some(chosen) = cover(alloc, net, &mut collected.rows, &mut collected.entries)? else {
         return Ok(Found::Missing(Missing::Rows));
     };
     let certificate = certificate_of(alloc, net, &collected.rows, &chosen, &collected.entries)?;

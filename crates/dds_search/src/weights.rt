@@ -140,6 +140,43 @@ impl WeighedRow {
         u32::try_from(quotient).ok()
     }
 
+    /// The bound that the sum with another row shows for the places together.
+    pub(crate) fn bound_with(&self, other: &WeighedRow, places: &[usize]) -> Option<u32> {
+        let budget = self.budget.checked_add(other.budget)?;
+        let mut least = u64::MAX;
+        for place in places {
+            let weight = u64::from(self.weight(*place)) + u64::from(other.weight(*place));
+            least = least.min(weight);
+        }
+        let quotient = budget.checked_div(u128::from(least))?;
+        u32::try_from(quotient).ok()
+    }
+
+    /// The sum with another row of the same net, `None` where a weight or a permit would be above 4,294,967,295.
+    pub(crate) fn plus(
+        &self,
+        alloc: Global,
+        net: &Net,
+        other: &WeighedRow,
+    ) -> Result<Option<WeighedRow>, NoMemory> {
+        let mut weights = Vec::new(alloc);
+        for (one, more) in self.weights.iter().zip(&other.weights) {
+            let Some(weight) = one.checked_add(*more) else {
+                return Ok(None);
+            };
+            weights.push(weight)?;
+        }
+        Ok(WeighedRow::of(net, weights))
+    }
+
+    /// A copy.
+    pub(crate) fn copied(&self, alloc: Global) -> Result<WeighedRow, NoMemory> {
+        Ok(WeighedRow {
+            weights: self.weights.to_vec(alloc)?,
+            budget: self.budget,
+        })
+    }
+
     /// Whether two rows weigh each place the same.
     pub(crate) fn is_same(&self, other: &WeighedRow) -> bool
         ensures { result ≡ true → self.now.weights.items ≡ other.now.weights.items }

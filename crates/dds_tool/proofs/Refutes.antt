@@ -1,5 +1,5 @@
 -- What a refutation gives.
-use Rattle.std.proofs.Common.{false, Bool, ◌≡◌, ◌≢◌, Some, None, Ok, Result, IfErr, IfOk, IsOk, OnOk, String, refl, string_bytes, subst}
+use Rattle.std.proofs.Common.{false, true, Bool, ◌≡◌, ◌≢◌, Some, None, Ok, Result, IfErr, IfOk, IsOk, OnOk, String, refl, string_bytes, subst}
 use Rattle.std.specs.declared.alloc.Global.{Global}
 use Rattle.dds_deploy.specs.Lists.{Lists}
 use Rattle.dds_answers.specs.declared.answer.Answer.{Answer}
@@ -8,6 +8,7 @@ use Rattle.dds_answers.specs.declared.fault.ToolFault.TheVariants as fault
 use Rattle.dds_answers.specs.Answers.{Gives, GivesOneOf}
 use Rattle.dds_answers.specs.Outcome.{said}
 use Rattle.dds_answers.proofs.FileEnds.{one_of}
+use Rattle.dds_cert.specs.Fits.{fits}
 use Rattle.dds_cert.specs.Lists.{Certificate}
 use Rattle.dds_cert.specs.Views.{certificate_view}
 use Rattle.dds_match.specs.Plan.{network_of}
@@ -27,22 +28,22 @@ use Rattle.dds_json.proofs.Ends.{line_gives}
 
 -- what is promised of a refutation is what is known
 known_is : (lists : Lists) (known : Refutation) → IfUnsafe known (IsCounterexample (network_of lists)) → IfUnsafe known (λ c. (cert : Certificate) → first_no lists cert ≢ None)
-    → IfSafe known (λ c. Safe (network_of lists) (certificate_of (certificate_view c))) → IfSafe known (λ c. first_no lists (certificate_view c) ≡ None)
-    → IfStructure known (λ cause. structure_no lists ≡ Some cause) → IsKnown lists known
-known_is lists (refutation.Safe c) run unaccepted safe accepted structure = (accepted, safe)
-known_is lists (refutation.Structure cause) run unaccepted safe accepted structure = structure
-known_is lists (refutation.Unsafe c) run unaccepted safe accepted structure = (run, unaccepted)
-known_is lists (refutation.Unknown why) run unaccepted safe accepted structure = tt
+    → IfSafe known (λ c. fits (network_of lists) (certificate_view c) ≡ true) → IfSafe known (λ c. Safe (network_of lists) (certificate_of (certificate_view c)))
+    → IfSafe known (λ c. first_no lists (certificate_view c) ≡ None) → IfStructure known (λ cause. structure_no lists ≡ Some cause) → IsKnown lists known
+known_is lists (refutation.Safe c) run unaccepted fit safe accepted structure = (fit, accepted, safe)
+known_is lists (refutation.Structure cause) run unaccepted fit safe accepted structure = structure
+known_is lists (refutation.Unsafe c) run unaccepted fit safe accepted structure = (run, unaccepted)
+known_is lists (refutation.Unknown why) run unaccepted fit safe accepted structure = tt
 
 -- so is it of a plan that was given back
 pub refuted_gives : {E : Type 0} (style : Style) (lists plan : Lists) (known : Refutation) (text : Result (String Global) E) (r : Result Answer ToolFault) (b : Bool) → plan ≡ lists
     → IfUnsafe known (IsCounterexample (network_of lists)) → IfUnsafe known (λ c. (cert : Certificate) → first_no lists cert ≢ None)
-    → IfSafe known (λ c. Safe (network_of lists) (certificate_of (certificate_view c))) → IfSafe known (λ c. first_no lists (certificate_view c) ≡ None)
-    → IfStructure known (λ cause. structure_no lists ≡ Some cause) → b ≡ is_safe known
+    → IfSafe known (λ c. fits (network_of lists) (certificate_view c) ≡ true) → IfSafe known (λ c. Safe (network_of lists) (certificate_of (certificate_view c)))
+    → IfSafe known (λ c. first_no lists (certificate_view c) ≡ None) → IfStructure known (λ cause. structure_no lists ≡ Some cause) → b ≡ is_safe known
     → IfOk r (λ a. (a.is_yes ≡ b) × IfOk text (λ t. a.text ≡ t)) → OnOk r (IsOk text) → IfErr r (λ e. e ≡ fault.NoMemory) → IfOk text (λ t. string_bytes t ≡ told_known style plan known)
     → GivesOneOf (MayRefute style (Ok lists)) r
-refuted_gives style lists plan known text r b still run unaccepted safe accepted structure same has there memory is =
-    one_of (MayRefute style (Ok lists)) (said (told_known style lists known) (is_safe known)) r (known, known_is lists known run unaccepted safe accepted structure, refl)
+refuted_gives style lists plan known text r b still run unaccepted fit safe accepted structure same has there memory is =
+    one_of (MayRefute style (Ok lists)) (said (told_known style lists known) (is_safe known)) r (known, known_is lists known run unaccepted fit safe accepted structure, refl)
     (subst (λ (l : Lists). Gives r (said (told_known style l known) (is_safe known))) still (line_gives text r (told_known style plan known) (is_safe known) b same has there memory is))
 
 -- the document for what is known has no fraction

@@ -5,6 +5,7 @@ use Rattle.dds_fields.specs.Reading.{Read}
 use Rattle.dds_deploy.specs.Lists.{Lists}
 use Rattle.dds_deploy_file.specs.Document as deployment
 use Rattle.dds_match.specs.Plan.{network_of}
+use Rattle.dds_cert.specs.Fits.{fits}
 use Rattle.dds_cert.specs.Lists.{Certificate}
 use Rattle.dds_cert.specs.Naming.{name_at, reader_key}
 use Rattle.dds_cert.specs.Views.{certificate_view}
@@ -32,10 +33,11 @@ use Rattle.dds_json.specs.declared.style.Style.{Style}
 use Rattle.dds_json.specs.declared.style.Style.TheVariants.{Text, Json}
 
 -- ── a run that loses a sample
--- the word for a loss: the limit that rejects, or that a sample is overwritten
+-- the word for a loss: the limit that rejects, or that a sample is overwritten or given up
 abbrev pub loss_name : Loss → List ℕ
 loss_name (lost.Rejected kind) = rejection_name kind
 loss_name lost.Overwrote = codes "Overwrote"
+loss_name lost.Lost = codes "Lost"
 
 -- the line of a counterexample: the reader, the key, the loss, and how many events there are
 abbrev pub unsafe_line : Lists → Counterexample → List ℕ
@@ -79,10 +81,11 @@ abbrev pub is_safe : Refutation → Bool
 is_safe (refutation.Safe c) = true
 is_safe _ = false
 
--- what is known is so: a certificate is accepted, and the deployment is safe; a condition fails whatever the certificate; a run loses a sample, and no
+-- what is known is so: a certificate fits and is accepted, and the deployment is safe; a condition fails whatever the certificate; a run loses a sample, and no
 -- certificate is accepted
 abbrev pub IsKnown : Lists → Refutation → Type 0
-IsKnown lists (refutation.Safe c) = (first_no lists (certificate_view c) ≡ None) × Safe (network_of lists) (certificate_of (certificate_view c))
+IsKnown lists (refutation.Safe c) =
+    (fits (network_of lists) (certificate_view c) ≡ true) × (first_no lists (certificate_view c) ≡ None) × Safe (network_of lists) (certificate_of (certificate_view c))
 IsKnown lists (refutation.Structure cause) = structure_no lists ≡ Some cause
 IsKnown lists (refutation.Unsafe c) = IsCounterexample (network_of lists) c × ((cert : Certificate) → first_no lists cert ≢ None)
 IsKnown lists (refutation.Unknown why) = Unit {0}

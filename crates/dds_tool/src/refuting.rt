@@ -23,6 +23,7 @@ pub(crate) fn loss_name(loss: Loss) -> &'static str
     match loss {
         Loss::Rejected(kind) => rejection_name(kind),
         Loss::Overwrote => "Overwrote",
+        Loss::Lost => "Lost",
     }
 }
 

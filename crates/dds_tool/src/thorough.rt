@@ -163,7 +163,7 @@ fn missing_text(alloc: Global, plan: &Plan, missing: Missing) -> Result<String, 
         }
         Missing::Rows => String::from_str(
             alloc,
-            "ddscheck: each limit has weights that show it, but more than 64 rows of them are needed\n",
+            "ddscheck: each limit has weights that show it, but no 64 rows were found that show all of them\n",
         ),
         Missing::Refused(no) => {
             let line = structure_text(alloc, plan.lists(), no)?;

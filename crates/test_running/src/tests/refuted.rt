@@ -2,9 +2,10 @@
 
 use crate::tests::comparing::expect_step;
 use crate::tests::plans::{NO_MEMORY, plan_of, world_of};
-use crate::tests::texts::CLOCK;
+use crate::tests::texts::{CLOCK, FIELD};
+use dds_base::{Arrival, Event, KeyNo, ReaderNo, Reply, WriterNo};
 use dds_match::Plan;
-use dds_search::{Counterexample, Refutation, refute};
+use dds_search::{Counterexample, Loss, Refutation, refute};
 use std::alloc::Global;
 use std::process::Abort;
 use test_files::drawn::deployment;
@@ -67,6 +68,51 @@ fn free_writes_are_more_than_a_reader_takes(rt: HostRuntime) {
     );
     let text = text.expect(&rt, NO_MEMORY);
     assert!(rt; expect_refuted(&rt, alloc, text.as_str()));
+}
+
+/// What a run gives up at its end: the reader, the key and how many numbers.
+fn given_up(run: &Counterexample) -> Option<(ReaderNo, KeyNo, u64)> {
+    match (run.loss, run.replies.last()) {
+        (Loss::Lost, Some(Reply::Arrived(Arrival::Lost(count)))) => {
+            Some((run.reader, run.key, *count))
+        }
+        _ => None,
+    }
+}
+
+/// Three samples may be under way from a writer that keeps two. The reader that may lose none gives the first one up, in three writes, a HEARTBEAT and its
+/// arrival; the viewer beside it, which may lose samples, isn't named, nor is what publishes by a clock for a best-effort reader.
+#[test]
+fn a_sample_that_a_writer_drops_is_given_up(rt: HostRuntime) {
+    let alloc = rt.alloc();
+    let text = FIELD.replace(
+        alloc,
+        "topic = \"t\", depth = 3",
+        "topic = \"t\", depth = 2",
+    );
+    let text = text.expect(&rt, NO_MEMORY);
+    let Ok((refutation, plan)) = refute(alloc, plan_of(&rt, alloc, text.as_str())) else {
+        panic!(&rt; "no memory for the search");
+    };
+    let Refutation::Unsafe(run) = &refutation else {
+        panic!(&rt; "no run is found");
+    };
+    expect_same_run(&rt, alloc, &plan, run);
+    assert!(rt; given_up(run) == Some((ReaderNo::new(0), KeyNo::new(0), 1)));
+    assert!(rt; run.events.len() == 5);
+    let heartbeat = Event::SendHeartbeat {
+        writer: WriterNo::new(0),
+        reader: ReaderNo::new(0),
+    };
+    assert!(rt; run.events.get(3) == Some(&heartbeat));
+    drop(refutation);
+    drop(plan);
+}
+
+/// As many as the writer keeps may be under way: no run loses one.
+#[test]
+fn a_writer_that_keeps_what_is_under_way_loses_nothing(rt: HostRuntime) {
+    assert!(rt; !expect_refuted(&rt, rt.alloc(), FIELD));
 }
 
 /// Of the drawn deployments some lose a sample.
