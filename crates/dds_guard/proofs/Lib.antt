@@ -1,0 +1,4 @@
+pub mod Growing
+pub mod Opened
+pub mod Serving
+pub mod Soundness

@@ -1,0 +1,3 @@
+pub mod Guard
+pub mod Refusals
+pub mod Opening

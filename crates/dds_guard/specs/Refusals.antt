@@ -1,0 +1,110 @@
+-- What a guard answers, and why it refuses.
+use Rattle.std.specs.Prelude.{◌≡◌, ℕ, ◌^◌, ◌-◌, ◌<◌, ◌≤◌, Bool, not, ◌&&◌, if◌then◌else◌, nat_lt, List, Option, Some, None, option_map, Result, Ok, Err, position}
+use Rattle.std.specs.List.{list_any}
+use Rattle.dds_deploy.specs.Lists.{has}
+use Rattle.dds_match.specs.Network.{is_named, named}
+use Rattle.dds_rules.specs.Counts.{IsMoreBy, count_at, only_at}
+use Rattle.dds_rules.specs.Exchange.{lacks_takes, lacks_room}
+use Rattle.dds_rules.specs.Ledger.{LedgerState, KeepsPlan, exchange_at, fire_refusal}
+use Rattle.dds_rules.specs.declared.refused.FireRefused.{FireRefused}
+use Rattle.dds_rules.specs.declared.refused.FireRefused.TheVariants as ledger
+use Rattle.dds_guard.specs.declared.refused.FiringRefused.{FiringRefused}
+use Rattle.dds_guard.specs.declared.refused.FiringRefused.TheVariants as firing
+use Rattle.dds_guard.specs.declared.refused.TakeRefused.{TakeRefused}
+use Rattle.dds_guard.specs.declared.refused.TakeRefused.TheVariants as taking
+use Rattle.dds_guard.specs.declared.refused.WriteRefused.{WriteRefused}
+use Rattle.dds_guard.specs.declared.refused.WriteRefused.TheVariants as writing
+use Rattle.dds_guard.specs.declared.writing.Way.{Way}
+use Rattle.dds_guard.specs.declared.writing.Way.TheVariants.{Free, Permit, Rule}
+use Rattle.dds_guard.specs.Guard.{GuardState, RuleState, rule_at, takes_key, with_ledger}
+
+-- ── takes
+-- why a take isn't counted, the first reason
+abbrev pub take_refusal : GuardState → ℕ → ℕ → Option TakeRefused
+take_refusal g r k =
+    if not (takes_key g r k && nat_lt k 64) then Some taking.Foreign else
+    (if nat_lt (count_at g.ledger.spare r k) (2 ^ 64 - 1) then None else Some taking.CountLimit)
+
+-- ── firings
+abbrev pub firing_refused : FireRefused → FiringRefused
+firing_refused ledger.NotEnough = firing.NotEnough
+firing_refused ledger.CountLimit = firing.CountLimit
+
+-- why a rule isn't fired, the first reason
+abbrev pub firing_refusal : GuardState → ℕ → Option FiringRefused
+firing_refusal g u = if (rule_at g.rules u).own then option_map firing_refused (fire_refusal g.ledger u) else Some firing.Foreign
+
+-- ── writes
+-- some free rule names the writer and the key
+abbrev pub is_free : List RuleState → ℕ → ℕ → Bool
+is_free us w k = list_any (λ (u : RuleState). u.free && is_named u.writes w k) us
+
+-- the rule lacks neither takes nor room
+abbrev pub can_fire : LedgerState → RuleState → Bool
+can_fire l u = not (lacks_takes (count_at l.spare) u.takes) && not (lacks_room (count_at l.permits) u.writes)
+
+-- the rule is the application's, gives a permit for the key at the writer, and can be fired
+abbrev pub serves : LedgerState → ℕ → ℕ → RuleState → Bool
+serves l w k u = u.own && (is_named u.writes w k && can_fire l u)
+
+-- the first such rule
+abbrev pub serving : GuardState → ℕ → ℕ → Option ℕ
+serving g w k = position (serves g.ledger w k) g.rules
+
+-- the rule can be fired, and then gives a permit for the key at the writer
+pub record IsServing (g : GuardState) (w k u : ℕ) : Type 0 where
+  pub fires : fire_refusal g.ledger u ≡ None
+  pub gives : 1 ≤ named (exchange_at g.ledger u).writes w k
+
+abbrev pub way_by : Option ℕ → Result Way WriteRefused
+way_by None = Err writing.NoPermit
+way_by (Some u) = Ok (Rule u)
+
+-- how a sample may be written, or why not: freely, with a permit that is there, or with one that a rule gives
+abbrev pub way_of : GuardState → ℕ → ℕ → Result Way WriteRefused
+way_of g w k =
+    if not (has g.writers w) then Err writing.Foreign else
+    (if is_free g.rules w k then Ok Free else
+    (if nat_lt 0 (count_at g.ledger.permits w k) then Ok Permit else way_by (serving g w k)))
+
+-- what a way of writing rests on
+abbrev pub IsReady : GuardState → ℕ → ℕ → Way → Type 0
+IsReady g w k Free = Unit {0}
+IsReady g w k Permit = 0 < count_at g.ledger.permits w k
+IsReady g w k (Rule u) = IsServing g w k u
+
+-- ── what calls change
+-- one take more at the reader and key
+pub record IsTaken (r k : ℕ) (old new : GuardState) : Type 0 where
+  pub spare : IsMoreBy (only_at r k 1) old.ledger.spare new.ledger.spare
+  pub permits : new.ledger.permits ≡ old.ledger.permits
+  pub plan : KeepsPlan old.ledger new.ledger
+  pub rest : new ≡ with_ledger old new.ledger
+
+-- what the rule takes is spent, and what it writes is permitted
+pub record IsFired (u : ℕ) (old new : GuardState) : Type 0 where
+  pub spare : IsMoreBy (named (exchange_at old.ledger u).takes) new.ledger.spare old.ledger.spare
+  pub permits : IsMoreBy (named (exchange_at old.ledger u).writes) old.ledger.permits new.ledger.permits
+  pub plan : KeepsPlan old.ledger new.ledger
+  pub rest : new ≡ with_ledger old new.ledger
+
+-- one permit fewer
+pub record IsPaid (w k : ℕ) (old new : GuardState) : Type 0 where
+  pub permits : IsMoreBy (only_at w k 1) new.ledger.permits old.ledger.permits
+  pub spare : new.ledger.spare ≡ old.ledger.spare
+  pub plan : KeepsPlan old.ledger new.ledger
+  pub rest : new ≡ with_ledger old new.ledger
+
+-- the rule is fired and one permit is used
+pub record IsServed (u w k : ℕ) (old new : GuardState) : Type 0 where
+  pub between : GuardState
+  pub fires : fire_refusal old.ledger u ≡ None
+  pub fired : IsFired u old between
+  pub paid : IsPaid w k between new
+
+-- what a write in this way changes
+abbrev pub IsWritten : Result Way WriteRefused → ℕ → ℕ → GuardState → GuardState → Type 0
+IsWritten (Ok Free) w k old new = new ≡ old
+IsWritten (Ok Permit) w k old new = IsPaid w k old new
+IsWritten (Ok (Rule u)) w k old new = IsServed u w k old new
+IsWritten (Err e) w k old new = new ≡ old
