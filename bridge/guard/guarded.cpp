@@ -1,0 +1,74 @@
+// An application of PING on Cyclone DDS, guarded, in C++ without exceptions: guarded-cxx DEPLOYMENT a1|a2 SAMPLES TAG [--bug]
+//
+// It does what guarded-c does, and ends with the same line and status.
+#include "ddscheck.hpp"
+#include "ping.h"
+
+#include <cstdio>
+#include <cstring>
+
+namespace {
+
+struct Done {
+    long written = 0;
+    long taken = 0;
+    long refused = 0;
+};
+
+void take_all(const ddscheck_dds_end &reader, Done &done)
+{
+    ddscheck_Sample sample;
+    void *samples[1] = {&sample};
+    dds_sample_info_t info;
+    while (ddscheck_dds_take(&reader, samples, &info, 1, 1) == 1) {
+        done.taken += info.valid_data ? 1 : 0;
+    }
+}
+
+void write_all(ddscheck::Guard &guard, const ddscheck_dds_end &writer, const ping_words &words, Done &done)
+{
+    ddscheck_Sample sample{};
+    std::memcpy(sample.key, "k", 2);
+    while (done.written < words.samples && guard.may_write(writer.number, 0) == DDSCHECK_OK) {
+        done.written += ddscheck_dds_write(&writer, &sample) == DDS_RETCODE_OK ? 1 : 0;
+    }
+    if (words.bug != 0 && done.written < words.samples && done.refused == 0) {
+        // the planted bug: one write too many
+        const dds_return_t answer = ddscheck_dds_write(&writer, &sample);
+        done.refused += answer == DDS_RETCODE_PRECONDITION_NOT_MET ? 1 : 0;
+        done.written += answer == DDS_RETCODE_OK ? 1 : 0;
+    }
+}
+
+} // namespace
+
+int main(int count, char **words)
+{
+    ping_words read;
+    Done done;
+    if (ping_read_words(count, words, &read) == 0) {
+        std::fprintf(stderr, "guarded-cxx: DEPLOYMENT a1|a2 SAMPLES TAG [--bug]\n");
+        return 4;
+    }
+    ping_configure(read.tag);
+    ddscheck::Guard guard;
+    if (guard.open_file(read.deployment, read.side->application) != DDSCHECK_OK) {
+        return 3;
+    }
+    const auto writes = guard.writer(read.side->writer), takes = guard.reader(read.side->reader);
+    if (!writes || !takes) {
+        return 3;
+    }
+    ddscheck_dds_end writer = {guard.get(), 0, *writes, ping_key}, reader = {guard.get(), 0, *takes, ping_key};
+    if (ping_meet(read.side, &writer.entity, &reader.entity) == 0) {
+        return 3;
+    }
+    for (int at = 0; at < 20000 && (done.written < read.samples || done.taken < read.samples); at++) {
+        take_all(reader, done);
+        write_all(guard, writer, read, done);
+        dds_sleepfor(DDS_MSECS(1));
+    }
+    dds_wait_for_acks(writer.entity, DDS_SECS(5));
+    std::printf("%s written %ld taken %ld refused %ld rejected %u\n", read.side->application, done.written, done.taken, done.refused, ping_rejected(reader.entity));
+    return done.written < read.samples || done.taken < read.samples ? 1 : 0;
+}

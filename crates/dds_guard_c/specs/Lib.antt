@@ -1,0 +1,4 @@
+pub mod Owned
+pub mod Follows
+pub mod Status
+pub mod Calls

@@ -1,0 +1,10 @@
+//! The guard of `dds_guard` for programs in C and C++, as `include/ddscheck.h` declares it. Each call is that of the
+//! guard behind the handle; beside what the guard answers it tells of a handle that isn't open, or is open already.
+#![tactic(auto)]
+
+pub mod calls;
+pub mod handle;
+mod lending;
+pub mod raw_box;
+pub mod slot;
+mod status;

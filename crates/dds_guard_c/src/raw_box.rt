@@ -1,0 +1,37 @@
+//! A box in its parts: the address and the allocator.
+ghost use Rattle.std.specs.Prelude.{◌≡◌};
+ghost use Rattle.std.specs.Box.Ownership.{box_owns};
+
+use std::alloc::Allocator;
+use std::marker::Model;
+
+/// What a box is made of. It owns what the box owned.
+pub struct RawBox<T, A: Allocator> {
+    pub(crate) at: *mut T,
+    pub(crate) alloc: A,
+    pub ghost value: { T },
+}
+
+impl<T, A: Allocator> Model for RawBox<T, A> {
+    ghost also_owns = { λ p. box_owns (A.dealloc_token p.alloc) T.row p.at p.value };
+}
+
+impl<T, A: Allocator> RawBox<T, A> {
+    /// Takes a box apart.
+    pub(crate) fn of(whole: Box<T, A>) -> RawBox<T, A>
+    where
+        T: Drop,
+        ensures { result.value ≡ whole.value }
+    {
+        let (at, alloc) = Box::into_raw_with_allocator(whole);
+        RawBox { at, alloc }
+    }
+
+    /// Puts it together again.
+    pub(crate) fn into_box(self) -> Box<T, A>
+        ensures { result.value ≡ self.value }
+    {
+        let RawBox { at, alloc } = self;
+        unsafe { Box::from_raw(alloc, at) }
+    }
+}

@@ -1,0 +1,157 @@
+/*
+ * ddscheck: keeps the rules of a DDS deployment in a program of your own.
+ *
+ * A guard is opened for one application of a deployment file. It counts the samples that the application takes, and answers before each write whether the
+ * rules allow it. It calls no DDS. docs/GUARD.md shows how a program is guarded.
+ *
+ * Link with libddscheck.a and the toolchain's liblibc_c.a, which takes memory by malloc and gives it back by free. Memory is taken by ddscheck_open and
+ * given back by ddscheck_close alone; no call keeps a pointer that it is given, none aborts, and none blocks.
+ *
+ * Threads: a guard stays on the thread that opened it, and is given to one call at a time. Guards of different threads don't touch each other.
+ *
+ * Every pointer points to what its name says; NULL is not allowed. Texts are those of the deployment file, in UTF-8.
+ */
+#ifndef DDSCHECK_H
+#define DDSCHECK_H
+
+#include <stddef.h>
+#include <stdint.h>
+#include <stdio.h>
+#include <stdlib.h>
+#include <string.h>
+
+#ifdef __cplusplus
+extern "C" {
+#endif
+
+/* What a call answers. Any answer but DDSCHECK_OK leaves the guard as it was, and what the call would tell as it was. */
+typedef enum ddscheck_status {
+    DDSCHECK_OK = 0,
+    /* the deployment file has a fault; `ddscheck match FILE` tells which */
+    DDSCHECK_FAULT = 1,
+    DDSCHECK_NO_MEMORY = 2,
+    /* the deployment has no application, writer, reader, rule, topic or key of this name */
+    DDSCHECK_UNKNOWN_NAME = 3,
+    DDSCHECK_NOT_OPEN = 4,
+    DDSCHECK_ALREADY_OPEN = 5,
+    /* the number is no writer, reader or rule of the application, or no key that the reader takes */
+    DDSCHECK_FOREIGN = 6,
+    /* the application may not write the sample now */
+    DDSCHECK_NO_PERMIT = 7,
+    /* a take that the rule needs is missing, or the rule needs none */
+    DDSCHECK_NOT_ENOUGH = 8,
+    /* a count would pass 2^64 - 1 */
+    DDSCHECK_COUNT_LIMIT = 9,
+    /* the deployment file can't be read, or has more than 1,048,576 bytes; ddscheck_open_file alone answers it */
+    DDSCHECK_NO_FILE = 10
+} ddscheck_status;
+
+/* A guard. It is DDSCHECK_GUARD_CLOSED before it is opened, and then only the calls below may change it. Don't copy an open one. */
+typedef struct ddscheck_guard {
+    void *at;
+    uint64_t state;
+} ddscheck_guard;
+
+#define DDSCHECK_GUARD_CLOSED {NULL, 0}
+
+/* ── the library's own calls; texts come with their lengths in bytes ── */
+ddscheck_status ddscheck_open_guard(const char *deployment, size_t deployment_length, const char *application, size_t application_length, ddscheck_guard *guard);
+ddscheck_status ddscheck_free_guard(ddscheck_guard guard);
+ddscheck_status ddscheck_find_writer(ddscheck_guard *guard, const char *name, size_t length, size_t *writer);
+ddscheck_status ddscheck_find_reader(ddscheck_guard *guard, const char *name, size_t length, size_t *reader);
+ddscheck_status ddscheck_find_rule(ddscheck_guard *guard, const char *name, size_t length, size_t *rule);
+ddscheck_status ddscheck_find_key(ddscheck_guard *guard, const char *topic, size_t topic_length, const char *name, size_t length, size_t *key);
+
+/* The application has taken a sample of a key at a reader. Call it for each sample that dds_take gives, not for one that is only read. */
+ddscheck_status ddscheck_take(ddscheck_guard *guard, size_t reader, size_t key);
+
+/* The application is about to write a sample of a key. DDSCHECK_OK: it may, and the permit for it is used, unless the write is free. Where no permit is
+   left, the application's first rule in file order that gives one and has its takes is fired before. DDSCHECK_NO_PERMIT: don't write. */
+ddscheck_status ddscheck_write(ddscheck_guard *guard, size_t writer, size_t key);
+
+/* What ddscheck_write would answer. Nothing changes. */
+ddscheck_status ddscheck_may_write(ddscheck_guard *guard, size_t writer, size_t key);
+
+/* Fires a rule by its number: for an application that itself chooses between rules that compete for a take. */
+ddscheck_status ddscheck_fire(ddscheck_guard *guard, size_t rule);
+
+/* How many permits are left for a key at a writer, and how many takes of a key at a reader no rule has spent. */
+ddscheck_status ddscheck_permits(ddscheck_guard *guard, size_t writer, size_t key, uint64_t *permits);
+ddscheck_status ddscheck_spare(ddscheck_guard *guard, size_t reader, size_t key, uint64_t *spare);
+
+/* ── opening, closing and look-ups, by texts that end with a 0 ── */
+
+/* Opens a guard for an application, by the bytes of the deployment file. A guard that is open stays as it is. */
+static inline ddscheck_status ddscheck_open(const char *deployment, size_t length, const char *application, ddscheck_guard *guard)
+{
+    return ddscheck_open_guard(deployment, length, application, strlen(application), guard);
+}
+
+/* The same, by the path of the file. */
+static inline ddscheck_status ddscheck_open_file(const char *path, const char *application, ddscheck_guard *guard)
+{
+    const size_t most = 1048576;
+    ddscheck_status status = DDSCHECK_NO_FILE;
+    FILE *file = fopen(path, "rb");
+    char *bytes = NULL;
+    if (file == NULL) {
+        return DDSCHECK_NO_FILE;
+    }
+#ifdef __cplusplus
+    bytes = static_cast<char *>(malloc(most + 1));
+#else
+    bytes = malloc(most + 1);
+#endif
+    if (bytes == NULL) {
+        status = DDSCHECK_NO_MEMORY;
+    } else {
+        size_t length = fread(bytes, 1, most + 1, file);
+        if (!ferror(file) && length <= most) {
+            status = ddscheck_open(bytes, length, application, guard);
+        }
+    }
+    free(bytes);
+    (void)fclose(file);
+    return status;
+}
+
+/* Gives back what an open guard holds, and closes it. */
+static inline ddscheck_status ddscheck_close(ddscheck_guard *guard)
+{
+    ddscheck_guard was = *guard;
+    guard->at = NULL;
+    guard->state = 0;
+    return ddscheck_free_guard(was);
+}
+
+/* The numbers of names, for the calls above. They are places in the deployment file, from 0, and stay the same as long as the file does. */
+static inline ddscheck_status ddscheck_writer(ddscheck_guard *guard, const char *name, size_t *writer)
+{
+    return ddscheck_find_writer(guard, name, strlen(name), writer);
+}
+
+static inline ddscheck_status ddscheck_reader(ddscheck_guard *guard, const char *name, size_t *reader)
+{
+    return ddscheck_find_reader(guard, name, strlen(name), reader);
+}
+
+/* The first rule of this name. A rule with `each` stands for several, one after the other in the order of their keys. */
+static inline ddscheck_status ddscheck_rule(ddscheck_guard *guard, const char *name, size_t *rule)
+{
+    return ddscheck_find_rule(guard, name, strlen(name), rule);
+}
+
+static inline ddscheck_status ddscheck_key(ddscheck_guard *guard, const char *topic, const char *name, size_t *key)
+{
+    return ddscheck_find_key(guard, topic, strlen(topic), name, strlen(name), key);
+}
+
+#ifdef __cplusplus
+}
+#endif
+
+/* a ddscheck_status is handed over as 32 bits, and a guard as two words */
+typedef char ddscheck_status_has_32_bits[sizeof(ddscheck_status) == 4 ? 1 : -1];
+typedef char ddscheck_guard_has_two_words[sizeof(ddscheck_guard) == 16 ? 1 : -1];
+
+#endif
