@@ -1,3 +1,4 @@
+pub mod Following
 pub mod Growing
 pub mod Opened
 pub mod Serving

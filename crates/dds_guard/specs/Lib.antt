@@ -1,3 +1,4 @@
+pub mod Following
 pub mod Guard
 pub mod Refusals
 pub mod Opening

@@ -9,6 +9,7 @@
 
 mod filters;
 pub mod guard;
+pub mod laws;
 mod names;
 pub mod opening;
 pub mod refused;

@@ -1,0 +1,31 @@
+-- How a guard follows a world of a run: at the writers of its application and the keys that it takes, its counts are the world's.
+use Rattle.std.specs.Prelude.{◌≡◌, ◌≢◌, ℕ, true, false, List, None}
+use Rattle.dds_deploy.specs.Lists.{has}
+use Rattle.dds_match.specs.Network.{Network, IsNetwork}
+use Rattle.dds_runs.specs.World.{World, Sample, permits, spare}
+use Rattle.dds_runs.specs.CountRuns.{CountMove, counted}
+use Rattle.dds_runs.specs.CountRuns.CountMove.{Fires, Takes, Writes}
+use Rattle.dds_runs.specs.Facts.{CountsOk}
+use Rattle.dds_rules.specs.Counts.{count_at}
+use Rattle.dds_rules.specs.Ledger.{IsLedgerOf, fire_refusal}
+use Rattle.dds_guard.specs.Guard.{GuardState, takes_key}
+use Rattle.dds_guard.specs.Refusals.{IsFired, IsPaid, IsTaken}
+
+pub record Follows (net : Network) (v : World) (g : GuardState) : Type 0 where
+  pub of : IsLedgerOf net g.ledger
+  pub permits : (w k : ℕ) → has g.writers w ≡ true → count_at g.ledger.permits w k ≡ permits net v w k
+  pub spare : (r k : ℕ) → takes_key g r k ≡ true → count_at g.ledger.spare r k ≡ spare net v r k
+
+-- whatever world of whatever plan the old guard followed, the new one follows the world after the move. In every run no count is below 0
+abbrev pub Moves : CountMove → GuardState → GuardState → Type 0
+Moves m old new = (net : Network) (v : World) → IsNetwork net → CountsOk net v → Follows net v old → Follows net (counted v m) new
+
+-- the same of a write of the key at the writer, by each plan that doesn't let it be free
+abbrev pub MovesPaid : (writer key : ℕ) (payload : List ℕ) → GuardState → GuardState → Type 0
+MovesPaid w k d old new = (net : Network) (v : World) → IsNetwork net → CountsOk net v → net.free w k ≡ false → Follows net v old → Follows net (counted v (Writes w k d)) new
+
+-- a guard that follows a world goes on to follow it: after a take, a firing, and a write with a permit
+pub record GoesOnFollowing : Type 0 where
+  pub takes : (r k : ℕ) (old new : GuardState) → IsTaken r k old new → (s : Sample) → s.key ≡ k → Moves (Takes r s) old new
+  pub fires : (u : ℕ) (old new : GuardState) → fire_refusal old.ledger u ≡ None → IsFired u old new → Moves (Fires u) old new
+  pub writes : (w k : ℕ) (d : List ℕ) (old new : GuardState) → has old.writers w ≡ true → count_at old.ledger.permits w k ≢ 0 → IsPaid w k old new → MovesPaid w k d old new
