@@ -1,12 +1,9 @@
 //! A guard: look-ups, takes, firings and counts.
-ghost use Rattle.std.specs.Prelude.{◌≡◌, ℕ, ◌&&◌, ◌==◌, nat_lt, if◌then◌else◌, Some, None, OnOk, OnErr, position};
-ghost use Rattle.std.specs.List.{list_any};
+ghost use Rattle.std.specs.Prelude.{◌≡◌, ◌&&◌, ◌==◌, Some, None, OnOk, OnErr, position};
 ghost use Rattle.std.specs.Result.{result_err};
 ghost use Rattle.dds_base.specs.Names.{number_of};
-ghost use Rattle.dds_deploy.specs.Lists.{has};
 ghost use Rattle.dds_runs.specs.CountRuns.CountMove.{Fires, Takes};
 ghost use Rattle.dds_runs.specs.World.{Sample};
-ghost use Rattle.dds_rules.specs.Counts.{count_at};
 ghost use Rattle.dds_rules.specs.Standing.{Makes};
 ghost use Rattle.dds_guard.specs.Guard.{key_number, permits_at, rule_number, spare_at, takes_key};
 ghost use Rattle.dds_guard.specs.Refusals.{IsFired, IsTaken, firing_refusal, take_refusal};

@@ -1,14 +1,13 @@
 //! Writes: how one may be made, and the firing that comes before one.
-ghost use Rattle.std.specs.Prelude.{◌≡◌, ℕ, ◌+◌, ◌&&◌, ◌==◌, ◌<◌, ◌^◌, All, nat_lt, nat_le, not, is_ok, Some, None, Ok};
-ghost use Rattle.std.specs.Prelude.{Err, IfOk, IfSome, OnOk, OnErr, position};
+ghost use Rattle.std.specs.Prelude.{◌≡◌, ◌+◌, ◌&&◌, ◌==◌, ◌<◌, ◌^◌, All, nat_lt, nat_le, Some, None, Ok};
+ghost use Rattle.std.specs.Prelude.{Err, IfOk, IfSome, OnErr};
 ghost use Rattle.std.specs.List.{list_any};
 ghost use Rattle.std.specs.Result.{result_err};
 ghost use Rattle.dds_match.specs.Network.{is_named};
 ghost use Rattle.dds_rules.specs.Counts.{count_at};
 ghost use Rattle.dds_rules.specs.Exchange.{IsAlone, lacks_room, lacks_takes};
 ghost use Rattle.dds_rules.specs.Ledger.{fire_refusal};
-ghost use Rattle.dds_guard.specs.Guard.{AreCounted};
-ghost use Rattle.dds_guard.specs.Refusals.{IsFired, IsPaid, IsReady, IsServed, IsServing, IsWritten, can_fire, is_free};
+ghost use Rattle.dds_guard.specs.Refusals.{IsFired, IsPaid, IsReady, IsServed, IsServing, IsWritten, is_free};
 ghost use Rattle.dds_guard.specs.Refusals.{serves, serving, way_of};
 
 use crate::guard::Guard;

@@ -3,7 +3,7 @@ ghost use Rattle.std.specs.Prelude.{◌≡◌, ◌<◌, Some};
 ghost use Rattle.std.specs.Result.{result_err};
 ghost use Rattle.dds_base.specs.Names.{number_of};
 ghost use Rattle.dds_guard.specs.Guard.{permits_at, rule_number, spare_at};
-ghost use Rattle.dds_guard.specs.Opening.{FailsToOpen, OpensAs};
+ghost use Rattle.dds_guard.specs.Opening.{OpensAs};
 ghost use Rattle.dds_guard.specs.Refusals.{IsFired, IsTaken, IsWritten, firing_refusal, take_refusal, way_of};
 ghost use Rattle.dds_guard_c.specs.Calls.{IsKept, answer_at, key_named};
 ghost use Rattle.dds_guard_c.specs.Status.{count_status, firing_status, name_status, take_status, write_status};
