@@ -2,8 +2,6 @@
 #include "fault.h"
 #include "json.h"
 
-#include <stdio.h>
-#include <stdlib.h>
 #include <string.h>
 
 // The words of each policy, in the order of DDS, which is that of Cyclone's numbers too.
@@ -69,6 +67,13 @@ static struct policies read_policies(const cJSON *entry)
     return found;
 }
 
+// Whether the depth and the limits go together (OMG DDS 1.4, clauses 2.2.3.18 and 2.2.3.19): an instance's limit is within that of all, and the depth within it.
+static bool is_consistent(const struct policies *policies)
+{
+    int each = policies->max_samples_per_instance, all = policies->max_samples;
+    return each == UNLIMITED || ((all == UNLIMITED || each <= all) && (policies->history == 1 || policies->depth <= each));
+}
+
 int key_named(const struct topic *topic, const char *name)
 {
     for (int key = 0; key < topic->keys; key++) {
@@ -121,23 +126,67 @@ static int key_of(const struct topic *topic, const cJSON *value)
 
 // ── the sections
 
-static void read_participants(const cJSON *all, struct deployment *found)
+// The names of a section, in its order.
+struct names {
+    int count;
+    const char *name[MOST_ENDPOINTS];
+};
+
+// What is read, and the names by which its parts speak of one another.
+struct reading {
+    const cJSON *all;
+    struct deployment *found;
+    struct names participants, topics, writers, readers, applications;
+};
+
+static int place_of(const struct names *names, const char *name)
 {
-    const cJSON *entries = short_list(all, "participants", MOST_PARTICIPANTS), *entry;
+    for (int at = 0; at < names->count; at++) {
+        if (strcmp(names->name[at], name) == 0) {
+            return at;
+        }
+    }
+    return -1;
+}
+
+static int named(const struct names *names, const char *name)
+{
+    int at = place_of(names, name);
+    if (at < 0) {
+        fail(STATUS_FILE, "nothing has the name %s", name);
+    }
+    return at;
+}
+
+// The name of an entry, which no entry before it has. Lists are cut to their limits before, so there is room.
+static const char *new_name(struct names *names, const cJSON *entry)
+{
+    const char *name = name_in(entry, "name");
+    if (place_of(names, name) >= 0) {
+        fail(STATUS_FILE, "the name %s stands twice", name);
+    }
+    return names->name[names->count++] = name;
+}
+
+static void read_participants(struct reading *reading)
+{
+    struct deployment *found = reading->found;
+    const cJSON *entries = short_list(reading->all, "participants", MOST_PARTICIPANTS), *entry;
     found->participant = room(size_of(entries), sizeof *found->participant);
     cJSON_ArrayForEach(entry, entries) {
         found->participant[found->participants++] =
-            (struct participant){.name = name_in(entry, "name"), .domain = (uint32_t)number(entry, "domain", 0, INT32_MAX)};
+            (struct participant){.name = new_name(&reading->participants, entry), .domain = (uint32_t)number(entry, "domain", 0, INT32_MAX)};
     }
 }
 
-static void read_topics(const cJSON *all, struct deployment *found)
+static void read_topics(struct reading *reading)
 {
-    const cJSON *entries = short_list(all, "topics", MOST_ENDPOINTS), *entry, *value;
+    struct deployment *found = reading->found;
+    const cJSON *entries = short_list(reading->all, "topics", MOST_ENDPOINTS), *entry, *value;
     found->topic = room(size_of(entries), sizeof *found->topic);
     cJSON_ArrayForEach(entry, entries) {
         struct topic *topic = &found->topic[found->topics++];
-        topic->name = name_in(entry, "name");
+        topic->name = new_name(&reading->topics, entry);
         topic->type = type_in(entry, "type");
         cJSON_ArrayForEach(value, short_list(entry, "keys", MOST_KEYS)) {
             const char *key = name_of(value, "a key");
@@ -145,6 +194,9 @@ static void read_topics(const cJSON *all, struct deployment *found)
                 fail(STATUS_FILE, "topic %s has the key %s twice", topic->name, key);
             }
             topic->key[topic->keys++] = key;
+        }
+        if (topic->keys == 0) {
+            fail(STATUS_FILE, "topic %s has no key", topic->name);
         }
     }
 }
@@ -163,19 +215,22 @@ static void read_filter(const cJSON *entry, const struct topic *topic, struct en
 }
 
 // The writers or the readers.
-static struct endpoint *read_endpoints(const cJSON *all, const char *name, const struct deployment *found, int *count)
+static struct endpoint *read_endpoints(struct reading *reading, const char *name, struct names *names, int *count)
 {
-    const cJSON *entries = short_list(all, name, MOST_ENDPOINTS), *entry;
+    const cJSON *entries = short_list(reading->all, name, MOST_ENDPOINTS), *entry;
     struct endpoint *ends = room(size_of(entries), sizeof *ends);
     cJSON_ArrayForEach(entry, entries) {
         struct endpoint *end = &ends[(*count)++];
-        end->name = name_in(entry, "name");
-        end->participant = named(list(all, "participants"), name_in(entry, "participant"));
-        end->topic = named(list(all, "topics"), name_in(entry, "topic"));
+        end->name = new_name(names, entry);
+        end->participant = named(&reading->participants, name_in(entry, "participant"));
+        end->topic = named(&reading->topics, name_in(entry, "topic"));
         end->application = -1;
         end->policies = read_policies(entry);
+        if (!is_consistent(&end->policies)) {
+            fail(STATUS_FILE, "the depth and limits of %s contradict each other", end->name);
+        }
         if (strcmp(name, "readers") == 0) {
-            read_filter(entry, &found->topic[end->topic], end);
+            read_filter(entry, &reading->found->topic[end->topic], end);
             // only version 3 of the file tells of it
             end->may_lose = truth_or_absent(entry, "may_lose");
         }
@@ -184,11 +239,12 @@ static struct endpoint *read_endpoints(const cJSON *all, const char *name, const
 }
 
 // Notes what of the writers, or of the readers, the next application owns.
-static void own(const cJSON *all, const char *kind, struct endpoint *ends, const cJSON *entry, const struct deployment *found)
+static void own(const struct reading *reading, const char *kind, const struct names *names, struct endpoint *ends, const cJSON *entry)
 {
+    const struct deployment *found = reading->found;
     const cJSON *name;
     cJSON_ArrayForEach(name, list(entry, kind)) {
-        struct endpoint *end = &ends[named(list(all, kind), name_of(name, "an endpoint"))];
+        struct endpoint *end = &ends[named(names, name_of(name, "an endpoint"))];
         if (end->application >= 0 || end->participant != found->application[found->applications].participant) {
             fail(STATUS_FILE, "%s has two owners, or one at another participant", end->name);
         }
@@ -205,56 +261,69 @@ static void all_owned(const struct endpoint *ends, int count)
     }
 }
 
-static void read_applications(const cJSON *all, struct deployment *found)
+static void read_applications(struct reading *reading)
 {
-    const cJSON *entries = short_list(all, "applications", MOST_APPLICATIONS), *entry;
+    struct deployment *found = reading->found;
+    const cJSON *entries = short_list(reading->all, "applications", MOST_APPLICATIONS), *entry;
     found->application = room(size_of(entries), sizeof *found->application);
     cJSON_ArrayForEach(entry, entries) {
         found->application[found->applications] = (struct application){
-            .name = name_in(entry, "name"),
-            .participant = named(list(all, "participants"), name_in(entry, "participant")),
+            .name = new_name(&reading->applications, entry),
+            .participant = named(&reading->participants, name_in(entry, "participant")),
         };
-        own(all, "writers", found->writer, entry, found);
-        own(all, "readers", found->reader, entry, found);
+        own(reading, "writers", &reading->writers, found->writer, entry);
+        own(reading, "readers", &reading->readers, found->reader, entry);
         found->applications++;
     }
     all_owned(found->writer, found->writers);
     all_owned(found->reader, found->readers);
 }
 
-// What a rule takes, or what it writes.
-static int read_portions(const cJSON *all, const cJSON *entry, const char *name, const struct rule *rule, struct portion *portions,
-                         const struct deployment *found)
+static bool is_among(const struct portion *portions, int count, const struct portion *one)
 {
-    bool takes = strcmp(name, "takes") == 0;
+    for (int at = 0; at < count; at++) {
+        if (portions[at].endpoint == one->endpoint && portions[at].key == one->key) {
+            return true;
+        }
+    }
+    return false;
+}
+
+// What a rule takes, or what it writes.
+static int read_portions(const struct reading *reading, const cJSON *entry, bool takes, const struct rule *rule, struct portion *portions)
+{
+    const struct deployment *found = reading->found;
     const cJSON *each;
     int count = 0;
-    cJSON_ArrayForEach(each, short_list(entry, name, MOST_PORTIONS)) {
-        int end = named(list(all, takes ? "readers" : "writers"), name_in(each, takes ? "reader" : "writer"));
+    cJSON_ArrayForEach(each, short_list(entry, takes ? "takes" : "writes", MOST_PORTIONS)) {
+        int end = named(takes ? &reading->readers : &reading->writers, name_in(each, takes ? "reader" : "writer"));
         const struct endpoint *at = takes ? &found->reader[end] : &found->writer[end];
-        if (at->application != rule->application) {
-            fail(STATUS_FILE, "rule %s has an element of another application", rule->name);
-        }
-        portions[count++] = (struct portion){
+        struct portion portion = {
             .endpoint = end,
             .key = key_of(&found->topic[at->topic], field(each, "key")),
             .count = (uint64_t)number(each, "count", 1, MOST_COUNT),
         };
+        if (at->application != rule->application || (takes && !at->hears[portion.key]) || is_among(portions, count, &portion)) {
+            fail(STATUS_FILE, "rule %s has an element twice, of another application, or with a key that its reader's filter leaves out", rule->name);
+        }
+        portions[count++] = portion;
     }
     return count;
 }
 
-static void read_rules(const cJSON *all, struct deployment *found)
+static void read_rules(struct reading *reading)
 {
     enum { UNENDING = -1 };
-    const cJSON *entries = short_list(all, "rules", MOST_RULES), *entry;
+    struct deployment *found = reading->found;
+    const cJSON *entries = short_list(reading->all, "rules", MOST_RULES), *entry;
     found->rule = room(size_of(entries), sizeof *found->rule);
     cJSON_ArrayForEach(entry, entries) {
         struct rule *rule = &found->rule[found->rules++];
+        // a rule with a key for each entry stands there once for each, so its name may come again
         rule->name = name_in(entry, "name");
-        rule->application = named(list(all, "applications"), name_in(entry, "application"));
-        rule->takes = read_portions(all, entry, "takes", rule, rule->take, found);
-        rule->writes = read_portions(all, entry, "writes", rule, rule->write, found);
+        rule->application = named(&reading->applications, name_in(entry, "application"));
+        rule->takes = read_portions(reading, entry, true, rule, rule->take);
+        rule->writes = read_portions(reading, entry, false, rule, rule->write);
         int64_t start = number_or(entry, "start", "unlimited", UNENDING, 0, MOST_COUNT);
         rule->is_free = start == UNENDING;
         rule->start = rule->is_free ? 0 : (uint64_t)start;
@@ -264,60 +333,38 @@ static void read_rules(const cJSON *all, struct deployment *found)
     }
 }
 
-static void read_connections(const cJSON *all, struct deployment *found)
+static void read_connections(struct reading *reading)
 {
-    const cJSON *entries = short_list(all, "connections", MOST_ENDPOINTS * MOST_ENDPOINTS), *entry;
+    struct deployment *found = reading->found;
+    const cJSON *entries = short_list(reading->all, "connections", MOST_ENDPOINTS * MOST_ENDPOINTS), *entry;
     found->connection = room(size_of(entries), sizeof *found->connection);
     cJSON_ArrayForEach(entry, entries) {
         found->connection[found->connections++] = (struct connection){
-            .writer = named(list(all, "writers"), name_in(entry, "writer")),
-            .reader = named(list(all, "readers"), name_in(entry, "reader")),
+            .writer = named(&reading->writers, name_in(entry, "writer")),
+            .reader = named(&reading->readers, name_in(entry, "reader")),
         };
     }
 }
 
-static char *whole_file(const char *path)
+struct deployment *deployment_of(const cJSON *all)
 {
-    FILE *file = fopen(path, "rb");
-    if (file == NULL) {
-        fail(STATUS_FILE, "%s does not open", path);
-    }
-    char *bytes = NULL;
-    size_t length = 0, space = 0;
-    do {
-        if (space - length < 65536) {
-            space = 2 * space + 65536;
-            bytes = realloc(bytes, space + 1);
-            if (bytes == NULL) {
-                fail(STATUS_DDS, "memory ran out");
-            }
-        }
-        length += fread(bytes + length, 1, space - length, file);
-    } while (!feof(file) && !ferror(file));
-    if (ferror(file)) {
-        fail(STATUS_FILE, "%s could not be read", path);
-    }
-    fclose(file);
-    bytes[length] = '\0';
-    return bytes;
+    struct deployment *found = room(1, sizeof *found);
+    struct reading reading = {.all = all, .found = found};
+    read_participants(&reading);
+    read_topics(&reading);
+    found->writer = read_endpoints(&reading, "writers", &reading.writers, &found->writers);
+    found->reader = read_endpoints(&reading, "readers", &reading.readers, &found->readers);
+    read_applications(&reading);
+    read_rules(&reading);
+    read_connections(&reading);
+    return found;
 }
 
 struct deployment *read_deployment(const char *path)
 {
-    char *bytes = whole_file(path);
+    uint64_t fingerprint;
     // the texts of the document are used as long as the program runs, so it is never freed
-    const cJSON *all = cJSON_ParseWithOpts(bytes, NULL, true);
-    free(bytes);
-    if (!cJSON_IsObject(all)) {
-        fail(STATUS_FILE, "%s is no JSON document as `ddscheck show` prints it", path);
-    }
-    struct deployment *found = room(1, sizeof *found);
-    read_participants(all, found);
-    read_topics(all, found);
-    found->writer = read_endpoints(all, "writers", found, &found->writers);
-    found->reader = read_endpoints(all, "readers", found, &found->readers);
-    read_applications(all, found);
-    read_rules(all, found);
-    read_connections(all, found);
+    struct deployment *found = deployment_of(read_document(path, &fingerprint));
+    found->fingerprint = fingerprint;
     return found;
 }

@@ -5,6 +5,8 @@
 #include <stdbool.h>
 #include <stdint.h>
 
+struct cJSON;
+
 // The most that a list may have, and the greatest count.
 enum { MOST_PARTICIPANTS = 64, MOST_APPLICATIONS = 64, MOST_ENDPOINTS = 256, MOST_RULES = 256 };
 enum { MOST_KEYS = 64, MOST_PORTIONS = 16, MOST_PARTITIONS = 16, MOST_COUNT = 65535 };
@@ -71,10 +73,15 @@ struct deployment {
     struct application *application;
     struct rule *rule;
     struct connection *connection;
+    // a number that the bytes of the document have, and others most likely don't
+    uint64_t fingerprint;
 };
 
 // Reads a file, or ends the program with the status of a bad file.
 struct deployment *read_deployment(const char *path);
+
+// The same of a document at hand.
+struct deployment *deployment_of(const struct cJSON *document);
 
 // The place of a key's name in a topic, -1 where it has none.
 int key_named(const struct topic *topic, const char *name);

@@ -1,5 +1,8 @@
 #include "fault.h"
 
+#include <errno.h>
+#include <fcntl.h>
+#include <signal.h>
 #include <stdarg.h>
 #include <stdio.h>
 #include <stdlib.h>
@@ -10,7 +13,7 @@ void fail(int status, const char *form, ...)
     va_list words;
     va_start(words, form);
     fflush(stdout);
-    fputs("run-on-cyclone: ", stderr);
+    fprintf(stderr, "%s: ", program_invocation_short_name);
     vfprintf(stderr, form, words);
     fputc('\n', stderr);
     va_end(words);
@@ -25,4 +28,24 @@ void *room(unsigned long count, unsigned long size)
         fail(STATUS_DDS, "memory ran out");
     }
     return found;
+}
+
+void guard_output(void)
+{
+    signal(SIGPIPE, SIG_IGN);
+    for (int stream = 0; stream <= 2; stream++) {
+        // else a socket of Cyclone would get the number, and what is printed
+        if (fcntl(stream, F_GETFD) < 0 && open(stream == 1 ? "/dev/full" : "/dev/null", O_RDWR) != stream) {
+            _exit(STATUS_DDS);
+        }
+    }
+}
+
+int checked_output(int status)
+{
+    if (fflush(stdout) != 0 || ferror(stdout)) {
+        fprintf(stderr, "%s: the output failed\n", program_invocation_short_name);
+        return STATUS_DDS;
+    }
+    return status;
 }

@@ -7,6 +7,12 @@ enum { STATUS_YES = 0, STATUS_NO = 1, STATUS_FILE = 2, STATUS_DDS = 3, STATUS_US
 // Tells of a fault on standard error and ends the program with this status.
 _Noreturn void fail(int status, const char *form, ...) __attribute__((format(printf, 2, 3)));
 
+// Readies the streams: an output that is closed fails when it is written to, as one to a pipe that nobody reads does.
+void guard_output(void);
+
+// Writes out what was printed. Gives the status, or that of a fault, after a line on standard error, where the output failed.
+int checked_output(int status);
+
 // Memory that is zero, or the end of the program.
 void *room(unsigned long count, unsigned long size);
 

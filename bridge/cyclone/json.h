@@ -4,10 +4,20 @@
 
 #include <cjson/cJSON.h>
 #include <stdbool.h>
+#include <stddef.h>
 #include <stdint.h>
 
 enum { MOST_NAME = 64, MOST_TYPE = 256 };
+// The longest document of a deployment file of 1,048,576 bytes has about half as many bytes, and a quarter as many values.
+enum { MOST_BYTES = 16777216, MOST_VALUES = 1000000 };
 
+// A document of at most so many bytes and values, with nothing after it. Its texts live as long as the program.
+const cJSON *read_document(const char *path, uint64_t *fingerprint);
+
+// The same of bytes at hand, after which there is one byte more of room. False where they are no document; `why` then says in what way.
+bool parse_document(char *bytes, size_t length, const cJSON **document, const char **why);
+
+// A field, which stands once in its entry.
 const cJSON *field(const cJSON *entry, const char *name);
 const cJSON *list(const cJSON *entry, const char *name);
 bool truth(const cJSON *entry, const char *name);
@@ -31,8 +41,5 @@ const char *name_of(const cJSON *value, const char *what);
 // The name of a type, 1 to 256 bytes and maybe with colons, and that of a partition, 0 to 64 bytes and maybe with wildcards.
 const char *type_in(const cJSON *entry, const char *name);
 const char *partition_of(const cJSON *value);
-
-// The place of the entry with this name.
-int named(const cJSON *entries, const char *name);
 
 #endif

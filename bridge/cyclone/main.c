@@ -5,15 +5,19 @@
 #include "options.h"
 #include "qos.h"
 #include "report.h"
+#include "tag.h"
 #include "worker.h"
 
 #include <stdio.h>
+#include <stdlib.h>
 #include <string.h>
 #include <unistd.h>
 
 // How long the other processes are waited for before the first write, and after they should have ended.
 #define MEETING INT64_C(60000000000)
 #define PARTING INT64_C(30000000000)
+// How long one that isn't heard of is waited for at least.
+#define SILENCE INT64_C(2000000000)
 
 // Which participants run in this process.
 static void choose(const struct deployment *lists, const struct options *options, bool *is_here)
@@ -113,22 +117,46 @@ static _Noreturn void leave(int status)
 {
     static int kept;
     pthread_t thread;
+    status = checked_output(status);
     kept = status;
-    fflush(stdout);
     if (pthread_create(&thread, NULL, end_late, &kept) == 0) {
         dds_delete(DDS_CYCLONEDDS_HANDLE);
     }
     _exit(status);
 }
 
+// Readies Cyclone for this run, where the environment doesn't.
+static void prepare(const struct deployment *lists, const struct options *options, const bool *is_here)
+{
+    struct wire wire = {.tag = options->tag, .loss = options->loss, .processes = options->named > 0 ? lists->participants : 1};
+    for (int at = 0; at < lists->participants; at++) {
+        uint32_t domain = lists->participant[at].domain;
+        if (domain > HIGHEST_DOMAIN) {
+            fail(STATUS_DDS, "Cyclone has no domain above %d, and %s is in %u", HIGHEST_DOMAIN, lists->participant[at].name, domain);
+        }
+        wire.highest_domain = domain > wire.highest_domain ? domain : wire.highest_domain;
+    }
+    if (getenv("CYCLONEDDS_URI") != NULL) {
+        if (options->loss > 0 || options->tag != NULL) {
+            fail(STATUS_USAGE, "--loss and --tag set Cyclone's configuration, and CYCLONEDDS_URI does so too");
+        }
+        return;
+    }
+    if (wire.tag == NULL) {
+        wire.tag = drawn_tag(lists, is_here);
+    }
+    configure(&wire);
+}
+
 int main(int count, char **words)
 {
+    guard_output();
     struct options options = read_options(count, words);
     struct deployment *lists = read_deployment(options.path);
     bool is_here[MOST_PARTICIPANTS];
     choose(lists, &options, is_here);
     int64_t *periods = periods_of(lists, &options);
-    configure(options.tag, options.loss);
+    prepare(lists, &options, is_here);
     struct cyclone *system = open_system(lists, is_here);
     if (options.match) {
         if (options.named > 0) {
@@ -136,17 +164,18 @@ int main(int count, char **words)
         }
         leave(report_matches(system) ? STATUS_YES : STATUS_NO);
     }
-    struct meeting meeting = open_meeting(system);
+    struct meeting *meeting = open_meeting(system);
     struct ledger ledger = open_ledger(lists);
     struct worker *workers = room((unsigned long)lists->applications, sizeof *workers);
     for (int at = 0; at < lists->applications; at++) {
         ready_worker(&workers[at], system, &ledger, at, &options, periods);
     }
-    if (!meet(&meeting, now() + MEETING)) {
+    if (!meet(meeting, now() + MEETING)) {
         leave(STATUS_NO);
     }
     int64_t begun = run(system, workers, &options);
     // the others began at nearly the same time, and are cut after as many seconds if they were told as many
-    part(&meeting, begun + (int64_t)options.seconds * 1000000000 + PARTING);
-    leave(report_run(system, workers, &options, begun) ? STATUS_YES : STATUS_NO);
+    int64_t silence = options.idle * INT64_C(10000000);
+    bool all_ended = part(meeting, begun + (int64_t)options.seconds * 1000000000 + PARTING, silence < SILENCE ? SILENCE : silence);
+    leave(report_run(system, workers, &options, begun) && all_ended ? STATUS_YES : STATUS_NO);
 }

@@ -20,45 +20,76 @@ static dds_domainid_t free_domain(const struct deployment *lists)
     return domain;
 }
 
-struct meeting open_meeting(struct cyclone *system)
+static void say(struct meeting *meeting)
 {
-    const struct deployment *lists = system->lists;
-    struct meeting meeting = {.system = system, .is_alone = true};
-    meeting.stage = room((unsigned long)lists->participants, sizeof *meeting.stage);
+    const struct deployment *lists = meeting->system->lists;
     for (int at = 0; at < lists->participants; at++) {
-        meeting.is_alone = meeting.is_alone && system->is_here[at];
+        if (meeting->system->is_here[at]) {
+            ddscheck_Sample sample = sample_of(lists->participant[at].name);
+            sample.data[0] = (uint8_t)meeting->said;
+            dds_write(meeting->writer, &sample);
+        }
     }
-    if (meeting.is_alone) {
-        return meeting;
+}
+
+// Says the same again and again. Many processes do so more rarely.
+static void *go_on_saying(void *argument)
+{
+    struct meeting *meeting = argument;
+    int participants = meeting->system->lists->participants;
+    while (true) {
+        sleep_for(participants > 4 ? participants * INT64_C(5000000) : 20000000);
+        say(meeting);
     }
-    // one topic, in a domain of its own, keeps the last word of each participant
+    return NULL;
+}
+
+static void say_now(struct meeting *meeting, enum stage stage)
+{
+    bool is_first = meeting->said == STAGE_AWAY;
+    meeting->said = stage;
+    if (meeting->is_alone) {
+        return;
+    }
+    say(meeting);
+    if (is_first && pthread_create(&meeting->beat, NULL, go_on_saying, meeting) != 0) {
+        fail(STATUS_DDS, "no thread can be made");
+    }
+}
+
+// One topic keeps the last word of each participant.
+static void open_topic(struct meeting *meeting, dds_domainid_t domain)
+{
     dds_qos_t *qos = dds_create_qos();
     dds_qset_durability(qos, DDS_DURABILITY_TRANSIENT_LOCAL);
     dds_qset_reliability(qos, DDS_RELIABILITY_RELIABLE, DDS_SECS(1));
     dds_qset_history(qos, DDS_HISTORY_KEEP_LAST, 1);
     dds_qset_writer_data_lifecycle(qos, false);
-    meeting.participant = dds_create_participant(free_domain(lists), NULL, NULL);
-    dds_entity_t topic = dds_create_topic(meeting.participant, &ddscheck_Sample_desc, "ddscheck_meeting", NULL, NULL);
-    meeting.reader = dds_create_reader(meeting.participant, topic, qos, NULL);
-    meeting.writer = dds_create_writer(meeting.participant, topic, qos, NULL);
+    meeting->participant = dds_create_participant(domain, NULL, NULL);
+    dds_entity_t topic = dds_create_topic(meeting->participant, &ddscheck_Sample_desc, "ddscheck_meeting", NULL, NULL);
+    meeting->reader = dds_create_reader(meeting->participant, topic, qos, NULL);
+    meeting->writer = dds_create_writer(meeting->participant, topic, qos, NULL);
     dds_delete_qos(qos);
-    if (meeting.participant < 0 || topic < 0 || meeting.reader < 0 || meeting.writer < 0) {
+    if (meeting->participant < 0 || topic < 0 || meeting->reader < 0 || meeting->writer < 0) {
         fail(STATUS_DDS, "Cyclone makes no topic where the processes meet");
     }
-    return meeting;
 }
 
-static void say(struct meeting *meeting, enum stage stage)
+struct meeting *open_meeting(struct cyclone *system)
 {
-    const struct deployment *lists = meeting->system->lists;
-    for (int at = 0; at < lists->participants && !meeting->is_alone; at++) {
-        if (!meeting->system->is_here[at]) {
-            continue;
-        }
-        ddscheck_Sample sample = sample_of(lists->participant[at].name);
-        sample.data[0] = (uint8_t)stage;
-        dds_write(meeting->writer, &sample);
+    const struct deployment *lists = system->lists;
+    struct meeting *meeting = room(1, sizeof *meeting);
+    meeting->system = system;
+    meeting->is_alone = true;
+    meeting->stage = room((unsigned long)lists->participants, sizeof *meeting->stage);
+    meeting->heard = room((unsigned long)lists->participants, sizeof *meeting->heard);
+    for (int at = 0; at < lists->participants; at++) {
+        meeting->is_alone = meeting->is_alone && system->is_here[at];
     }
+    if (!meeting->is_alone) {
+        open_topic(meeting, free_domain(lists));
+    }
+    return meeting;
 }
 
 // Whether all participants have come to this stage, by what they have said so far.
@@ -73,8 +104,9 @@ static bool have_come(struct meeting *meeting, enum stage stage)
     }
     while (dds_take(meeting->reader, at, &about, 1, 1) == 1) {
         for (int p = 0; about.valid_data && p < lists->participants; p++) {
-            if (strcmp(lists->participant[p].name, sample.key) == 0 && meeting->stage[p] < sample.data[0]) {
-                meeting->stage[p] = sample.data[0];
+            if (strcmp(lists->participant[p].name, sample.key) == 0) {
+                meeting->heard[p] = now();
+                meeting->stage[p] = sample.data[0] > meeting->stage[p] ? sample.data[0] : meeting->stage[p];
             }
         }
     }
@@ -118,7 +150,7 @@ bool meet(struct meeting *meeting, int64_t until)
         }
         sleep_for(5000000);
     }
-    say(meeting, STAGE_MATCHED);
+    say_now(meeting, STAGE_MATCHED);
     while (!have_come(meeting, STAGE_MATCHED)) {
         if (now() >= until) {
             fprintf(stderr, "run-on-cyclone: not all participants have come\n");
@@ -129,20 +161,51 @@ bool meet(struct meeting *meeting, int64_t until)
     return true;
 }
 
-void part(struct meeting *meeting, int64_t until)
+// Waits until what was written here is acknowledged. A reader that rejects what it is sent never does so, and a process that was killed neither, so this has an end.
+static void wait_for_acks(const struct cyclone *system, int64_t until)
 {
-    const struct deployment *lists = meeting->system->lists;
-    for (int at = 0; at < lists->writers; at++) {
-        if (writer_is_here(meeting->system, at) && now() < until) {
-            // a reader that rejects what it is sent never acknowledges it, so this has an end of its own
-            dds_wait_for_acks(meeting->system->writer[at].handle, DDS_SECS(2));
+    int64_t most = now() + 2000000000;
+    until = until < most ? until : most;
+    for (int at = 0; at < system->lists->writers; at++) {
+        int64_t left = until - now();
+        if (writer_is_here(system, at) && left > 0) {
+            dds_wait_for_acks(system->writer[at].handle, left);
         }
     }
-    say(meeting, STAGE_ENDED);
+}
+
+// Tells of the participants that have not ended and were not heard of since a time. True where there are some.
+static bool are_silent(const struct meeting *meeting, int64_t since)
+{
+    const struct deployment *lists = meeting->system->lists;
+    bool found = false;
+    for (int at = 0; at < lists->participants; at++) {
+        if (meeting->stage[at] < STAGE_ENDED && meeting->heard[at] < since) {
+            fprintf(stderr, "run-on-cyclone: participant %s is silent and waited for no longer\n", lists->participant[at].name);
+            found = true;
+        }
+    }
+    return found;
+}
+
+bool part(struct meeting *meeting, int64_t until, int64_t silence)
+{
+    const struct deployment *lists = meeting->system->lists;
+    wait_for_acks(meeting->system, until);
+    say_now(meeting, STAGE_ENDED);
+    // what was said while the applications ran is heard only now, so all have been silent for no time yet
+    have_come(meeting, STAGE_ENDED);
+    for (int at = 0; at < lists->participants; at++) {
+        meeting->heard[at] = now();
+    }
     while (!have_come(meeting, STAGE_ENDED) && now() < until) {
+        if (are_silent(meeting, now() - silence)) {
+            return false;
+        }
         sleep_for(5000000);
     }
     if (!meeting->is_alone) {
         dds_wait_for_acks(meeting->writer, DDS_SECS(2));
     }
+    return true;
 }

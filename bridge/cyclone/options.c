@@ -1,5 +1,6 @@
 #include "options.h"
 #include "fault.h"
+#include "tag.h"
 
 #include <stdio.h>
 #include <stdlib.h>
@@ -18,15 +19,16 @@ static const char USAGE[] =
     "  --slow APP=MS        this application waits so many milliseconds after each circle in which it took\n"
     "  --loss N             Cyclone drops N percent of the packets that this process sends (0)\n"
     "  --calls N            an application ends after so many takes, firings and writes that it called for (200000)\n"
-    "  --idle N             an application ends after so many waits of 10 ms in a row without a change (500)\n"
+    "  --idle N             an application ends after so many waits of 10 ms in a row without a change (500); so long, and 2 s at least, another process\n"
+    "                       is waited for at the end that isn't heard of\n"
     "  --seconds N          all applications end after so many seconds (120); the other processes are waited for 60 s before the first write\n"
-    "  --tag TEXT           Cyclone's domain tag: processes with another one are not seen (ddscheck)\n"
+    "  --tag TEXT           Cyclone's domain tag, at most 64 bytes: processes with another one are not seen (one that the first process of the run draws)\n"
     "  --match              tell which endpoints match, and run nothing\n"
     "  --keys               also print what each reader was seen to hold of each key and in all, in the form of `ddscheck check`\n"
     "  --times              also print how many samples a second were taken, and the time from an application's nth write to its nth take\n"
     "\n"
     "Where CYCLONEDDS_URI is not set, Cyclone uses loopback alone. Status: 0 all stopped and nothing was rejected or lost, 1 else, 2 a bad file, 3 a fault of\n"
-    "Cyclone, 4 a fault of usage.\n";
+    "Cyclone or of the output, 4 a fault of usage.\n";
 
 static _Noreturn void usage(const char *why, const char *word)
 {
@@ -135,6 +137,9 @@ static bool read_name(struct options *options, const char *word, char *next)
         read_rate(options, word, next);
     } else if (strcmp(word, "--tag") == 0) {
         options->tag = text(word, next);
+        if (strlen(next) > MOST_TAG) {
+            usage("too long a text after ", word);
+        }
     } else {
         return false;
     }
@@ -143,7 +148,7 @@ static bool read_name(struct options *options, const char *word, char *next)
 
 struct options read_options(int count, char **words)
 {
-    struct options options = {.writes = 10, .takes = 10, .idle = 500, .calls = 200000, .seconds = 120, .tag = "ddscheck"};
+    struct options options = {.writes = 10, .takes = 10, .idle = 500, .calls = 200000, .seconds = 120};
     for (int at = 1; at < count; at++) {
         char *word = words[at], *next = at + 1 < count ? words[at + 1] : NULL;
         if (read_mark(&options, word)) {

@@ -7,6 +7,7 @@
 #include <stdint.h>
 
 struct options {
+    // no tag where one is to be drawn
     const char *path, *tag;
     int named;
     const char *participant[MOST_PARTICIPANTS];

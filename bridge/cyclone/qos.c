@@ -1,5 +1,6 @@
 #include "qos.h"
 #include "fault.h"
+#include "tag.h"
 
 #include <stdio.h>
 #include <stdlib.h>
@@ -31,6 +32,7 @@ dds_qos_t *endpoint_qos(const struct endpoint *end, bool is_writer)
         dds_qset_writer_data_lifecycle(qos, false);
     }
     dds_qset_userdata(qos, end->name, strlen(end->name));
+    dds_qset_entity_name(qos, end->name);
     return qos;
 }
 
@@ -46,22 +48,29 @@ dds_qos_t *group_qos(const struct policies *policies)
     return qos;
 }
 
-void configure(const char *tag, int loss)
+// The highest number of a process whose ports are below those of the next domain, and below 65536 (DDSI-RTPS 2.5, clause 9.6.2.3).
+static int highest_index(uint32_t domain)
 {
-    if (getenv("CYCLONEDDS_URI") != NULL) {
-        if (loss > 0) {
-            fail(STATUS_USAGE, "--loss sets Cyclone's configuration, and CYCLONEDDS_URI does so too");
-        }
-        return;
+    enum { FIRST_PORT = 7400, PORTS_OF_DOMAIN = 250, PORTS_OF_PROCESS = 2, LAST_OFFSET = 11, LAST_PORT = 65535 };
+    int last = LAST_PORT - FIRST_PORT - PORTS_OF_DOMAIN * (int)domain;
+    return ((last < PORTS_OF_DOMAIN ? last : PORTS_OF_DOMAIN - 1) - LAST_OFFSET) / PORTS_OF_PROCESS;
+}
+
+void configure(const struct wire *wire)
+{
+    // each process tells each other one of itself, at every number that one may have: many do so more rarely
+    int interval = wire->processes > 8 ? 1000 : 250;
+    char text[1024], *tag = escaped_tag(wire->tag);
+    int length = snprintf(text, sizeof text,
+                          "<CycloneDDS><Domain Id=\"any\">"
+                          "<General><Interfaces><NetworkInterface name=\"lo\"/></Interfaces><AllowMulticast>false</AllowMulticast></General>"
+                          "<Discovery><Tag>%s</Tag><ParticipantIndex>auto</ParticipantIndex><MaxAutoParticipantIndex>%d</MaxAutoParticipantIndex>"
+                          "<Peers><Peer Address=\"127.0.0.1\"/></Peers><SPDPInterval>%d ms</SPDPInterval></Discovery>"
+                          "<Internal><Test><XmitLossiness>%d</XmitLossiness></Test></Internal>"
+                          "</Domain></CycloneDDS>",
+                          tag, highest_index(wire->highest_domain), interval, 10 * wire->loss);
+    free(tag);
+    if (length < 0 || (size_t)length >= sizeof text || setenv("CYCLONEDDS_URI", text, 1) != 0) {
+        fail(STATUS_DDS, "Cyclone can't be configured");
     }
-    char text[2048];
-    snprintf(text, sizeof text,
-             "<CycloneDDS><Domain Id=\"any\">"
-             "<General><Interfaces><NetworkInterface name=\"lo\"/></Interfaces><AllowMulticast>false</AllowMulticast></General>"
-             "<Discovery><Tag>%s</Tag><ParticipantIndex>auto</ParticipantIndex><MaxAutoParticipantIndex>40</MaxAutoParticipantIndex>"
-             "<Peers><Peer Address=\"127.0.0.1\"/></Peers><SPDPInterval>250 ms</SPDPInterval></Discovery>"
-             "<Internal><Test><XmitLossiness>%d</XmitLossiness></Test></Internal>"
-             "</Domain></CycloneDDS>",
-             tag, 10 * loss);
-    setenv("CYCLONEDDS_URI", text, 1);
 }

@@ -12,7 +12,20 @@ dds_qos_t *endpoint_qos(const struct endpoint *end, bool is_writer);
 // The policies of its publisher or subscriber: presentation and partitions.
 dds_qos_t *group_qos(const struct policies *policies);
 
-// The configuration of Cyclone where the environment has none: loopback alone, a tag of its own, and so many percent of the packets lost.
-void configure(const char *tag, int loss);
+// What the configuration of Cyclone is made of.
+struct wire {
+    const char *tag;
+    // so many percent of the packets are lost
+    int loss;
+    uint32_t highest_domain;
+    // how many processes there may be
+    int processes;
+};
+
+// The highest domain, by the ports that RTPS gives to domains.
+enum { HIGHEST_DOMAIN = 232 };
+
+// Sets the configuration of Cyclone: loopback alone. Nothing may be set already.
+void configure(const struct wire *wire);
 
 #endif

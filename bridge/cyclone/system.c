@@ -86,7 +86,10 @@ struct cyclone *open_system(const struct deployment *lists, const bool *is_here)
     for (int at = 0; at < lists->participants; at++) {
         if (is_here[at]) {
             const struct participant *one = &lists->participant[at];
-            system->participant[at] = made(dds_create_participant(one->domain, NULL, NULL), "participant", one->name);
+            dds_qos_t *qos = dds_create_qos();
+            dds_qset_entity_name(qos, one->name);
+            system->participant[at] = made(dds_create_participant(one->domain, qos, NULL), "participant", one->name);
+            dds_delete_qos(qos);
         }
     }
     for (int at = 0; at < lists->readers; at++) {
