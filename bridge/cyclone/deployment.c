@@ -4,14 +4,13 @@
 
 #include <string.h>
 
-// The words of each policy, in the order of DDS, which is that of Cyclone's numbers too.
-static const char *const DURABILITY[] = {"VOLATILE", "TRANSIENT_LOCAL", "TRANSIENT", "PERSISTENT", NULL};
-static const char *const ACCESS_SCOPE[] = {"INSTANCE", "TOPIC", "GROUP", NULL};
-static const char *const OWNERSHIP[] = {"SHARED", "EXCLUSIVE", NULL};
-static const char *const LIVELINESS[] = {"AUTOMATIC", "MANUAL_BY_PARTICIPANT", "MANUAL_BY_TOPIC", NULL};
-static const char *const RELIABILITY[] = {"BEST_EFFORT", "RELIABLE", NULL};
-static const char *const DESTINATION_ORDER[] = {"BY_RECEPTION_TIMESTAMP", "BY_SOURCE_TIMESTAMP", NULL};
-static const char *const HISTORY[] = {"KEEP_LAST", "KEEP_ALL", NULL};
+const char *const DURABILITY[] = {"VOLATILE", "TRANSIENT_LOCAL", "TRANSIENT", "PERSISTENT", NULL};
+const char *const ACCESS_SCOPE[] = {"INSTANCE", "TOPIC", "GROUP", NULL};
+const char *const OWNERSHIP[] = {"SHARED", "EXCLUSIVE", NULL};
+const char *const LIVELINESS[] = {"AUTOMATIC", "MANUAL_BY_PARTICIPANT", "MANUAL_BY_TOPIC", NULL};
+const char *const RELIABILITY[] = {"BEST_EFFORT", "RELIABLE", NULL};
+const char *const DESTINATION_ORDER[] = {"BY_RECEPTION_TIMESTAMP", "BY_SOURCE_TIMESTAMP", NULL};
+const char *const HISTORY[] = {"KEEP_LAST", "KEEP_ALL", NULL};
 
 // A list of at most so many entries.
 static const cJSON *short_list(const cJSON *entry, const char *name, int most)

@@ -10,6 +10,10 @@ struct cJSON;
 // The most that a list may have, and the greatest count.
 enum { MOST_PARTICIPANTS = 64, MOST_APPLICATIONS = 64, MOST_ENDPOINTS = 256, MOST_RULES = 256 };
 enum { MOST_KEYS = 64, MOST_PORTIONS = 16, MOST_PARTITIONS = 16, MOST_COUNT = 65535 };
+// The words of each policy, in the order of DDS, which is that of Cyclone's numbers too. The last one is NULL.
+extern const char *const DURABILITY[], *const ACCESS_SCOPE[], *const OWNERSHIP[], *const LIVELINESS[], *const RELIABILITY[], *const DESTINATION_ORDER[],
+    *const HISTORY[];
+
 // What stands for "unlimited" and for "infinite".
 #define UNLIMITED (-1)
 #define FOREVER INT64_MAX

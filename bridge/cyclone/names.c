@@ -1,0 +1,98 @@
+#include "names.h"
+#include "fault.h"
+#include "json.h"
+
+#include <stdlib.h>
+#include <string.h>
+
+char *spell(const char *text, const char *alphabet, size_t most)
+{
+    size_t length = strnlen(text, most);
+    char *found = room(length + 1, 1);
+    for (size_t at = 0; at < length; at++) {
+        found[at] = strchr(alphabet, text[at]) != NULL ? text[at] : '_';
+    }
+    return found;
+}
+
+// Whether a type is one of ROS 2: its last part ends with `_` and follows on `dds_`. Gives where `dds_` begins, else NULL.
+static const char *ros_part(const char *type)
+{
+    static const char PART[] = "::dds_::";
+    const char *found = NULL;
+    for (const char *at = strstr(type, PART); at != NULL; at = strstr(at + 1, PART)) {
+        found = at;
+    }
+    size_t length = strlen(type);
+    bool is_last = found != NULL && strstr(found + sizeof PART - 1, "::") == NULL && found[sizeof PART - 1] != '\0';
+    return is_last && type[length - 1] == '_' ? found : NULL;
+}
+
+char *spell_type(const char *type)
+{
+    const char *part = ros_part(type);
+    size_t length = strlen(type), written = 0;
+    char *found = room(length + 2, 1);
+    for (const char *at = type; *at != '\0'; at++) {
+        if (at == part) {
+            at += strlen("::dds_");
+        }
+        if (at[0] == ':' && at[1] == ':') {
+            found[written++] = '/';
+            at++;
+        } else {
+            found[written++] = *at;
+        }
+    }
+    // the `_` at the end goes with `dds_`
+    found[part != NULL ? written - 1 : written] = '\0';
+    char *spelled = spell(*found != '\0' ? found : "_", NAME_BYTES, MOST_TYPE);
+    free(found);
+    return spelled;
+}
+
+static bool is_there(const struct names *names, const char *name)
+{
+    for (int at = 0; at < names->count; at++) {
+        if (strcmp(names->name[at], name) == 0) {
+            return true;
+        }
+    }
+    return false;
+}
+
+const char *add_name(struct names *names, const char *text)
+{
+    char name[MOST_NAME + 1];
+    int length = (int)strnlen(text, MOST_NAME);
+    snprintf(name, sizeof name, "%.*s", length, length > 0 ? text : "_");
+    for (int number = 2; is_there(names, name); number++) {
+        char end[16];
+        int more = snprintf(end, sizeof end, "-%d", number), kept = length + more > MOST_NAME ? MOST_NAME - more : length;
+        snprintf(name, sizeof name, "%.*s%s", kept, length > 0 ? text : "_", end);
+    }
+    if (names->count == names->space) {
+        names->space = 2 * names->space + 64;
+        names->name = realloc(names->name, (size_t)names->space * sizeof *names->name);
+    }
+    char *kept = strdup(name);
+    if (names->name == NULL || kept == NULL) {
+        fail(STATUS_DDS, "memory ran out");
+    }
+    return names->name[names->count++] = kept;
+}
+
+void print_quoted(FILE *out, const char *text)
+{
+    enum { MOST_QUOTED = 300 };
+    fputc('"', out);
+    for (int at = 0; text[at] != '\0' && at < MOST_QUOTED; at++) {
+        unsigned char byte = (unsigned char)text[at];
+        if (byte < ' ' || byte > '~' || byte == '"' || byte == '\\') {
+            fprintf(out, "\\x%02x", byte);
+        } else {
+            fputc(byte, out);
+        }
+    }
+    fputs(strnlen(text, MOST_QUOTED + 1) > MOST_QUOTED ? "\" .." : "\"", out);
+}

@@ -1,0 +1,218 @@
+#include "seen.h"
+#include "change.h"
+#include "fault.h"
+
+#include <fnmatch.h>
+#include <signal.h>
+#include <stdlib.h>
+#include <string.h>
+
+enum { AT_ONCE = 64 };
+
+static volatile sig_atomic_t is_interrupted;
+
+static void interrupt(int number)
+{
+    (void)number;
+    is_interrupted = 1;
+}
+
+static void *one_more(void *list, int count, size_t size)
+{
+    // lists grow by doubling, at each power of two
+    if ((count & (count - 1)) == 0) {
+        list = realloc(list, (size_t)(count > 0 ? 2 * count : 1) * size);
+        if (list == NULL) {
+            fail(STATUS_DDS, "memory ran out");
+        }
+    }
+    return list;
+}
+
+static char *copy_of(const char *text)
+{
+    char *found = strdup(text);
+    if (found == NULL) {
+        fail(STATUS_DDS, "memory ran out");
+    }
+    return found;
+}
+
+// ── policies
+
+// What isn't announced stays as the default of its kind of endpoint.
+static struct policies policies_of(const dds_qos_t *qos, bool is_writer)
+{
+    struct policies found = {.deadline = FOREVER, .lease = FOREVER, .reliability = is_writer, .depth = 1, .max_samples = UNLIMITED, .max_instances = UNLIMITED,
+                             .max_samples_per_instance = UNLIMITED};
+    dds_durability_kind_t durability;
+    dds_presentation_access_scope_kind_t scope;
+    dds_ownership_kind_t ownership;
+    dds_liveliness_kind_t liveliness;
+    dds_reliability_kind_t reliability;
+    dds_destination_order_kind_t order;
+    dds_duration_t blocking;
+    if (dds_qget_durability(qos, &durability)) {
+        found.durability = (int)durability;
+    }
+    if (dds_qget_presentation(qos, &scope, &found.coherent, &found.ordered)) {
+        found.access_scope = (int)scope;
+    }
+    dds_qget_deadline(qos, &found.deadline);
+    dds_qget_latency_budget(qos, &found.latency_budget);
+    if (dds_qget_ownership(qos, &ownership)) {
+        found.ownership = (int)ownership;
+    }
+    if (dds_qget_liveliness(qos, &liveliness, &found.lease)) {
+        found.liveliness = (int)liveliness;
+    }
+    if (dds_qget_reliability(qos, &reliability, &blocking)) {
+        found.reliability = (int)reliability;
+    }
+    if (dds_qget_destination_order(qos, &order)) {
+        found.destination_order = (int)order;
+    }
+    return found;
+}
+
+// The name that goes along with an entity, NULL where there is none.
+static char *entity_name(const dds_qos_t *qos)
+{
+    char *name = NULL, *found = NULL;
+    if (dds_qget_entity_name(qos, &name) && name != NULL && *name != '\0') {
+        found = copy_of(name);
+    }
+    dds_free(name);
+    return found;
+}
+
+// ── what is heard
+
+static void add_participant(struct seen *seen, uint32_t domain, const dds_builtintopic_participant_t *heard)
+{
+    seen->participant = one_more(seen->participant, seen->participants, sizeof *seen->participant);
+    seen->participant[seen->participants++] = (struct seen_participant){.key = heard->key, .domain = domain, .name = entity_name(heard->qos)};
+}
+
+static void add_endpoint(struct seen *seen, uint32_t domain, bool is_writer, const dds_builtintopic_endpoint_t *heard)
+{
+    seen->endpoint = one_more(seen->endpoint, seen->endpoints, sizeof *seen->endpoint);
+    struct seen_endpoint *found = &seen->endpoint[seen->endpoints++];
+    *found = (struct seen_endpoint){
+        .key = heard->key,
+        .participant = heard->participant_key,
+        .domain = domain,
+        .is_writer = is_writer,
+        .topic = copy_of(heard->topic_name),
+        .type = copy_of(heard->type_name),
+        .name = entity_name(heard->qos),
+        .policies = policies_of(heard->qos, is_writer),
+    };
+    dds_qget_partition(heard->qos, &found->partitions, &found->partition);
+}
+
+static bool is_asked_for(const struct listening *listening, const char *topic)
+{
+    for (int at = 0; at < listening->patterns; at++) {
+        if (fnmatch(listening->pattern[at], topic, 0) == 0) {
+            return true;
+        }
+    }
+    return listening->patterns == 0;
+}
+
+enum kind { PARTICIPANTS, WRITERS, READERS };
+
+// The builtin reader of a kind, with the participant that listens, which doesn't count.
+struct ear {
+    enum kind kind;
+    uint32_t domain;
+    dds_guid_t self;
+    dds_entity_t reader;
+};
+
+static bool is_own(const struct ear *ear, const dds_guid_t *key)
+{
+    return memcmp(&ear->self, key, sizeof *key) == 0;
+}
+
+static void note(struct seen *seen, const struct listening *listening, const struct ear *ear, const void *sample, const dds_sample_info_t *about)
+{
+    bool is_there = about->instance_state == DDS_IST_ALIVE;
+    if (!about->valid_data) {
+        return;
+    }
+    if (ear->kind == PARTICIPANTS) {
+        const dds_builtintopic_participant_t *heard = sample;
+        if (is_there && !is_own(ear, &heard->key)) {
+            add_participant(seen, ear->domain, heard);
+        }
+    } else {
+        const dds_builtintopic_endpoint_t *heard = sample;
+        if (is_own(ear, &heard->participant_key) || !is_asked_for(listening, heard->topic_name)) {
+            return;
+        }
+        if (is_there) {
+            add_endpoint(seen, ear->domain, ear->kind == WRITERS, heard);
+        } else {
+            seen->left++;
+        }
+    }
+}
+
+static void take_all(struct seen *seen, const struct listening *listening, const struct ear *ear)
+{
+    void *sample[AT_ONCE];
+    dds_sample_info_t about[AT_ONCE];
+    dds_return_t count;
+    do {
+        memset(sample, 0, sizeof sample);
+        count = dds_take(ear->reader, sample, about, AT_ONCE, AT_ONCE);
+        for (int at = 0; at < count; at++) {
+            note(seen, listening, ear, sample[at], &about[at]);
+        }
+        if (count > 0) {
+            dds_return_loan(ear->reader, sample, count);
+        }
+    } while (count > 0);
+    if (count < 0) {
+        fail(STATUS_DDS, "what discovery told can't be taken: %s", dds_strretcode(-count));
+    }
+}
+
+static void open_ears(uint32_t domain, struct ear *ears)
+{
+    static const dds_entity_t TOPICS[] = {DDS_BUILTIN_TOPIC_DCPSPARTICIPANT, DDS_BUILTIN_TOPIC_DCPSPUBLICATION, DDS_BUILTIN_TOPIC_DCPSSUBSCRIPTION};
+    dds_entity_t participant = dds_create_participant(domain, NULL, NULL);
+    dds_guid_t self;
+    if (participant < 0 || dds_get_guid(participant, &self) != DDS_RETCODE_OK) {
+        fail(STATUS_DDS, "Cyclone makes no participant in domain %u: %s", domain, dds_strretcode(-participant));
+    }
+    for (int kind = PARTICIPANTS; kind <= READERS; kind++) {
+        ears[kind] = (struct ear){.kind = (enum kind)kind, .domain = domain, .self = self, .reader = dds_create_reader(participant, TOPICS[kind], NULL, NULL)};
+        if (ears[kind].reader < 0) {
+            fail(STATUS_DDS, "Cyclone makes no reader of what discovery tells: %s", dds_strretcode(-ears[kind].reader));
+        }
+    }
+}
+
+struct seen *listen_to(const struct listening *listening)
+{
+    int count = listening->domains * (READERS + 1);
+    struct ear *ears = room((unsigned long)count, sizeof *ears);
+    signal(SIGINT, interrupt);
+    signal(SIGTERM, interrupt);
+    for (int at = 0; at < listening->domains; at++) {
+        open_ears(listening->domain[at], &ears[at * (READERS + 1)]);
+    }
+    int64_t until = now() + listening->nanoseconds;
+    while (now() < until && !is_interrupted) {
+        sleep_for(20000000);
+    }
+    struct seen *seen = room(1, sizeof *seen);
+    for (int at = 0; at < count; at++) {
+        take_all(seen, listening, &ears[at]);
+    }
+    free(ears);
+    return seen;
+}
