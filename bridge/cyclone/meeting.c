@@ -32,13 +32,24 @@ static void say(struct meeting *meeting)
     }
 }
 
-// Says the same again and again. Many processes do so more rarely.
+// How often a process says where it is: many do so more rarely, since each of them tells each other one.
+static int64_t beat_of(const struct meeting *meeting)
+{
+    return meeting->system->lists->participants * INT64_C(20000000);
+}
+
+// How often a process looks whether something has changed.
+static int64_t look_of(const struct meeting *meeting)
+{
+    return beat_of(meeting) / 32;
+}
+
+// Says the same again and again.
 static void *go_on_saying(void *argument)
 {
     struct meeting *meeting = argument;
-    int participants = meeting->system->lists->participants;
     while (true) {
-        sleep_for(participants > 4 ? participants * INT64_C(5000000) : 20000000);
+        sleep_for(beat_of(meeting));
         say(meeting);
     }
     return NULL;
@@ -148,7 +159,7 @@ bool meet(struct meeting *meeting, int64_t until)
             all_met(meeting->system, true);
             return false;
         }
-        sleep_for(5000000);
+        sleep_for(look_of(meeting));
     }
     say_now(meeting, STAGE_MATCHED);
     while (!have_come(meeting, STAGE_MATCHED)) {
@@ -156,7 +167,7 @@ bool meet(struct meeting *meeting, int64_t until)
             fprintf(stderr, "run-on-cyclone: not all participants have come\n");
             return false;
         }
-        sleep_for(1000000);
+        sleep_for(look_of(meeting));
     }
     return true;
 }
@@ -191,6 +202,7 @@ static bool are_silent(const struct meeting *meeting, int64_t since)
 bool part(struct meeting *meeting, int64_t until, int64_t silence)
 {
     const struct deployment *lists = meeting->system->lists;
+    silence += 8 * beat_of(meeting);
     wait_for_acks(meeting->system, until);
     say_now(meeting, STAGE_ENDED);
     // what was said while the applications ran is heard only now, so all have been silent for no time yet
@@ -202,7 +214,7 @@ bool part(struct meeting *meeting, int64_t until, int64_t silence)
         if (are_silent(meeting, now() - silence)) {
             return false;
         }
-        sleep_for(5000000);
+        sleep_for(look_of(meeting));
     }
     if (!meeting->is_alone) {
         dds_wait_for_acks(meeting->writer, DDS_SECS(2));

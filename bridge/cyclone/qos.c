@@ -59,7 +59,7 @@ static int highest_index(uint32_t domain)
 void configure(const struct wire *wire)
 {
     // each process tells each other one of itself, at every number that one may have: many do so more rarely
-    int interval = wire->processes > 8 ? 1000 : 250;
+    int interval = wire->processes > 5 ? 50 * wire->processes : 250;
     char text[1024], *tag = escaped_tag(wire->tag);
     int length = snprintf(text, sizeof text,
                           "<CycloneDDS><Domain Id=\"any\">"
