@@ -275,8 +275,12 @@ struct captured *capture_of(struct seen *seen)
     captured->writer_notes = room(MOST_ENDPOINTS, sizeof *captured->writer_notes);
     captured->reader_notes = room(MOST_ENDPOINTS, sizeof *captured->reader_notes);
     add_silent_owners(seen);
-    qsort(seen->participant, (size_t)seen->participants, sizeof *seen->participant, by_participant);
-    qsort(seen->endpoint, (size_t)seen->endpoints, sizeof *seen->endpoint, by_endpoint);
+    if (seen->participants > 0) {
+        qsort(seen->participant, (size_t)seen->participants, sizeof *seen->participant, by_participant);
+    }
+    if (seen->endpoints > 0) {
+        qsort(seen->endpoint, (size_t)seen->endpoints, sizeof *seen->endpoint, by_endpoint);
+    }
     struct sections sections = {.seen = seen, .captured = captured};
     place_participants(&sections);
     place_endpoints(&sections);

@@ -3,7 +3,7 @@
 //   fast-endpoints DOMAIN SECONDS FILE
 //
 // A line of the file is `writer NAME TOPIC TYPE` or `reader NAME TOPIC TYPE`, and then policies as `FIELD=VALUE` in the words of deployment files, with commas
-// between partitions. Writers are at one participant and readers at another one. After so many seconds it prints `match WRITER READER` for each pair that its
+// between partitions. In names `%` and two digits of base 16 stand for a byte. Writers are at one participant and readers at another one. After so many seconds it prints `match WRITER READER` for each pair that its
 // writers were told of. It stands on the RTPS layer of Fast DDS, which announces policies that its upper layer refuses. Status: 0, 2 a bad line, 3 a fault.
 #include <fastdds/rtps/RTPSDomain.h>
 #include <fastdds/rtps/history/ReaderHistory.h>
@@ -43,7 +43,22 @@ namespace {
     std::_Exit(status);
 }
 
-// The place of a word among words.
+// A name with the bytes that it stands for.
+std::string unescaped(const std::string &word)
+{
+    std::string found;
+    for (std::size_t at = 0; at < word.size(); at++) {
+        if (word[at] == '%' && at + 2 < word.size()) {
+            found += static_cast<char>(std::stoi(word.substr(at + 1, 2), nullptr, 16));
+            at += 2;
+        } else {
+            found += word[at];
+        }
+    }
+    return found;
+}
+
+// What a word stands for.
 template <typename Kind> Kind one_of(const std::string &word, const std::map<std::string, Kind> &words)
 {
     const auto found = words.find(word);
@@ -99,7 +114,7 @@ template <typename Qos> void set(Qos &qos, const std::string &field, const std::
     } else if (field == "partitions") {
         std::istringstream names(word);
         for (std::string name; std::getline(names, name, ',');) {
-            qos.m_partition.push_back(name.c_str());
+            qos.m_partition.push_back(unescaped(name).c_str());
         }
     } else {
         stop(2, "no policy: " + field);
@@ -201,7 +216,7 @@ void add(const std::string &line, RTPSParticipant *writes, RTPSParticipant *read
     std::istringstream words(line);
     std::string kind, name, topic, type;
     words >> kind >> name >> topic >> type;
-    TopicAttributes attributes(topic.c_str(), type.c_str(), NO_KEY);
+    TopicAttributes attributes(unescaped(topic).c_str(), unescaped(type).c_str(), NO_KEY);
     if (kind == "writer") {
         add_writer(writes, name, attributes, qos_of<WriterQos>(words));
     } else if (kind == "reader") {
