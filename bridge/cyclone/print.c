@@ -172,14 +172,15 @@ static int print_form(const struct captured *captured, const char *heading, cons
     return pairs;
 }
 
-// Leaves out what makes a text too long: first comments, then connections, then a quarter of the endpoints.
-static void shorten(struct form *form, int pairs)
+// Leaves out what makes a text of this size too long: first comments, then connections, then a quarter of the endpoints.
+static void shorten(struct form *form, int pairs, size_t size)
 {
     if (form->has_comments) {
         form->has_comments = false;
     } else if (form->connections > 0) {
-        int left = form->connections < pairs ? form->connections : pairs;
-        form->connections = left > 1024 ? left - 1024 : 0;
+        // about as many as the text is too long by, and some more, so that it ends soon
+        int left = form->connections < pairs ? form->connections : pairs, fitting = (int)((double)left * MOST_TEXT / (double)size) - left / 64 - 1;
+        form->connections = fitting > 0 ? fitting : 0;
     } else {
         form->writers -= (form->writers + 3) / 4;
         form->readers -= (form->readers + 3) / 4;
@@ -209,7 +210,7 @@ char *deployment_text(struct captured *captured, const char *heading)
     size_t size;
     int pairs = print_form(captured, heading, &form, &text, &size);
     while (size > MOST_TEXT) {
-        shorten(&form, pairs);
+        shorten(&form, pairs, size);
         free(text);
         pairs = print_form(captured, heading, &form, &text, &size);
     }
