@@ -164,7 +164,7 @@ bool meet(struct meeting *meeting, int64_t until)
     say_now(meeting, STAGE_MATCHED);
     while (!have_come(meeting, STAGE_MATCHED)) {
         if (now() >= until) {
-            fprintf(stderr, "run-on-cyclone: not all participants have come\n");
+            fprintf(stderr, "run-on-cyclone: not all participants have come; all processes of a run have the same document and tag\n");
             return false;
         }
         sleep_for(look_of(meeting));
