@@ -4,3 +4,5 @@ mod GivenUp
 mod Witnessed
 mod Unaccepted
 mod Never
+mod Growing
+mod Summed

@@ -2,3 +2,4 @@ pub mod Rows
 pub mod Answers
 pub mod Refuted
 pub mod Refutations
+pub mod Sizes

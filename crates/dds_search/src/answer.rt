@@ -4,11 +4,11 @@ use dds_cert::Certificate;
 use dds_check::No;
 use dds_propose::targets::Target;
 
-/// What is known of the bounds that weights show for a limit that has no certificate.
+/// What is known of the bounds that weights show for a key of a reader, or for all its samples.
 #[derive(Clone, Copy, Debug, PartialEq, Eq)]
 pub enum Least {
-    /// Some weights show this bound. It is above the limit, and the least that one row of weights was found to show. For the samples of a
-    /// reader a sum of bounds of its keys may be less.
+    /// Some weights show this bound, the least that one row of weights was found to show. For the samples of a reader a sum of bounds of
+    /// its keys may be less.
     Shown(u32),
     /// The climb found that there is no least bound: firings in fractions bring more and more samples.
     Unbounded,

@@ -63,7 +63,12 @@ impl Collected {
     }
 
     /// Adds the row of a limit and the bound that it shows.
-    fn add(&mut self, limited: Limited, row: WeighedRow, bound: u32) -> Result<(), NoMemory> {
+    pub(crate) fn add(
+        &mut self,
+        limited: Limited,
+        row: WeighedRow,
+        bound: u32,
+    ) -> Result<(), NoMemory> {
         let row = merged(&mut self.rows, row)?;
         let entry = Entry {
             limited,

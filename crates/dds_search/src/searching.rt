@@ -67,7 +67,7 @@ fn shown(
 }
 
 /// What is known of the bounds for a target whose attempt gave none within its limit.
-fn least_of(
+pub(crate) fn least_of(
     alloc: Global,
     plan: &Plan,
     net: &Net,

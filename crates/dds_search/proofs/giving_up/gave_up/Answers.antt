@@ -16,7 +16,7 @@ returns-in-Arrived-Lost-clause-told c = λ stands.
     let h : HeartbeatFor = record { writer = c.heartbeat.inside.writer; reader = c.heartbeat.inside.reader; first = c.heartbeat.inside.first; last = c.heartbeat.inside.last } in
     let same : c.in-Some.heartbeat ≡ h = search rules in
     let brings : BringsWord net (world_after c.args.simulator.now.plan ms) c.args.last.now c.in-Some.place h =
-        subst (λ (x : HeartbeatFor). BringsWord net (world_after c.args.simulator.now.plan ms) c.args.last.now c.in-Some.place x) same (c.in-Some.ensures ms stands) in
+    subst (λ (x : HeartbeatFor). BringsWord net (world_after c.args.simulator.now.plan ms) c.args.last.now c.in-Some.place x) same (c.in-Some.ensures ms stands) in
     let asks = rw c.in-Some-2.is at c.in_ok-number.ensures.asks in
     let told : c.in_ok-reply.reply ≡ Arrived (Lost c.in-Arrived-Lost.field-0-0) = search rules in
     gives_up net ms c.args.last.now c.in_ok-reply.reply c.in-Some.place c.heartbeat.inside.reader c.in-Some-written_key.key c.in-Some-2.number c.in-Arrived-Lost.field-0-0 h

@@ -12,6 +12,6 @@ returns-in-Ok-Some-clause-told c = λ first.
     ends c.args.before.now c.in-Ok.replies.items c.args.last.now c.in-Ok-Some.told.reply c.in-Ok-Some.told.reader c.in-Ok-Some.told.key c.in-Ok-Some.told.loss c.args.simulator c.run.new.self
     c.in-Ok.ensures.runs c.in-Ok.ensures.plan
     (subst (λ (rs : List Reply). StandsAfter (paired c.args.before.now rs) c.run.new.self
-        → LosesAfter (network_of c.run.new.self.plan) (paired c.args.before.now rs) c.args.last.now c.in-Ok-Some.told.reply c.in-Ok-Some.told.reader c.in-Ok-Some.told.key c.in-Ok-Some.told.loss)
-        c.deref.ensures.value told)
+    → LosesAfter (network_of c.run.new.self.plan) (paired c.args.before.now rs) c.args.last.now c.in-Ok-Some.told.reply c.in-Ok-Some.told.reader c.in-Ok-Some.told.key c.in-Ok-Some.told.loss)
+    c.deref.ensures.value told)
     first
