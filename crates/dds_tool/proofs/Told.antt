@@ -137,13 +137,13 @@ run_accepted holds request f e failed file_failed output_failed told gives cause
 
 -- only a bad file has status 2
 two_is_bad : (e : Exit) → exit_status e ≡ 2 → e ≡ exit.BadFile
-two_is_bad exit.Yes is = omega is
-two_is_bad exit.No is = omega is
+two_is_bad exit.Yes is = absurd (omega (arith, is))
+two_is_bad exit.No is = absurd (omega (arith, is))
 two_is_bad exit.BadFile is = refl
-two_is_bad exit.Device is = omega is
-two_is_bad exit.NoMemory is = omega is
-two_is_bad exit.Run is = omega is
-two_is_bad exit.Usage is = omega is
+two_is_bad exit.Device is = absurd (omega (arith, is))
+two_is_bad exit.NoMemory is = absurd (omega (arith, is))
+two_is_bad exit.Run is = absurd (omega (arith, is))
+two_is_bad exit.Usage is = absurd (omega (arith, is))
 
 -- the line of a bad file's fault is told
 pub bad_told : (holds : List ℕ → Option (List ℕ)) (request : Request) (f : ToolFault) (e : Exit) (old new : Option (List ℕ)) → (f ≡ fault.Write) ⊎ GivesTo holds request (Err f)

@@ -1,12 +1,11 @@
 -- What a thorough search says on the error output where it found no certificate.
-use Rattle.std.specs.Prelude.{ℕ, ◌≡◌, ◌⊎◌, ◌<◌, nat_lt, List, ◌++◌, codes, length, true, Option, Some, IfSome, if◌then◌else◌}
+use Rattle.std.specs.Prelude.{ℕ, ◌≡◌, ◌⊎◌, nat_lt, List, ◌++◌, codes, true, Some, if◌then◌else◌}
 use Rattle.std.specs.Fmt.{decimal}
 use Rattle.std.specs.Option.{option_map_or}
 use Rattle.dds_deploy.specs.Lists.{Lists}
 use Rattle.dds_match.specs.Network.{Network, is_written}
 use Rattle.dds_match.specs.Plan.{network_of}
 use Rattle.dds_cert.specs.Naming.{name_at, reader_key, writer_key}
-use Rattle.dds_runs.specs.Accepted.{instance_limit}
 use Rattle.dds_answers.specs.Structure.{nothing}
 use Rattle.dds_verdict.specs.Refusal.{refusal_line}
 use Rattle.dds_propose.specs.declared.targets.Target.{Target}
@@ -27,16 +26,11 @@ own_name net r =
 abbrev pub IsDepthFor : Network → ℕ → ℕ → ℕ → ℕ → Type 0
 IsDepthFor net w r k depth = (net.matched w r ≡ true) × (is_written net w k ≡ true) × ((net.writer_limits w).keep_last ≡ Some depth)
 
--- that is fewer than the reader's own limit, if it has one
-abbrev pub IsLower : Network → ℕ → ℕ → ℕ → Type 0
-IsLower net w r k =
-    (depth : ℕ) × IsDepthFor net w r k depth × (r < net.readers → IfSome (instance_limit (net.reader_limits r)) (λ own. depth < own))
-
--- the limit of a target by the names of the endpoint and the key: the reader's own, or the depth of a writer that is lower
+-- the limit of a target by the names of the endpoint and the key: the reader's own, or the depth of a writer
 abbrev pub IsLimitText : Lists → Target → List ℕ → Type 0
 IsLimitText d (Instance r k) text =
     (text ≡ own_name (network_of d) r ++ (codes " of " ++ (name_at d.readers.names r ++ (codes " " ++ reader_key d r k))))
-    ⊎ ((w : ℕ) × IsLower (network_of d) w r k × (text ≡ codes "the history depth of " ++ (name_at d.writers.names w ++ (codes " " ++ writer_key d w k))))
+    ⊎ ((w depth : ℕ) × IsDepthFor (network_of d) w r k depth × (text ≡ codes "the history depth of " ++ (name_at d.writers.names w ++ (codes " " ++ writer_key d w k))))
 IsLimitText d (Reader r) text = text ≡ codes "max_samples of " ++ name_at d.readers.names r
 
 -- what shows the bounds that are compared: of the samples of a reader a single row

@@ -83,6 +83,7 @@ fn refute_file<S: Sources>(
 const MAX_EVENTS: usize = 67_108_864;
 
 /// The answer of `replay` to two files. Both are read whole, the deployment first, before either is parsed.
+#[tactic(auto, using(dds_answers::proofs::Opened::both_open))]
 fn replay_files<S: Sources>(
     alloc: Global,
     deployment: &str,

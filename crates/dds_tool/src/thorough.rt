@@ -1,5 +1,5 @@
 //! What `propose --thorough` answers to the bytes of a deployment.
-ghost use Rattle.std.specs.Prelude.{◌≡◌, ◌∷◌, ◌<◌, ℕ, List, [], IfErr, IfOk, IfSome, IsOk, IsTrue, None, Ok, OnOk, Some, string_bytes, true};
+ghost use Rattle.std.specs.Prelude.{◌≡◌, ◌∷◌, ◌≤◌, ◌<◌, ℕ, List, [], IfErr, IfOk, IfSome, IsOk, None, Ok, OnOk, Some, string_bytes, true};
 ghost use Rattle.dds_match.specs.Plan.{network_of};
 ghost use Rattle.dds_cert.specs.Fits.{fits};
 ghost use Rattle.dds_cert.specs.Views.{certificate_view};
@@ -56,9 +56,7 @@ fn depth_for(plan: &Plan, writer: WriterNo, reader: ReaderNo, key: KeyNo) -> Opt
 }
 
 /// Whether a limit is lower than another, or the only one.
-fn is_lower(limit: u32, other: Option<u32>) -> bool
-    ensures { IsTrue result → IfSome other (λ o. limit < o) }
-{
+fn is_lower(limit: u32, other: Option<u32>) -> bool {
     match other {
         Some(other) => limit < other,
         None => true,
@@ -67,7 +65,7 @@ fn is_lower(limit: u32, other: Option<u32>) -> bool
 
 /// The first of the writers that keep the fewest samples of a key for a reader, where that is fewer than its own limit.
 fn lowest_writer(plan: &Plan, reader: ReaderNo, key: KeyNo, own: Option<u32>) -> Option<WriterNo>
-    ensures { IfSome result (λ w. (depth : ℕ) × IsDepthFor (network_of plan.now) w reader key depth × IfSome own (λ o. depth < o)) }
+    ensures { IfSome result (λ w. (depth : ℕ) × IsDepthFor (network_of plan.now) w reader key depth) }
 {
     let mut lowest = own;
     let mut found = None;
@@ -176,8 +174,8 @@ fn missing_text(alloc: Global, plan: &Plan, missing: Missing) -> Result<String, 
 #[tactic(auto, unfolding(dds_answers::specs::Report::output_of, dds_answers::specs::Report::status_of))]
 fn none_with(alloc: Global, note: Result<String, NoMemory>) -> Result<Answer, ToolFault>
     ensures gives { Gives result unproposed }
-    ensures note { IfOk result (λ a. IfOk note.entry (λ note. a.note ≡ Some note)) }
-    ensures there { OnOk result (IsOk note.entry) }
+    ensures note { IfOk result (λ a. IfOk note (λ note. a.note ≡ Some note)) }
+    ensures there { OnOk result (IsOk note) }
     ensures fault { IfErr result IsAnswerFault }
 {
     let Ok(note) = note else {

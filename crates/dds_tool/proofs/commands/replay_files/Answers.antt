@@ -14,7 +14,7 @@ returns-in_err-deployment-clause-gives g c = λ x y is_x is_y.
 pub returns-in_err-events-clause-gives : goal.returns-in_err-events-clause-gives
 returns-in_err-events-clause-gives g c = λ x y is_x is_y.
     let there = ap (λ (holds : List ℕ → _). holds c.args.events.now) c.in_ok-deployment.ensures.others ∙ is_y in
-    unread_gives_one (MayReplayFor c.args.style x y) c.from_residual-2.result c.in_err-events.field-0.0 c.from_residual-2.ensures.1 c.in_err-events.ensures.faults
+    unread_gives_one (MayReplayFor c.args.style x y) c.from_residual-in_err-events.result c.in_err-events.field-0.0 c.from_residual-in_err-events.ensures.1 c.in_err-events.ensures.faults
     (λ same. large_replay c.args.style x y (inr (held _ y (λ xs. 67108864 < length xs) there (c.in_err-events.ensures.too_large (ap Err same)))))
 
 pub returns-clause-gives : goal.returns-clause-gives
