@@ -6,8 +6,8 @@
 
 On every deployment of the examples and of tools/search-cases, and on the largest inputs: `check` accepts what `propose` and `propose --thorough` print; what `migrate`
 prints stands for the same lists, by `show`; `replay` of what `refute` prints gives the same lines. Of a JSON document the certificate and the events are the same texts.
-What is printed passes its schema in docs/schemas, where Python's jsonschema is installed. A text that is above the 1,048,576 bytes of a file has to be refused as too
-large, and counts as skipped. The last line is 'N passed, M failed'; the status is 1 if one failed.
+What is printed passes its schema in docs/schemas, where Python's jsonschema is installed. Where `propose` or `migrate` print a text above the 1,048,576 bytes of a
+file, they say so on standard error, and it is refused as too large; `propose --thorough` prints none as long. The last line is 'N passed, M failed'; the status is 1 if one failed.
 """
 import json
 import sys
@@ -18,9 +18,10 @@ from pathlib import Path
 sys.dont_write_bytecode = True
 import inputs  # noqa: E402
 import schemas  # noqa: E402
-from harness import ROOT, Skipped, Tally, ddscheck, need_program, side_by_side  # noqa: E402
+from harness import ROOT, Tally, ddscheck, need_program, side_by_side  # noqa: E402
 
 LIMIT = 1 << 20
+EVENTS_LIMIT = 1 << 26
 # the searches on the largest inputs take longest
 SECONDS = 300
 VALIDATORS = schemas.validators()
@@ -45,12 +46,13 @@ def passes(kind, text):
     return not VALIDATORS or VALIDATORS[kind].is_valid(schemas.plain(tomllib.loads(text)))
 
 
-def above_limit(text, reader, *words):
-    """What to say of a text above a file's limit, which its reader has to refuse."""
+def above_limit(given, reader, *words):
+    """What is wrong with a text above a file's limit: that has to be said of it, and its reader has to refuse it."""
+    said = f"ddscheck: this text has {len(given.out)} bytes, and a file may have at most 1048576\n"
+    if given.err != said:
+        return f"{len(given.out)} bytes, and on standard error {given.err!r}"
     answer = ask(*words)
-    if (answer.status, answer.out, answer.err) != (2, "", "ddscheck: 4 TooLarge\n"):
-        return f"{reader} of {len(text)} bytes: {answer}"
-    return Skipped(f"{reader} reads no text above {LIMIT:,} bytes, and some that are printed for it are longer")
+    return None if (answer.status, answer.out, answer.err) == (2, "", "ddscheck: 4 TooLarge\n") else f"{reader}: {answer}"
 
 
 def propose(path, room, *options):
@@ -67,7 +69,7 @@ def propose(path, room, *options):
     certificate = room / "certificate"
     certificate.write_text(given.out)
     if len(given.out) > LIMIT:
-        return above_limit(given.out, "check", "check", path, certificate)
+        return "a text above a file's limit" if options else above_limit(given, "check", "check", path, certificate)
     checked = ask("check", path, certificate)
     if checked.status != 0 or not checked.out.startswith("yes\n"):
         return f"check: {checked}"
@@ -88,7 +90,7 @@ def migrate(path, room):
     migrated = room / "migrated"
     migrated.write_text(given.out)
     if len(given.out) > LIMIT:
-        return above_limit(given.out, "every command on a migrated file", "show", migrated)
+        return above_limit(given, "show", "show", migrated)
     if first.status != 0 or ask("show", migrated).out != first.out:
         return "other lists"
     return None if passes("deployment", given.out) else "the deployment doesn't pass its schema"
@@ -109,13 +111,25 @@ def refute(path, room):
         return "the document has other events"
     events = room / "events"
     events.write_text(given.out)
-    if len(given.out) > LIMIT:
-        return above_limit(given.out, "replay", "replay", path, events)
     again = ask("replay", path, events)
     if (again.status, again.out) != (0, lines):
         return f"replay: {again}"
     last = lines.splitlines()[-1]
     return None if int(first.split()[-1]) == lines.count("\n") and " -> " in last else "the count of the events"
+
+
+def read_events_to_the_limit(room):
+    """`replay` of as many bytes of comments as a file of events may have, and of one more."""
+    path = ROOT / "examples/ping/ping.toml"
+    events = room / "events"
+    events.write_text("#" * 63 + "\n" + ("#" * 1023 + "\n") * 65535 + "#" * 959 + "\n")
+    given = ask("replay", path, events)
+    if (events.stat().st_size, given.status, given.out, given.err) != (EVENTS_LIMIT, 0, "", ""):
+        return f"{events.stat().st_size} bytes: {given}"
+    with events.open("a") as file:
+        file.write("\n")
+    given = ask("replay", path, events)
+    return None if (given.status, given.out, given.err) == (2, "", "ddscheck: 4 TooLarge\n") else f"one byte more: {given}"
 
 
 WAYS = [propose, propose_thoroughly, migrate, refute]
@@ -158,6 +172,8 @@ def main(names):
             tally.passed, tally.failed = tally.passed + one.passed, tally.failed + one.failed
             for reason, count in one.skipped.items():
                 tally.skip(reason, count)
+        if not names:
+            tally.judge("events of 64 MiB", read_events_to_the_limit, Path(room))
     return tally.finish()
 
 
