@@ -1,0 +1,29 @@
+-- The text of an answer.
+use Rattle.std.specs.Prelude.{ℕ, List, [], ◌∷◌, ◌++◌, codes, flat_map}
+use Rattle.std.specs.Fmt.{decimal}
+use Rattle.dds_deploy.specs.Lists.{Lists}
+use Rattle.dds_cert.specs.Naming.{reader_key, writer_key}
+use Rattle.dds_events.specs.Naming.{reader_name, rule_text, writer_name}
+use Rattle.dds_conform.specs.declared.conformance.Conformance.{Conformance}
+use Rattle.dds_conform.specs.declared.conformance.Conformance.TheVariants.{Kept, NoPermit, Unknown}
+use Rattle.dds_conform.specs.declared.conformance.Shortage.{Shortage}
+
+-- a rule that could give the permit, and what it lacks
+abbrev pub shortage_line : Lists → Shortage → List ℕ
+shortage_line d s =
+    rule_text d s.rule ++ (codes " lacks " ++ (decimal s.missing ++ (codes " of " ++ (reader_name d s.reader ++ (codes " " ++ (reader_key d s.reader s.key ++ codes "\n"))))))
+
+-- what rules lack; where nothing is lacked, no rule that takes something gives the permit
+abbrev pub shortage_lines : Lists → List Shortage → List ℕ
+shortage_lines d [] = codes "no rule gives one\n"
+shortage_lines d (s ∷ ss) = flat_map (shortage_line d) (s ∷ ss)
+
+-- the line of the trace and the write that has no permit, and what rules lack
+abbrev pub refusal_text : Lists → (line writer key : ℕ) → List Shortage → List ℕ
+refusal_text d n w k short =
+    codes "line " ++ (decimal n ++ (codes ": no permit for " ++ (writer_name d w ++ (codes " " ++ (writer_key d w k ++ (codes "\n" ++ shortage_lines d short))))))
+
+abbrev pub answer_text : Lists → Conformance → List ℕ
+answer_text d Kept = codes "kept\n"
+answer_text d (NoPermit x) = refusal_text d x.line x.writer x.key x.short.items
+answer_text d Unknown = codes "unknown\n"

@@ -1,0 +1,14 @@
+-- The numbers and words that users are told of a trace that can't be read.
+use Rattle.std.specs.Prelude.{ℕ, List, codes}
+use Rattle.dds_conform.specs.declared.fault.TraceFaultKind.{TraceFaultKind}
+use Rattle.dds_conform.specs.declared.fault.TraceFaultKind.TheVariants.{NotText, NotAnEntry, Foreign}
+
+abbrev pub number_of : TraceFaultKind → ℕ
+number_of NotText = 1
+number_of NotAnEntry = 2
+number_of Foreign = 3
+
+abbrev pub name_of : TraceFaultKind → List ℕ
+name_of NotText = codes "NotText"
+name_of NotAnEntry = codes "NotAnEntry"
+name_of Foreign = codes "Foreign"

@@ -1,0 +1,10 @@
+pub mod Actions
+pub mod Answers
+pub mod Entries
+pub mod Faults
+pub mod Giving
+pub mod Judging
+pub mod Keeping
+pub mod Reading
+pub mod Rivals
+pub mod Shortages

@@ -1,0 +1,78 @@
+//! The text of an answer.
+ghost use Rattle.std.specs.Prelude.{◌≡◌, IfOk, string_bytes};
+ghost use Rattle.dds_conform.specs.Answers.{answer_text, refusal_text, shortage_line, shortage_lines};
+
+use crate::conformance::{Conformance, Refused, Shortage};
+use dds_base::NoMemory;
+use dds_cert::naming::{name_at, reader_key, writer_key};
+use dds_deploy::Deployment;
+use dds_events::rule_text;
+use std::alloc::Global;
+
+/// What a rule lacks, as a line.
+fn shortage_line(alloc: Global, lists: &Deployment, short: &Shortage) -> Result<String, NoMemory>
+    ensures { IfOk result (λ text. string_bytes text ≡ shortage_line lists.now short.now) }
+{
+    let rule = rule_text(alloc, lists, short.rule)?;
+    let reader = name_at(lists.reader_names(), short.reader.number());
+    let key = reader_key(lists, short.reader, short.key);
+    let missing = short.missing;
+    format!(in alloc; "{rule} lacks {missing} of {reader} {key}\n")
+}
+
+/// What rules lack, as lines.
+fn shortage_lines(alloc: Global, lists: &Deployment, short: &[Shortage]) -> Result<String, NoMemory>
+    ensures { IfOk result (λ text. string_bytes text ≡ shortage_lines lists.now short.now) }
+{
+    if short.is_empty() {
+        return String::from_str(alloc, "no rule gives one\n");
+    }
+    let mut text = String::new(alloc);
+    for one in short {
+        let line = shortage_line(alloc, lists, one)?;
+        text.push_str(line.as_str())?;
+    }
+    Ok(text)
+}
+
+/// The line of a write that has no permit, before these lines.
+fn refusal_text(
+    alloc: Global,
+    lists: &Deployment,
+    refused: &Refused,
+    short: &str,
+) -> Result<String, NoMemory>
+    requires { short.now ≡ shortage_lines lists.now refused.now.short.items }
+    ensures { IfOk result (λ text. string_bytes text
+        ≡ refusal_text lists.now refused.now.line refused.now.writer refused.now.key refused.now.short.items) }
+{
+    let line = refused.line;
+    let writer = name_at(lists.writer_names(), refused.writer.number());
+    let key = writer_key(lists, refused.writer, refused.key);
+    format!(in alloc; "line {line}: no permit for {writer} {key}\n{short}")
+}
+
+/// The lines of a write that has no permit.
+fn refused_text(alloc: Global, lists: &Deployment, refused: &Refused) -> Result<String, NoMemory>
+    ensures { IfOk result (λ text. string_bytes text
+        ≡ refusal_text lists.now refused.now.line refused.now.writer refused.now.key refused.now.short.items) }
+{
+    let short = shortage_lines(alloc, lists, &refused.short)?;
+    refusal_text(alloc, lists, refused, short.as_str())
+}
+
+/// The text of an answer: `kept`, `unknown`, or the line of a write that has no permit, and for each rule that could
+/// give one a line for each thing that it lacks. Only want of memory is an error.
+pub fn answer_text(
+    alloc: Global,
+    lists: &Deployment,
+    answer: &Conformance,
+) -> Result<String, NoMemory>
+    ensures { IfOk result (λ text. string_bytes text ≡ answer_text lists.now answer.now) }
+{
+    match answer {
+        Conformance::Kept => String::from_str(alloc, "kept\n"),
+        Conformance::NoPermit(refused) => refused_text(alloc, lists, refused),
+        Conformance::Unknown => String::from_str(alloc, "unknown\n"),
+    }
+}

@@ -1,0 +1,35 @@
+//! Whether a recorded trace keeps the rules of a deployment. A trace tells in each line that an application wrote or
+//! took a sample of a key, and no firings of rules: it keeps the rules where firings can be put in between so that each
+//! write has its permit and each firing its takes.
+//!
+//! `read_trace` reads the lines, each with its number, and tells the first fault. `conform` makes the entries on a
+//! ledger in their order, and fires a rule when a write needs it. `kept` is proved to mean that there are such firings,
+//! and `no permit`, where no two rules give permits for the same writes, that there are none. Where they do there is a
+//! choice: then a search of at most so many steps tries which rule to fire, and what it finds is judged on a ledger
+//! again. That the search tries everything before it says `no permit` is not proved.
+//!
+//! The entries are kept as a list, 40 bytes for each and as much room again while it grows; beside it the memory is
+//! that of the counts. A search takes some 50 bytes more for each entry.
+#![tactic(auto)]
+
+pub mod actions;
+mod advising;
+pub mod answers;
+mod board;
+pub mod conformance;
+pub mod conforming;
+pub mod fault;
+mod hunting;
+mod judging;
+mod lines;
+pub mod reading;
+mod rivals;
+mod serving;
+mod shortages;
+
+pub use actions::{Action, Entry};
+pub use answers::answer_text;
+pub use conformance::{Conformance, Refused, Shortage};
+pub use conforming::{SEARCH_STEPS, conform};
+pub use fault::{TraceFault, TraceFaultKind};
+pub use reading::read_trace;

@@ -1,0 +1,78 @@
+//! A trace read from its bytes.
+ghost use Rattle.std.specs.Prelude.{◌≡◌, ◌++◌, ◌∷◌, [], Some, IfErr, IfOk, IsUtf8, OnOk};
+ghost use Rattle.std.specs.Str.Lines.{lines};
+ghost use Rattle.dds_match.specs.Plan.{network_of};
+ghost use Rattle.dds_conform.specs.Actions.{action_text};
+ghost use Rattle.dds_conform.specs.Entries.{entry_action, entry_application, entry_line};
+ghost use Rattle.dds_conform.specs.Judging.{AreKnown};
+ghost use Rattle.dds_conform.specs.Reading.{AreEntries, IsEntryOf, IsFaultOf, IsLineFaultOf, IsPushFault, told};
+
+use crate::actions::Entry;
+use crate::fault::{TraceFault, TraceFaultKind};
+use crate::lines::{read_line, says_something};
+use dds_match::Plan;
+use std::alloc::Global;
+
+/// Adds the entry of a line that says something.
+fn push_line(
+    entries: &mut Vec<Entry>,
+    plan: &Plan,
+    line: &str,
+    number: usize,
+) -> Result<(), TraceFault>
+    ensures entry { OnOk result ((e : Entry) × (entry_line e ≡ number)
+        × (told line.now ≡ Some (action_text plan.now (entry_application e) (entry_action e)))
+        × IsEntryOf plan.now e × (entries.new.items ≡ entries.old.items ++ e ∷ [])) }
+    ensures fault { IfErr result (λ fault. IsPushFault plan.now number line.now fault) }
+{
+    let entry = read_line(plan, line, number)?;
+    entries.push(entry)?;
+    Ok(())
+}
+
+/// Adds the entries of the lines of a text.
+fn push_lines(entries: &mut Vec<Entry>, plan: &Plan, text: &str) -> Result<(), TraceFault>
+    requires { entries.old.items ≡ [] }
+    ensures entries { OnOk result (AreEntries plan.now (lines text.now) entries.new.items) }
+    ensures fault { IfErr result (IsLineFaultOf plan.now (lines text.now)) }
+{
+    let mut number = 0;
+    for line in text.lines() {
+        number += 1;
+        if says_something(line) {
+            push_line(entries, plan, line, number)?;
+        }
+    }
+    Ok(())
+}
+
+/// The entries of the lines of a text.
+fn read_text(alloc: Global, plan: &Plan, text: &str) -> Result<Vec<Entry>, TraceFault>
+    ensures entries { IfOk result (λ entries. AreEntries plan.now (lines text.now) entries.items) }
+    ensures known { IfOk result (λ entries. AreKnown (network_of plan.now) entries.items) }
+    ensures fault { IfErr result (IsLineFaultOf plan.now (lines text.now)) }
+{
+    let mut entries = Vec::new(alloc);
+    push_lines(&mut entries, plan, text)?;
+    Ok(entries)
+}
+
+/// The entries of a trace, in order. A line that is empty or begins with `#` says nothing. Any other is a time (a word
+/// of digits, with a point among them at most), and after a blank `APPLICATION write WRITER KEY` or `APPLICATION take
+/// READER KEY`, by the names of the deployment, with one blank between two words. The endpoint is the application's,
+/// and what is taken is in the reader's filter. The fault is the first line of which that isn't so, or `NotText` just
+/// where the bytes are not UTF-8, and `NoMemory` comes where memory ran out.
+pub fn read_trace(alloc: Global, plan: &Plan, bytes: &[u8]) -> Result<Vec<Entry>, TraceFault>
+    ensures entries { IfOk result (λ entries. AreEntries plan.now (lines bytes.now) entries.items) }
+    ensures known { IfOk result (λ entries. AreKnown (network_of plan.now) entries.items) }
+    ensures text { OnOk result (IsUtf8 bytes.now) }
+    ensures fault { IfErr result (IsFaultOf plan.now bytes.now) }
+{
+    match str::from_utf8(bytes) {
+        Ok(text) => read_text(alloc, plan, text),
+        Err(_) => Err(TraceFault::At {
+            kind: TraceFaultKind::NotText,
+            line: 0,
+        }),
+    }
+}
