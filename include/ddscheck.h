@@ -46,6 +46,14 @@ typedef enum ddscheck_status {
     DDSCHECK_NO_FILE = 10
 } ddscheck_status;
 
+/* What the check of a deployment by a certificate says: the status with which `ddscheck check` ends. */
+typedef enum ddscheck_verdict {
+    DDSCHECK_YES = 0,
+    DDSCHECK_NO = 1,
+    /* one of the two files has a fault, or more than 1,048,576 bytes */
+    DDSCHECK_BAD_FILE = 2
+} ddscheck_verdict;
+
 /* A guard. It is DDSCHECK_GUARD_CLOSED before it is opened, and then only the calls below may change it. Don't copy an open one. */
 typedef struct ddscheck_guard {
     void *at;
@@ -55,6 +63,8 @@ typedef struct ddscheck_guard {
 #define DDSCHECK_GUARD_CLOSED {NULL, 0}
 
 /* ── the library's own calls; texts come with their lengths in bytes ── */
+ddscheck_status ddscheck_check_deployment(const char *deployment, size_t deployment_length, const char *certificate, size_t certificate_length, uint32_t *verdict,
+    char *text, size_t room, size_t *length);
 ddscheck_status ddscheck_open_guard(const char *deployment, size_t deployment_length, const char *application, size_t application_length, ddscheck_guard *guard);
 ddscheck_status ddscheck_free_guard(ddscheck_guard guard);
 ddscheck_status ddscheck_find_writer(ddscheck_guard *guard, const char *name, size_t length, size_t *writer);
@@ -80,6 +90,29 @@ ddscheck_status ddscheck_permits(ddscheck_guard *guard, size_t writer, size_t ke
 ddscheck_status ddscheck_spare(ddscheck_guard *guard, size_t reader, size_t key, uint64_t *spare);
 
 /* ── opening, closing and look-ups, by texts that end with a 0 ── */
+
+/*
+ * Checks a deployment by a certificate, both given as the bytes of their files. `text` gets the lines that `ddscheck check` prints, of a bad file on its error
+ * output, cut where they need more than `room` bytes with the zero at their end. It takes memory while it works, and DDSCHECK_NO_MEMORY is the only other answer.
+ */
+static inline ddscheck_status ddscheck_check(const char *deployment, size_t deployment_length, const char *certificate, size_t certificate_length,
+    ddscheck_verdict *verdict, char *text, size_t room)
+{
+    uint32_t number = 0;
+    size_t length = 0, most = room > 0 ? room - 1 : 0;
+    ddscheck_status status = ddscheck_check_deployment(deployment, deployment_length, certificate, certificate_length, &number, text, most, &length);
+    if (status == DDSCHECK_OK) {
+#ifdef __cplusplus
+        *verdict = static_cast<ddscheck_verdict>(number);
+#else
+        *verdict = (ddscheck_verdict)number;
+#endif
+        if (room > 0) {
+            text[length < most ? length : most] = '\0';
+        }
+    }
+    return status;
+}
 
 /* Opens a guard for an application, by the bytes of the deployment file. A guard that is open stays as it is. */
 static inline ddscheck_status ddscheck_open(const char *deployment, size_t length, const char *application, ddscheck_guard *guard)

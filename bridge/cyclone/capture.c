@@ -129,7 +129,7 @@ static void prepare(const struct words *words)
 static void tell(const struct seen *seen)
 {
     if (seen->endpoints == 0) {
-        fprintf(stderr, "capture: no writer and no reader was there\n");
+        fprintf(stderr, "capture: no writer and no reader was there; is it another domain (--domain), topic (--topics) or interface (CYCLONEDDS_URI)?\n");
     }
     if (seen->left > 0) {
         fprintf(stderr, "capture: %d writers and readers were there and left before the end\n", seen->left);

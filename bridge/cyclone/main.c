@@ -6,6 +6,7 @@
 #include "qos.h"
 #include "report.h"
 #include "tag.h"
+#include "trace.h"
 #include "worker.h"
 
 #include <stdio.h>
@@ -77,30 +78,39 @@ static void hold(const struct deployment *lists, const struct options *options, 
     }
 }
 
-// Runs the applications that are here to their ends, each in a thread of its own. Gives when they began.
-static int64_t run(struct cyclone *system, struct worker *workers, const struct options *options)
+// Makes a thread for each application that is here, and waits until all guards are open. The threads then wait at the stage.
+static void start(const struct cyclone *system, struct worker *workers, pthread_barrier_t *stage)
 {
     const struct deployment *lists = system->lists;
-    pthread_t threads[MOST_APPLICATIONS];
-    int64_t begun = now();
-    hold(lists, options, workers, begun);
+    unsigned here = 0;
+    for (int at = 0; at < lists->applications; at++) {
+        here += system->is_here[lists->application[at].participant];
+    }
+    pthread_barrier_init(stage, NULL, here + 1);
     for (int at = 0; at < lists->applications; at++) {
         struct worker *worker = &workers[at];
-        worker->cut_at = begun + (int64_t)options->seconds * 1000000000;
-        worker->idle_waits = options->idle;
-        worker->most_calls = (uint64_t)options->calls;
-        worker->last_success = begun;
-        if (options->times) {
-            worker->write_times = room(worker->writes, sizeof *worker->write_times);
-            worker->take_times = room(worker->takes, sizeof *worker->take_times);
-        }
-        if (system->is_here[lists->application[at].participant] && pthread_create(&threads[at], NULL, work, worker) != 0) {
+        worker->stage = stage;
+        if (system->is_here[lists->application[at].participant] && pthread_create(&worker->thread, NULL, work, worker) != 0) {
             fail(STATUS_DDS, "no thread can be made");
         }
     }
+    pthread_barrier_wait(stage);
+}
+
+// Runs the applications that are here to their ends. Gives when they began.
+static int64_t run(const struct cyclone *system, struct worker *workers, const struct options *options, pthread_barrier_t *stage)
+{
+    const struct deployment *lists = system->lists;
+    int64_t begun = now();
+    hold(lists, options, workers, begun);
+    for (int at = 0; at < lists->applications; at++) {
+        workers[at].cut_at = begun + (int64_t)options->seconds * 1000000000;
+        workers[at].last_success = begun;
+    }
+    pthread_barrier_wait(stage);
     for (int at = 0; at < lists->applications; at++) {
         if (system->is_here[lists->application[at].participant]) {
-            pthread_join(threads[at], NULL);
+            pthread_join(workers[at].thread, NULL);
         }
     }
     return begun;
@@ -164,18 +174,22 @@ int main(int count, char **words)
         }
         leave(report_matches(system) ? STATUS_YES : STATUS_NO);
     }
+    struct trace trace = open_trace(options.trace);
     struct meeting *meeting = open_meeting(system);
-    struct ledger ledger = open_ledger(lists);
+    struct rules rules = rules_of(lists);
     struct worker *workers = room((unsigned long)lists->applications, sizeof *workers);
     for (int at = 0; at < lists->applications; at++) {
-        ready_worker(&workers[at], system, &ledger, at, &options, periods);
+        ready_worker(&workers[at], system, &rules, at, &options, periods);
     }
+    pthread_barrier_t stage;
+    start(system, workers, &stage);
     if (!meet(meeting, now() + MEETING)) {
         leave(STATUS_NO);
     }
-    int64_t begun = run(system, workers, &options);
+    int64_t begun = run(system, workers, &options, &stage);
     // the others began at nearly the same time, and are cut after as many seconds if they were told as many
     int64_t silence = options.idle * INT64_C(10000000);
     bool all_ended = part(meeting, begun + (int64_t)options.seconds * 1000000000 + PARTING, silence < SILENCE ? SILENCE : silence);
-    leave(report_run(system, workers, &options, begun) && all_ended ? STATUS_YES : STATUS_NO);
+    int status = report_run(system, workers, &options, begun) && all_ended ? STATUS_YES : STATUS_NO;
+    leave(write_trace(&trace, system, workers, begun) ? status : STATUS_DDS);
 }

@@ -64,12 +64,13 @@ static bool is_there(const struct names *names, const char *name)
 const char *add_name(struct names *names, const char *text)
 {
     char name[MOST_NAME + 1];
-    int length = (int)strnlen(text, MOST_NAME);
-    snprintf(name, sizeof name, "%.*s", length, length > 0 ? text : "_");
+    const char *wanted = *text != '\0' ? text : "_";
+    int length = (int)strnlen(wanted, MOST_NAME);
+    snprintf(name, sizeof name, "%.*s", length, wanted);
     for (int number = 2; is_there(names, name); number++) {
         char end[16];
         int more = snprintf(end, sizeof end, "-%d", number), kept = length + more > MOST_NAME ? MOST_NAME - more : length;
-        snprintf(name, sizeof name, "%.*s%s", kept, length > 0 ? text : "_", end);
+        snprintf(name, sizeof name, "%.*s%s", kept, wanted, end);
     }
     if (names->count == names->space) {
         names->space = 2 * names->space + 64;

@@ -26,6 +26,8 @@ static const char USAGE[] =
     "  --match              tell which endpoints match, and run nothing\n"
     "  --keys               also print what each reader was seen to hold of each key and in all, in the form of `ddscheck check`\n"
     "  --times              also print how many samples a second were taken, and the time from an application's nth write to its nth take\n"
+    "  --trace FILE         write what this process wrote and took, a line for each sample: TIME APPLICATION write WRITER KEY or TIME APPLICATION take READER\n"
+    "                       KEY, with the seconds since its applications began\n"
     "\n"
     "Where CYCLONEDDS_URI is not set, Cyclone uses loopback alone. Status: 0 all stopped and nothing was rejected or lost, 1 else, 2 a bad file, 3 a fault of\n"
     "Cyclone or of the output, 4 a fault of usage.\n";
@@ -140,6 +142,8 @@ static bool read_name(struct options *options, const char *word, char *next)
         if (strlen(next) > MOST_TAG) {
             usage("too long a text after ", word);
         }
+    } else if (strcmp(word, "--trace") == 0) {
+        options->trace = text(word, next);
     } else {
         return false;
     }

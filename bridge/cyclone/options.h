@@ -7,8 +7,8 @@
 #include <stdint.h>
 
 struct options {
-    // no tag where one is to be drawn
-    const char *path, *tag;
+    // no tag where one is to be drawn, and no trace where none is asked for
+    const char *path, *tag, *trace;
     int named;
     const char *participant[MOST_PARTICIPANTS];
     uint64_t writes, takes;

@@ -86,12 +86,23 @@ static char *entity_name(const dds_qos_t *qos)
     return found;
 }
 
+// The name of a participant, else that of its process, which Cyclone announces. NULL where there is neither.
+static char *participant_name(const dds_qos_t *qos)
+{
+    char *name = entity_name(qos), *process = NULL;
+    if (name == NULL && dds_qget_prop(qos, "__ProcessName", &process) && process != NULL && *process != '\0') {
+        name = copy_of(process);
+    }
+    dds_free(process);
+    return name;
+}
+
 // ── what is heard
 
 static void add_participant(struct seen *seen, uint32_t domain, const dds_builtintopic_participant_t *heard)
 {
     seen->participant = one_more(seen->participant, seen->participants, sizeof *seen->participant);
-    seen->participant[seen->participants++] = (struct seen_participant){.key = heard->key, .domain = domain, .name = entity_name(heard->qos)};
+    seen->participant[seen->participants++] = (struct seen_participant){.key = heard->key, .domain = domain, .name = participant_name(heard->qos)};
 }
 
 static void add_endpoint(struct seen *seen, uint32_t domain, bool is_writer, const dds_builtintopic_endpoint_t *heard)

@@ -9,7 +9,7 @@
 struct seen_participant {
     dds_guid_t key;
     uint32_t domain;
-    // NULL where it has none
+    // that of its process where it has none, and NULL where that isn't known
     char *name;
 };
 

@@ -39,11 +39,11 @@ static void push_firings(struct worker *worker)
 static void push_writes_of(struct worker *worker, int writer, int key, const int64_t *periods)
 {
     const struct deployment *lists = worker->system->lists;
-    struct step step = {.kind = STEP_WRITE, .endpoint = writer, .key = key, .is_free = is_free(lists, writer, key)};
-    bool is_pushed = false;
+    struct step step = {.kind = STEP_WRITE, .endpoint = writer, .key = key};
+    bool are_free = is_free(lists, writer, key), is_pushed = false;
     for (int at = 0; at < lists->rules; at++) {
         const struct rule *rule = &lists->rule[at];
-        if (!rule_writes(rule, writer, key) || rule->is_free != step.is_free) {
+        if (!rule_writes(rule, writer, key) || rule->is_free != are_free) {
             continue;
         }
         step.period = periods[at];
@@ -65,17 +65,52 @@ static void push_writes(struct worker *worker, const int64_t *periods)
     }
 }
 
-void ready_worker(struct worker *worker, struct cyclone *system, struct ledger *ledger, int application, const struct options *options, const int64_t *periods)
+void ready_worker(struct worker *worker, struct cyclone *system, const struct rules *rules, int application, const struct options *options,
+                  const int64_t *periods)
 {
     const struct deployment *lists = system->lists;
     int most = (lists->readers + lists->writers) * MOST_KEYS + lists->rules * (1 + MOST_PORTIONS);
-    *worker = (struct worker){.system = system, .ledger = ledger, .application = application};
+    *worker = (struct worker){.system = system, .rules = rules, .guard = DDSCHECK_GUARD_CLOSED, .application = application};
     worker->circle = room((unsigned long)most, sizeof *worker->circle);
     worker->takes = push_takes(worker) ? options->takes : 0;
     push_firings(worker);
     int before = worker->steps;
     push_writes(worker, periods);
     worker->writes = worker->steps > before ? options->writes : 0;
+    worker->idle_waits = options->idle;
+    worker->most_calls = (uint64_t)options->calls;
+    if (options->times) {
+        worker->write_times = room(worker->writes, sizeof *worker->write_times);
+        worker->take_times = room(worker->takes, sizeof *worker->take_times);
+    }
+    if (options->trace != NULL) {
+        worker->event = room(worker->writes + worker->takes, sizeof *worker->event);
+    }
+}
+
+// Opens the guard, and looks up what the steps speak of.
+static void ready_guard(struct worker *worker)
+{
+    const struct deployment *lists = worker->system->lists;
+    ddscheck_guard *guard = &worker->guard;
+    open_guard(guard, worker->rules, lists->application[worker->application].name);
+    for (int at = 0; at < worker->steps; at++) {
+        struct step *step = &worker->circle[at];
+        if (step->kind == STEP_FIRE) {
+            step->number = rule_number(guard, step->endpoint);
+            continue;
+        }
+        const struct endpoint *end = step->kind == STEP_TAKE ? &lists->reader[step->endpoint] : &lists->writer[step->endpoint];
+        step->number = step->kind == STEP_TAKE ? reader_number(guard, end) : writer_number(guard, end);
+        step->key_number = key_number(guard, &lists->topic[end->topic], step->key);
+    }
+}
+
+static void note_event(struct worker *worker, const struct step *step, int64_t time)
+{
+    if (worker->event != NULL) {
+        worker->event[worker->took + worker->wrote] = (struct event){.step = step, .time = time};
+    }
 }
 
 static bool do_take(struct worker *worker, const struct step *step)
@@ -88,29 +123,49 @@ static bool do_take(struct worker *worker, const struct step *step)
     if (!take(&worker->system->cache[step->endpoint], step->key, &sample)) {
         return false;
     }
+    int64_t time = now();
     if (worker->take_times != NULL) {
-        worker->take_times[worker->took] = now();
+        worker->take_times[worker->took] = time;
     }
+    note_event(worker, step, time);
     worker->took++;
-    worker->ledger->unspent[step->endpoint][step->key]++;
+    expect(ddscheck_take(&worker->guard, step->number, step->key_number), "a take at", worker->system->lists->reader[step->endpoint].name);
     return true;
 }
 
-// Whether the ledger, or the clock of a free write, lets a write be made.
+// Fires a rule. False where a take that it needs is missing.
+static bool do_fire(struct worker *worker, const struct step *step)
+{
+    worker->calls++;
+    ddscheck_status status = ddscheck_fire(&worker->guard, step->number);
+    if (status == DDSCHECK_NOT_ENOUGH) {
+        return false;
+    }
+    expect(status, "to fire rule", worker->system->lists->rule[step->endpoint].name);
+    return true;
+}
+
+// Whether the guard, and the clock of a free write, let a write be made. Nothing changes by that. After its firings an application has no rule that could fire
+// once more, since each circle takes at most one sample of each key at each reader; so the guard has none to fire for a write.
 static bool may_write(struct worker *worker, const struct step *step)
 {
     if (worker->wrote == worker->writes || (step->period > 0 && now() < step->due)) {
         return false;
     }
     worker->calls++;
-    return step->is_free || worker->ledger->permits[step->endpoint][step->key] > 0;
+    ddscheck_status status = ddscheck_may_write(&worker->guard, step->number, step->key_number);
+    if (status == DDSCHECK_NO_PERMIT) {
+        return false;
+    }
+    expect(status, "a write at", worker->system->lists->writer[step->endpoint].name);
+    return true;
 }
 
-static void note_write(struct worker *worker, struct step *step)
+// A write that was made, at this time. Only now its permit is used, since one that timed out is tried again and stands for the same sample.
+static void note_write(struct worker *worker, struct step *step, int64_t time)
 {
-    if (!step->is_free) {
-        worker->ledger->permits[step->endpoint][step->key]--;
-    }
+    expect(ddscheck_write(&worker->guard, step->number, step->key_number), "a write at", worker->system->lists->writer[step->endpoint].name);
+    note_event(worker, step, time);
     if (step->period > 0) {
         // a period that has gone by without a write is left out
         step->due += (1 + (now() - step->due) / step->period) * step->period;
@@ -128,8 +183,9 @@ static bool do_write(struct worker *worker, struct step *step)
     const struct deployment *lists = worker->system->lists;
     ddscheck_Sample sample = sample_of(lists->topic[lists->writer[step->endpoint].topic].key[step->key]);
     put_numbers(sample.data, (struct numbers){.written = worker->wrote + 1, .number = writer->written[step->key] + 1, .writer = (uint64_t)step->endpoint});
+    int64_t begun = now();
     if (worker->write_times != NULL) {
-        worker->write_times[worker->wrote] = now();
+        worker->write_times[worker->wrote] = begun;
     }
     dds_return_t answer = dds_write(writer->handle, &sample);
     if (answer == DDS_RETCODE_TIMEOUT) {
@@ -140,7 +196,7 @@ static bool do_write(struct worker *worker, struct step *step)
     if (answer < 0) {
         fail(STATUS_DDS, "a write at %s: %s", lists->writer[step->endpoint].name, dds_strretcode(-answer));
     }
-    note_write(worker, step);
+    note_write(worker, step, begun);
     return true;
 }
 
@@ -150,8 +206,7 @@ static bool do_step(struct worker *worker, struct step *step)
     case STEP_TAKE:
         return do_take(worker, step);
     case STEP_FIRE:
-        worker->calls++;
-        return fire(worker->ledger, &worker->system->lists->rule[step->endpoint]);
+        return do_fire(worker, step);
     default:
         return do_write(worker, step);
     }
@@ -197,22 +252,20 @@ static void start_clocks(struct worker *worker)
     }
 }
 
-void *work(void *argument)
+// Goes round until the end, and gives which one it is.
+static enum end go_on(struct worker *worker)
 {
-    struct worker *worker = argument;
     struct change *change = &worker->system->change[worker->application];
     int idle = 0;
     start_clocks(worker);
     while (!is_done(worker)) {
         if (now() >= worker->cut_at) {
-            worker->end = END_CUT;
-            return NULL;
+            return END_CUT;
         }
         uint64_t seen = seen_changes(change);
         bool moved = go_round(worker);
         if (worker->calls >= worker->most_calls && !is_done(worker)) {
-            worker->end = END_LIMIT;
-            return NULL;
+            return END_LIMIT;
         }
         int64_t due = next_due(worker);
         if (moved) {
@@ -221,10 +274,19 @@ void *work(void *argument)
         } else if (wait_change(change, seen, due) || now() < worker->held_until || due != FOREVER) {
             idle = 0;
         } else if (++idle >= worker->idle_waits) {
-            worker->end = END_IDLE;
-            return NULL;
+            return END_IDLE;
         }
     }
-    worker->end = END_STOPPED;
+    return END_STOPPED;
+}
+
+void *work(void *argument)
+{
+    struct worker *worker = argument;
+    ready_guard(worker);
+    pthread_barrier_wait(worker->stage);
+    pthread_barrier_wait(worker->stage);
+    worker->end = go_on(worker);
+    expect(ddscheck_close(&worker->guard), "to close, for", worker->system->lists->application[worker->application].name);
     return NULL;
 }

@@ -2,8 +2,8 @@
 #ifndef WORKER_H
 #define WORKER_H
 
-#include "ledger.h"
 #include "options.h"
+#include "rules.h"
 #include "system.h"
 
 enum end { END_STOPPED, END_LIMIT, END_IDLE, END_CUT };
@@ -14,15 +14,27 @@ enum kind { STEP_TAKE, STEP_FIRE, STEP_WRITE };
 struct step {
     enum kind kind;
     int endpoint, key;
-    // a write that uses no permit; by a clock, where it has a period, once in each and next when it is due
-    bool is_free;
+    // the endpoint, or the rule, and the key by the guard's numbers
+    size_t number, key_number;
+    // a write by a clock, where it has a period: once in each, and next when it is due
     int64_t period, due;
+};
+
+// A take or a write that was made, and when. Of a write it is the time of its beginning, so no sample is taken before it is written.
+struct event {
+    const struct step *step;
+    int64_t time;
 };
 
 struct worker {
     struct cyclone *system;
-    struct ledger *ledger;
+    // what its guard reads, and the guard, which the worker's thread opens and closes
+    const struct rules *rules;
+    ddscheck_guard guard;
     int application;
+    // where the threads wait for each other twice: until all guards are open, and then until the applications begin
+    pthread_t thread;
+    pthread_barrier_t *stage;
     struct step *circle;
     int steps;
     uint64_t takes, writes, took, wrote;
@@ -35,14 +47,17 @@ struct worker {
     uint64_t calls, most_calls;
     // when each write was begun and each take was made, where that is asked for
     int64_t *write_times, *take_times, last_success;
+    // all that it took and wrote, in its order, where that is asked for
+    struct event *event;
     enum end end;
 };
 
 // Readies an application with so many writes and takes to make: one without readers takes nothing, and one whose rules write nothing writes nothing. Of each
 // rule there is the period of its writes, 0 where they go by no clock.
-void ready_worker(struct worker *worker, struct cyclone *system, struct ledger *ledger, int application, const struct options *options, const int64_t *periods);
+void ready_worker(struct worker *worker, struct cyclone *system, const struct rules *rules, int application, const struct options *options,
+                  const int64_t *periods);
 
-// Goes in the circle until the end. It is the function of a thread.
+// Opens the guard, and goes in the circle until the end. It is the function of a thread.
 void *work(void *worker);
 
 #endif

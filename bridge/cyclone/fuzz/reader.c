@@ -1,14 +1,17 @@
-// What a fuzzer calls: reads a document as a deployment and goes through all that the program does with one before Cyclone begins. A document that is refused is
-// left where the program would end. `make fuzz` builds it, with libFuzzer where clang has it and else with mutate.c.
+// What a fuzzer calls: reads a document as a deployment, goes through all that the program does with one before Cyclone begins, and opens the guard of each
+// application, which has to find no fault in what it's given. A document that is refused is left where the program would end. `make fuzz` builds it, with
+// libFuzzer where clang has it and else with mutate.c.
 #include "../fault.h"
 #include "../json.h"
-#include "../ledger.h"
+#include "../rules.h"
 
 #include <setjmp.h>
 #include <stdlib.h>
 #include <string.h>
 
 static jmp_buf refused;
+// whether the document is read as a deployment, so that nothing may be refused any more
+static bool is_read;
 
 // All memory that is in use, freed after each document.
 enum { MOST_PIECES = 4 * MOST_VALUES };
@@ -32,6 +35,9 @@ static void keep(void *memory)
 void fail(int status, const char *form, ...)
 {
     (void)form;
+    if (is_read) {
+        abort();
+    }
     longjmp(refused, status);
 }
 
@@ -45,18 +51,43 @@ void *room(unsigned long count, unsigned long size)
     return memset(found, 0, length);
 }
 
+static void demand(bool holds)
+{
+    if (!holds) {
+        abort();
+    }
+}
+
+// Opens the guard of an application and fires its rules, which nothing was taken for. The guard has each rule and each reader in its place.
+static void use_guard(const struct deployment *lists, const struct rules *rules, int application)
+{
+    ddscheck_guard guard = DDSCHECK_GUARD_CLOSED;
+    demand(ddscheck_open(rules->text, rules->length, lists->application[application].name, &guard) == DDSCHECK_OK);
+    for (int at = 0; at < lists->rules; at++) {
+        bool is_own = lists->rule[at].application == application;
+        demand(rule_number(&guard, at) == (size_t)at);
+        demand(ddscheck_fire(&guard, (size_t)at) == (is_own ? DDSCHECK_NOT_ENOUGH : DDSCHECK_FOREIGN));
+    }
+    for (int at = 0; at < lists->readers; at++) {
+        const struct endpoint *reader = &lists->reader[at];
+        bool is_heard = reader->application == application && reader->hears[0];
+        demand(reader_number(&guard, reader) == (size_t)at && key_number(&guard, &lists->topic[reader->topic], 0) == 0);
+        demand(ddscheck_take(&guard, (size_t)at, 0) == (is_heard ? DDSCHECK_OK : DDSCHECK_FOREIGN));
+    }
+    demand(ddscheck_close(&guard) == DDSCHECK_OK);
+}
+
 static void use(const struct deployment *lists)
 {
-    struct ledger ledger = open_ledger(lists);
-    for (int at = 0; at < lists->rules; at++) {
-        fire(&ledger, &lists->rule[at]);
+    struct rules rules = rules_of(lists);
+    for (int at = 0; at < lists->applications; at++) {
+        use_guard(lists, &rules, at);
     }
+    free(rules.text);
     for (int at = 0; at < lists->connections; at++) {
         const struct endpoint *writer = &lists->writer[lists->connection[at].writer], *reader = &lists->reader[lists->connection[at].reader];
         const struct application *owner = &lists->application[writer->application];
-        if (strlen(writer->name) > MOST_NAME || owner->participant != writer->participant || lists->topic[reader->topic].keys < 1) {
-            abort();
-        }
+        demand(strlen(writer->name) <= MOST_NAME && owner->participant == writer->participant && lists->topic[reader->topic].keys >= 1);
     }
 }
 
@@ -70,8 +101,11 @@ int LLVMFuzzerTestOneInput(const uint8_t *data, size_t size)
     const char *why;
     memcpy(bytes, data, size);
     if (setjmp(refused) == 0 && parse_document(bytes, size, &document, &why)) {
-        use(deployment_of(document));
+        const struct deployment *lists = deployment_of(document);
+        is_read = true;
+        use(lists);
     }
+    is_read = false;
     while (pieces > 0) {
         free(piece[--pieces]);
     }

@@ -2,3 +2,4 @@ pub mod Owned
 pub mod Follows
 pub mod Status
 pub mod Calls
+pub mod Checking

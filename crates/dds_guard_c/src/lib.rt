@@ -3,6 +3,7 @@
 #![tactic(auto)]
 
 pub mod calls;
+pub mod checking;
 pub mod handle;
 mod lending;
 pub mod raw_box;
