@@ -9,13 +9,14 @@ _ddscheck() {
     "show --format") COMPREPLY=($(compgen -W "json dds-xml" -- "$word")); return ;;
     "refute --format") COMPREPLY=($(compgen -W "text json" -- "$word")); return ;;
     "replay --format") COMPREPLY=($(compgen -W "text json" -- "$word")); return ;;
+    "limits --format") COMPREPLY=($(compgen -W "text json" -- "$word")); return ;;
     esac
     if [ "$COMP_CWORD" = 1 ]; then
-        COMPREPLY=($(compgen -W "match check propose run migrate show draw refute replay help -h --help -V --version" -- "$word"))
+        COMPREPLY=($(compgen -W "match check propose run migrate show draw refute replay limits help -h --help -V --version" -- "$word"))
         return
     fi
     case ${COMP_WORDS[1]} in
-    help) COMPREPLY=($(compgen -W "match check propose run migrate show draw refute replay help" -- "$word")); return ;;
+    help) COMPREPLY=($(compgen -W "match check propose run migrate show draw refute replay limits help" -- "$word")); return ;;
     match) options="--format -h --help" ;;
     check) options="--explain --format -h --help" ;;
     propose) options="--thorough --format -h --help" ;;
@@ -25,6 +26,7 @@ _ddscheck() {
     draw) options="-h --help" ;;
     refute) options="--format -h --help" ;;
     replay) options="--format -h --help" ;;
+    limits) options="--certificate --format -h --help" ;;
     esac
     case $word in
     -*) COMPREPLY=($(compgen -W "$options" -- "$word")) ;;

@@ -15,6 +15,7 @@ _ddscheck() {
             'draw:Prints a picture of a deployment, for Graphviz'
             'refute:Looks for a run of a deployment that loses a sample'
             'replay:Makes the events of a file on a deployment, and prints what comes of each'
+            'limits:Tells how much room each reader and the history of each writer needs'
             'help:Print this message or the help of the given subcommand(s)'
         )
         _describe command commands ;;
@@ -72,6 +73,12 @@ _ddscheck() {
                 '--help[Print help]' \
                 '1:deployment:_files -g "*.toml"' \
                 '2:events:_files -g "*.toml"' ;;
+            limits) _arguments \
+                '--certificate[Prints a certificate that shows these bounds, in place of them]' \
+                '--format[text or json \[default: text\]]:FORMAT:(text json)' \
+                '-h[Print help]' \
+                '--help[Print help]' \
+                '1:deployment:_files -g "*.toml"' ;;
         esac ;;
     esac
 }

@@ -10,3 +10,5 @@ mod RunGives
 mod Requested
 mod Refutes
 mod Replays
+mod NeedsLists
+mod LimitEnds

@@ -1,4 +1,4 @@
--- What words ask for that draw a deployment, or look for its certificate.
+-- What words ask for that draw a deployment, or look for its certificate or its limits.
 use Rattle.std.proofs.Common.{◌≡◌, ◌∙◌, ◌<◌, ℕ, Bool, true, false, List, [], Option, Some, None, codes, option_map, slice_index, sym, ap, arith, subst, unwrap_or}
 use Rattle.std.specs.Option.{option_map_or}
 use Rattle.clap.specs.Words.{Row, Text, first_of, subcommand_of}
@@ -38,6 +38,7 @@ draws_once words rows is (asked.Propose x style) asks d c first second twice = l
 draws_once words rows is (asked.ProposeThoroughly x style) asks d c first second twice = later 112 100 (omega arith) (ap first_byte (sym asks.1 ∙ is))
 draws_once words rows is (asked.Migrate x) asks d c first second twice = later 109 100 (omega arith) (ap first_byte (sym asks.1 ∙ is))
 draws_once words rows is (asked.Refute x style) asks d c first second twice = later 114 100 (omega arith) (ap first_byte (sym asks.1 ∙ is))
+draws_once words rows is (asked.Limits x what style) asks d c first second twice = later 108 100 (omega arith) (ap first_byte (sym asks.1 ∙ is))
 draws_once words rows is (asked.Replay x y style) asks d c first second twice = later 114 100 (omega arith) (ap first_byte (sym asks.1 ∙ is))
 draws_once words rows is (asked.Show x format) asks d c first second twice = later 115 100 (omega arith) (ap first_byte (sym asks.1 ∙ is))
 draws_once words rows is (asked.Run x y wishes style) asks d c first second twice = later 114 100 (omega arith) (ap first_byte (sym asks.1 ∙ is))
@@ -66,6 +67,7 @@ proposes_one words rows is (asked.ProposeThoroughly x style) asks none =
 proposes_one words rows is (asked.Match x style) asks none = earlier 109 112 (omega arith) (ap first_byte (sym asks.1 ∙ is))
 proposes_one words rows is (asked.Migrate x) asks none = earlier 109 112 (omega arith) (ap first_byte (sym asks.1 ∙ is))
 proposes_one words rows is (asked.Refute x style) asks none = later 114 112 (omega arith) (ap first_byte (sym asks.1 ∙ is))
+proposes_one words rows is (asked.Limits x what style) asks none = earlier 108 112 (omega arith) (ap first_byte (sym asks.1 ∙ is))
 proposes_one words rows is (asked.Replay x y style) asks none = later 114 112 (omega arith) (ap first_byte (sym asks.1 ∙ is))
 proposes_one words rows is (asked.Show x format) asks none = later 115 112 (omega arith) (ap first_byte (sym asks.1 ∙ is))
 proposes_one words rows is (asked.Run x y wishes style) asks none = later 114 112 (omega arith) (ap first_byte (sym asks.1 ∙ is))
@@ -80,8 +82,39 @@ refutes_one words rows is (asked.Match x style) asks none = earlier 109 114 (ome
 refutes_one words rows is (asked.Propose x style) asks none = earlier 112 114 (omega arith) (ap first_byte (sym asks.1 ∙ is))
 refutes_one words rows is (asked.ProposeThoroughly x style) asks none = earlier 112 114 (omega arith) (ap first_byte (sym asks.1 ∙ is))
 refutes_one words rows is (asked.Migrate x) asks none = earlier 109 114 (omega arith) (ap first_byte (sym asks.1 ∙ is))
+refutes_one words rows is (asked.Limits x what style) asks none = earlier 108 114 (omega arith) (ap first_byte (sym asks.1 ∙ is))
 refutes_one words rows is (asked.Replay x y style) asks none = later 112 102 (omega arith) (ap third_byte (sym asks.1 ∙ is))
 refutes_one words rows is (asked.Show x format) asks none = later 115 114 (omega arith) (ap first_byte (sym asks.1 ∙ is))
 refutes_one words rows is (asked.Run x y wishes style) asks none = later 110 102 (omega arith) (ap third_byte (sym asks.1 ∙ is))
 refutes_one words rows is (asked.Check x y detail style) asks none = earlier 99 114 (omega arith) (ap first_byte (sym asks.1 ∙ is))
 refutes_one words rows is (asked.Draw x y) asks none = earlier 100 114 (omega arith) (ap first_byte (sym asks.1 ∙ is))
+
+-- words that ask which limits are needed, and ask for something, name a deployment and a style
+pub limits_one : (words : List Text) (rows : List Row) → subcommand_of whole words ≡ Some (codes "limits", rows) → (r : Request) → Asks words r → NamesNone rows → ⊥
+limits_one words rows is (asked.Limits x what style) asks none =
+    none x.now style (subst (λ (found : List Row). NamesStyled found x.now style) (same_rows rows asks.0 (subcommand_of whole words) (codes "limits") is asks.1) asks.3)
+limits_one words rows is (asked.Match x style) asks none = later 109 108 (omega arith) (ap first_byte (sym asks.1 ∙ is))
+limits_one words rows is (asked.Propose x style) asks none = later 112 108 (omega arith) (ap first_byte (sym asks.1 ∙ is))
+limits_one words rows is (asked.ProposeThoroughly x style) asks none = later 112 108 (omega arith) (ap first_byte (sym asks.1 ∙ is))
+limits_one words rows is (asked.Migrate x) asks none = later 109 108 (omega arith) (ap first_byte (sym asks.1 ∙ is))
+limits_one words rows is (asked.Refute x style) asks none = later 114 108 (omega arith) (ap first_byte (sym asks.1 ∙ is))
+limits_one words rows is (asked.Replay x y style) asks none = later 114 108 (omega arith) (ap first_byte (sym asks.1 ∙ is))
+limits_one words rows is (asked.Show x format) asks none = later 115 108 (omega arith) (ap first_byte (sym asks.1 ∙ is))
+limits_one words rows is (asked.Run x y wishes style) asks none = later 114 108 (omega arith) (ap first_byte (sym asks.1 ∙ is))
+limits_one words rows is (asked.Check x y detail style) asks none = earlier 99 108 (omega arith) (ap first_byte (sym asks.1 ∙ is))
+limits_one words rows is (asked.Draw x y) asks none = earlier 100 108 (omega arith) (ap first_byte (sym asks.1 ∙ is))
+
+-- words that compare endpoints, and ask for something, name a deployment and a style
+pub matches_one : (words : List Text) (rows : List Row) → subcommand_of whole words ≡ Some (codes "match", rows) → (r : Request) → Asks words r → NamesNone rows → ⊥
+matches_one words rows is (asked.Match x style) asks none =
+    none x.now style (subst (λ (found : List Row). NamesStyled found x.now style) (same_rows rows asks.0 (subcommand_of whole words) (codes "match") is asks.1) asks.2)
+matches_one words rows is (asked.Propose x style) asks none = later 112 109 (omega arith) (ap first_byte (sym asks.1 ∙ is))
+matches_one words rows is (asked.ProposeThoroughly x style) asks none = later 112 109 (omega arith) (ap first_byte (sym asks.1 ∙ is))
+matches_one words rows is (asked.Migrate x) asks none = earlier 103 116 (omega arith) (ap third_byte (sym asks.1 ∙ is))
+matches_one words rows is (asked.Refute x style) asks none = later 114 109 (omega arith) (ap first_byte (sym asks.1 ∙ is))
+matches_one words rows is (asked.Replay x y style) asks none = later 114 109 (omega arith) (ap first_byte (sym asks.1 ∙ is))
+matches_one words rows is (asked.Limits x what style) asks none = earlier 108 109 (omega arith) (ap first_byte (sym asks.1 ∙ is))
+matches_one words rows is (asked.Show x format) asks none = later 115 109 (omega arith) (ap first_byte (sym asks.1 ∙ is))
+matches_one words rows is (asked.Run x y wishes style) asks none = later 114 109 (omega arith) (ap first_byte (sym asks.1 ∙ is))
+matches_one words rows is (asked.Check x y detail style) asks none = earlier 99 109 (omega arith) (ap first_byte (sym asks.1 ∙ is))
+matches_one words rows is (asked.Draw x y) asks none = earlier 100 109 (omega arith) (ap first_byte (sym asks.1 ∙ is))

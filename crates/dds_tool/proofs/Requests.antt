@@ -15,6 +15,7 @@ use Rattle.dds_answers.specs.Migrations.{MayMigrateFor}
 use Rattle.dds_answers.specs.Outcome.{Outcome, check_file_outcome, draw_file_outcome, file_outcome, match_file_outcome, show_file_outcome, too_large, unproposed}
 use Rattle.dds_answers.specs.Report.{Ends, output_of, status_of}
 use Rattle.dds_answers.proofs.FileEnds.{any_end}
+use Rattle.dds_tool.specs.Limits.{MayLimitFor}
 use Rattle.dds_tool.specs.Refuting.{MayRefuteFor}
 use Rattle.dds_tool.specs.Replaying.{MayReplayFor}
 use Rattle.dds_tool.specs.RunEnds.{GivesRun, MayRun}
@@ -127,6 +128,7 @@ answered holds (asked.Propose d style) given (Ok exit) old new gives written pas
 answered holds (asked.ProposeThoroughly d style) given (Ok exit) old new gives written passed = λ x hx. let g = gives x hx in (g.0, g.1, inl (written (in_style style g.0) g.2))
 answered holds (asked.Migrate d) given (Ok exit) old new gives written passed = λ x hx. one_said (MayMigrateFor x) given (exit_status exit) old new (gives x hx) written
 answered holds (asked.Refute d style) given (Ok exit) old new gives written passed = λ x hx. one_said (MayRefuteFor style x) given (exit_status exit) old new (gives x hx) written
+answered holds (asked.Limits d what style) given (Ok exit) old new gives written passed = λ x hx. one_said (MayLimitFor what style x) given (exit_status exit) old new (gives x hx) written
 answered holds (asked.Replay d e style) given (Ok exit) old new gives written passed =
     λ x y hx hy. one_said (MayReplayFor style x y) given (exit_status exit) old new (gives x y hx hy) written
 answered holds (asked.Show d format) given (Ok exit) old new gives written passed = λ x hx. inl (written (show_file_outcome format x) (gives x hx))
@@ -141,6 +143,7 @@ answered holds (asked.Propose d style) given (Err f) old new gives written passe
 answered holds (asked.ProposeThoroughly d style) given (Err f) old new gives written passed = tt
 answered holds (asked.Migrate d) given (Err f) old new gives written passed = tt
 answered holds (asked.Refute d style) given (Err f) old new gives written passed = tt
+answered holds (asked.Limits d what style) given (Err f) old new gives written passed = tt
 answered holds (asked.Replay d e style) given (Err f) old new gives written passed = tt
 answered holds (asked.Show d format) given (Err f) old new gives written passed = tt
 answered holds (asked.Draw d c) given (Err f) old new gives written passed = tt
@@ -165,6 +168,8 @@ faulted holds (asked.Migrate d) given (Err f) old new gives ends nothing passed 
     λ status told x hx. one_faulted (MayMigrateFor x) given f status old new (gives x hx) ends nothing told
 faulted holds (asked.Refute d style) given (Err f) old new gives ends nothing passed =
     λ status told x hx. one_faulted (MayRefuteFor style x) given f status old new (gives x hx) ends nothing told
+faulted holds (asked.Limits d what style) given (Err f) old new gives ends nothing passed =
+    λ status told x hx. one_faulted (MayLimitFor what style x) given f status old new (gives x hx) ends nothing told
 faulted holds (asked.Replay d e style) given (Err f) old new gives ends nothing passed =
     λ status told x y hx hy. one_faulted (MayReplayFor style x y) given f status old new (gives x y hx hy) ends nothing told
 faulted holds (asked.Show d format) given (Err f) old new gives ends nothing passed =
@@ -181,6 +186,7 @@ faulted holds (asked.Propose d style) given (Ok exit) old new gives ends nothing
 faulted holds (asked.ProposeThoroughly d style) given (Ok exit) old new gives ends nothing passed = tt
 faulted holds (asked.Migrate d) given (Ok exit) old new gives ends nothing passed = tt
 faulted holds (asked.Refute d style) given (Ok exit) old new gives ends nothing passed = tt
+faulted holds (asked.Limits d what style) given (Ok exit) old new gives ends nothing passed = tt
 faulted holds (asked.Replay d e style) given (Ok exit) old new gives ends nothing passed = tt
 faulted holds (asked.Show d format) given (Ok exit) old new gives ends nothing passed = tt
 faulted holds (asked.Draw d c) given (Ok exit) old new gives ends nothing passed = tt

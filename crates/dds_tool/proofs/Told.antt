@@ -115,6 +115,7 @@ accepted_run holds (asked.Propose d style) run gives = absurd run
 accepted_run holds (asked.ProposeThoroughly d style) run gives = absurd run
 accepted_run holds (asked.Migrate d) run gives = absurd run
 accepted_run holds (asked.Refute d style) run gives = absurd run
+accepted_run holds (asked.Limits d what style) run gives = absurd run
 accepted_run holds (asked.Replay d e style) run gives = absurd run
 accepted_run holds (asked.Show d format) run gives = absurd run
 accepted_run holds (asked.Draw d c) run gives = absurd run

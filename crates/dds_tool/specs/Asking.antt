@@ -24,6 +24,9 @@ use Rattle.dds_answers.specs.declared.report.Detail.{Detail}
 use Rattle.dds_answers.specs.declared.report.Detail.TheVariants.{Plain, Explained}
 use Rattle.dds_answers.specs.Migrations.{MayMigrateFor}
 use Rattle.dds_answers.specs.Proposals.{MayProposeFor}
+use Rattle.dds_tool.specs.Limits.{MayLimitFor}
+use Rattle.dds_tool.specs.declared.limits.Finding.{Finding}
+use Rattle.dds_tool.specs.declared.limits.Finding.TheVariants.{Bounds, Certificate}
 use Rattle.dds_tool.specs.Refuting.{MayRefuteFor}
 use Rattle.dds_tool.specs.Replaying.{MayReplayFor}
 use Rattle.dds_tool.specs.RunEnds.{GivesRun, IsAccepted, MayRun}
@@ -85,6 +88,15 @@ abbrev pub Checks : List Text → Text → Text → Detail → Style → Type 0
 Checks words deployment certificate detail style =
     (rows : List Row) × (subcommand_of whole words ≡ Some (codes "check", rows)) × NamesBoth (codes "certificate") rows deployment certificate × (detail_of rows ≡ detail) × IsStyled rows style
 
+-- what is asked for of the limits
+abbrev pub finding_of : List Row → Finding
+finding_of rows = if is_set rows (codes "certificate") then Certificate else Bounds
+
+-- the words ask which limits the deployment with this name needs, by their bounds or their certificate, and ask for an answer in this style
+abbrev pub Limits : List Text → Text → Finding → Style → Type 0
+Limits words name what style =
+    (rows : List Row) × (subcommand_of whole words ≡ Some (codes "limits", rows)) × (finding_of rows ≡ what) × NamesStyled rows name style
+
 -- the words show the deployment with this name in this format
 abbrev pub Shows : List Text → Text → Format → Type 0
 Shows words deployment format =
@@ -119,6 +131,7 @@ Asks words (asked.Propose d style) = Looks words d.now false style
 Asks words (asked.ProposeThoroughly d style) = Looks words d.now true style
 Asks words (asked.Migrate d) = Names words (codes "migrate") (codes "deployment") d.now
 Asks words (asked.Refute d style) = NamesOne words (codes "refute") d.now style
+Asks words (asked.Limits d what style) = Limits words d.now what style
 Asks words (asked.Replay d e style) = Replays words d.now e.now style
 Asks words (asked.Show d format) = Shows words d.now format
 Asks words (asked.Draw d c) = Draws words d.now (option_map (λ path. path.now) c)
@@ -140,6 +153,7 @@ paths_of (asked.Propose d style) = d.now ∷ []
 paths_of (asked.ProposeThoroughly d style) = d.now ∷ []
 paths_of (asked.Migrate d) = d.now ∷ []
 paths_of (asked.Refute d style) = d.now ∷ []
+paths_of (asked.Limits d what style) = d.now ∷ []
 paths_of (asked.Replay d e style) = d.now ∷ e.now ∷ []
 paths_of (asked.Show d format) = d.now ∷ []
 paths_of (asked.Draw d c) = d.now ∷ option_map_or (λ path. path.now ∷ []) c []
@@ -153,6 +167,7 @@ style_of (asked.Propose d style) = style
 style_of (asked.ProposeThoroughly d style) = style
 style_of (asked.Migrate d) = style.Text
 style_of (asked.Refute d style) = style
+style_of (asked.Limits d what style) = style
 style_of (asked.Replay d e style) = style
 style_of (asked.Show d format) = style.Text
 style_of (asked.Draw d c) = style.Text
@@ -187,6 +202,7 @@ GivesTo holds (asked.Propose d style) result = (x : List ℕ) → holds d.now �
 GivesTo holds (asked.ProposeThoroughly d style) result = (x : List ℕ) → holds d.now ≡ Some x → (end : Outcome) × MayFindFor x end × Gives result (in_style style end)
 GivesTo holds (asked.Migrate d) result = (x : List ℕ) → holds d.now ≡ Some x → GivesOneOf (MayMigrateFor x) result
 GivesTo holds (asked.Refute d style) result = (x : List ℕ) → holds d.now ≡ Some x → GivesOneOf (MayRefuteFor style x) result
+GivesTo holds (asked.Limits d what style) result = (x : List ℕ) → holds d.now ≡ Some x → GivesOneOf (MayLimitFor what style x) result
 GivesTo holds (asked.Replay d e style) result = (x y : List ℕ) → holds d.now ≡ Some x → holds e.now ≡ Some y → GivesOneOf (MayReplayFor style x y) result
 GivesTo holds (asked.Show d format) result = (x : List ℕ) → holds d.now ≡ Some x → Gives result (show_file_outcome format x)
 GivesTo holds (asked.Draw d None) result = (x : List ℕ) → holds d.now ≡ Some x → Gives result (draw_file_outcome x None)
@@ -208,6 +224,8 @@ Answers holds (asked.ProposeThoroughly d style) status old new =
 Answers holds (asked.Migrate d) status old new = (x : List ℕ) → holds d.now ≡ Some x → (status ≡ 3) ⊎ ((end : Outcome) × MayMigrateFor x end × Said end status old new)
 Answers holds (asked.Refute d style) status old new =
     (x : List ℕ) → holds d.now ≡ Some x → (status ≡ 3) ⊎ ((end : Outcome) × MayRefuteFor style x end × Said end status old new)
+Answers holds (asked.Limits d what style) status old new =
+    (x : List ℕ) → holds d.now ≡ Some x → (status ≡ 3) ⊎ ((end : Outcome) × MayLimitFor what style x end × Said end status old new)
 Answers holds (asked.Replay d e style) status old new =
     (x y : List ℕ) → holds d.now ≡ Some x → holds e.now ≡ Some y → (status ≡ 3) ⊎ ((end : Outcome) × MayReplayFor style x y end × Said end status old new)
 Answers holds (asked.Show d format) status old new = (x : List ℕ) → holds d.now ≡ Some x → Said (show_file_outcome format x) status old new

@@ -69,6 +69,10 @@ refuting = styled (one_file (codes "refute"))
 abbrev pub replaying : App
 replaying = styled (with_rule (one_file (codes "replay")) (file_rule (codes "events")))
 
+-- the command that tells which limits are needed, or the certificate that shows them where its flag is given
+abbrev pub limiting : App
+limiting = styled (with_rule (one_file (codes "limits")) (flag_rule (codes "certificate")))
+
 -- the command by itself: it has a version, and wants a subcommand
 abbrev pub top_app : App
 top_app = on_top (λ s. record s { subcommand_required = true; has_version = true }) (new_app (codes "ddscheck"))
@@ -81,9 +85,11 @@ whole =
     (with_subcommand
     (with_subcommand
     (with_subcommand
+    (with_subcommand
     (with_subcommand (with_subcommand (with_subcommand (with_subcommand top_app matching.top) checking.top) searching.top) running.top)
     (one_file (codes "migrate")).top)
     showing.top)
     drawing.top)
     refuting.top)
-    replaying.top
+    replaying.top)
+    limiting.top

@@ -9,3 +9,7 @@ pub mod Refuting
 pub mod Replaying
 pub mod Searches
 pub mod Missing
+pub mod Needs
+pub mod NeedsText
+pub mod LimitsDocument
+pub mod Limits

@@ -2,7 +2,10 @@
 ghost use Rattle.std.specs.Prelude.{◌≡◌, IfOk, IsOk, OnOk, codes, false};
 ghost use Rattle.clap.specs.Words.{app_of, rule_of, with_subcommand};
 ghost use Rattle.clap.specs.declared.builder.command.Command.TheViews.{out-Command as fields_of};
-ghost use Rattle.dds_tool.specs.Command.{checking, count_rule, drawing, file_rule, flag_rule, matching, one_file, optional_file_rule, refuting, replaying, running, searching, showing, styled, top_app, two_files, whole, wish_rule};
+ghost use Rattle.dds_tool.specs.Command.{checking, count_rule, drawing, file_rule, flag_rule, limiting, matching};
+ghost use Rattle.dds_tool.specs.Command.{one_file};
+ghost use Rattle.dds_tool.specs.Command.{optional_file_rule, refuting, replaying, running, searching, showing, styled};
+ghost use Rattle.dds_tool.specs.Command.{top_app, two_files, whole, wish_rule};
 
 use clap::{Arg, ArgAction, Command, value_parser};
 use dds_base::NoMemory;
@@ -36,10 +39,14 @@ const STYLE: &str = "text or json";
 
 /// What help says of the flag of an explained answer.
 const EXPLAIN: &str =
-    "Tells the reason too: the numbers behind a refusal, how near each bound is to its limit, or where a file is no TOML";
+    "Tells the reason too: the numbers behind a refusal, how near each bound is to its limit, \
+     or where a file is no TOML";
 
 /// What help says of the certificate of a picture.
 const DRAWN_CERTIFICATE: &str = "A certificate whose bounds are drawn";
+
+/// What help says of the flag of a certificate of limits.
+const CLAIM: &str = "Prints a certificate that shows these bounds, in place of them";
 
 /// What help says of the argument that names a file of events.
 const EVENTS: &str = "Events, a line each, as refute prints them";
@@ -224,6 +231,19 @@ fn replay_command<'a>(alloc: Global) -> Result<Command<'a>, NoMemory>
     styled(alloc, command)
 }
 
+fn limits_command<'a>(alloc: Global) -> Result<Command<'a>, NoMemory>
+    ensures app { IfOk result (λ c. app_of c ≡ limiting) }
+    ensures local { IfOk result (λ c. (fields_of c).has_globals ≡ false) }
+{
+    let command = one_file_command(
+        alloc,
+        "limits",
+        "Tells how much room each reader and the history of each writer needs",
+    )?
+    .arg(flag(alloc, "certificate", CLAIM))?;
+    styled(alloc, command)
+}
+
 fn migrate_command<'a>(alloc: Global) -> Result<Command<'a>, NoMemory>
     ensures app { IfOk result (λ c. app_of c ≡ one_file (codes "migrate")) }
     ensures local { IfOk result (λ c. (fields_of c).has_globals ≡ false) }
@@ -241,7 +261,8 @@ fn with_command<'a>(
     below: Result<Command<'a>, NoMemory>,
 ) -> Result<Command<'a>, NoMemory>
     requires below { IfOk below (λ b. (fields_of b).has_globals ≡ false) }
-    ensures app { IfOk result (λ c. IfOk below.entry (λ b. app_of c ≡ with_subcommand (app_of command.entry) (app_of b).top)) }
+    ensures app { IfOk result
+        (λ c. IfOk below.entry (λ b. app_of c ≡ with_subcommand (app_of command.entry) (app_of b).top)) }
     ensures below { OnOk result (IsOk below.entry) }
 {
     match below {
@@ -274,5 +295,6 @@ pub(crate) fn whole_command<'a>(alloc: Global) -> Result<Command<'a>, NoMemory>
     let command = with_command(command, show_command(alloc))?;
     let command = with_command(command, draw_command(alloc))?;
     let command = with_command(command, refute_command(alloc))?;
-    with_command(command, replay_command(alloc))
+    let command = with_command(command, replay_command(alloc))?;
+    with_command(command, limits_command(alloc))
 }

@@ -1,9 +1,11 @@
 //! The commands, over any files and any two outputs.
-ghost use Rattle.std.specs.Prelude.{◌≡◌, ◌≢◌, ℕ, List, [], ◌∷◌, ◌≤◌, ◌⊎◌, Some, true, false, map, IfOk, IfErr, OnOk, OnErr};
+ghost use Rattle.std.specs.Prelude.{◌≡◌, ◌≢◌, ℕ, List, [], ◌∷◌, ◌≤◌, ◌⊎◌, Some, true, false, map, IfOk, IfErr, OnOk};
+ghost use Rattle.std.specs.Prelude.{OnErr};
 ghost use Rattle.std.specs.Io.KnownBytes.{Keeps};
 ghost use Rattle.clap.specs.Words.{takes};
 ghost use Rattle.dds_json.specs.declared.style.Style.TheVariants.{Json};
-ghost use Rattle.dds_tool.specs.Asking.{Answers, AreRefused, AskForHelp, Asks, GivesTo, IsAcceptedRun, IsHelp, Tells, TellsBadFile, paths_of, style_of};
+ghost use Rattle.dds_tool.specs.Asking.{Answers, AreRefused, AskForHelp, Asks, GivesTo, IsAcceptedRun, IsHelp, Tells};
+ghost use Rattle.dds_tool.specs.Asking.{TellsBadFile, paths_of, style_of};
 ghost use Rattle.dds_tool.specs.Command.{whole};
 ghost use Rattle.dds_answers.specs.Answers.{GivesOneOf};
 ghost use Rattle.dds_answers.specs.Causes.{IsFileFault};
@@ -17,6 +19,7 @@ ghost use Rattle.dds_tool.specs.Refuting.{MayRefuteFor};
 ghost use Rattle.dds_tool.specs.Replaying.{MayReplayFor};
 ghost use Rattle.dds_tool.specs.RunEnds.{GivesRun};
 
+use crate::limits::limits_file;
 use crate::refuting::refute_answer;
 use crate::replaying::replay_answer;
 use crate::request::{NoRequest, Request, read_request};
@@ -45,11 +48,13 @@ fn run_files<R: Threads + Wait + Clock + Sync, S: Sources>(
     style: Style,
     files: &mut S,
 ) -> Result<Answer, ToolFault>
-    ensures gives { (d c : List ℕ) → S.holds files.old deployment.now ≡ Some d → S.holds files.old certificate.now ≡ Some c
+    ensures gives { (d c : List ℕ) → S.holds files.old deployment.now ≡ Some d
+        → S.holds files.old certificate.now ≡ Some c
         → GivesRun style (file_outcome d c) result }
     ensures causes { IfErr result (λ e. (e ≡ ToolFault.Run) ⊎ IsFileFault (S.has_failed files.new) e) }
     ensures opened { Opens (S.opened files.old) (S.opened files.new) (deployment.now ∷ certificate.now ∷ []) }
-    ensures all_opened { OnOk result (OpensAll (S.opened files.old) (S.opened files.new) (deployment.now ∷ certificate.now ∷ [])) }
+    ensures all_opened { OnOk result (OpensAll (S.opened files.old) (S.opened files.new)
+        (deployment.now ∷ certificate.now ∷ [])) }
 {
     let (deployment, certificate) = read_files(alloc, files, deployment, certificate)?;
     run_answer(
@@ -69,7 +74,8 @@ fn refute_file<S: Sources>(
     style: Style,
     files: &mut S,
 ) -> Result<Answer, ToolFault>
-    ensures gives { (d : List ℕ) → S.holds files.old deployment.now ≡ Some d → GivesOneOf (MayRefuteFor style d) result }
+    ensures gives { (d : List ℕ) → S.holds files.old deployment.now ≡ Some d
+        → GivesOneOf (MayRefuteFor style d) result }
     ensures causes { IfErr result (IsFileFault (S.has_failed files.new)) }
     ensures opened { OpensAll (S.opened files.old) (S.opened files.new) (deployment.now ∷ []) }
 {
@@ -91,24 +97,28 @@ fn replay_files<S: Sources>(
     style: Style,
     files: &mut S,
 ) -> Result<Answer, ToolFault>
-    ensures gives { (d e : List ℕ) → S.holds files.old deployment.now ≡ Some d → S.holds files.old events.now ≡ Some e → GivesOneOf (MayReplayFor style d e) result }
+    ensures gives { (d e : List ℕ) → S.holds files.old deployment.now ≡ Some d → S.holds files.old events.now ≡ Some e
+        → GivesOneOf (MayReplayFor style d e) result }
     ensures causes { IfErr result (IsFileFault (S.has_failed files.new)) }
     ensures opened { Opens (S.opened files.old) (S.opened files.new) (deployment.now ∷ events.now ∷ []) }
-    ensures all_opened { OnOk result (OpensAll (S.opened files.old) (S.opened files.new) (deployment.now ∷ events.now ∷ [])) }
+    ensures all_opened { OnOk result (OpensAll (S.opened files.old) (S.opened files.new)
+        (deployment.now ∷ events.now ∷ [])) }
 {
     let deployment = read_file(alloc, files, deployment)?;
     let events = read_file_up_to(alloc, files, events, MAX_EVENTS)?;
     replay_answer(alloc, deployment.as_slice(), events.as_slice(), style)
 }
 
-/// What words that are no request come to: yes where help was asked for and written, else the fault of which the user is told.
+/// What words that are no request come to: yes where help was asked for and written, else the fault of which the user
+/// is told.
 fn explain<O: Output, E: Output>(alloc: Global, reason: NoRequest, out: &mut O, err: &mut E) -> Exit
     ensures fault { ¬ IsHelp reason → (result ≡ Exit.Usage) ⊎ (result ≡ Exit.NoMemory) }
     ensures memory { reason ≡ NoRequest.NoMemory → result ≡ Exit.NoMemory }
     ensures nothing { result ≡ Exit.Usage → Keeps (O.contents out.old) (O.contents out.new) }
     ensures exit { (result ≡ Exit.Yes) ⊎ ((result ≡ Exit.Usage) ⊎ ((result ≡ Exit.NoMemory) ⊎ (result ≡ Exit.Device))) }
     ensures device { result ≡ Exit.Device → O.has_failed out.new ≡ true }
-    ensures told { E.has_failed err.new ≡ false → 2 ≤ exit_status result → TellsFault result (E.contents err.old) (E.contents err.new) }
+    ensures told { E.has_failed err.new ≡ false → 2 ≤ exit_status result
+        → TellsFault result (E.contents err.old) (E.contents err.new) }
     ensures help { IsHelp reason → result ≢ Exit.Usage }
     ensures quiet { result ≡ Exit.Yes → err.new ≡ err.old }
 {
@@ -156,6 +166,11 @@ fn answer_of<R: Threads + Wait + Clock + Sync, S: Sources>(
             Some(certificate) => draw_files(alloc, deployment, certificate, files),
         },
         Request::Refute { deployment, style } => refute_file(alloc, deployment, style, files),
+        Request::Limits {
+            deployment,
+            what,
+            style,
+        } => limits_file(alloc, deployment, what, style, files),
         Request::Replay {
             deployment,
             events,
@@ -179,8 +194,12 @@ fn run_request<R: Threads + Wait + Clock + Sync, S: Sources, O: Output, E: Outpu
     out: &mut O,
     err: &mut E,
 ) -> Result<Exit, ToolFault>
-    ensures answer { IfOk result (λ exit. Answers (S.holds files.old) request.entry (exit_status exit) (O.contents out.old) (O.contents out.new)) }
-    ensures fault { IfErr result (λ e. (status : ℕ) → (status ≡ fault_status e) ⊎ (status ≡ 3) → Answers (S.holds files.old) request.entry status (O.contents out.old) (O.contents out.new)) }
+    ensures answer { IfOk result
+        (λ exit. Answers (S.holds files.old) request.entry (exit_status exit) (O.contents out.old)
+        (O.contents out.new)) }
+    ensures fault { IfErr result
+        (λ e. (status : ℕ) → (status ≡ fault_status e) ⊎ (status ≡ 3)
+        → Answers (S.holds files.old) request.entry status (O.contents out.old) (O.contents out.new)) }
     ensures exit { IfOk result (λ exit. exit_status exit ≤ 1) }
     ensures ends { IfErr result (λ e. (e ≡ ToolFault.Write) ⊎ GivesTo (S.holds files.old) request.entry (Err e)) }
     ensures causes { IfErr result (IsCaused (S.has_failed files.new) (O.has_failed out.new) request.entry) }
@@ -201,15 +220,20 @@ fn obey<R: Threads + Wait + Clock + Sync, S: Sources, O: Output, E: Output>(
     out: &mut O,
     err: &mut E,
 ) -> Exit
-    ensures answer { exit_status result ≤ 2 → Tells (S.holds files.old) request.entry (exit_status result) (O.contents out.old) (O.contents out.new) }
-    ensures nothing { 2 ≤ exit_status result → exit_status result ≢ 3 → Keeps (O.contents out.old) (O.contents out.new) ⊎ (style_of request.entry ≡ Json) }
+    ensures answer { exit_status result ≤ 2
+        → Tells (S.holds files.old) request.entry (exit_status result) (O.contents out.old) (O.contents out.new) }
+    ensures nothing { 2 ≤ exit_status result → exit_status result ≢ 3
+        → Keeps (O.contents out.old) (O.contents out.new) ⊎ (style_of request.entry ≡ Json) }
     ensures no_usage { result ≢ Exit.Usage }
     ensures device { result ≡ Exit.Device → (S.has_failed files.new ≡ true) ⊎ (O.has_failed out.new ≡ true) }
     ensures run { result ≡ Exit.Run → IsAcceptedRun (S.holds files.old) request.entry }
-    ensures told { E.has_failed err.new ≡ false → 2 ≤ exit_status result → TellsFault result (E.contents err.old) (E.contents err.new) }
-    ensures bad_file { E.has_failed err.new ≡ false → exit_status result ≡ 2 → TellsBadFile (S.holds files.old) request.entry (E.contents err.old) (E.contents err.new) }
+    ensures told { E.has_failed err.new ≡ false → 2 ≤ exit_status result
+        → TellsFault result (E.contents err.old) (E.contents err.new) }
+    ensures bad_file { E.has_failed err.new ≡ false → exit_status result ≡ 2
+        → TellsBadFile (S.holds files.old) request.entry (E.contents err.old) (E.contents err.new) }
     ensures opened { Opens (S.opened files.old) (S.opened files.new) (paths_of request.entry) }
-    ensures all_opened { exit_status result ≤ 1 → OpensAll (S.opened files.old) (S.opened files.new) (paths_of request.entry) }
+    ensures all_opened { exit_status result ≤ 1
+        → OpensAll (S.opened files.old) (S.opened files.new) (paths_of request.entry) }
 {
     let style = request.style();
     match run_request(rt, alloc, request, files, out, err) {
@@ -221,8 +245,8 @@ fn obey<R: Threads + Wait + Clock + Sync, S: Sources, O: Output, E: Output>(
 /// Does what the words ask for, of which the first is the program's name, and returns how the command ended. The answer
 /// goes to `out`, and a fault goes to `err`, as does why no certificate was found; where `err` fails, it isn't told.
 /// Where a JSON document is asked for, that of a fault goes to `out` too. The files are opened in the order of the
-/// words, each once; words that ask for nothing open none, nor do those that ask for help or the version, which end with
-/// `Yes`. A bad file ends the command with the line of the very fault that its bytes have. The command ends with
+/// words, each once; words that ask for nothing open none, nor do those that ask for help or the version, which end
+/// with `Yes`. A bad file ends the command with the line of the very fault that its bytes have. The command ends with
 /// `Device` only where a file or the output has failed, and with `Run` only where a run was asked for and the check
 /// said yes.
 pub fn tool<R: Threads + Wait + Clock + Sync, W: AsStr, S: Sources, O: Output, E: Output>(
@@ -234,20 +258,28 @@ pub fn tool<R: Threads + Wait + Clock + Sync, W: AsStr, S: Sources, O: Output, E
     err: &mut E,
 ) -> Exit
     ensures answer { takes whole (map W.text words.now) ≡ true → exit_status result ≤ 2
-        → (r : _) × Asks (map W.text words.now) r × Tells (S.holds files.old) r (exit_status result) (O.contents out.old) (O.contents out.new) }
+        → (r : _) × Asks (map W.text words.now) r
+        × Tells (S.holds files.old) r (exit_status result) (O.contents out.old) (O.contents out.new) }
     ensures nothing { 2 ≤ exit_status result → exit_status result ≢ 3
-        → Keeps (O.contents out.old) (O.contents out.new) ⊎ ((r : _) × Asks (map W.text words.now) r × (style_of r ≡ Json)) }
-    ensures no_usage { takes whole (map W.text words.now) ≡ true → (r : _) → Asks (map W.text words.now) r → result ≢ Exit.Usage }
+        → Keeps (O.contents out.old) (O.contents out.new)
+        ⊎ ((r : _) × Asks (map W.text words.now) r × (style_of r ≡ Json)) }
+    ensures no_usage { takes whole (map W.text words.now) ≡ true → (r : _) → Asks (map W.text words.now) r
+        → result ≢ Exit.Usage }
     ensures device { result ≡ Exit.Device → (S.has_failed files.new ≡ true) ⊎ (O.has_failed out.new ≡ true) }
     ensures run { result ≡ Exit.Run → (r : _) × Asks (map W.text words.now) r × IsAcceptedRun (S.holds files.old) r }
-    ensures told { E.has_failed err.new ≡ false → 2 ≤ exit_status result → TellsFault result (E.contents err.old) (E.contents err.new) }
+    ensures told { E.has_failed err.new ≡ false → 2 ≤ exit_status result
+        → TellsFault result (E.contents err.old) (E.contents err.new) }
     ensures bad_file { E.has_failed err.new ≡ false → exit_status result ≡ 2
-        → (r : _) × Asks (map W.text words.now) r × TellsBadFile (S.holds files.old) r (E.contents err.old) (E.contents err.new) }
+        → (r : _) × Asks (map W.text words.now) r
+        × TellsBadFile (S.holds files.old) r (E.contents err.old) (E.contents err.new) }
     ensures help { AskForHelp (map W.text words.now)
-        → (files.new ≡ files.old) × (((result ≡ Exit.Yes) × (err.new ≡ err.old)) ⊎ ((result ≡ Exit.NoMemory) ⊎ (result ≡ Exit.Device))) }
-    ensures refused { AreRefused (map W.text words.now) → (files.new ≡ files.old) × ((result ≡ Exit.Usage) ⊎ (result ≡ Exit.NoMemory)) }
+        → (files.new ≡ files.old)
+        × (((result ≡ Exit.Yes) × (err.new ≡ err.old)) ⊎ ((result ≡ Exit.NoMemory) ⊎ (result ≡ Exit.Device))) }
+    ensures refused { AreRefused (map W.text words.now)
+        → (files.new ≡ files.old) × ((result ≡ Exit.Usage) ⊎ (result ≡ Exit.NoMemory)) }
     ensures opened { takes whole (map W.text words.now) ≡ true
-        → (files.new ≡ files.old) ⊎ ((r : _) × Asks (map W.text words.now) r × Opens (S.opened files.old) (S.opened files.new) (paths_of r)) }
+        → (files.new ≡ files.old)
+        ⊎ ((r : _) × Asks (map W.text words.now) r × Opens (S.opened files.old) (S.opened files.new) (paths_of r)) }
     ensures all_opened { takes whole (map W.text words.now) ≡ true → exit_status result ≤ 1
         → (r : _) × Asks (map W.text words.now) r × OpensAll (S.opened files.old) (S.opened files.new) (paths_of r) }
     ensures unopened { result ≡ Exit.Usage → files.new ≡ files.old }

@@ -1,10 +1,15 @@
-//! The command line of `ddscheck`, over any files and any two outputs: what its words ask for, the answer of each command on files (`dds_answers`), and
-//! runs. What the words ask for, the text of every answer and its exit status are stated functions of words and files, and, where a deployment runs, of
-//! the journal of its run and of how the threads of its applications ended.
+//! The command line of `ddscheck`, over any files and any two outputs: what its words ask for, the answer of each
+//! command on files (`dds_answers`), and runs. What the words ask for, the text of every answer and its exit status are
+//! stated functions of words and files, and, where a deployment runs, of the journal of its run and of how the threads
+//! of its applications ended.
 #![tactic(auto)]
 
 mod command;
 mod commands;
+mod limits;
+mod limits_document;
+mod needs;
+mod needs_text;
 mod refute_document;
 mod refuting;
 mod replaying;
@@ -17,6 +22,8 @@ mod thorough;
 mod wishes;
 
 pub use commands::tool;
+pub use limits::{Finding, limits_answer};
+pub use needs::{Limit, Need, Policy, Room};
 pub use refuting::refute_answer;
 pub use replaying::replay_answer;
 pub use request::{NoRequest, Request, read_request};

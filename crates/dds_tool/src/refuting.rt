@@ -3,7 +3,8 @@ ghost use Rattle.std.specs.Prelude.{◌≡◌, Ok, IfErr, IfOk, string_bytes};
 ghost use Rattle.dds_answers.specs.Answers.{GivesOneOf};
 ghost use Rattle.dds_answers.specs.Fault.{IsAnswerFault};
 ghost use Rattle.dds_deploy_file.specs.Document.{read as deployment_read};
-ghost use Rattle.dds_tool.specs.Refuting.{MayRefute, is_safe, known_text, loss_name, refuted_text, told_known, unknown_word, unsafe_line};
+ghost use Rattle.dds_tool.specs.Refuting.{MayRefute, is_safe, known_text, loss_name, refuted_text, told_known};
+ghost use Rattle.dds_tool.specs.Refuting.{unknown_word, unsafe_line};
 
 use crate::refute_document::known_line;
 use dds_answers::{Answer, ToolFault, answered, read_plan, structure_text};
@@ -119,8 +120,9 @@ fn refuted(alloc: Global, plan: Plan, style: Style) -> Result<Answer, ToolFault>
     answer
 }
 
-/// The answer of `refute` to the bytes of a deployment, told in this style: yes with `safe` where a certificate is accepted, or no with a run that loses a sample, with a condition
-/// that fails whatever the certificate, or with `unknown`.
+/// The answer of `refute` to the bytes of a deployment, told in this style: yes with `safe` where a certificate is
+/// accepted, or no with a run that loses a sample, with a condition that fails whatever the certificate, or with
+/// `unknown`.
 pub fn refute_answer(alloc: Global, deployment: &[u8], style: Style) -> Result<Answer, ToolFault>
     ensures gives { GivesOneOf (MayRefute style (deployment_read deployment.now)) result }
     ensures fault { IfErr result IsAnswerFault }

@@ -8,7 +8,8 @@ ghost use Rattle.dds_answers.specs.Fault.{IsAnswerFault};
 ghost use Rattle.dds_deploy_file.specs.Document.{read as deployment_read};
 ghost use Rattle.serde_json.specs.View.{view};
 ghost use Rattle.dds_json.specs.Line.{line_of};
-ghost use Rattle.dds_tool.specs.Replaying.{IsEventsFault, IsReplayed, MayReplay, MayReplayLists, replay_document, told_replay};
+ghost use Rattle.dds_tool.specs.Replaying.{IsEventsFault, IsReplayed, MayReplay, MayReplayLists, replay_document};
+ghost use Rattle.dds_tool.specs.Replaying.{told_replay};
 
 use dds_answers::{Answer, ToolFault, deployment_fault};
 use dds_base::{Event, NoMemory, Reply};
@@ -145,7 +146,8 @@ fn lists_replayed(
     }
 }
 
-/// The answer of `replay` to the bytes of a deployment and of a file of events, told in this style: yes with the lines of the events, each with its reply.
+/// The answer of `replay` to the bytes of a deployment and of a file of events, told in this style: yes with the lines
+/// of the events, each with its reply.
 pub fn replay_answer(
     alloc: Global,
     deployment: &[u8],

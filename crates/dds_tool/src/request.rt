@@ -1,13 +1,18 @@
 //! What the words of a command line ask for.
-ghost use Rattle.std.specs.Prelude.{◌≡◌, ◌⊎◌, ℕ, List, IsErrAnd, IfNone, IfOk, IfErr, IfSome, Some, true, false, codes, map, option_map};
-ghost use Rattle.clap.specs.Words.{Text, first_of, found_of, kind_of, rows_of, subcommand_of, subcommand_rows_of, takes};
+ghost use Rattle.std.specs.Prelude.{◌≡◌, ◌⊎◌, ℕ, List, IsErrAnd, IfNone, IfOk, IfErr, IfSome, Some, true, false, codes};
+ghost use Rattle.std.specs.Prelude.{map, option_map};
+ghost use Rattle.clap.specs.Words.{Text, first_of, found_of, kind_of, rows_of, subcommand_of, subcommand_rows_of};
+ghost use Rattle.clap.specs.Words.{takes};
 ghost use Rattle.dds_answers.specs.declared.format.Format.{Format};
 ghost use Rattle.dds_json.specs.declared.style.Style.{Style};
-ghost use Rattle.dds_tool.specs.Asking.{AreRefused, AskForHelp, Asks, Counts, IsHelp, IsHelpKind, IsStyled, Misses, NamesBoth, NamesStyled, Reads, Wants, detail_of, is_input_twice, is_set, style_of};
+ghost use Rattle.dds_tool.specs.Asking.{AreRefused, AskForHelp, Asks, Counts, IsHelp, IsHelpKind, IsStyled, Misses};
+ghost use Rattle.dds_tool.specs.Asking.{NamesBoth, NamesStyled, Reads, Wants, detail_of, finding_of, is_input_twice};
+ghost use Rattle.dds_tool.specs.Asking.{is_set, style_of};
 ghost use Rattle.dds_tool.specs.Command.{whole};
 ghost use Rattle.dds_tool.specs.Wishes.{format_word};
 
 use crate::command::whole_command;
+use crate::limits::Finding;
 use crate::wishes::{Wishes, read_fates, read_format, read_style};
 use clap::ArgMatches;
 use clap::error::ErrorKind;
@@ -59,6 +64,12 @@ pub enum Request<'a> {
         deployment: &'a str,
         style: Style,
     },
+    /// Which limits a deployment needs, or the certificate that shows them.
+    Limits {
+        deployment: &'a str,
+        what: Finding,
+        style: Style,
+    },
     /// What comes of events that are made on a deployment.
     Replay {
         deployment: &'a str,
@@ -103,6 +114,7 @@ impl<'a> Request<'a> {
             | Request::Check { style, .. }
             | Request::Run { style, .. }
             | Request::Refute { style, .. }
+            | Request::Limits { style, .. }
             | Request::Replay { style, .. } => *style,
             Request::Migrate { .. } | Request::Show { .. } | Request::Draw { .. } => Style::Text,
         }
@@ -165,7 +177,8 @@ fn matches_of<'a, S: AsStr>(alloc: Global, words: &'a [S]) -> Result<ArgMatches<
     ensures rows { IfOk result (λ m. subcommand_rows_of m ≡ subcommand_of whole (map S.text words.entry.now)) }
     ensures taken { IfErr result (λ e. takes whole (map S.text words.entry.now) ≡ true → ¬ IsHelp e) }
     ensures memory { IfErr result (λ e. takes whole (map S.text words.entry.now) ≡ true → e ≡ NoRequest.NoMemory) }
-    ensures help { AskForHelp (map S.text words.entry.now) → IsErrAnd result (λ e. IsHelp e ⊎ (e ≡ NoRequest.NoMemory)) }
+    ensures help { AskForHelp (map S.text words.entry.now)
+        → IsErrAnd result (λ e. IsHelp e ⊎ (e ≡ NoRequest.NoMemory)) }
     ensures refused { AreRefused (map S.text words.entry.now) → IsErrAnd result (λ e. ¬ IsHelp e) }
 {
     let Ok(command) = whole_command(alloc) else {
@@ -198,7 +211,8 @@ fn is_input_twice(deployment: &str, certificate: &str) -> bool
 fn deployment<'a>(alloc: Global, matches: &ArgMatches<'a>) -> Result<&'a str, NoRequest>
     ensures named { IfOk result (λ d. first_of (codes "deployment") (rows_of (found_of matches.now)) ≡ Some d.now) }
     ensures fault { IfErr result (λ e. ¬ IsHelp e) }
-    ensures none { IfErr result (λ _. (d : Text) → first_of (codes "deployment") (rows_of (found_of matches.now)) ≡ Some d → ⊥) }
+    ensures none { IfErr result
+        (λ _. (d : Text) → first_of (codes "deployment") (rows_of (found_of matches.now)) ≡ Some d → ⊥) }
 {
     match argument(matches, "deployment") {
         Some(deployment) => Ok(deployment),
@@ -206,13 +220,15 @@ fn deployment<'a>(alloc: Global, matches: &ArgMatches<'a>) -> Result<&'a str, No
     }
 }
 
-/// The names of a deployment and of a second file, whose argument has this name, if both are given, not both on standard input.
+/// The names of a deployment and of a second file, whose argument has this name, if both are given, not both on
+/// standard input.
 fn both_files<'a>(
     alloc: Global,
     matches: &ArgMatches<'a>,
     second: &str,
 ) -> Result<(&'a str, &'a str), NoRequest>
-    ensures both { IfOk result (λ files. NamesBoth second.now (rows_of (found_of matches.now)) files.0.now files.1.now) }
+    ensures both { IfOk result
+        (λ files. NamesBoth second.now (rows_of (found_of matches.now)) files.0.now files.1.now) }
     ensures fault { IfErr result (λ e. ¬ IsHelp e) }
     ensures none { IfErr result (λ _. (d f : Text) → NamesBoth second.now (rows_of (found_of matches.now)) d f → ⊥) }
 {
@@ -252,7 +268,8 @@ fn styled_deployment<'a>(
 ) -> Result<(&'a str, Style), NoRequest>
     ensures named { IfOk result (λ asked. NamesStyled (rows_of (found_of matches.now)) asked.0.now asked.1) }
     ensures fault { IfErr result (λ e. ¬ IsHelp e) }
-    ensures none { IfErr result (λ _. (d : Text) (style : Style) → NamesStyled (rows_of (found_of matches.now)) d style → ⊥) }
+    ensures none { IfErr result
+        (λ _. (d : Text) (style : Style) → NamesStyled (rows_of (found_of matches.now)) d style → ⊥) }
 {
     let Some(style) = style(matches) else {
         return Err(usage(alloc, WRONG_STYLE));
@@ -351,8 +368,10 @@ fn migrate_request<'a>(alloc: Global, matches: &ArgMatches<'a>) -> Result<Reques
 
 /// The format in which a deployment is to be shown, or `None` where the word stands for none.
 fn format(matches: &ArgMatches) -> Option<Format>
-    ensures some { IfSome result (λ format. first_of (codes "format") (rows_of (found_of matches.now)) ≡ Some (format_word format)) }
-    ensures none { IfNone result ((format : Format) → first_of (codes "format") (rows_of (found_of matches.now)) ≡ Some (format_word format) → ⊥) }
+    ensures some { IfSome result
+        (λ format. first_of (codes "format") (rows_of (found_of matches.now)) ≡ Some (format_word format)) }
+    ensures none { IfNone result ((format : Format)
+        → first_of (codes "format") (rows_of (found_of matches.now)) ≡ Some (format_word format) → ⊥) }
 {
     read_format(argument(matches, "format")?)
 }
@@ -411,11 +430,37 @@ fn replay_request<'a>(alloc: Global, matches: &ArgMatches<'a>) -> Result<Request
     })
 }
 
+/// What is asked for of the limits.
+fn finding(matches: &ArgMatches) -> Finding
+    ensures { result ≡ finding_of (rows_of (found_of matches.now)) }
+{
+    if is_set(matches, "certificate") {
+        Finding::Certificate
+    } else {
+        Finding::Bounds
+    }
+}
+
+fn limits_request<'a>(alloc: Global, matches: &ArgMatches<'a>) -> Result<Request<'a>, NoRequest>
+    ensures asked { Reads (codes "limits") (rows_of (found_of matches.now)) result }
+    ensures fault { IfErr result (λ e. ¬ IsHelp e) }
+    ensures unasked { Misses (codes "limits") (rows_of (found_of matches.now)) result }
+{
+    let (deployment, style) = styled_deployment(alloc, matches)?;
+    Ok(Request::Limits {
+        deployment,
+        what: finding(matches),
+        style,
+    })
+}
+
 /// What the matches of the words ask for.
 fn request_of<'a>(alloc: Global, matches: &ArgMatches<'a>) -> Result<Request<'a>, NoRequest>
-    ensures asked { (words : List Text) → subcommand_rows_of matches.now ≡ subcommand_of whole words → IfOk result (Asks words) }
+    ensures asked { (words : List Text) → subcommand_rows_of matches.now ≡ subcommand_of whole words
+        → IfOk result (Asks words) }
     ensures fault { IfErr result (λ e. ¬ IsHelp e) }
-    ensures unasked { (words : List Text) → subcommand_rows_of matches.now ≡ subcommand_of whole words → (r : _) → Asks words r → IfErr result (λ _. ⊥) }
+    ensures unasked { (words : List Text) → subcommand_rows_of matches.now ≡ subcommand_of whole words → (r : _)
+        → Asks words r → IfErr result (λ _. ⊥) }
 {
     match part(matches) {
         Some(("match", inner)) => match_request(alloc, inner),
@@ -427,6 +472,7 @@ fn request_of<'a>(alloc: Global, matches: &ArgMatches<'a>) -> Result<Request<'a>
         Some(("draw", inner)) => draw_request(alloc, inner),
         Some(("refute", inner)) => refute_request(alloc, inner),
         Some(("replay", inner)) => replay_request(alloc, inner),
+        Some(("limits", inner)) => limits_request(alloc, inner),
         _ => Err(usage(alloc, "error: no such command\n")),
     }
 }
@@ -437,8 +483,10 @@ fn request_of<'a>(alloc: Global, matches: &ArgMatches<'a>) -> Result<Request<'a>
 pub fn read_request<'a, S: AsStr>(alloc: Global, words: &'a [S]) -> Result<Request<'a>, NoRequest>
     ensures asked { IfOk result (Asks (map S.text words.entry.now)) }
     ensures taken { IfErr result (λ e. takes whole (map S.text words.entry.now) ≡ true → ¬ IsHelp e) }
-    ensures unasked { takes whole (map S.text words.entry.now) ≡ true → (r : _) → Asks (map S.text words.entry.now) r → IfErr result (λ e. e ≡ NoRequest.NoMemory) }
-    ensures help { AskForHelp (map S.text words.entry.now) → IsErrAnd result (λ e. IsHelp e ⊎ (e ≡ NoRequest.NoMemory)) }
+    ensures unasked { takes whole (map S.text words.entry.now) ≡ true → (r : _) → Asks (map S.text words.entry.now) r
+        → IfErr result (λ e. e ≡ NoRequest.NoMemory) }
+    ensures help { AskForHelp (map S.text words.entry.now)
+        → IsErrAnd result (λ e. IsHelp e ⊎ (e ≡ NoRequest.NoMemory)) }
     ensures refused { AreRefused (map S.text words.entry.now) → IsErrAnd result (λ e. ¬ IsHelp e) }
 {
     let matches = matches_of(alloc, words)?;

@@ -39,7 +39,10 @@ fn app_documents(
     ends: &[AppEnd],
 ) -> Result<Vec<Value>, NoMemory>
     requires { length ends.now ≡ length names.now }
-    ensures { IfOk result (λ documents. map view documents.items ≡ map (document_at (map string_bytes names.now) journal.now ends.now) (range_with_len 0 (length names.now))) }
+    ensures { IfOk result
+        (λ documents. map view documents.items
+        ≡ map (document_at (map string_bytes names.now) journal.now ends.now)
+        (range_with_len 0 (length names.now))) }
 {
     let mut documents = Vec::new(alloc);
     for app in 0..names.len() {
@@ -50,7 +53,8 @@ fn app_documents(
     Ok(documents)
 }
 
-/// The document of a run: yes where the thread of each application ended as the application asked, with each application.
+/// The document of a run: yes where the thread of each application ended as the application asked, with each
+/// application.
 fn run_document(
     alloc: Global,
     names: &[String],
@@ -73,7 +77,8 @@ pub(crate) fn run_line(
     ends: &[AppEnd],
 ) -> Result<String, NoMemory>
     requires { length ends.now ≡ length names.now }
-    ensures { IfOk result (λ text. string_bytes text ≡ line_of (run_document (map string_bytes names.now) journal.now ends.now)) }
+    ensures { IfOk result
+        (λ text. string_bytes text ≡ line_of (run_document (map string_bytes names.now) journal.now ends.now)) }
 {
     let document = run_document(alloc, names, journal, ends)?;
     line_of(alloc, &document)

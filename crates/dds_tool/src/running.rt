@@ -1,4 +1,5 @@
-//! What `run` answers: the deployment is checked, and where the answer is yes it runs, with a steady application for each that it names.
+//! What `run` answers: the deployment is checked, and where the answer is yes it runs, with a steady application for
+//! each that it names.
 ghost use Rattle.std.specs.Prelude.{◌≡◌, ◌⊎◌, IfErr, IfOk, length, map, string_bytes};
 ghost use Rattle.std.specs.List.{count_by};
 ghost use Rattle.dds_book.specs.Journal.{IsJournal};
@@ -144,7 +145,8 @@ fn told_run(
     style: Style,
 ) -> Result<String, NoMemory>
     requires { length ends.now ≡ length names.now }
-    ensures { IfOk result (λ text. string_bytes text ≡ told_run style (map string_bytes names.now) journal.now ends.now) }
+    ensures { IfOk result
+        (λ text. string_bytes text ≡ told_run style (map string_bytes names.now) journal.now ends.now) }
 {
     match style {
         Style::Text => run_text(alloc, names, journal, ends),
@@ -168,7 +170,8 @@ fn steadies(alloc: Global, plan: &Plan, wishes: &Wishes) -> Result<Vec<Steady>, 
     Ok(apps)
 }
 
-/// Runs a checked plan with these applications, one for each of its own. It gives the journal, and how the thread of each ended.
+/// Runs a checked plan with these applications, one for each of its own. It gives the journal, and how the thread of
+/// each ended.
 fn perform<R: Threads + Wait + Clock + Sync>(
     rt: &R,
     alloc: Global,
@@ -271,8 +274,9 @@ fn told_check(alloc: Global, report: Report, style: Style) -> Result<Answer, Too
     }
 }
 
-/// The answer of `run` to the bytes of a deployment and of a certificate, told in this style: a no of the checker as `check` answers it, and else what the
-/// applications did: yes where the thread of each ended as the application asked. `Run` comes where the journal became full or a thread couldn't be made.
+/// The answer of `run` to the bytes of a deployment and of a certificate, told in this style: a no of the checker as
+/// `check` answers it, and else what the applications did: yes where the thread of each ended as the application asked.
+/// `Run` comes where the journal became full or a thread couldn't be made.
 pub fn run_answer<R: Threads + Wait + Clock + Sync>(
     rt: &R,
     alloc: Global,

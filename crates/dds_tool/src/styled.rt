@@ -23,13 +23,16 @@ pub(crate) fn check_in_style<S: Sources>(
     style: Style,
     files: &mut S,
 ) -> Result<Answer, ToolFault>
-    ensures gives { (d c : List ℕ) → S.holds files.old deployment.now ≡ Some d → S.holds files.old certificate.now ≡ Some c
+    ensures gives { (d c : List ℕ) → S.holds files.old deployment.now ≡ Some d
+        → S.holds files.old certificate.now ≡ Some c
         → Gives result (in_style style (check_file_outcome detail d c)) }
-    ensures told { (d c : List ℕ) → S.holds files.old deployment.now ≡ Some d → S.holds files.old certificate.now ≡ Some c
+    ensures told { (d c : List ℕ) → S.holds files.old deployment.now ≡ Some d
+        → S.holds files.old certificate.now ≡ Some c
         → IfErr result (IsFaultTold detail d c) }
     ensures causes { IfErr result (IsFileFault (S.has_failed files.new)) }
     ensures opened { Opens (S.opened files.old) (S.opened files.new) (deployment.now ∷ certificate.now ∷ []) }
-    ensures all_opened { OnOk result (OpensAll (S.opened files.old) (S.opened files.new) (deployment.now ∷ certificate.now ∷ [])) }
+    ensures all_opened { OnOk result (OpensAll (S.opened files.old) (S.opened files.new)
+        (deployment.now ∷ certificate.now ∷ [])) }
 {
     match style {
         Style::Text => check_files(alloc, deployment, certificate, detail, files),
@@ -44,7 +47,8 @@ pub(crate) fn match_in_style<S: Sources>(
     style: Style,
     files: &mut S,
 ) -> Result<Answer, ToolFault>
-    ensures gives { (d : List ℕ) → S.holds files.old deployment.now ≡ Some d → Gives result (in_style style (match_file_outcome d)) }
+    ensures gives { (d : List ℕ) → S.holds files.old deployment.now ≡ Some d
+        → Gives result (in_style style (match_file_outcome d)) }
     ensures causes { IfErr result (IsFileFault (S.has_failed files.new)) }
     ensures opened { OpensAll (S.opened files.old) (S.opened files.new) (deployment.now ∷ []) }
 {
@@ -76,7 +80,8 @@ pub(crate) fn propose_in_style<S: Sources>(
     style: Style,
     files: &mut S,
 ) -> Result<Answer, ToolFault>
-    ensures gives { (d : List ℕ) → S.holds files.old deployment.now ≡ Some d → (end : Outcome) × MayProposeFor d end × Gives result (in_style style end) }
+    ensures gives { (d : List ℕ) → S.holds files.old deployment.now ≡ Some d
+        → (end : Outcome) × MayProposeFor d end × Gives result (in_style style end) }
     ensures causes { IfErr result (IsFileFault (S.has_failed files.new)) }
     ensures opened { OpensAll (S.opened files.old) (S.opened files.new) (deployment.now ∷ []) }
 {
@@ -90,7 +95,8 @@ pub(crate) fn search_in_style<S: Sources>(
     style: Style,
     files: &mut S,
 ) -> Result<Answer, ToolFault>
-    ensures gives { (d : List ℕ) → S.holds files.old deployment.now ≡ Some d → (end : Outcome) × MayFindFor d end × Gives result (in_style style end) }
+    ensures gives { (d : List ℕ) → S.holds files.old deployment.now ≡ Some d
+        → (end : Outcome) × MayFindFor d end × Gives result (in_style style end) }
     ensures causes { IfErr result (IsFileFault (S.has_failed files.new)) }
     ensures opened { OpensAll (S.opened files.old) (S.opened files.new) (deployment.now ∷ []) }
 {

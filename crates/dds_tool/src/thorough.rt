@@ -1,5 +1,6 @@
 //! What `propose --thorough` answers to the bytes of a deployment.
-ghost use Rattle.std.specs.Prelude.{◌≡◌, ◌∷◌, ◌≤◌, ◌<◌, ℕ, List, [], IfErr, IfOk, IfSome, IsOk, None, Ok, OnOk, Some, string_bytes, true};
+ghost use Rattle.std.specs.Prelude.{◌≡◌, ◌∷◌, ◌≤◌, ◌<◌, ℕ, List, [], IfErr, IfOk, IfSome, IsOk, None, Ok, OnOk, Some};
+ghost use Rattle.std.specs.Prelude.{string_bytes, true};
 ghost use Rattle.dds_match.specs.Plan.{network_of};
 ghost use Rattle.dds_cert.specs.Fits.{fits};
 ghost use Rattle.dds_cert.specs.Views.{certificate_view};
@@ -11,7 +12,8 @@ ghost use Rattle.dds_answers.specs.Opened.{OpensAll};
 ghost use Rattle.dds_answers.specs.Outcome.{Outcome, unproposed};
 ghost use Rattle.dds_deploy_file.specs.Document.{read as deployment_read};
 ghost use Rattle.dds_runs.specs.Accepted.{instance_limit};
-ghost use Rattle.dds_tool.specs.Missing.{IsDepthFor, IsLimitText, IsMissingText, least_line, length_line, own_name, shower};
+ghost use Rattle.dds_tool.specs.Missing.{IsDepthFor, IsLimitText, IsMissingText, least_line, length_line, own_name};
+ghost use Rattle.dds_tool.specs.Missing.{shower};
 ghost use Rattle.dds_tool.specs.Searches.{MayFind, MayFindFor};
 
 use dds_answers::{
@@ -30,7 +32,8 @@ use std::alloc::Global;
 /// The limit of a key of a reader by its own policies, with its name: its depth where it keeps the last samples alone.
 fn own_limit(plan: &Plan, reader: ReaderNo) -> (&'static str, Option<u32>)
     ensures name { result.0.now ≡ own_name (network_of plan.now) reader }
-    ensures limit { reader < (network_of plan.now).readers → result.1 ≡ instance_limit ((network_of plan.now).reader_limits reader) }
+    ensures limit { reader < (network_of plan.now).readers
+        → result.1 ≡ instance_limit ((network_of plan.now).reader_limits reader) }
 {
     if reader.number() >= plan.lists().readers() {
         return ("the limit", None);
@@ -194,14 +197,15 @@ fn none_with(alloc: Global, note: Result<String, NoMemory>) -> Result<Answer, To
 /// The answer where no certificate was found: why is told to the user.
 fn unfound(alloc: Global, plan: &Plan, missing: Missing) -> Result<Answer, ToolFault>
     ensures gives { Gives result unproposed }
-    ensures note { IfOk result (λ a. (note : _) × (a.note ≡ Some note) × IsMissingText plan.now missing (string_bytes note)) }
+    ensures note { IfOk result
+        (λ a. (note : _) × (a.note ≡ Some note) × IsMissingText plan.now missing (string_bytes note)) }
     ensures fault { IfErr result IsAnswerFault }
 {
     none_with(alloc, missing_text(alloc, plan, missing))
 }
 
 /// What the user is told of a certificate whose text is longer than a file may be.
-fn length_text(alloc: Global, length: usize) -> Result<String, NoMemory>
+pub(crate) fn length_text(alloc: Global, length: usize) -> Result<String, NoMemory>
     ensures { IfOk result (λ text. string_bytes text ≡ length_line length) }
 {
     format!(in alloc;
@@ -254,8 +258,8 @@ fn sought(alloc: Global, plan: &Plan) -> Result<Answer, ToolFault>
     }
 }
 
-/// The answer of `propose --thorough` to the bytes of a deployment: yes with the text of a certificate that is accepted,
-/// of at most 1,048,576 bytes, or no where none was found, and then with a note that says why.
+/// The answer of `propose --thorough` to the bytes of a deployment: yes with the text of a certificate that is
+/// accepted, of at most 1,048,576 bytes, or no where none was found, and then with a note that says why.
 pub fn thorough_answer(alloc: Global, deployment: &[u8]) -> Result<Answer, ToolFault>
     ensures gives { (end : Outcome) × MayFind (deployment_read deployment.now) end × Gives result end }
     ensures fault { IfErr result IsAnswerFault }
@@ -272,7 +276,8 @@ pub fn thorough_file<S: Sources>(
     deployment: &str,
     files: &mut S,
 ) -> Result<Answer, ToolFault>
-    ensures gives { (d : List ℕ) → S.holds files.old deployment.now ≡ Some d → (end : Outcome) × MayFindFor d end × Gives result end }
+    ensures gives { (d : List ℕ) → S.holds files.old deployment.now ≡ Some d
+        → (end : Outcome) × MayFindFor d end × Gives result end }
     ensures causes { IfErr result (IsFileFault (S.has_failed files.new)) }
     ensures opened { OpensAll (S.opened files.old) (S.opened files.new) (deployment.now ∷ []) }
 {
