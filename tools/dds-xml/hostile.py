@@ -5,6 +5,9 @@ from __future__ import annotations
 from dataclasses import dataclass
 
 MIB = 1024 * 1024
+# The most writers, and as many topics, that a deployment has, and the most lines that are printed of what isn't in it.
+MOST_WRITERS = 256
+MOST_LINES = 1000
 NO_ENTITIES = "it has a document type, and entities aren't read"
 NOTHING = "it has no participant, no topic, and no profile of a writer or reader"
 TOO_MUCH = "its profiles inherit or match too much to be followed"
@@ -109,10 +112,15 @@ def work() -> list[Attack]:
     blanks += b"&lt;</expression></content_filter></data_reader></domain_participant></domain_participant_library></dds>"
     policies = b'<qos_profile name="all"><datawriter_qos>' + b"<durability><kind>VOLATILE</kind></durability>" * 30_000
     policies += b"</datawriter_qos></qos_profile>" + b"".join(b'<qos_profile name="p%d" base_name="all"/>' % i for i in range(200))
-    named = b"<profiles>" + b"".join(b'<data_writer profile_name="%d"/>' % i for i in range(60_000)) + b"</profiles>"
+    count = 60_000
+    named = b"<profiles>" + b"".join(b'<data_writer profile_name="%d"/>' % i for i in range(count)) + b"</profiles>"
+    # each that is past the limit is left out
+    of_named = count - MOST_WRITERS
     crowd = b"".join(b'\n<domain_participant name="p%d" domain_id="0"/>' % i for i in range(70))
     crowd = b'<dds><domain_participant_library name="L">' + crowd + b"</domain_participant_library></dds>"
-    same = b"<profiles>" + b'<data_writer profile_name="w"/>' * 60_000 + b"</profiles>"
+    same = b"<profiles>" + b'<data_writer profile_name="w"/>' * count + b"</profiles>"
+    # of all but the first is told that they stand above too, and what their names became or that they are left out
+    of_same = 2 * (count - 1)
     return [
         Attack("30,000 profiles, each of which inherits the last one", library(chain), 2, TOO_MUCH),
         Attack("200 profiles that inherit 30,000 policies", library(policies), 2, TOO_MUCH),
@@ -128,8 +136,8 @@ def work() -> list[Attack]:
             "line 71: /dds/domain_participant_library[L]/domain_participant[p69]: a deployment has at most 64 participants, "
             "and this one is left out",
         ),
-        Attack("60,000 profiles", named, 0, "58744 more notes are left out"),
-        Attack("a profile 60,000 times", same, 0, "118998 more notes are left out"),
+        Attack("60,000 profiles", named, 0, f"{of_named - MOST_LINES} more notes are left out"),
+        Attack("a profile 60,000 times", same, 0, f"{of_same - MOST_LINES} more notes are left out"),
     ]
 
 

@@ -132,7 +132,7 @@ def fault_of(converted: Converted) -> str | None:
         if not NOTE.fullmatch(note):
             return f"a note is no line: {note!r}"
     document = tomllib.loads(converted.text)
-    if document.pop("version") not in (1, 3):
+    if document.pop("version") != 3:
         return "the version"
     return None if document == lists_of(converted.deployment) else "the text has other lists than the deployment"
 

@@ -13,8 +13,8 @@ from reading import Element, Refused, quoted
 
 MAX_STEPS = 128
 MAX_PATTERN = 256
-# How much inheritance and matching of topic filters a file may ask for, in about as many microseconds.
-MAX_WORK = 250_000
+# How much inheritance and matching of topic filters a file may ask for: a unit takes some four microseconds.
+MAX_WORK = 80_000
 ENTITIES = {side.entity for side in Side} | {side.group for side in Side}
 # The libraries that RTI Connext has built in, whose values no file has.
 BUILT_IN = ("BuiltinQosLib", "BuiltinQosLibExp", "BuiltinQosSnippetLib")

@@ -3,7 +3,6 @@
 from __future__ import annotations
 
 from model import Application, Deployment, Endpoint
-from names import is_name
 from policies import Value, defaults, Side
 from reading import Refused
 
@@ -69,9 +68,8 @@ def application_text(one: Application) -> str:
 
 
 def deployment_text(deployment: Deployment) -> str:
-    """The file, of version 1, or of version 3 where the name of a type needs that. Raises `Refused` where it is longer than a file may be."""
-    version = 1 if all(is_name(one.type) for one in deployment.topics) else 3
-    parts = [f"version = {version}\n", participants_text(deployment), topics_text(deployment)]
+    """The file, of version 3, which takes what vendors configure by default. Raises `Refused` where it is longer than a file may be."""
+    parts = ["version = 3\n", participants_text(deployment), topics_text(deployment)]
     parts += [endpoint_text(one) for side in Side for one in deployment.endpoints[side]]
     parts += [application_text(one) for one in deployment.applications]
     text = "".join([*parts, NOTES])
