@@ -1,0 +1,170 @@
+#!/usr/bin/env python3
+"""Tries `tools/package`: makes the Debian package twice, compares what is in it with the sources, and installs it into a root of its own.
+
+  tools/packages.py
+
+The program that is packed is the built one. The tests that need dpkg-deb count as skipped where it isn't installed, and the installation where this doesn't run as root.
+The last line is 'N passed, M failed'; the status is 1 if one failed.
+"""
+import gzip
+import os
+import shutil
+import sys
+import tarfile
+import tempfile
+from pathlib import Path
+
+sys.dont_write_bytecode = True
+from harness import PROGRAM, ROOT, SECONDS, Tally, ddscheck, need_program, run  # noqa: E402
+
+TOOL = ROOT / "tools/package"
+DOCUMENTS = "usr/share/doc/ddscheck"
+# where the package has what the tree has
+FILES = {
+    "usr/bin/ddscheck": PROGRAM,
+    "usr/share/bash-completion/completions/ddscheck": ROOT / "docs/completions/ddscheck.bash",
+    "usr/share/zsh/vendor-completions/_ddscheck": ROOT / "docs/completions/ddscheck.zsh",
+    "usr/share/fish/vendor_completions.d/ddscheck.fish": ROOT / "docs/completions/ddscheck.fish",
+}
+PACKED = {"usr/share/man/man1/ddscheck.1.gz": ROOT / "docs/man/ddscheck.1", f"{DOCUMENTS}/changelog.gz": ROOT / "CHANGELOG.md"}
+
+
+def out_of(words, **how):
+    """What a command prints, which has to end well."""
+    done = run(words, seconds=5 * SECONDS, **how)
+    if done.status != 0:
+        raise ValueError(f"{words[0]}: {done}")
+    return done.out
+
+
+def documents():
+    """The documents and examples of the sources: every page of the first folder, and what is below docs and examples beside completions and the man page."""
+    for name in out_of(["git", "-C", ROOT, "ls-files"]).splitlines():
+        folder = name.split("/")[0]
+        if (folder == name and name.endswith(".md")) or (folder in ("docs", "examples") and name.split("/")[1] not in ("man", "completions")):
+            yield name
+
+
+def refuse(tally, room):
+    """What isn't a call of the tool, and what it can't do without."""
+    for words in (("a", "b"), ("--what",)):
+        given = run([TOOL, *words])
+        tally.check((given.status, given.out, given.err) == (4, "", "usage: tools/package [FOLDER]\n"), f"usage with {words}", given)
+    (room / "bin").mkdir()
+    (room / "bin/python3").symlink_to(sys.executable)
+    given = run([sys.executable, TOOL, room / "none"], env={"PATH": str(room / "bin")})
+    tally.check((given.status, given.out, given.err.count("\n")) == (3, "", 1) and "dpkg-deb" in given.err, "a machine without dpkg-deb", given)
+    tally.check(not (room / "none").exists(), "no folder is made then")
+
+
+def refuse_unbuilt(tally, room):
+    """A tree without a program, and one with a program of other sources."""
+    tree = room / "a tree"
+    (tree / "tools").mkdir(parents=True)
+    for name in ("ddscheck", "crates.txt", "HANDLES", "tools/package"):
+        shutil.copy(ROOT / name, tree / name)
+    for what in ("a tree that isn't built", "a program of other sources"):
+        given = run([tree / "tools/package", room / "none"], env=os.environ | {"SOURCE_DATE_EPOCH": "1"})
+        is_told = "./ddscheck --build makes it" in given.err and given.err.endswith("package: ddscheck --install failed\n")
+        tally.check((given.status, given.out) == (3, "") and is_told and not (room / "none").exists(), what, given)
+        (tree / "crates/ddscheck/out").mkdir(parents=True, exist_ok=True)
+        shutil.copy(PROGRAM, tree / "crates/ddscheck/out/ddscheck")
+
+
+def compare_files(tally, root):
+    """What an unpacked package has, beside what the tree has."""
+    for name, path in FILES.items():
+        tally.check((root / name).read_bytes() == path.read_bytes(), f"{name} is that of the tree")
+    for name, path in PACKED.items():
+        tally.check(gzip.decompress((root / name).read_bytes()) == path.read_bytes(), f"{name} is that of the tree")
+    names = set(documents())
+    for name in sorted(names):
+        tally.check((root / DOCUMENTS / name).is_file() and (root / DOCUMENTS / name).read_bytes() == (ROOT / name).read_bytes(), f"{name} is that of the tree")
+    every = {str(path.relative_to(root)) for path in root.rglob("*") if path.is_file()}
+    tally.check(every == {*FILES, *PACKED, *(f"{DOCUMENTS}/{name}" for name in names)}, "no other file", sorted(every)[:80])
+
+
+def compare_entries(tally, package, room):
+    """Who owns each entry, what it may, and its time."""
+    (room / "tar").write_bytes(archive_of(package))
+    seconds = int(out_of(["git", "-C", ROOT, "log", "-1", "--format=%ct"]))
+    with tarfile.open(room / "tar") as entries:
+        for entry in entries:
+            may = 0o755 if entry.isdir() or entry.name == "./usr/bin/ddscheck" else 0o644
+            found = (entry.uname, entry.gname, entry.uid, entry.gid, entry.mode, int(entry.mtime))
+            tally.check(found == ("root", "root", 0, 0, may, seconds) and (entry.isdir() or entry.isreg()), f"the entry {entry.name}", found)
+
+
+def archive_of(package):
+    """The bytes of the package's archive of files: the last member of its `ar`, packed by gzip."""
+    text = package.read_bytes()
+    at = text.index(b"data.tar.gz")
+    size = int(text[at + 48 : at + 58])
+    return gzip.decompress(text[at + 60 : at + 60 + size])
+
+
+def answer(tally, root):
+    """The unpacked program answers to the unpacked examples."""
+    program, examples = root / "usr/bin/ddscheck", root / DOCUMENTS / "examples"
+    for certificate in sorted(examples.rglob("*.cert.toml")):
+        given = run([program, "check", certificate.with_name(certificate.name.replace(".cert", "")), certificate], seconds=SECONDS)
+        tally.check(given.status == 0 and given.out.startswith("yes\n"), f"check of {certificate.name}", given)
+
+
+def install(tally, package, room):
+    """Installs the package into a root of its own, has dpkg compare it, and takes it away again."""
+    if os.geteuid() != 0:
+        tally.skip("only root installs packages", 5)
+        return
+    root = room / "root"
+    (root / "var/lib/dpkg/info").mkdir(parents=True)
+    (root / "var/lib/dpkg/updates").mkdir()
+    (root / "var/lib/dpkg/status").touch()
+    dpkg = ["dpkg", f"--root={root}", "--force-depends", "--log=/dev/null"]
+    given = run([*dpkg, "--install", package], seconds=5 * SECONDS)
+    tally.check(given.status == 0, "dpkg installs it", given)
+    given = run([*dpkg, "--verify", "ddscheck"])
+    tally.check((given.status, given.out) == (0, ""), "dpkg finds each file as its checksum says", given)
+    given = run([root / "usr/bin/ddscheck", "--version"])
+    tally.check((given.status, given.out) == (0, ddscheck("--version").out), "the installed program says its version", given)
+    listed = [line for line in out_of([*dpkg, "--listfiles", "ddscheck"]).splitlines() if (root / line.lstrip("/")).is_file()]
+    tally.check(len(listed) == len([path for path in (root / "usr").rglob("*") if path.is_file()]), "dpkg knows each file", listed)
+    given = run([*dpkg, "--purge", "ddscheck"])
+    tally.check(given.status == 0 and not list(root.glob("usr/**/*")), "dpkg takes it away again", given)
+
+
+def make(tally, room):
+    """Two packages, the second made in other circumstances."""
+    first = Path(out_of([TOOL, room / "first"], cwd="/").strip())
+    second = Path(out_of(["sh", "-c", 'umask 077; exec "$1" "$2"', "sh", TOOL, room / "second"], env=os.environ | {"TZ": "Asia/Tokyo", "LC_ALL": "C"}).strip())
+    tally.check(first.read_bytes() == second.read_bytes(), "two packages have the same bytes")
+    tally.check([path.name for path in (room / "first").iterdir()] == [first.name] and first.parent == room / "first", "the folder has the package alone")
+    architecture = out_of(["dpkg", "--print-architecture"]).strip()
+    version = ddscheck("--version").out.split()[1]
+    tally.check(first.name == f"ddscheck_{version}_{architecture}.deb", "the package's name", first.name)
+    fields = out_of(["dpkg-deb", "--field", first, "Package", "Version", "Architecture", "Maintainer"])
+    maintainer = out_of(["git", "-C", ROOT, "log", "-1", "--format=%an <%ae>"])
+    tally.check(fields == f"Package: ddscheck\nVersion: {version}\nArchitecture: {architecture}\nMaintainer: {maintainer}", "the package's fields", fields)
+    out_of(["dpkg-deb", "--extract", first, room / "unpacked"])
+    compare_files(tally, room / "unpacked")
+    compare_entries(tally, first, room)
+    answer(tally, room / "unpacked")
+    install(tally, first, room)
+
+
+def main():
+    need_program()
+    tally = Tally()
+    with tempfile.TemporaryDirectory() as name:
+        room = Path(name)
+        refuse(tally, room)
+        if shutil.which("dpkg-deb") is None or shutil.which("dpkg") is None:
+            tally.skip("dpkg and dpkg-deb, which pack and install Debian packages, aren't installed", 3)
+        else:
+            tally.attempt("trees that aren't built", refuse_unbuilt, tally, room)
+            tally.attempt("a package", make, tally, room)
+    return tally.finish()
+
+
+if __name__ == "__main__":
+    sys.exit(main())
