@@ -1,4 +1,5 @@
-//! The deployment of `examples/ping` in a domain that one thread drives: a sample goes to the other side and another one comes back, so many times.
+//! The deployment of `examples/ping` in a domain that one thread drives: a sample goes to the other side and another
+//! one comes back, so many times.
 
 use dds_base::{Arrival, Event, KeyNo, ReaderNo, Reply, RuleNo, WriterNo};
 use dds_domain::Domain;
@@ -18,8 +19,8 @@ fn opened(alloc: Global) -> Option<Domain> {
     }
 }
 
-/// Makes an event that does what it is for: it gives the number of what was written, the place of what was sent, and 0 for what came, was taken or fired.
-/// `None` where the event did something else.
+/// Makes an event that does what it is for: it gives the number of what was written, the place of what was sent, and 0
+/// for what came, was taken or fired. `None` where the event did something else.
 fn made(domain: &mut Domain, event: Event) -> Option<u64> {
     match domain.step(event) {
         Ok(Reply::Written(sn)) => Some(sn),
@@ -89,7 +90,8 @@ impl Way {
     }
 }
 
-/// Makes so many round trips, with an acknowledgement after each `every` samples of a writer. `None` where an event did something else than it is for.
+/// Makes so many round trips, with an acknowledgement after each `every` samples of a writer. `None` where an event did
+/// something else than it is for.
 fn round_trips(domain: &mut Domain, trips: usize, every: usize) -> Option<()> {
     let to = Way::new(0, 1);
     let back = Way::new(1, 0);
@@ -117,8 +119,8 @@ pub(crate) struct Driven {
     pub took: Duration,
 }
 
-/// Makes so many round trips, with an acknowledgement after each `every` samples of a writer. `None` where there was no memory for the domain, an event did
-/// something else than it is for, or the clock failed.
+/// Makes so many round trips, with an acknowledgement after each `every` samples of a writer. `None` where there was no
+/// memory for the domain, an event did something else than it is for, or the clock failed.
 pub(crate) fn drive<R: Clock>(rt: &R, alloc: Global, trips: usize, every: usize) -> Option<Driven> {
     let mut domain = opened(alloc)?;
     let took = timed(rt, &mut domain, trips, every);

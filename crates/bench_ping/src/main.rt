@@ -1,13 +1,17 @@
-//! Measures the deployment of `examples/ping`. The words are the number of round trips in a domain that one thread drives, after how many samples a reader
-//! acknowledges there, the number of samples that each application writes and takes in a run by the peers, and how many of each 64 packets are lost in it. A part
-//! with the number 0 is left out. What is kept, stored, written and taken is printed, and to the error output how long it took.
+//! Measures the deployment of `examples/ping`. The words are the number of round trips in a domain that one thread
+//! drives, after how many samples a reader acknowledges there, the number of samples that each application writes and
+//! takes in a run by the peers, how many of each 64 packets are lost in it, and the number of samples of a writer that
+//! no rule limits, whose reader never acknowledges. A part with the number 0 is left out. What is kept, stored, written
+//! and taken is printed, and to the error output how long it took.
 #![tactic(auto)]
 
 mod domain;
+mod free;
 mod peers;
 mod trips;
 
 use crate::domain::{Driven, drive};
+use crate::free::write_freely;
 use crate::peers::measure;
 use std::env::{self, Env};
 use std::process::ExitCode;
@@ -19,6 +23,7 @@ struct Asked {
     every: usize,
     samples: usize,
     lost: usize,
+    free: usize,
 }
 
 fn number(words: &[String], at: usize) -> Option<usize> {
@@ -32,6 +37,7 @@ fn read_words(words: &[String]) -> Option<Asked> {
         every: number(words, 2)?,
         samples: number(words, 3)?,
         lost: number(words, 4)?,
+        free: number(words, 5)?,
     })
 }
 
@@ -71,6 +77,15 @@ fn main(rt: HostRuntime) -> ExitCode {
             peered.took.as_millis(),
             peered.half,
             peered.most
+        );
+    }
+    if asked.free > 0 {
+        let Some((first, last)) = write_freely(alloc, asked.free) else {
+            return ExitCode::from(3);
+        };
+        let _ = println!(rt;
+            "{} samples that no rule limits; the HEARTBEAT has {first} to {last}",
+            asked.free
         );
     }
     ExitCode::from(0)

@@ -32,7 +32,8 @@ fn fates(lost: usize) -> Option<Fates> {
     Fates::new(&all)
 }
 
-/// What a run came to: how many entries its journal has, how many samples were written and taken, and whether each application stopped.
+/// What a run came to: how many entries its journal has, how many samples were written and taken, and whether each
+/// application stopped.
 #[derive(Clone, Copy)]
 pub(crate) struct Told {
     pub entries: usize,
@@ -117,7 +118,8 @@ fn ran_with<R: Threads + Wait + Clock + Sync>(
     }
 }
 
-/// Runs the deployment until each application has written and taken so many samples. `None` where there was no memory or no thread for the run.
+/// Runs the deployment until each application has written and taken so many samples. `None` where there was no memory
+/// or no thread for the run.
 fn ran<R: Threads + Wait + Clock + Sync>(
     rt: &R,
     alloc: Global,
@@ -144,7 +146,8 @@ fn ran<R: Threads + Wait + Clock + Sync>(
     ran_with(rt, alloc, checked, apps, fates, watch)
 }
 
-/// What a run came to, how long it took, and within how many microseconds half of the round trips and 99 of 100 were made.
+/// What a run came to, how long it took, and within how many microseconds half of the round trips and 99 of 100 were
+/// made.
 #[derive(Clone, Copy)]
 pub(crate) struct Peered {
     pub told: Told,
@@ -153,7 +156,8 @@ pub(crate) struct Peered {
     pub most: u64,
 }
 
-/// Runs the deployment, with so many of each 64 packets lost. `None` where there was no memory or no thread, or the clock failed.
+/// Runs the deployment, with so many of each 64 packets lost. `None` where there was no memory or no thread, or the
+/// clock failed.
 pub(crate) fn measure<R: Threads + Wait + Clock + Sync>(
     rt: &R,
     alloc: Global,

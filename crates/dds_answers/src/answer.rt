@@ -3,7 +3,8 @@ ghost use Rattle.std.specs.Prelude.{◌≡◌, ◌≤◌, IfErr, IfOk, IsOk, Ok,
 ghost use Rattle.dds_cert.specs.Views.{certificate_view};
 ghost use Rattle.dds_answers.specs.Answers.{Gives, GivesOneOf, answer_exit};
 ghost use Rattle.dds_answers.specs.Fault.{IsAnswerFault};
-ghost use Rattle.dds_answers.specs.Outcome.{Outcome, compared, match_outcome, outcome, proposed, show_outcome, shown, told, unproposed};
+ghost use Rattle.dds_answers.specs.Outcome.{Outcome, compared, match_outcome, outcome, proposed, show_outcome, shown};
+ghost use Rattle.dds_answers.specs.Outcome.{told, unproposed};
 ghost use Rattle.dds_answers.specs.Migrations.{MayMigrate};
 ghost use Rattle.dds_answers.specs.Notes.{length_note};
 ghost use Rattle.dds_answers.specs.Proposals.{MayPropose};
@@ -62,7 +63,8 @@ pub fn answered(text: Result<String, NoMemory>, is_yes: bool) -> Result<Answer, 
     }
 }
 
-/// The answer that tells a report, which is needed no longer: yes where the certificate is accepted. Its reason comes after it where it is asked for.
+/// The answer that tells a report, which is needed no longer: yes where the certificate is accepted. Its reason comes
+/// after it where it is asked for.
 #[tactic(auto, unfolding(crate::specs::Report::status_of))]
 pub fn reported(alloc: Global, report: Report, detail: Detail) -> Result<Answer, ToolFault>
     ensures gives { Gives result (told detail (outcome_of report)) }
@@ -75,8 +77,8 @@ pub fn reported(alloc: Global, report: Report, detail: Detail) -> Result<Answer,
     answer
 }
 
-/// The answer of `check` to the bytes of a deployment and of a certificate: yes where the certificate is accepted. It is that of the report on them, with
-/// its reason where it is asked for; so is the fault of a file that is no TOML.
+/// The answer of `check` to the bytes of a deployment and of a certificate: yes where the certificate is accepted. It
+/// is that of the report on them, with its reason where it is asked for; so is the fault of a file that is no TOML.
 pub fn check_answer(
     alloc: Global,
     deployment: &[u8],
@@ -159,7 +161,8 @@ fn length_note(alloc: Global, text: &str) -> Result<Option<String>, NoMemory>
     Ok(Some(note))
 }
 
-/// Yes with a text that commands read, if there was memory for it. The user is told where it's longer than a file may be.
+/// Yes with a text that commands read, if there was memory for it. The user is told where it's longer than a file may
+/// be.
 fn written(alloc: Global, text: Result<String, NoMemory>) -> Result<Answer, ToolFault>
     ensures answer { IfOk result (λ a. (a.is_yes ≡ true) × IfOk text (λ t. a.text ≡ t)) }
     ensures text { OnOk result (IsOk text) }
@@ -210,7 +213,8 @@ fn sought(alloc: Global, plan: &Plan) -> Result<Answer, ToolFault>
     }
 }
 
-/// The answer of `propose` to the bytes of a deployment: yes with the text of a certificate that is accepted, or no where none was found.
+/// The answer of `propose` to the bytes of a deployment: yes with the text of a certificate that is accepted, or no
+/// where none was found.
 pub fn propose_answer(alloc: Global, deployment: &[u8]) -> Result<Answer, ToolFault>
     ensures gives { (end : Outcome) × MayPropose (deployment_read deployment.now) end × Gives result end }
     ensures fault { IfErr result IsAnswerFault }

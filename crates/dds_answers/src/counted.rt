@@ -47,7 +47,10 @@ impl<R: Read> Read for Counted<R> {
     fn read(&mut self, buf: &mut [u8]) -> io::Result<usize>
         ensures bound { ReadsAtMost result buf.new }
         ensures bytes { ReadConsumes (R.remaining self.old.reader) (R.remaining self.new.reader) result buf.new }
-        ensures counts { CountsRead result (self.old.failed, self.old.interrupted) (self.new.failed, self.new.interrupted) }
+        ensures counts { CountsRead result (self.old.failed, self.old.interrupted) (
+          self.new.failed,
+          self.new.interrupted,
+        ) }
     {
         let answer = self.reader.read(buf);
         if let Err(error) = &answer {

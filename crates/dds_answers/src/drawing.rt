@@ -52,8 +52,8 @@ fn plan_drawn(alloc: Global, plan: Plan, certificate: Option<&[u8]>) -> Result<A
     }
 }
 
-/// The answer of `draw` to the bytes of a deployment, and of a certificate if one is given: yes with a picture for Graphviz. The certificate's bounds and totals
-/// stand in it, whether they hold or not.
+/// The answer of `draw` to the bytes of a deployment, and of a certificate if one is given: yes with a picture for
+/// Graphviz. The certificate's bounds and totals stand in it, whether they hold or not.
 pub fn draw_answer(
     alloc: Global,
     deployment: &[u8],

@@ -11,7 +11,8 @@ pub enum Exit {
     No,
     /// A file has a fault, or too many bytes: status 2.
     BadFile,
-    /// A file did not open, a read failed, 1,001 reads of a file were interrupted, or the output was not written whole: status 3.
+    /// A file did not open, a read failed, 1,001 reads of a file were interrupted, or the output was not written whole:
+    /// status 3.
     Device,
     /// A call reported want of memory: status 3.
     NoMemory,

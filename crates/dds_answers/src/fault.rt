@@ -25,7 +25,8 @@ pub enum ToolFault {
         flaw: CertFlaw,
         syntax: Option<SyntaxError>,
     },
-    /// 3: the events have a fault, in the line with this number, from 1; 0 where it has none. No other file is read by a command that reads events.
+    /// 3: the events have a fault, in the line with this number, from 1; 0 where it has none. No other file is read by
+    /// a command that reads events.
     Events {
         kind: EventsFaultKind,
         line: usize,
@@ -42,7 +43,8 @@ pub enum ToolFault {
     Run,
 }
 
-/// What is told of the flaw of a file: the number and the word of its kind, and where it is. An empty path is left out with the blank before it.
+/// What is told of the flaw of a file: the number and the word of its kind, and where it is. An empty path is left out
+/// with the blank before it.
 fn flaw_text(
     alloc: Global,
     file: &str,
@@ -72,7 +74,8 @@ fn file_text(alloc: Global, line: String, syntax: &Option<SyntaxError>) -> Resul
     format!(in alloc; "{line}because line {row}, column {column}: {message}\n")
 }
 
-/// What is told of the flaw of a file of events: the number and the word of its kind, and its line. A line 0 is left out with the words before it.
+/// What is told of the flaw of a file of events: the number and the word of its kind, and its line. A line 0 is left
+/// out with the words before it.
 fn events_text(alloc: Global, number: u8, name: &str, line: usize) -> Result<String, NoMemory>
     ensures { IfOk result (λ text. string_bytes text ≡ events_line number name.now line) }
 {
@@ -83,7 +86,8 @@ fn events_text(alloc: Global, number: u8, name: &str, line: usize) -> Result<Str
     }
 }
 
-/// The line that is told to users of a fault, and after it where a file is no TOML, if the fault tells that. Only want of memory is an error.
+/// The line that is told to users of a fault, and after it where a file is no TOML, if the fault tells that. Only want
+/// of memory is an error.
 pub fn fault_text(alloc: Global, fault: &ToolFault) -> Result<String, NoMemory>
     ensures { IfOk result (λ text. string_bytes text ≡ fault_line fault.now) }
 {

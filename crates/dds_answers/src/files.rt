@@ -1,9 +1,11 @@
 //! What each command answers to its files, which are read whole before any is parsed.
-ghost use Rattle.std.specs.Prelude.{◌≡◌, ℕ, List, [], ◌∷◌, ◌≤◌, ◌<◌, ◌^◌, ◌⊎◌, Some, None, IfOk, IfErr, IfSome, IsErrOf, OnOk, length};
+ghost use Rattle.std.specs.Prelude.{◌≡◌, ℕ, List, [], ◌∷◌, ◌≤◌, ◌<◌, ◌^◌, ◌⊎◌, Some, None, IfOk, IfErr, IfSome};
+ghost use Rattle.std.specs.Prelude.{IsErrOf, OnOk, length};
 ghost use Rattle.dds_answers.specs.Answers.{Gives, GivesOneOf};
 ghost use Rattle.dds_answers.specs.Causes.{IsFileFault};
 ghost use Rattle.dds_answers.specs.Opened.{Opens, OpensAll};
-ghost use Rattle.dds_answers.specs.Outcome.{Outcome, check_file_outcome, draw_file_outcome, match_file_outcome, show_file_outcome};
+ghost use Rattle.dds_answers.specs.Outcome.{Outcome, check_file_outcome, draw_file_outcome, match_file_outcome};
+ghost use Rattle.dds_answers.specs.Outcome.{show_file_outcome};
 ghost use Rattle.dds_answers.specs.Migrations.{MayMigrateFor};
 ghost use Rattle.dds_answers.specs.Proposals.{MayProposeFor};
 ghost use Rattle.dds_answers.specs.Reading.{IsReadingFault};
@@ -23,10 +25,12 @@ use std::alloc::Global;
 
 /// The bytes of the file at a path, at most `MAX_FILE`, as `read_file_up_to` reads them.
 pub fn read_file<S: Sources>(alloc: Global, files: &mut S, path: &str) -> Result<Vec<u8>, ToolFault>
-    ensures bytes { IfOk result (λ bytes. IfSome (S.holds files.old path.now) (λ xs. (bytes.items ≡ xs) × (length xs ≤ 1048576))) }
+    ensures bytes { IfOk result
+        (λ bytes. IfSome (S.holds files.old path.now) (λ xs. (bytes.items ≡ xs) × (length xs ≤ 1048576))) }
     ensures faults { IfErr result IsReadingFault }
     ensures causes { IfErr result (IsFileFault (S.has_failed files.new)) }
-    ensures too_large { IsErrOf result ToolFault.TooLarge → IfSome (S.holds files.old path.now) (λ xs. 1048576 < length xs) }
+    ensures too_large { IsErrOf result ToolFault.TooLarge
+        → IfSome (S.holds files.old path.now) (λ xs. 1048576 < length xs) }
     ensures others { S.holds files.new ≡ S.holds files.old }
     ensures opened { OpensAll (S.opened files.old) (S.opened files.new) (path.now ∷ []) }
 {
@@ -42,10 +46,12 @@ pub fn read_file_up_to<S: Sources>(
     most: usize,
 ) -> Result<Vec<u8>, ToolFault>
     requires few { most < 2 ^ 63 }
-    ensures bytes { IfOk result (λ bytes. IfSome (S.holds files.old path.now) (λ xs. (bytes.items ≡ xs) × (length xs ≤ most))) }
+    ensures bytes { IfOk result
+        (λ bytes. IfSome (S.holds files.old path.now) (λ xs. (bytes.items ≡ xs) × (length xs ≤ most))) }
     ensures faults { IfErr result IsReadingFault }
     ensures causes { IfErr result (IsFileFault (S.has_failed files.new)) }
-    ensures too_large { IsErrOf result ToolFault.TooLarge → IfSome (S.holds files.old path.now) (λ xs. most < length xs) }
+    ensures too_large { IsErrOf result ToolFault.TooLarge
+        → IfSome (S.holds files.old path.now) (λ xs. most < length xs) }
     ensures others { S.holds files.new ≡ S.holds files.old }
     ensures opened { OpensAll (S.opened files.old) (S.opened files.new) (path.now ∷ []) }
 {
@@ -58,7 +64,8 @@ pub fn read_file_up_to<S: Sources>(
     bytes
 }
 
-/// The bytes of the files at two paths. The first is read whole and given back before the second is opened. `Read` comes only where a file has failed.
+/// The bytes of the files at two paths. The first is read whole and given back before the second is opened. `Read`
+/// comes only where a file has failed.
 #[tactic(auto, using(crate::proofs::Opened::both_open))]
 pub fn read_files<S: Sources>(
     alloc: Global,
@@ -66,21 +73,25 @@ pub fn read_files<S: Sources>(
     first: &str,
     second: &str,
 ) -> Result<(Vec<u8>, Vec<u8>), ToolFault>
-    ensures first { IfOk result (λ both. IfSome (S.holds files.old first.now) (λ xs. (both.0.items ≡ xs) × (length xs ≤ 1048576))) }
-    ensures second { IfOk result (λ both. IfSome (S.holds files.old second.now) (λ xs. (both.1.items ≡ xs) × (length xs ≤ 1048576))) }
+    ensures first { IfOk result
+        (λ both. IfSome (S.holds files.old first.now) (λ xs. (both.0.items ≡ xs) × (length xs ≤ 1048576))) }
+    ensures second { IfOk result
+        (λ both. IfSome (S.holds files.old second.now) (λ xs. (both.1.items ≡ xs) × (length xs ≤ 1048576))) }
     ensures faults { IfErr result IsReadingFault }
     ensures causes { IfErr result (IsFileFault (S.has_failed files.new)) }
     ensures too_large { (x y : List ℕ) → S.holds files.old first.now ≡ Some x → S.holds files.old second.now ≡ Some y
         → IsErrOf result ToolFault.TooLarge → (1048576 < length x) ⊎ (1048576 < length y) }
     ensures opened { Opens (S.opened files.old) (S.opened files.new) (first.now ∷ second.now ∷ []) }
-    ensures all_opened { OnOk result (OpensAll (S.opened files.old) (S.opened files.new) (first.now ∷ second.now ∷ [])) }
+    ensures all_opened { OnOk result (OpensAll (S.opened files.old) (S.opened files.new)
+        (first.now ∷ second.now ∷ [])) }
 {
     let first = read_file(alloc, files, first)?;
     let second = read_file(alloc, files, second)?;
     Ok((first, second))
 }
 
-/// The answer of `check` to two files, with its reason where it is asked for. Both are read whole, the deployment first, before either is parsed.
+/// The answer of `check` to two files, with its reason where it is asked for. Both are read whole, the deployment
+/// first, before either is parsed.
 #[tactic(auto, unfolding(crate::specs::Outcome::check_file_outcome))]
 pub fn check_files<S: Sources>(
     alloc: Global,
@@ -89,13 +100,16 @@ pub fn check_files<S: Sources>(
     detail: Detail,
     files: &mut S,
 ) -> Result<Answer, ToolFault>
-    ensures gives { (d c : List ℕ) → S.holds files.old deployment.now ≡ Some d → S.holds files.old certificate.now ≡ Some c
+    ensures gives { (d c : List ℕ) → S.holds files.old deployment.now ≡ Some d
+        → S.holds files.old certificate.now ≡ Some c
         → Gives result (check_file_outcome detail d c) }
-    ensures told { (d c : List ℕ) → S.holds files.old deployment.now ≡ Some d → S.holds files.old certificate.now ≡ Some c
+    ensures told { (d c : List ℕ) → S.holds files.old deployment.now ≡ Some d
+        → S.holds files.old certificate.now ≡ Some c
         → IfErr result (IsFaultTold detail d c) }
     ensures causes { IfErr result (IsFileFault (S.has_failed files.new)) }
     ensures opened { Opens (S.opened files.old) (S.opened files.new) (deployment.now ∷ certificate.now ∷ []) }
-    ensures all_opened { OnOk result (OpensAll (S.opened files.old) (S.opened files.new) (deployment.now ∷ certificate.now ∷ [])) }
+    ensures all_opened { OnOk result (OpensAll (S.opened files.old) (S.opened files.new)
+        (deployment.now ∷ certificate.now ∷ [])) }
 {
     let (deployment, certificate) = read_files(alloc, files, deployment, certificate)?;
     check_answer(alloc, deployment.as_slice(), certificate.as_slice(), detail)
@@ -122,7 +136,8 @@ pub fn propose_file<S: Sources>(
     deployment: &str,
     files: &mut S,
 ) -> Result<Answer, ToolFault>
-    ensures gives { (d : List ℕ) → S.holds files.old deployment.now ≡ Some d → (end : Outcome) × MayProposeFor d end × Gives result end }
+    ensures gives { (d : List ℕ) → S.holds files.old deployment.now ≡ Some d
+        → (end : Outcome) × MayProposeFor d end × Gives result end }
     ensures causes { IfErr result (IsFileFault (S.has_failed files.new)) }
     ensures opened { OpensAll (S.opened files.old) (S.opened files.new) (deployment.now ∷ []) }
 {
@@ -156,7 +171,8 @@ pub fn show_file<S: Sources>(
     format: Format,
     files: &mut S,
 ) -> Result<Answer, ToolFault>
-    ensures gives { (d : List ℕ) → S.holds files.old deployment.now ≡ Some d → Gives result (show_file_outcome format d) }
+    ensures gives { (d : List ℕ) → S.holds files.old deployment.now ≡ Some d
+        → Gives result (show_file_outcome format d) }
     ensures causes { IfErr result (IsFileFault (S.has_failed files.new)) }
     ensures opened { OpensAll (S.opened files.old) (S.opened files.new) (deployment.now ∷ []) }
 {
@@ -187,11 +203,13 @@ pub fn draw_files<S: Sources>(
     certificate: &str,
     files: &mut S,
 ) -> Result<Answer, ToolFault>
-    ensures gives { (d c : List ℕ) → S.holds files.old deployment.now ≡ Some d → S.holds files.old certificate.now ≡ Some c
+    ensures gives { (d c : List ℕ) → S.holds files.old deployment.now ≡ Some d
+        → S.holds files.old certificate.now ≡ Some c
         → Gives result (draw_file_outcome d (Some c)) }
     ensures causes { IfErr result (IsFileFault (S.has_failed files.new)) }
     ensures opened { Opens (S.opened files.old) (S.opened files.new) (deployment.now ∷ certificate.now ∷ []) }
-    ensures all_opened { OnOk result (OpensAll (S.opened files.old) (S.opened files.new) (deployment.now ∷ certificate.now ∷ [])) }
+    ensures all_opened { OnOk result (OpensAll (S.opened files.old) (S.opened files.new)
+        (deployment.now ∷ certificate.now ∷ [])) }
 {
     let (deployment, certificate) = read_files(alloc, files, deployment, certificate)?;
     draw_answer(alloc, deployment.as_slice(), Some(certificate.as_slice()))

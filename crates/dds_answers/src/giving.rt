@@ -1,5 +1,6 @@
 //! How an answer or a fault is told.
-ghost use Rattle.std.specs.Prelude.{◌≡◌, ◌≢◌, ◌≤◌, ◌⊎◌, true, false, OnOk, OnErr, IfNone, IfOk, IfErr, IfSome, Err, string_bytes};
+ghost use Rattle.std.specs.Prelude.{◌≡◌, ◌≢◌, ◌≤◌, ◌⊎◌, true, false, OnOk, OnErr, IfNone, IfOk, IfErr, IfSome, Err};
+ghost use Rattle.std.specs.Prelude.{string_bytes};
 ghost use Rattle.std.specs.Io.KnownBytes.{Appends, Keeps};
 ghost use Rattle.dds_answers.specs.Answers.{Gives};
 ghost use Rattle.dds_answers.specs.Exit.{exit_status};
@@ -34,15 +35,17 @@ fn say<E: Output>(err: &mut E, text: &str)
     }
 }
 
-/// Writes the text of an answer to `out` and nothing else, and tells how the command ended: yes or no. Only a failed write can leave a part of the text
-/// written. What the answer has besides is told to `err`, which a fault leaves as it is.
+/// Writes the text of an answer to `out` and nothing else, and tells how the command ended: yes or no. Only a failed
+/// write can leave a part of the text written. What the answer has besides is told to `err`, which a fault leaves as it
+/// is.
 pub fn give<O: Output, E: Output>(
     answer: Result<Answer, ToolFault>,
     out: &mut O,
     err: &mut E,
 ) -> Result<Exit, ToolFault>
     ensures answer { (end : Outcome) → Gives answer end
-        → IfOk result (λ exit. (exit_status exit ≡ status_of end) × Appends (O.contents out.old) (O.contents out.new) (output_of end)) }
+        → IfOk result (λ exit. (exit_status exit ≡ status_of end)
+        × Appends (O.contents out.old) (O.contents out.new) (output_of end)) }
     ensures fault { (end : Outcome) → Gives answer end → IfErr result (λ e. Ends e end) }
     ensures passed { IfErr answer (λ e. result ≡ Err e) }
     ensures failed { OnOk answer (IfErr result (λ e. (e ≡ ToolFault.Write) × (O.has_failed out.new ≡ true))) }
@@ -64,12 +67,14 @@ pub fn give<O: Output, E: Output>(
     }
 }
 
-/// Tells the user of a fault in a line of its own, and how the command ends with it. Where there is no memory for that line, users are told of that, and the
-/// command ends so. Where the error output does not take the line, it is not told.
+/// Tells the user of a fault in a line of its own, and how the command ends with it. Where there is no memory for that
+/// line, users are told of that, and the command ends so. Where the error output does not take the line, it is not
+/// told.
 pub fn tell_fault<E: Output>(alloc: Global, err: &mut E, fault: &ToolFault) -> Exit
     ensures exit { (result ≡ exit_of fault.now) ⊎ (result ≡ Exit.NoMemory) }
     ensures told { E.has_failed err.new ≡ false → TellsFault result (E.contents err.old) (E.contents err.new) }
-    ensures which { E.has_failed err.new ≡ false → result ≢ Exit.NoMemory → Appends (E.contents err.old) (E.contents err.new) (fault_line fault.now) }
+    ensures which { E.has_failed err.new ≡ false → result ≢ Exit.NoMemory
+        → Appends (E.contents err.old) (E.contents err.new) (fault_line fault.now) }
 {
     match fault_text(alloc, fault) {
         Ok(text) => {

@@ -1,6 +1,7 @@
-//! What the commands on files answer, over any files and any two outputs. A file is read whole through a reader that counts its failed reads; two files
-//! get a report, which is the first of these: the fault of the deployment, the fault of the certificate, the first condition of the checker that fails, or
-//! yes. The text of every answer and its exit status are stated functions of the bytes of the files.
+//! What the commands on files answer, over any files and any two outputs. A file is read whole through a reader that
+//! counts its failed reads; two files get a report, which is the first of these: the fault of the deployment, the fault
+//! of the certificate, the first condition of the checker that fails, or yes. The text of every answer and its exit
+//! status are stated functions of the bytes of the files.
 #![tactic(auto)]
 
 mod answer;

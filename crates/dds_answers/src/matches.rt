@@ -1,7 +1,8 @@
 //! Which endpoints of a deployment match, line by line, and whether these are the connections.
 ghost use Rattle.std.specs.Prelude.{◌≡◌, ◌++◌, IfOk, length, string_bytes};
 ghost use Rattle.dds_match.specs.Plan.{network_of};
-ghost use Rattle.dds_answers.specs.Matches.{is_as_intended, is_same, is_writer_as_intended, lines_of, pair_line, writer_lines};
+ghost use Rattle.dds_answers.specs.Matches.{is_as_intended, is_same, is_writer_as_intended, lines_of, pair_line};
+ghost use Rattle.dds_answers.specs.Matches.{writer_lines};
 
 use dds_base::{NoMemory, ReaderNo, WriterNo};
 use dds_cert::naming::name_at;
@@ -49,7 +50,9 @@ fn push_writer(
 
 /// The lines that tell of each writer and reader, in file order, whether they match. Only want of memory is an error.
 pub fn match_text(alloc: Global, plan: &Plan) -> Result<String, NoMemory>
-    ensures { IfOk result (λ text. string_bytes text ≡ lines_of plan.now (length plan.now.writers.entries) (length plan.now.readers.entries)) }
+    ensures { IfOk result
+        (λ text. string_bytes text
+        ≡ lines_of plan.now (length plan.now.writers.entries) (length plan.now.readers.entries)) }
 {
     let writers = plan.lists().writers();
     let readers = plan.lists().readers();
@@ -62,7 +65,8 @@ pub fn match_text(alloc: Global, plan: &Plan) -> Result<String, NoMemory>
 
 /// Whether the pair matches exactly where a connection joins it.
 fn is_pair_as_intended(plan: &Plan, writer: WriterNo, reader: ReaderNo) -> bool
-    ensures { result ≡ is_same ((network_of plan.now).matched writer reader) ((network_of plan.now).intended writer reader) }
+    ensures { result ≡ is_same ((network_of plan.now).matched writer reader)
+        ((network_of plan.now).intended writer reader) }
 {
     if plan.matched(writer, reader) {
         plan.intended(writer, reader)

@@ -26,8 +26,11 @@ pub fn read_all<R: Read>(alloc: Global, reader: &mut Counted<R>) -> Result<Vec<u
     ensures read { IsErrOf result ToolFault.Read
         → ((reader.new.failed ≡ reader.old.failed + 1) × (reader.new.interrupted ≤ reader.old.interrupted + 1000))
         ⊎ ((reader.new.failed ≡ reader.old.failed) × (reader.new.interrupted ≡ reader.old.interrupted + 1001)) }
-    ensures borne { OnOk result ((reader.new.failed ≡ reader.old.failed) × (reader.new.interrupted ≤ reader.old.interrupted + 1000)) }
-    ensures borne_err { IfErr result (λ e. e ≢ ToolFault.Read → (reader.new.failed ≡ reader.old.failed) × (reader.new.interrupted ≤ reader.old.interrupted + 1000)) }
+    ensures borne { OnOk result ((reader.new.failed ≡ reader.old.failed)
+        × (reader.new.interrupted ≤ reader.old.interrupted + 1000)) }
+    ensures borne_err { IfErr result
+        (λ e. e ≢ ToolFault.Read
+        → (reader.new.failed ≡ reader.old.failed) × (reader.new.interrupted ≤ reader.old.interrupted + 1000)) }
 {
     read_up_to(alloc, reader, MAX_FILE)
 }
@@ -52,8 +55,11 @@ pub fn read_up_to<R: Read>(
     ensures read { IsErrOf result ToolFault.Read
         → ((reader.new.failed ≡ reader.old.failed + 1) × (reader.new.interrupted ≤ reader.old.interrupted + 1000))
         ⊎ ((reader.new.failed ≡ reader.old.failed) × (reader.new.interrupted ≡ reader.old.interrupted + 1001)) }
-    ensures borne { OnOk result ((reader.new.failed ≡ reader.old.failed) × (reader.new.interrupted ≤ reader.old.interrupted + 1000)) }
-    ensures borne_err { IfErr result (λ e. e ≢ ToolFault.Read → (reader.new.failed ≡ reader.old.failed) × (reader.new.interrupted ≤ reader.old.interrupted + 1000)) }
+    ensures borne { OnOk result ((reader.new.failed ≡ reader.old.failed)
+        × (reader.new.interrupted ≤ reader.old.interrupted + 1000)) }
+    ensures borne_err { IfErr result
+        (λ e. e ≢ ToolFault.Read
+        → (reader.new.failed ≡ reader.old.failed) × (reader.new.interrupted ≤ reader.old.interrupted + 1000)) }
 {
     let mut bytes = Vec::new(alloc);
     let mut chunk = [0u8; CHUNK];

@@ -6,7 +6,8 @@ ghost use Rattle.dds_cert.specs.Views.{certificate_view};
 ghost use Rattle.dds_check.specs.Accepts.{first_no};
 ghost use Rattle.dds_answers.specs.Outcome.{Outcome, judged, outcome, told, verdict};
 ghost use Rattle.dds_cert_file.specs.Document.{read as certificate_read};
-ghost use Rattle.dds_answers.specs.Report.{IsCertificateFault, IsDeploymentFault, Tells, because_lines, outcome_of, output_of, report_text_of};
+ghost use Rattle.dds_answers.specs.Report.{IsCertificateFault, IsDeploymentFault, Tells, because_lines, outcome_of};
+ghost use Rattle.dds_answers.specs.Report.{output_of, report_text_of};
 ghost use Rattle.dds_answers.specs.Syntax.{IsFaultTold};
 
 use crate::fault::ToolFault;
@@ -63,7 +64,8 @@ pub(crate) fn certificate_fault(fault: CertFault) -> ToolFault
 /// The report on a plan and a certificate that fits it.
 fn verdict(plan: Plan, certificate: Certificate) -> Report
     requires { fits (network_of plan) (certificate_view certificate) ≡ true }
-    ensures { outcome_of result ≡ verdict (first_no plan (certificate_view certificate)) plan (certificate_view certificate) }
+    ensures { outcome_of result
+        ≡ verdict (first_no plan (certificate_view certificate)) plan (certificate_view certificate) }
 {
     match check(plan, certificate) {
         Ok(checked) => Report::Yes(checked),
@@ -84,8 +86,9 @@ fn judge(alloc: Global, plan: Plan, certificate: &[u8]) -> Result<Report, ToolFa
     }
 }
 
-/// The report on the bytes of a deployment and of a certificate. The deployment is read, then the certificate for its lists, then the conditions of
-/// the checker are asked in their order. The first fault of a file is `Deployment` or `Certificate`, and `NoMemory` comes where memory ran out.
+/// The report on the bytes of a deployment and of a certificate. The deployment is read, then the certificate for its
+/// lists, then the conditions of the checker are asked in their order. The first fault of a file is `Deployment` or
+/// `Certificate`, and `NoMemory` comes where memory ran out.
 #[tactic(auto, unfolding(crate::specs::Outcome::outcome))]
 pub fn answer_check(
     alloc: Global,
@@ -130,8 +133,8 @@ fn detailed_fault(
     }
 }
 
-/// The report on the bytes of a deployment and of a certificate, as `answer_check` makes it. Where a reason is asked for, the fault of a file that is no
-/// TOML comes with what the parser says of it.
+/// The report on the bytes of a deployment and of a certificate, as `answer_check` makes it. Where a reason is asked
+/// for, the fault of a file that is no TOML comes with what the parser says of it.
 pub fn detailed_check(
     alloc: Global,
     deployment: &[u8],
@@ -157,7 +160,8 @@ pub fn because_text(alloc: Global, report: &Report) -> Result<String, NoMemory>
     }
 }
 
-/// The lines of a report, with those of its reason after them where they are asked for. Only want of memory is an error.
+/// The lines of a report, with those of its reason after them where they are asked for. Only want of memory is an
+/// error.
 #[tactic(auto, unfolding(crate::specs::Report::output_of))]
 pub fn detailed_text(alloc: Global, report: &Report, detail: Detail) -> Result<String, NoMemory>
     ensures { IfOk result (λ text. string_bytes text ≡ output_of (told detail (outcome_of report.now))) }

@@ -5,7 +5,8 @@ ghost use Rattle.dds_answers.specs.Reading.{is_worn};
 use crate::counted::Counted;
 use std::io::Read;
 
-/// Files by their paths. An implementation says whether a file has failed, and may say what its files hold; where it does, contracts speak of these bytes.
+/// Files by their paths. An implementation says whether a file has failed, and may say what its files hold; where it
+/// does, contracts speak of these bytes.
 pub trait Sources {
     /// The reader of a file. It gives the bytes of the file from the first on.
     type R: Read + Drop;
@@ -16,7 +17,8 @@ pub trait Sources {
     /// The paths that were asked for, in order, where they are known.
     ghost opened: { Self → Option (List (List ℕ)) } = { λ _. None };
 
-    /// Whether a file did not open, or was given back after a read that failed or more than 1,000 that were interrupted.
+    /// Whether a file did not open, or was given back after a read that failed or more than 1,000 that were
+    /// interrupted.
     ghost has_failed: { Self → Bool };
 
     /// A reader of the file at a path, or `None` where it does not open. What the files hold stays the same.

@@ -69,7 +69,8 @@ fn syntax_error(alloc: Global, bytes: &[u8]) -> Result<Option<SyntaxError>, NoMe
     }))
 }
 
-/// What is told of the syntax of a file: nothing where no reason is asked for, or the file's fault is another one. Only want of memory is an error.
+/// What is told of the syntax of a file: nothing where no reason is asked for, or the file's fault is another one. Only
+/// want of memory is an error.
 pub(crate) fn syntax_told(
     alloc: Global,
     detail: Detail,

@@ -16,8 +16,8 @@ pub enum Act {
     Stop,
 }
 
-/// An application, which acts and hears what came of it. It keeps a diary: `act` adds nothing to it, and notes the event that it asks for; `hear`
-/// adds that event with its reply.
+/// An application, which acts and hears what came of it. It keeps a diary: `act` adds nothing to it, and notes the
+/// event that it asks for; `hear` adds that event with its reply.
 pub trait App: Drop {
     ghost use Rattle.std.specs.Prelude.{ℕ};
     ghost use Rattle.dds_apps.specs.Diary.{DiaryState};
@@ -39,7 +39,8 @@ pub trait App: Drop {
     fn hear(&mut self, reply: &Reply)
         requires { IsSome (notes self.old).pending }
         ensures identity { identity self.new ≡ identity self.old }
-        ensures entries { (e : _) → (notes self.old).pending ≡ Some e → (notes self.new).entries ≡ (notes self.old).entries ++ (e, reply.now) ∷ [] };
+        ensures entries { (e : _) → (notes self.old).pending ≡ Some e
+            → (notes self.new).entries ≡ (notes self.old).entries ++ (e, reply.now) ∷ [] };
 
     /// The diary.
     fn diary(&self) -> &Diary

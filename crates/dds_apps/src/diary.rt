@@ -36,8 +36,8 @@ impl Diary {
         }
     }
 
-    /// Notes the event that comes next, and makes room for its entry. Another one that waits is forgotten. An `Err` means that memory ran out; then
-    /// nothing is changed.
+    /// Notes the event that comes next, and makes room for its entry. Another one that waits is forgotten. An `Err`
+    /// means that memory ran out; then nothing is changed.
     pub fn plan(&mut self, event: Event) -> Result<(), NoMemory>
         ensures ok { OnOk result (self.new ≡ record { entries = self.old.entries; pending = Some event }) }
         ensures err { OnErr result (self.new ≡ self.old) }
@@ -52,7 +52,8 @@ impl Diary {
     /// Enters the event that waits, with its reply. The room is there, so this takes no memory.
     pub fn enter(&mut self, reply: &Reply)
         requires { IsSome self.old.pending }
-        ensures entries { (e : _) → self.old.pending ≡ Some e → self.new.entries ≡ self.old.entries ++ (e, reply.now) ∷ [] }
+        ensures entries { (e : _) → self.old.pending ≡ Some e
+            → self.new.entries ≡ self.old.entries ++ (e, reply.now) ∷ [] }
         ensures pending { self.new.pending ≡ None }
     {
         // The checker has to have seen the type of a part of a reply.

@@ -33,8 +33,9 @@ pub enum AppEnd {
     NoMemory,
     /// The application asked for an event that isn't its own.
     NotYours,
-    /// The book was stopped, or its journal is full. The book of a run is stopped when no application plays any more, and a run whose journal was full
-    /// gives a fault in place of its ends; so no end that `run_peers` gives is this one.
+    /// The book was stopped, or its journal is full. The book of a run is stopped when no application plays any more,
+    /// and a run whose journal was full gives a fault in place of its ends; so no end that `run_peers` gives is this
+    /// one.
     Cut,
 }
 
@@ -118,7 +119,8 @@ impl<A: App, N: Name> Player<A, N> {
         ensures counted { IsCounted gauge.now.table self.new.seat self.new.counter }
         ensures number { self.new.seat.number ≡ self.old.seat.number }
         ensures identity { A.identity self.new.app ≡ A.identity self.old.app }
-        ensures diary { done_by self.old.seat ≡ (A.notes self.old.app).entries → done_by self.new.seat ≡ (A.notes self.new.app).entries }
+        ensures diary { done_by self.old.seat ≡ (A.notes self.old.app).entries
+            → done_by self.new.seat ≡ (A.notes self.new.app).entries }
     {
         let reply = self.enter(rt, book, gauge, event)?;
         if !matches!(reply, Reply::Refused(_)) {
@@ -129,7 +131,8 @@ impl<A: App, N: Name> Player<A, N> {
         Ok(())
     }
 
-    // Passes the gate and makes the call that the application wants, unless it has made too many. It says whether the thread goes on.
+    // Passes the gate and makes the call that the application wants, unless it has made too many. It says whether the
+    // thread goes on.
     fn call<R: Wait, G: Gate>(
         &mut self,
         rt: &R,
@@ -144,7 +147,8 @@ impl<A: App, N: Name> Player<A, N> {
         ensures counted { IsCounted gauge.now.table self.new.seat self.new.counter }
         ensures number { self.new.seat.number ≡ self.old.seat.number }
         ensures identity { A.identity self.new.app ≡ A.identity self.old.app }
-        ensures diary { done_by self.old.seat ≡ (A.notes self.old.app).entries → done_by self.new.seat ≡ (A.notes self.new.app).entries }
+        ensures diary { done_by self.old.seat ≡ (A.notes self.old.app).entries
+            → done_by self.new.seat ≡ (A.notes self.new.app).entries }
     {
         if self.calls >= calls {
             self.end = AppEnd::CallLimit;
@@ -164,7 +168,8 @@ impl<A: App, N: Name> Player<A, N> {
 
     // Waits for a change. It says whether the thread goes on.
     fn rest<R: Wait + Clock>(&mut self, rt: &R, book: &Book<N>, idle_waits: u64) -> bool
-        ensures { (self.new.app ≡ self.old.app) × (self.new.seat ≡ self.old.seat) × (self.new.counter ≡ self.old.counter) }
+        ensures { (self.new.app ≡ self.old.app) × (self.new.seat ≡ self.old.seat)
+            × (self.new.counter ≡ self.old.counter) }
     {
         match book.rest(rt, self.seen) {
             Ok(Some(seen)) => {
@@ -200,7 +205,8 @@ impl<A: App, N: Name> Player<A, N> {
         ensures counted { IsCounted gauge.now.table self.new.seat self.new.counter }
         ensures number { self.new.seat.number ≡ self.old.seat.number }
         ensures identity { A.identity self.new.app ≡ A.identity self.old.app }
-        ensures diary { done_by self.old.seat ≡ (A.notes self.old.app).entries → done_by self.new.seat ≡ (A.notes self.new.app).entries }
+        ensures diary { done_by self.old.seat ≡ (A.notes self.old.app).entries
+            → done_by self.new.seat ≡ (A.notes self.new.app).entries }
     {
         let Ok(act) = self.app.act() else {
             self.end = AppEnd::NoMemory;
@@ -229,7 +235,8 @@ impl<A: App, N: Name> Player<A, N> {
         ensures counted { IsCounted gauge.now.table result.seat result.counter }
         ensures number { result.seat.number ≡ self.seat.number }
         ensures identity { A.identity result.app ≡ A.identity self.app }
-        ensures diary { done_by self.seat ≡ (A.notes self.app).entries → done_by result.seat ≡ (A.notes result.app).entries }
+        ensures diary { done_by self.seat ≡ (A.notes self.app).entries
+            → done_by result.seat ≡ (A.notes result.app).entries }
     {
         let mut player = self;
         for _ in rt.forever() {

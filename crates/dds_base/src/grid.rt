@@ -1,5 +1,5 @@
-//! The grid of endpoints and keys: what a table has that gives each key of each endpoint of one kind a place. Key k of endpoint e has the place
-//! `e * KEYS + k`.
+//! The grid of endpoints and keys: what a table has that gives each key of each endpoint of one kind a place. Key k of
+//! endpoint e has the place `e * KEYS + k`.
 
 /// No deployment has more writers, and none has more readers.
 pub const ENDPOINTS: usize = 256;

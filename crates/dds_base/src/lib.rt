@@ -1,6 +1,6 @@
-//! The plain things that every layer speaks of: names with their numbers, entries under names, the numbers of endpoints and keys, samples, messages,
-//! events and replies. A layer above sees `Names` as a list of distinct names, a number as the number itself, and a message as its
-//! plain content, which is in range.
+//! The plain things that every layer speaks of: names with their numbers, entries under names, the numbers of endpoints
+//! and keys, samples, messages, events and replies. A layer above sees `Names` as a list of distinct names, a number as
+//! the number itself, and a message as its plain content, which is in range.
 #![tactic(auto)]
 
 pub mod events;
@@ -26,6 +26,6 @@ pub use sample::{Arrival, Data, Rejection, Sample};
 pub use section::Section;
 pub use sets::SnSet;
 
-/// Memory ran out: an allocation was refused. Every public call that can meet want of memory answers it so; one that refuses for other reasons too has a case
-/// for it in an error of its own.
+/// Memory ran out: an allocation was refused. Every public call that can meet want of memory answers it so; one that
+/// refuses for other reasons too has a case for it in an error of its own.
 pub use std::alloc::AllocError as NoMemory;

@@ -1,4 +1,5 @@
-//! The messages between a writer and a reader. A message is in range by its constructor; each names its writer and its reader.
+//! The messages between a writer and a reader. A message is in range by its constructor; each names its writer and its
+//! reader.
 
 ghost use Rattle.std.specs.Prelude.{◌≡◌, ℕ, ◌+◌, ◌<◌, ◌≤◌, MatchOption};
 ghost use Rattle.dds_base.specs.Messages.{FitsData, FitsGap, FitsHeartbeat};
@@ -30,7 +31,8 @@ impl Model for DataMsg {
 impl DataMsg {
     /// The DATA of a sample. `None` exactly where its number isn't 1 to 2^63 - 1.
     pub fn new(reader: ReaderNo, sample: Sample) -> Option<DataMsg>
-        ensures { MatchOption result (FitsData sample → ⊥) (λ d. FitsData sample × (d ≡ record { reader = reader; sample = sample })) }
+        ensures { MatchOption result (FitsData sample → ⊥)
+            (λ d. FitsData sample × (d ≡ record { reader = reader; sample = sample })) }
     {
         if sample.sn < 1 || sample.sn >= 1 << 63 {
             return None;
@@ -39,8 +41,8 @@ impl DataMsg {
     }
 }
 
-/// GAP: the numbers from `start` to the base of the set less one, and those of the set, are irrelevant to the reader (DDSI-RTPS 2.5,
-/// clause 8.3.8.4).
+/// GAP: the numbers from `start` to the base of the set less one, and those of the set, are irrelevant to the reader
+/// (DDSI-RTPS 2.5, clause 8.3.8.4).
 #[derive(Clone, Copy, PartialEq, Eq)]
 pub struct GapMsg {
     pub writer: WriterNo,
@@ -64,7 +66,8 @@ impl Model for GapMsg {
 impl GapMsg {
     /// A GAP. `None` exactly where `start` is 0 or above the base of the set.
     pub fn new(writer: WriterNo, reader: ReaderNo, start: u64, set: SnSet) -> Option<GapMsg>
-        ensures { MatchOption result (FitsGap start set → ⊥) (λ g. FitsGap start set × (g ≡ record { writer = writer; reader = reader; start = start; set = set })) }
+        ensures { MatchOption result (FitsGap start set → ⊥)
+            (λ g. FitsGap start set × (g ≡ record { writer = writer; reader = reader; start = start; set = set })) }
     {
         if start < 1 || start > set.base() {
             return None;
@@ -78,7 +81,8 @@ impl GapMsg {
     }
 }
 
-/// HEARTBEAT: the least number that the writer still has, and the greatest that it wrote (DDSI-RTPS 2.5, clause 8.3.8.6).
+/// HEARTBEAT: the least number that the writer still has, and the greatest that it wrote (DDSI-RTPS 2.5, clause
+/// 8.3.8.6).
 #[derive(Clone, Copy, PartialEq, Eq)]
 pub struct Heartbeat {
     pub writer: WriterNo,
@@ -102,7 +106,9 @@ impl Model for Heartbeat {
 impl Heartbeat {
     /// A HEARTBEAT. `None` exactly where `first` is 0 or above `last` + 1, or `last` is above 2^63 - 1.
     pub fn new(writer: WriterNo, reader: ReaderNo, first: u64, last: u64) -> Option<Heartbeat>
-        ensures { MatchOption result (FitsHeartbeat first last → ⊥) (λ h. FitsHeartbeat first last × (h ≡ record { writer = writer; reader = reader; first = first; last = last })) }
+        ensures { MatchOption result (FitsHeartbeat first last → ⊥)
+            (λ h. FitsHeartbeat first last
+            × (h ≡ record { writer = writer; reader = reader; first = first; last = last })) }
     {
         if first < 1 || last >= 1 << 63 || first > last + 1 {
             return None;
@@ -116,8 +122,8 @@ impl Heartbeat {
     }
 }
 
-/// ACKNACK: the base of the set is the least number that the reader misses, and it asks for those of the set (DDSI-RTPS 2.5, clause
-/// 8.3.8.1). Its set is in range by itself.
+/// ACKNACK: the base of the set is the least number that the reader misses, and it asks for those of the set (DDSI-RTPS
+/// 2.5, clause 8.3.8.1). Its set is in range by itself.
 #[derive(Clone, Copy, PartialEq, Eq)]
 pub struct AckNack {
     pub reader: ReaderNo,

@@ -1,6 +1,7 @@
 //! Names of 1 to 64 bytes, each with one number.
 
-ghost use Rattle.std.specs.Prelude.{◌≡◌, ◌≤◌, ◌<◌, ℕ, List, [], ◌∷◌, ◌++◌, length, map, option_map, is_some, Some, None, IfOk, IfErr, IfSome, OnErr, string_bytes, slice_get, OnOk};
+ghost use Rattle.std.specs.Prelude.{◌≡◌, ◌≤◌, ◌<◌, ℕ, List, [], ◌∷◌, ◌++◌, length, map, option_map, is_some, Some};
+ghost use Rattle.std.specs.Prelude.{None, IfOk, IfErr, IfSome, OnErr, string_bytes, slice_get, OnOk};
 ghost use Rattle.std.specs.List.{list_all};
 ghost use Rattle.dds_base.specs.Names.{is_name_byte, is_name, number_of, refusal, IsRefused};
 

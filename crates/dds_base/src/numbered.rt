@@ -24,7 +24,8 @@ pub fn are_rising<T: Numbered>(entries: &[T]) -> bool
     true
 }
 
-/// The place of the first entry with a number. Among entries whose numbers rise it is found by halving, among others by a walk.
+/// The place of the first entry with a number. Among entries whose numbers rise it is found by halving, among others by
+/// a walk.
 pub fn place_of<T: Numbered>(entries: &[T], rising: bool, number: usize) -> Option<usize>
     requires { IsTrue rising → AreRising T.number_of entries.now }
     ensures { result ≡ position (λ x. T.number_of x == number) entries.now }

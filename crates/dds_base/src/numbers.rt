@@ -1,4 +1,5 @@
-//! The numbers of the entries of a deployment: each is a place in its list, from 0. A contract sees each as the number itself.
+//! The numbers of the entries of a deployment: each is a place in its list, from 0. A contract sees each as the number
+//! itself.
 
 ghost use Rattle.std.specs.Prelude.{◌≡◌, ℕ};
 

@@ -1,14 +1,15 @@
 //! Sets of sequence numbers, as GAP and ACKNACK carry them.
 
-ghost use Rattle.std.specs.Prelude.{◌≡◌, ℕ, ◌+◌, ◌<◌, ◌≤◌, ◌^◌, ◌==◌, ◌&&◌, not, leb, ltb, true, false, IsTrue, MatchOption, length, slice_index_or};
+ghost use Rattle.std.specs.Prelude.{◌≡◌, ℕ, ◌+◌, ◌<◌, ◌≤◌, ◌^◌, ◌==◌, ◌&&◌, not, leb, ltb, true, false, IsTrue};
+ghost use Rattle.std.specs.Prelude.{MatchOption, length, slice_index_or};
 ghost use Rattle.dds_base.specs.Sets.{has, set_of, last_number, is_listed, FitsSet};
 
 use std::marker::Model;
 
 /// A base and any of the 256 numbers from it on: the set of a GAP or an ACKNACK. Equal sets are equal values.
 ///
-/// The base is 1 to 2^63 and each number at most 2^63 - 1, the last of a writer; a base of 2^63 is the number after the last
-/// (DDSI-RTPS 2.5, clause 8.3.5.5).
+/// The base is 1 to 2^63 and each number at most 2^63 - 1, the last of a writer; a base of 2^63 is the number after the
+/// last (DDSI-RTPS 2.5, clause 8.3.5.5).
 #[derive(Clone, Copy, PartialEq, Eq)]
 pub struct SnSet {
     base: u64,
@@ -26,14 +27,16 @@ impl Model for SnSet {
     ghost inverse = { λ s. record { base = s.base; flags = s.flags } };
 
     // its base is a number or the one after the last, and its elements are numbers
-    ghost invariant = { λ a. (1 ≤ a.base) × (a.base ≤ last_number + 1) × ((k : ℕ) → slice_index_or a.flags k false ≡ true → a.base + k ≤ last_number) };
+    ghost invariant = { λ a. (1 ≤ a.base) × (a.base ≤ last_number + 1)
+        × ((k : ℕ) → slice_index_or a.flags k false ≡ true → a.base + k ≤ last_number) };
 }
 
 impl SnSet {
-    /// The set of these numbers. `None` exactly where the base isn't 1 to 2^63, or a number is below the base, above the base + 255
-    /// or above 2^63 - 1.
+    /// The set of these numbers. `None` exactly where the base isn't 1 to 2^63, or a number is below the base, above
+    /// the base + 255 or above 2^63 - 1.
     pub fn new(base: u64, numbers: &[u64]) -> Option<SnSet>
-        ensures { MatchOption result (FitsSet base numbers.now → ⊥) (λ s. FitsSet base numbers.now × (s ≡ set_of base (is_listed numbers.now))) }
+        ensures { MatchOption result (FitsSet base numbers.now → ⊥)
+            (λ s. FitsSet base numbers.now × (s ≡ set_of base (is_listed numbers.now))) }
     {
         if base < 1 || base > 1 << 63 {
             return None;

@@ -27,8 +27,8 @@ pub struct Book<N: Name> {
 }
 
 impl<N: Name> Book<N> {
-    /// An open book without entries, of the kit that is named, and a seat for each of its pairs: the applications' come first, and then the
-    /// participants'. An `Err` means that memory ran out, and gives the kit back.
+    /// An open book without entries, of the kit that is named, and a seat for each of its pairs: the applications' come
+    /// first, and then the participants'. An `Err` means that memory ran out, and gives the kit back.
     pub fn open(alloc: Global, kit: Kit) -> Result<(Book<N>, Vec<Seat<N>>), (NoMemory, Kit)>
         requires { IsKitOf N.plan N.tables kit }
         ensures seats { IfOk result (λ r. r.1.items ≡ map new_seat (range_with_len 0 (length N.tables))) }
@@ -42,8 +42,9 @@ impl<N: Name> Book<N> {
         Ok((book, seats))
     }
 
-    /// Makes an event of a seat and enters it. The seat's new front is a journal that begins with the old front, ends with this call, and has
-    /// no other entry of the seat after the old front. A fault enters nothing: of several the first is told.
+    /// Makes an event of a seat and enters it. The seat's new front is a journal that begins with the old front, ends
+    /// with this call, and has no other entry of the seat after the old front. A fault enters nothing: of several the
+    /// first is told.
     pub fn call<R: Wait>(
         &self,
         rt: &R,
@@ -61,7 +62,8 @@ impl<N: Name> Book<N> {
         answer
     }
 
-    /// Enters what the seat's participant is to do in its turn, in one hold of the lock, and tells it. `None` where there is nothing to do.
+    /// Enters what the seat's participant is to do in its turn, in one hold of the lock, and tells it. `None` where
+    /// there is nothing to do.
     pub fn pump<R: Wait>(
         &self,
         rt: &R,
@@ -70,7 +72,8 @@ impl<N: Name> Book<N> {
         fate: Fate,
     ) -> Result<Option<(Event, Reply)>, BookFault>
         requires { is_participant N.plan seat.old.number ≡ true }
-        ensures call { IfOk result (λ told. IfSome told (λ m. IsCall N.plan seat.old.number seat.old.front seat.new.front m.0 m.1)) }
+        ensures call { IfOk result
+            (λ told. IfSome told (λ m. IsCall N.plan seat.old.number seat.old.front seat.new.front m.0 m.1)) }
         ensures none { IfOk result (λ told. IfNone told (seat.new ≡ seat.old)) }
         ensures number { seat.new.number ≡ seat.old.number }
         ensures fault { OnErr result (seat.new ≡ seat.old) }
@@ -94,8 +97,8 @@ impl<N: Name> Book<N> {
         }
     }
 
-    /// Waits for at most 10 ms until more than so many entries are no refusals, and tells how many they are. It waits as
-    /// long for a stopped book.
+    /// Waits for at most 10 ms until more than so many entries are no refusals, and tells how many they are. It waits
+    /// as long for a stopped book.
     pub fn wait_change<R: Wait + Clock>(&self, rt: &R, seen: u64) -> Option<u64>
         ensures { IfSome result (λ count. seen < count) }
     {
@@ -107,8 +110,8 @@ impl<N: Name> Book<N> {
         if count > seen { Some(count) } else { None }
     }
 
-    /// Waits as `wait_change` does, but no longer than until the book is stopped: then the answer is `Closed`, unless more
-    /// entries than so many are no refusals.
+    /// Waits as `wait_change` does, but no longer than until the book is stopped: then the answer is `Closed`, unless
+    /// more entries than so many are no refusals.
     pub fn rest<R: Wait + Clock>(&self, rt: &R, seen: u64) -> Result<Option<u64>, BookFault>
         ensures change { IfOk result (λ told. IfSome told (λ count. seen < count)) }
         ensures closed { IfErr result (λ f. f ≡ Closed) }
@@ -156,8 +159,9 @@ impl<N: Name> Book<N> {
         self.changed.notify_all();
     }
 
-    /// The journal. It begins with the front of each of these seats and has no later entry of that seat: each of its calls stands there once.
-    /// No other thread has the book any more, so this waits for nobody, whatever handle it is given.
+    /// The journal. It begins with the front of each of these seats and has no later entry of that seat: each of its
+    /// calls stands there once. No other thread has the book any more, so this waits for nobody, whatever handle it is
+    /// given.
     pub fn close<R>(self, _rt: &R, seats: Vec<Seat<N>>) -> Journal
         ensures journal { IsJournal N.plan result }
         ensures fronts { All (λ s. IsFront s.number s.front result) seats.items }

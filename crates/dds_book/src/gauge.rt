@@ -1,6 +1,7 @@
-//! Counts that are each raised by their owner alone, while everyone with a seat reads them. A count is one word that changes in single atomic
-//! steps, so nobody waits: neither `bump` nor `read` takes a lock, and neither takes memory.
-ghost use Rattle.std.specs.Prelude.{◌≡◌, ◌≢◌, ℕ, ◌+◌, ◌-◌, ◌<◌, ◌≤◌, ◌^◌, Some, None, IsSome, [], map, IfOk, MatchResult};
+//! Counts that are each raised by their owner alone, while everyone with a seat reads them. A count is one word that
+//! changes in single atomic steps, so nobody waits: neither `bump` nor `read` takes a lock, and neither takes memory.
+ghost use Rattle.std.specs.Prelude.{◌≡◌, ◌≢◌, ℕ, ◌+◌, ◌-◌, ◌<◌, ◌≤◌, ◌^◌, Some, None, IsSome, [], map, IfOk};
+ghost use Rattle.std.specs.Prelude.{MatchResult};
 ghost use Rattle.std.specs.List.{range_with_len};
 ghost use Rattle.dds_book.specs.Gauge.{fresh_seat, seat_of, seen_at, view_of};
 
@@ -16,8 +17,8 @@ use std::marker::Model;
 /// The greatest value of a count, which is not raised any more.
 const LAST: u64 = (1 << 63) - 1;
 
-/// What a seat knows of the counts: it owns those from `from` to before `to`, which have this value, and it has seen these values by
-/// application. No value of it is made: it stands in proofs alone.
+/// What a seat knows of the counts: it owns those from `from` to before `to`, which have this value, and it has seen
+/// these values by application. No value of it is made: it stands in proofs alone.
 pub struct GaugeView {
     pub from: u64,
     pub to: u64,
@@ -29,7 +30,8 @@ pub struct GaugeView {
 #[derive(Clone, Copy, Debug, PartialEq, Eq)]
 pub struct GaugeFull;
 
-/// The counts of the applications, 0 at first. A contract sees which gauge it is, by its table, and how many applications it has.
+/// The counts of the applications, 0 at first. A contract sees which gauge it is, by its table, and how many
+/// applications it has.
 #[derive(Drop)]
 pub struct Gauge {
     // the last word is no application's: it makes that there is one
@@ -47,8 +49,8 @@ impl Model for Gauge {
     ghost invariant = { λ g. g.table.shared.table_id.words ≡ g.table.shared.key + 1 };
 }
 
-/// What one thread raises its count with, or reads with. A contract sees the gauge's table, the application whose count it owns, that count,
-/// and what it has read of each application.
+/// What one thread raises its count with, or reads with. A contract sees the gauge's table, the application whose count
+/// it owns, that count, and what it has read of each application.
 #[derive(Drop)]
 pub struct GaugeSeat {
     owner: Option<AppNo>,
@@ -67,15 +69,16 @@ impl Model for GaugeSeat {
 }
 
 impl Gauge {
-    /// Counts of 0, and the seats: those of the owners first, by application, and then so many that only read. Nothing is seen yet. An `Err`
-    /// means that memory ran out.
+    /// Counts of 0, and the seats: those of the owners first, by application, and then so many that only read. Nothing
+    /// is seen yet. An `Err` means that memory ran out.
     pub fn open(
         alloc: Global,
         apps: usize,
         monitors: usize,
     ) -> Result<(Gauge, Vec<GaugeSeat>), NoMemory>
         ensures apps { IfOk result (λ r. r.0.apps ≡ apps) }
-        ensures seats { IfOk result (λ r. r.1.items ≡ map (fresh_seat r.0.table apps) (range_with_len 0 (apps + monitors))) }
+        ensures seats { IfOk result
+            (λ r. r.1.items ≡ map (fresh_seat r.0.table apps) (range_with_len 0 (apps + monitors))) }
     {
         opened(alloc, apps, monitors)
     }
@@ -102,8 +105,8 @@ impl Gauge {
         Ok(seat.count)
     }
 
-    /// The count of an application, as it stands at some moment of the call: not below what this seat has read of it before, and of the
-    /// seat's own application exactly the count.
+    /// The count of an application, as it stands at some moment of the call: not below what this seat has read of it
+    /// before, and of the seat's own application exactly the count.
     pub fn read(&self, seat: &mut GaugeSeat, app: AppNo) -> u64
         requires gauge { seat.old.table ≡ self.now.table }
         requires app { app < self.now.apps }
@@ -120,7 +123,8 @@ impl Gauge {
 // A new gauge with its seats.
 fn opened(alloc: Global, apps: usize, monitors: usize) -> Result<(Gauge, Vec<GaugeSeat>), NoMemory>
     ensures apps { IfOk result (λ r. r.0.apps ≡ apps) }
-    ensures seats { IfOk result (λ r. r.1.items ≡ map (fresh_seat r.0.table apps) (range_with_len 0 (apps + monitors))) }
+    ensures seats { IfOk result
+        (λ r. r.1.items ≡ map (fresh_seat r.0.table apps) (range_with_len 0 (apps + monitors))) }
 {
     let mut words = Vec::from_elem(alloc, 0u64, apps)?;
     words.push(0)?;
@@ -143,7 +147,8 @@ fn owner(
 ) -> GaugeSeat
     requires table { (maker.old.table_id ≡ table.now.table_id) × (table.now.table_id.words ≡ table.now.key + 1) }
     requires maker { (maker.old.me ≡ (view_of app table.now.key 0 [], [])) × (app < table.now.key) }
-    ensures maker { (maker.new.table_id ≡ table.now.table_id) × (maker.new.me ≡ (view_of (app + 1) table.now.key 0 [], [])) }
+    ensures maker { (maker.new.table_id ≡ table.now.table_id)
+        × (maker.new.me ≡ (view_of (app + 1) table.now.key 0 [], [])) }
     ensures seat { result ≡ seat_of table.now.table_id (Some app) }
 {
     let seat = table.split_seat::<NextOwner>(maker);

@@ -1,5 +1,5 @@
-//! Two halves of one list, its front. Two halves of one pair in hand have equal fronts, and the one change, which takes both, gives both the
-//! same new front. So whoever holds one half knows what the other shows, wherever that one is.
+//! Two halves of one list, its front. Two halves of one pair in hand have equal fronts, and the one change, which takes
+//! both, gives both the same new front. So whoever holds one half knows what the other shows, wherever that one is.
 ghost use Rattle.std.specs.Prelude.{◌≡◌, ◌+◌, ◌<◌, ◌^◌, [], length, IfOk};
 ghost use Rattle.dds_book.specs.Halves.{entries_by, half_of, holder_of};
 
@@ -20,8 +20,8 @@ pub trait Owned {
     ghost owner: { Self → ℕ };
 }
 
-/// What the holder of some parts of a pair knows: the front, and right after two halves were joined the front of the other one beside it.
-/// A half is one part and the whole is two. No value of it is made: it stands in proofs alone.
+/// What the holder of some parts of a pair knows: the front, and right after two halves were joined the front of the
+/// other one beside it. A half is one part and the whole is two. No value of it is made: it stands in proofs alone.
 pub struct PairView<E> {
     pub parts: u64,
     pub front: LinkedList<E>,
@@ -44,8 +44,8 @@ impl<E> Model for Half<E> {
     ghost invariant = { λ h. IsHeld h.badge.views };
 }
 
-/// The other half of a pair, with the pair's table, for whoever makes the changes. A contract sees the table, the owner whose entries the
-/// table counts, and the front.
+/// The other half of a pair, with the pair's table, for whoever makes the changes. A contract sees the table, the owner
+/// whose entries the table counts, and the front.
 #[derive(Drop)]
 pub struct Holder<E: Owned> {
     table: Table<(), PairView<E>, u64, OnePair, Global>,
@@ -60,7 +60,8 @@ impl<E: Owned> Model for Holder<E> {
 
     ghost view = { λ h. holder_of h.table.shared.table_id h.table.shared.key (front_in h.badge.views) };
 
-    ghost invariant = { λ h. IsHeld h.badge.views × (h.badge.table_id ≡ h.table.shared.table_id) × (h.table.shared.table_id.words ≡ 1) × (h.table.shared.table_id.slots ≡ 0) };
+    ghost invariant = { λ h. IsHeld h.badge.views × (h.badge.table_id ≡ h.table.shared.table_id)
+        × (h.table.shared.table_id.words ≡ 1) × (h.table.shared.table_id.slots ≡ 0) };
 }
 
 impl<E: Owned> Holder<E> {
@@ -84,7 +85,8 @@ impl<E: Owned> Holder<E> {
     /// Gives both halves of the pair a new front, with one entry more of the owner. The two fronts were equal.
     pub fn advance(&mut self, half: &mut Half<E>, front: &[E])
         requires table { half.old.table ≡ self.old.table }
-        requires more { entries_by E.owner self.old.owner front.now ≡ entries_by E.owner self.old.owner self.old.front + 1 }
+        requires more { entries_by E.owner self.old.owner front.now
+            ≡ entries_by E.owner self.old.owner self.old.front + 1 }
         requires room { length front.now < 2 ^ 63 }
         ensures equal { half.old.front ≡ self.old.front }
         ensures half { half.new ≡ half_of half.old.table front.now }

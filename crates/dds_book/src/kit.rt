@@ -12,8 +12,8 @@ use dds_domain::Domain;
 use std::alloc::Global;
 use std::marker::{Brand, Model};
 
-/// Names one plan and one list of the seats' tables, so that a book and its seats belong together by their types. A function over any name,
-/// called with `Brand`, is handed a kit and opens its book.
+/// Names one plan and one list of the seats' tables, so that a book and its seats belong together by their types. A
+/// function over any name, called with `Brand`, is handed a kit and opens its book.
 pub trait Name {
     ghost use Rattle.std.specs.Prelude.{List};
     ghost use Rattle.atomic_table.specs.Seated.{TableId};
@@ -33,7 +33,8 @@ impl Name for Brand {
     ghost tables = { [] };
 }
 
-/// A domain before its first event, and a pair of halves for each seat. A contract sees the checked plan, and the table of each pair.
+/// A domain before its first event, and a pair of halves for each seat. A contract sees the checked plan, and the table
+/// of each pair.
 #[derive(Drop)]
 pub struct Kit {
     pub(crate) domain: Domain,
@@ -54,8 +55,8 @@ impl Model for Kit {
 }
 
 impl Kit {
-    /// Opens the domain of a checked plan, and makes a pair of halves for each seat. An `Err` means that memory ran out, and gives the plan
-    /// back.
+    /// Opens the domain of a checked plan, and makes a pair of halves for each seat. An `Err` means that memory ran
+    /// out, and gives the plan back.
     pub fn new(alloc: Global, checked: Checked) -> Result<Kit, (NoMemory, Checked)>
         ensures plan { IfOk result (λ k. k.checked ≡ checked) }
         ensures seats { IfOk result (λ k. length k.tables ≡ seat_count checked.plan) }

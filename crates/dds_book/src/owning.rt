@@ -1,6 +1,7 @@
 //! Whose each event is: which seat may make it.
 ghost use Rattle.std.specs.Prelude.{◌≡◌, ◌<◌, ◌≤◌, false, length, nat_lt};
-ghost use Rattle.dds_book.specs.Owning.{has_reader, has_rule, has_writer, is_own, is_participant, names_unknown, owns, participant_of, seat_count, sends_of_reader, sends_of_writer};
+ghost use Rattle.dds_book.specs.Owning.{has_reader, has_rule, has_writer, is_own, is_participant, names_unknown, owns};
+ghost use Rattle.dds_book.specs.Owning.{participant_of, seat_count, sends_of_reader, sends_of_writer};
 
 use dds_base::{AppNo, Event, ParticipantNo, ReaderNo, RuleNo, WriterNo};
 use dds_deploy::Deployment;
@@ -29,9 +30,9 @@ pub(crate) fn participant_of(lists: &Deployment, seat: usize) -> ParticipantNo
     ParticipantNo::new(seat - lists.applications())
 }
 
-/// Whether the event is one of the seat's own: an application's seat writes and takes at the endpoints that it owns and fires its rules, a
-/// participant's sends from its endpoints and moves packets of the bus. An event that names an endpoint or a rule that isn't there is every
-/// seat's. It walks at most the lists of one application.
+/// Whether the event is one of the seat's own: an application's seat writes and takes at the endpoints that it owns and
+/// fires its rules, a participant's sends from its endpoints and moves packets of the bus. An event that names an
+/// endpoint or a rule that isn't there is every seat's. It walks at most the lists of one application.
 pub(crate) fn owns(lists: &Deployment, seat: usize, event: &Event) -> bool
     ensures { result ≡ owns lists.now seat event.now }
 {

@@ -6,8 +6,8 @@ use crate::halves::Half;
 use crate::kit::Name;
 use std::marker::{Model, PhantomData};
 
-/// What one thread makes events with, at the book of its name. A contract sees its place in the list of seats, and its front: the journal
-/// as the seat's last entered call left it.
+/// What one thread makes events with, at the book of its name. A contract sees its place in the list of seats, and its
+/// front: the journal as the seat's last entered call left it.
 #[derive(Drop)]
 pub struct Seat<N: Name> {
     pub(crate) number: usize,
@@ -27,8 +27,8 @@ impl<N: Name> Model for Seat<N> {
 }
 
 impl<N: Name> Seat<N> {
-    /// The place of the seat in the list of seats, from 0: those of the applications come first, by number, and then those of the
-    /// participants.
+    /// The place of the seat in the list of seats, from 0: those of the applications come first, by number, and then
+    /// those of the participants.
     pub fn number(&self) -> usize
         ensures { result ≡ self.now.number }
     {

@@ -1,5 +1,6 @@
 //! What lies under the lock of a book: the domain, and the journal of what was done to it.
-ghost use Rattle.std.specs.Prelude.{◌≡◌, ◌+◌, ◌<◌, ◌≤◌, ◌^◌, true, false, Some, [], length, if◌then◌else◌, slice_get, slice_set, IfOk, IfErr, map, All};
+ghost use Rattle.std.specs.Prelude.{◌≡◌, ◌+◌, ◌<◌, ◌≤◌, ◌^◌, true, false, Some, [], length, if◌then◌else◌, slice_get};
+ghost use Rattle.std.specs.Prelude.{slice_set, IfOk, IfErr, map, All};
 ghost use Rattle.std.specs.List.{range_with_len};
 ghost use Rattle.std.specs.Vec.{vec_len, vec_capacity};
 ghost use Rattle.dds_book.specs.Halves.{HolderState, entries_by, half_of, holder_of};
@@ -24,8 +25,9 @@ use std::marker::{Model, PhantomData};
 /// How many entries a journal has at most.
 const MOST: usize = 1 << 20;
 
-/// A domain, and the journal of all that was done to it; the domain always stands for where the journal leads to. It also holds the other
-/// half of each seat's pair, so it knows each seat's front. A contract sees whether it is closed, and the entries.
+/// A domain, and the journal of all that was done to it; the domain always stands for where the journal leads to. It
+/// also holds the other half of each seat's pair, so it knows each seat's front. A contract sees whether it is closed,
+/// and the entries.
 #[derive(Drop)]
 pub struct BookState<N: Name> {
     domain: Domain,
@@ -47,8 +49,8 @@ impl<N: Name> Model for BookState<N> {
 }
 
 impl<N: Name> BookState<N> {
-    /// An open book without entries, of the kit that is named, and a seat for each of its pairs: the applications' come first, and then the
-    /// participants'. An `Err` means that memory ran out, and gives the kit back.
+    /// An open book without entries, of the kit that is named, and a seat for each of its pairs: the applications' come
+    /// first, and then the participants'. An `Err` means that memory ran out, and gives the kit back.
     pub fn open(alloc: Global, kit: Kit) -> Result<(BookState<N>, Vec<Seat<N>>), (NoMemory, Kit)>
         requires { IsKitOf N.plan N.tables kit }
         ensures state { IfOk result (λ r. r.0 ≡ record { closed = false; entries = [] }) }
@@ -75,8 +77,8 @@ impl<N: Name> BookState<N> {
         Ok((state, seats))
     }
 
-    /// Makes an event of a seat and enters it, with what came of it; a refusal by the domain is entered too. A fault enters nothing and changes
-    /// nothing: of several the first is told, and `NoMemory` is the last.
+    /// Makes an event of a seat and enters it, with what came of it; a refusal by the domain is entered too. A fault
+    /// enters nothing and changes nothing: of several the first is told, and `NoMemory` is the last.
     pub fn enter(&mut self, seat: &mut Seat<N>, event: Event) -> Result<Reply, BookFault>
         ensures entered { IfOk result (λ reply. Enters N.plan self.old self.new seat.old seat.new event reply) }
         ensures refused { IfErr result (λ f. Refuses N.plan self.old self.new seat.old seat.new event f) }
@@ -113,8 +115,8 @@ impl<N: Name> BookState<N> {
         Ok(told)
     }
 
-    /// Enters what the seat's participant is to do in its turn, as `enter` does, and tells it. `None` where there is nothing to do, and then
-    /// nothing is changed. Of a closed book the answer is `Closed`.
+    /// Enters what the seat's participant is to do in its turn, as `enter` does, and tells it. `None` where there is
+    /// nothing to do, and then nothing is changed. Of a closed book the answer is `Closed`.
     pub fn pump(
         &mut self,
         seat: &mut Seat<N>,
@@ -122,7 +124,8 @@ impl<N: Name> BookState<N> {
         fate: Fate,
     ) -> Result<Option<(Event, Reply)>, BookFault>
         requires { is_participant N.plan seat.old.number ≡ true }
-        ensures { Pumped N.plan self.old self.new seat.old seat.new (due_at N.plan self.old.entries seat.old.number turn fate) result }
+        ensures { Pumped N.plan self.old self.new seat.old seat.new
+            (due_at N.plan self.old.entries seat.old.number turn fate) result }
     {
         if self.closed {
             return Err(BookFault::Closed);
@@ -204,11 +207,14 @@ fn sit<N: Name>(halves: Vec<Half<Entry>>, seats: &mut Vec<Seat<N>>)
 // Gives both halves of a seat's pair the journal for their front.
 fn note(holders: &mut Vec<Holder<Entry>>, number: usize, half: &mut Half<Entry>, journal: &[Entry])
     requires number { number < length holders.old.items }
-    requires holder { (h : HolderState Entry) → slice_get holders.old.items number ≡ Some h → (half.old.table ≡ h.table) × (h.owner ≡ number) × (entries_by seat_of number journal.now ≡ entries_by seat_of number h.front + 1) }
+    requires holder { (h : HolderState Entry) → slice_get holders.old.items number ≡ Some h
+        → (half.old.table ≡ h.table) × (h.owner ≡ number)
+        × (entries_by seat_of number journal.now ≡ entries_by seat_of number h.front + 1) }
     requires room { length journal.now < 2 ^ 63 }
     ensures front { (h : HolderState Entry) → slice_get holders.old.items number ≡ Some h → half.old.front ≡ h.front }
     ensures half { half.new ≡ half_of half.old.table journal.now }
-    ensures holders { holders.new.items ≡ slice_set holders.old.items number (holder_of half.old.table number journal.now) }
+    ensures holders { holders.new.items
+        ≡ slice_set holders.old.items number (holder_of half.old.table number journal.now) }
 {
     let holder = &mut holders[number];
     holder.advance(half, journal);

@@ -16,10 +16,11 @@ use dds_qos::{Admit, ReaderLimits};
 use std::alloc::Global;
 use std::marker::Model;
 
-/// The samples that a reader has stored and not given yet, within its limits (OMG DDS 1.4, clauses 2.2.3.18 and 2.2.3.19).
+/// The samples that a reader has stored and not given yet, within its limits (OMG DDS 1.4, clauses 2.2.3.18 and
+/// 2.2.3.19).
 ///
-/// A sample is stored by `admit`, is available once `release` reaches its number, and leaves by `take` or because a later one of its
-/// key is stored in its place. Whether available or not, it counts against the limits.
+/// A sample is stored by `admit`, is available once `release` reaches its number, and leaves by `take` or because a
+/// later one of its key is stored in its place. Whether available or not, it counts against the limits.
 #[derive(Drop)]
 pub struct Cache {
     limits: ReaderLimits,
@@ -46,8 +47,9 @@ impl Model for Cache {
 }
 
 impl Cache {
-    /// An empty cache for the samples of these writers, which knows no key and has each writer's samples available up to 0, so none.
-    /// Later samples take their memory from `alloc` too. `Err` where no memory is left for the list of writers.
+    /// An empty cache for the samples of these writers, which knows no key and has each writer's samples available up
+    /// to 0, so none. Later samples take their memory from `alloc` too. `Err` where no memory is left for the list of
+    /// writers.
     pub fn new(alloc: Global, limits: ReaderLimits, writers: &[WriterNo]) -> Result<Cache, NoMemory>
         ensures { IfOk result (λ c. c ≡ record {
           limits = limits;
@@ -79,7 +81,8 @@ impl Cache {
         self.contents.stored()
     }
 
-    /// How many instances the cache has: the different keys of all samples that it ever stored, also of those that are gone.
+    /// How many instances the cache has: the different keys of all samples that it ever stored, also of those that are
+    /// gone.
     pub fn instances(&self) -> usize
         ensures { result ≡ set.len self.now.keys }
     {
@@ -93,8 +96,8 @@ impl Cache {
         self.contents.unread(key)
     }
 
-    /// What `admit` would answer on the sample, want of memory aside. It changes nothing: a caller that needs memory of its own for a
-    /// sample that is stored asks here first, so that a rejection needs none.
+    /// What `admit` would answer on the sample, want of memory aside. It changes nothing: a caller that needs memory of
+    /// its own for a sample that is stored asks here first, so that a rejection needs none.
     pub fn admission(&self, sample: &Sample) -> Admit
         ensures { result ≡ admission self.now.limits self.now.stored self.now.keys sample.now }
     {
@@ -116,18 +119,20 @@ impl Cache {
         Admit::Stored
     }
 
-    /// Stores a sample where the limits allow it. The writer has to be listed, and no stored sample may have its writer and number.
+    /// Stores a sample where the limits allow it. The writer has to be listed, and no stored sample may have its writer
+    /// and number.
     ///
     /// The first of these that holds is answered (OMG DDS 1.4, clauses 2.2.3.18, 2.2.3.19 and 2.2.4.1):
     ///
     /// 1. `Rejected(InstancesLimit)`: the key is new, and max_instances keys are known;
-    /// 2. `Overwrote(old)`: by KEEP_LAST, depth samples of the key are stored; `old`, the one of them that was admitted first, leaves,
-    ///    and the sample is stored as the last;
+    /// 2. `Overwrote(old)`: by KEEP_LAST, depth samples of the key are stored; `old`, the one of them that was admitted
+    ///    first, leaves, and the sample is stored as the last;
     /// 3. `Rejected(SamplesLimit)`: max_samples samples are stored;
     /// 4. `Rejected(SamplesPerInstanceLimit)`: max_samples_per_instance samples of the key are stored;
     /// 5. `Stored`: it is stored as the last, and its key is known from now on.
     ///
-    /// A rejection changes nothing. `Err` where the sample would be stored and no memory is left for it; it changes nothing.
+    /// A rejection changes nothing. `Err` where the sample would be stored and no memory is left for it; it changes
+    /// nothing.
     pub fn admit(&mut self, sample: Sample) -> Result<Admit, NoMemory>
         requires listed { IsTrue (is_listed sample.writer self.old.writers) }
         requires fresh { IsFresh self.old.stored sample }
@@ -146,8 +151,8 @@ impl Cache {
         Ok(answer)
     }
 
-    /// Makes the samples of a listed writer with numbers up to `upto`, 0 to 2^64 - 1, available, those stored later too. What is
-    /// available already stays so: a number below an earlier one changes nothing.
+    /// Makes the samples of a listed writer with numbers up to `upto`, 0 to 2^64 - 1, available, those stored later
+    /// too. What is available already stays so: a number below an earlier one changes nothing.
     pub fn release(&mut self, writer: WriterNo, upto: u64)
         requires { IsTrue (is_listed writer self.old.writers) }
         ensures { self.new ≡ record self.old { writers = raised writer upto self.old.writers } }
@@ -155,12 +160,14 @@ impl Cache {
         raise(&mut self.writers, self.rising, writer, upto);
     }
 
-    /// Gives an available sample of the key, which leaves the cache: of some writer, the one with the least number among that writer's
-    /// available samples of the key (OMG DDS 1.4, clause 2.2.2.5.3). `None` exactly where no sample of the key is available, and then
-    /// nothing changes.
+    /// Gives an available sample of the key, which leaves the cache: of some writer, the one with the least number
+    /// among that writer's available samples of the key (OMG DDS 1.4, clause 2.2.2.5.3). `None` exactly where no sample
+    /// of the key is available, and then nothing changes.
     pub fn take(&mut self, key: KeyNo) -> Option<Sample>
-        ensures answer { MatchOption result (available self.old key ≡ []) (λ x. IsLeastOfWriter x (available self.old key)) }
-        ensures state { MatchOption result (self.new ≡ self.old) (λ x. self.new ≡ record self.old { stored = without x self.old.stored }) }
+        ensures answer { MatchOption result (available self.old key ≡ [])
+            (λ x. IsLeastOfWriter x (available self.old key)) }
+        ensures state { MatchOption result (self.new ≡ self.old)
+            (λ x. self.new ≡ record self.old { stored = without x self.old.stored }) }
     {
         let ticket = self.contents.least(&self.writers, key)?;
         self.contents.remove(ticket)

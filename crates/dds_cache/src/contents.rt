@@ -1,5 +1,5 @@
-//! What a cache consists of: the stored samples in order of admission, for each key a queue of each writer's samples in order of number, and how many samples
-//! each key has that was ever stored.
+//! What a cache consists of: the stored samples in order of admission, for each key a queue of each writer's samples in
+//! order of number, and how many samples each key has that was ever stored.
 
 ghost use Rattle.std.specs.Prelude.{◌≡◌, cond, [], ◌∷◌, ◌++◌, length, MatchOption, OnOk, OnErr, slice_index_or};
 ghost use Rattle.std.specs.BTreeMap.{keys, values, is_at};
@@ -20,7 +20,8 @@ use std::alloc::Global;
 use std::collections::BTreeMap;
 use std::ops::Bound;
 
-// The stored samples by ticket, the ticket of each by key, writer and number, and for each key that was ever stored how many samples it has.
+// The stored samples by ticket, the ticket of each by key, writer and number, and for each key that was ever stored how
+// many samples it has.
 #[derive(Drop)]
 pub(crate) struct Contents {
     pub(crate) order: Order,
@@ -116,7 +117,8 @@ impl Contents {
 
     // The stored sample of the sample's key that was admitted first; the sample itself where none is stored.
     pub(crate) fn oldest(&self, sample: &Sample) -> Sample
-        ensures { result ≡ slice_index_or (values self.now.order.samples) (first_of sample.now.key (values self.now.order.samples)) sample.now }
+        ensures { result ≡ slice_index_or (values self.now.order.samples)
+            (first_of sample.now.key (values self.now.order.samples)) sample.now }
     {
         let Some(ticket) = self.order.first_of(sample.key) else {
             return *sample;
@@ -130,8 +132,10 @@ impl Contents {
     // Stores a sample as the last.
     fn push(&mut self, sample: &Sample) -> Result<(), NoMemory>
         requires { IsFresh (values self.old.order.samples) sample.now }
-        ensures entries { OnOk result (self.new.order.samples.entries ≡ self.old.order.samples.entries ++ (self.old.order.next, sample.now) ∷ []) }
-        ensures keys { OnOk result (set.from_list {R = nat_cmp} (keys self.new.counts) ≡ set.insert (set.from_list (keys self.old.counts)) sample.now.key) }
+        ensures entries { OnOk result (self.new.order.samples.entries
+            ≡ self.old.order.samples.entries ++ (self.old.order.next, sample.now) ∷ []) }
+        ensures keys { OnOk result (set.from_list {R = nat_cmp} (keys self.new.counts)
+            ≡ set.insert (set.from_list (keys self.old.counts)) sample.now.key) }
         ensures entries_err { OnErr result (self.new.order.samples.entries ≡ self.old.order.samples.entries) }
         ensures keys_err { OnErr result (keys self.new.counts ≡ keys self.old.counts) }
     {
@@ -156,7 +160,8 @@ impl Contents {
     // Takes out the sample with a ticket, if there is one. Its key stays known.
     pub(crate) fn remove(&mut self, ticket: u64) -> Option<Sample>
         ensures value { result ≡ at self.old.order.samples ticket }
-        ensures entries { self.new.order.samples.entries ≡ remove_entry (is_at (nat_cmp ticket)) self.old.order.samples.entries }
+        ensures entries { self.new.order.samples.entries
+            ≡ remove_entry (is_at (nat_cmp ticket)) self.old.order.samples.entries }
         ensures keys { keys self.new.counts ≡ keys self.old.counts }
     {
         let sample = *self.order.samples.get(&ticket)?;
@@ -172,9 +177,12 @@ impl Contents {
     pub(crate) fn store(&mut self, sample: &Sample, overwrites: bool) -> Result<(), NoMemory>
         requires { IsFresh (values self.old.order.samples) sample.now }
         ensures stored { OnOk result (values self.new.order.samples ≡
-            cond overwrites (remove (values self.old.order.samples) (first_of sample.now.key (values self.old.order.samples))) (values self.old.order.samples)
+            cond overwrites
+            (remove (values self.old.order.samples) (first_of sample.now.key (values self.old.order.samples)))
+            (values self.old.order.samples)
             ++ sample.now ∷ []) }
-        ensures keys { OnOk result (set.from_list {R = nat_cmp} (keys self.new.counts) ≡ set.insert (set.from_list (keys self.old.counts)) sample.now.key) }
+        ensures keys { OnOk result (set.from_list {R = nat_cmp} (keys self.new.counts)
+            ≡ set.insert (set.from_list (keys self.old.counts)) sample.now.key) }
         ensures stored_err { OnErr result (values self.new.order.samples ≡ values self.old.order.samples) }
         ensures keys_err { OnErr result (keys self.new.counts ≡ keys self.old.counts) }
     {
@@ -189,11 +197,13 @@ impl Contents {
         Ok(())
     }
 
-    // The ticket of the available sample of the key with the least number of all, of one number the one that was admitted first.
+    // The ticket of the available sample of the key with the least number of all, of one number the one that was
+    // admitted first.
     pub(crate) fn least(&self, writers: &[Released], key: KeyNo) -> Option<u64>
         requires uniform { IsUniform writers.now }
         requires listed { AreListed (values self.now.order.samples) writers.now }
-        ensures { MatchOption result (NoneAvailable self.now.order.samples writers.now key) (IsLeastAt self.now.order.samples writers.now key) }
+        ensures { MatchOption result (NoneAvailable self.now.order.samples writers.now key)
+            (IsLeastAt self.now.order.samples writers.now key) }
     {
         let mut best = None;
         for listed in writers {

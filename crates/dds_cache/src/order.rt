@@ -58,8 +58,10 @@ impl Order {
 
     // Stores a sample as the last, with the next ticket.
     pub(crate) fn push(&mut self, sample: &Sample) -> Result<(), NoMemory>
-        ensures entries { OnOk result (self.new.samples.entries ≡ self.old.samples.entries ++ (self.old.next, sample.now) ∷ []) }
-        ensures updates { OnOk result (UpdatesBy nat_cmp (nat_cmp self.old.next) self.old.samples self.new.samples (Some sample.now)) }
+        ensures entries { OnOk result (self.new.samples.entries
+            ≡ self.old.samples.entries ++ (self.old.next, sample.now) ∷ []) }
+        ensures updates { OnOk result
+            (UpdatesBy nat_cmp (nat_cmp self.old.next) self.old.samples self.new.samples (Some sample.now)) }
         ensures err { OnErr result (self.new.samples.entries ≡ self.old.samples.entries) }
     {
         if self.next == u64::MAX {

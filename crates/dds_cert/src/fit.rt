@@ -4,7 +4,8 @@ ghost use Rattle.std.specs.List.{list_any, list_all};
 ghost use Rattle.std.specs.Str.{bytes_eq};
 ghost use Rattle.dds_deploy.specs.WellFormed.{IsWellFormed};
 ghost use Rattle.dds_match.specs.Plan.{network_of};
-ghost use Rattle.dds_cert.specs.Fits.{is_distinct, weights_fit, row_fits, names_differ, rows_fit, same_bound_place, bounds_fit, totals_fit, fits};
+ghost use Rattle.dds_cert.specs.Fits.{is_distinct, weights_fit, row_fits, names_differ, rows_fit, same_bound_place};
+ghost use Rattle.dds_cert.specs.Fits.{bounds_fit, totals_fit, fits};
 ghost use Rattle.dds_cert.specs.Views.{row_view, certificate_view};
 
 use crate::certificate::{Bound, Certificate, Row, Total, Weight};
@@ -87,7 +88,8 @@ fn names_differ(rows: &[Row]) -> bool
 
 fn named_rows_fit(plan: &Plan, rows: &[Row]) -> bool
     requires { IsWellFormed plan.now }
-    ensures { result ≡ (names_differ (map row_view rows.now) && list_all (row_fits (network_of plan.now)) (map row_view rows.now)) }
+    ensures { result ≡ (names_differ (map row_view rows.now)
+        && list_all (row_fits (network_of plan.now)) (map row_view rows.now)) }
 {
     names_differ(rows) && each_row_fits(plan, rows)
 }
@@ -147,16 +149,17 @@ fn totals_name_nothing_twice(totals: &[Total]) -> bool
 }
 
 fn totals_fit(readers: usize, rows: usize, totals: &[Total]) -> bool
-    ensures { result ≡ (list_all (λ t. nat_lt t.reader readers && nat_lt t.row rows) totals.now && is_distinct (λ x y. y.reader == x.reader) totals.now) }
+    ensures { result ≡ (list_all (λ t. nat_lt t.reader readers && nat_lt t.row rows) totals.now
+        && is_distinct (λ x y. y.reader == x.reader) totals.now) }
 {
     each_total_fits(readers, rows, totals) && totals_name_nothing_twice(totals)
 }
 
 impl Certificate {
-    /// Whether the certificate is one for this plan: it has at most 64 rows, whose names differ; each key of a reader is
-    /// in its filter and each key of a writer in its topic; each total is of a reader of the plan; each bound and total
-    /// names a row that is there; and no list names an endpoint and key, and no two totals a reader, twice.
-    /// Takes no memory.
+    /// Whether the certificate is one for this plan: it has at most 64 rows, whose names differ; each key of a reader
+    /// is in its filter and each key of a writer in its topic; each total is of a reader of the plan; each bound and
+    /// total names a row that is there; and no list names an endpoint and key, and no two totals a reader, twice. Takes
+    /// no memory.
     #[tactic(auto, unfolding(crate::specs::Fits::fits))]
     pub fn fits(&self, plan: &Plan) -> bool
         ensures { result ≡ fits (network_of plan.now) (certificate_view self.now) }

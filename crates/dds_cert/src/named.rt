@@ -1,5 +1,5 @@
-//! What a list names: whether an endpoint and key stand twice in it, found in one pass by a table on the stack, and whether totals name
-//! a reader.
+//! What a list names: whether an endpoint and key stand twice in it, found in one pass by a table on the stack, and
+//! whether totals name a reader.
 ghost use Rattle.std.specs.Prelude.{◌≡◌, ◌==◌, ◌&&◌, All};
 ghost use Rattle.dds_cert.specs.Fits.{is_distinct, same_bound_place};
 ghost use Rattle.dds_cert.specs.Named.{IsWithin, bound_place, has_total};
@@ -11,7 +11,8 @@ use dds_base::{Endpoint, ReaderNo};
 /// Whether no two of the weights are of one endpoint and key.
 pub(crate) fn weights_name_nothing_twice<E: Endpoint>(weights: &[Weight<E>]) -> bool
     requires { All (λ x. IsWithin (E.number_of x.endpoint, x.key)) weights.now }
-    ensures { result ≡ is_distinct (λ x y. (E.number_of y.endpoint == E.number_of x.endpoint) && (y.key == x.key)) weights.now }
+    ensures { result ≡ is_distinct
+        (λ x y. (E.number_of y.endpoint == E.number_of x.endpoint) && (y.key == x.key)) weights.now }
 {
     let mut seen = [false; PLACES];
     for weight in weights {

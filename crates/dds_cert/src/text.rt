@@ -1,6 +1,8 @@
 //! The text of a certificate, as a certificate file has it.
-ghost use Rattle.std.specs.Prelude.{◌≡◌, ◌<◌, ◌≤◌, ◌+◌, ◌*◌, ◌++◌, IfOk, codes, flat_map, length, slice_index, string_bytes};
-ghost use Rattle.dds_cert.specs.Text.{weight_line, endpoint_lines, reader_lines, writer_lines, list_text, row_text, bound_text, total_text, certificate_text};
+ghost use Rattle.std.specs.Prelude.{◌≡◌, ◌<◌, ◌≤◌, ◌+◌, ◌*◌, ◌++◌, IfOk, codes, flat_map, length, slice_index};
+ghost use Rattle.std.specs.Prelude.{string_bytes};
+ghost use Rattle.dds_cert.specs.Text.{weight_line, endpoint_lines, reader_lines, writer_lines, list_text, row_text};
+ghost use Rattle.dds_cert.specs.Text.{bound_text, total_text, certificate_text};
 ghost use Rattle.dds_cert.specs.Views.{row_view, certificate_view};
 
 use crate::certificate::{Bound, Certificate, Row, Total, Weight};
@@ -21,7 +23,8 @@ fn push_weight(
     key: &str,
     weight: u32,
 ) -> Result<(), NoMemory>
-    ensures { IfOk result (λ _. string_bytes text.new ≡ string_bytes text.old ++ weight_line side.now endpoint.now key.now weight) }
+    ensures { IfOk result
+        (λ _. string_bytes text.new ≡ string_bytes text.old ++ weight_line side.now endpoint.now key.now weight) }
 {
     if weight == 0 {
         return Ok(());
@@ -44,7 +47,10 @@ fn push_endpoint(
 ) -> Result<(), NoMemory>
     requires few_endpoints { number < 256 }
     requires few_keys { length keys.now ≤ 64 }
-    ensures { IfOk result (λ _. string_bytes text.new ≡ string_bytes text.old ++ endpoint_lines side.now endpoint.now keys.now (λ k. slice_index cells.now (number * 64 + k))) }
+    ensures { IfOk result
+        (λ _. string_bytes text.new
+        ≡ string_bytes text.old
+        ++ endpoint_lines side.now endpoint.now keys.now (λ k. slice_index cells.now (number * 64 + k))) }
 {
     for k in 0..keys.len() {
         let weight = cells[number * KEYS + k];
@@ -117,7 +123,9 @@ fn push_rows(
     lists: &Deployment,
     rows: &[Row],
 ) -> Result<(), NoMemory>
-    ensures { IfOk result (λ _. string_bytes text.new ≡ string_bytes text.old ++ flat_map (λ r. row_text lists.now (row_view r)) rows.now) }
+    ensures { IfOk result
+        (λ _. string_bytes text.new
+        ≡ string_bytes text.old ++ flat_map (λ r. row_text lists.now (row_view r)) rows.now) }
 {
     for row in rows {
         let entry = row_text(alloc, lists, row)?;
@@ -132,7 +140,8 @@ fn bound_text(
     certificate: &Certificate,
     bound: &Bound,
 ) -> Result<String, NoMemory>
-    ensures { IfOk result (λ text. string_bytes text ≡ bound_text lists.now (certificate_view certificate.now) bound.now) }
+    ensures { IfOk result
+        (λ text. string_bytes text ≡ bound_text lists.now (certificate_view certificate.now) bound.now) }
 {
     let reader = name_at(lists.reader_names(), bound.reader.number());
     let key = reader_key(lists, bound.reader, bound.key);
@@ -149,7 +158,8 @@ fn total_text(
     certificate: &Certificate,
     total: &Total,
 ) -> Result<String, NoMemory>
-    ensures { IfOk result (λ text. string_bytes text ≡ total_text lists.now (certificate_view certificate.now) total.now) }
+    ensures { IfOk result
+        (λ text. string_bytes text ≡ total_text lists.now (certificate_view certificate.now) total.now) }
 {
     let reader = name_at(lists.reader_names(), total.reader.number());
     let row = row_name(certificate, total.row);
@@ -163,7 +173,10 @@ fn push_bounds(
     lists: &Deployment,
     certificate: &Certificate,
 ) -> Result<(), NoMemory>
-    ensures { IfOk result (λ _. string_bytes text.new ≡ string_bytes text.old ++ flat_map (bound_text lists.now (certificate_view certificate.now)) certificate.now.bounds.items) }
+    ensures { IfOk result
+        (λ _. string_bytes text.new
+        ≡ string_bytes text.old
+        ++ flat_map (bound_text lists.now (certificate_view certificate.now)) certificate.now.bounds.items) }
 {
     for bound in &certificate.bounds {
         let entry = bound_text(alloc, lists, certificate, bound)?;
@@ -178,7 +191,10 @@ fn push_totals(
     lists: &Deployment,
     certificate: &Certificate,
 ) -> Result<(), NoMemory>
-    ensures { IfOk result (λ _. string_bytes text.new ≡ string_bytes text.old ++ flat_map (total_text lists.now (certificate_view certificate.now)) certificate.now.totals.items) }
+    ensures { IfOk result
+        (λ _. string_bytes text.new
+        ≡ string_bytes text.old
+        ++ flat_map (total_text lists.now (certificate_view certificate.now)) certificate.now.totals.items) }
 {
     for total in &certificate.totals {
         let entry = total_text(alloc, lists, certificate, total)?;
@@ -201,11 +217,11 @@ fn whole_text(
     Ok(text)
 }
 
-/// The text of a certificate file: the version, then all rows, bounds and totals, each after one empty line. In a row the lists
-/// follow the order of the endpoints in the plan and of the keys in their topic, and leave out what weighs 0. Where the certificate
-/// fits the plan and its rows have names by the rule of names, the text is read as a certificate with the same names, weights,
-/// bounds and totals. In any other certificate a number that names nothing is written as the empty name, and the weight of an endpoint
-/// or key that the plan doesn't have is left out.
+/// The text of a certificate file: the version, then all rows, bounds and totals, each after one empty line. In a row
+/// the lists follow the order of the endpoints in the plan and of the keys in their topic, and leave out what weighs 0.
+/// Where the certificate fits the plan and its rows have names by the rule of names, the text is read as a certificate
+/// with the same names, weights, bounds and totals. In any other certificate a number that names nothing is written as
+/// the empty name, and the weight of an endpoint or key that the plan doesn't have is left out.
 ///
 /// `NoMemory` comes where memory ran out.
 pub fn certificate_text(

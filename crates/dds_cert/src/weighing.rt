@@ -5,8 +5,8 @@ use crate::certificate::Weight;
 use dds_base::Endpoint;
 use dds_base::grid::{ENDPOINTS, KEYS, PLACES};
 
-/// The weight of key k of endpoint e at the place e * 64 + k, 0 where none is named. Of weights for one endpoint and key the first
-/// counts, and one that has no place is left out.
+/// The weight of key k of endpoint e at the place e * 64 + k, 0 where none is named. Of weights for one endpoint and
+/// key the first counts, and one that has no place is left out.
 pub fn weights_by_place<E: Endpoint>(entries: &[Weight<E>]) -> [u32; PLACES]
     ensures { ShowsWeights E.number_of result entries.now }
 {

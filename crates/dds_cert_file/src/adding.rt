@@ -52,8 +52,8 @@ impl<T: Placed> NamedOnce<T> {
         }
     }
 
-    /// Whether the endpoint may be named with these keys too: Duplicate at the entry where one of the pairs stands already, then
-    /// TooMany at the list.
+    /// Whether the endpoint may be named with these keys too: Duplicate at the entry where one of the pairs stands
+    /// already, then TooMany at the list.
     #[tactic(auto, unfolding(crate::specs::Adding::may_add))]
     pub(crate) fn may_add(
         &self,
@@ -63,7 +63,10 @@ impl<T: Placed> NamedOnce<T> {
         endpoint: usize,
         keys: &[KeyNo],
     ) -> Result<(), ReadFault>
-        ensures gives { Gives (λ u. u) result (may_add (place_text list.now) (place_text path.now) (any_stands (map T.place self.now.items.items) endpoint keys.now) (length self.now.items.items + length keys.now)) }
+        ensures gives { Gives
+            (λ u. u) result (may_add (place_text list.now) (place_text path.now)
+            (any_stands (map T.place self.now.items.items) endpoint keys.now)
+            (length self.now.items.items + length keys.now)) }
         ensures new { IfOk result (λ _. any_stands (map T.place self.now.items.items) endpoint keys.now ≡ false) }
     {
         if any_stands(&self.named, endpoint, keys) {

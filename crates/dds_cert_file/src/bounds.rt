@@ -70,7 +70,8 @@ fn push_bounds(
 ) -> Result<(), NoMemory>
     requires new { any_stands (map bound_place all.old.items.items) reader keys.now ≡ false }
     requires distinct { keys_differ keys.now ≡ true }
-    ensures { IfOk result (λ _. all.new.items.items ≡ all.old.items.items ++ bounds_of (reader, keys.now) (row, bound)) }
+    ensures { IfOk result
+        (λ _. all.new.items.items ≡ all.old.items.items ++ bounds_of (reader, keys.now) (row, bound)) }
 {
     for key in keys {
         all.push(Bound {

@@ -63,20 +63,22 @@ fn read_lists(alloc: Global, lists: &Deployment, bytes: &[u8]) -> Result<Certifi
     certificate_of(alloc, lists, &table)
 }
 
-/// The certificate that the bytes are, for this plan: a file of version 1 or 2 of the format. What is read fits the plan.
+/// The certificate that the bytes are, for this plan: a file of version 1 or 2 of the format. What is read fits the
+/// plan.
 ///
-/// In version 2 an entry of `samples`, `takes`, `permits` or `bounds` may leave out `key`. It then stands for one entry for each
-/// key of its reader's filter, in the filter's order, or of its writer's topic, in the topic's order; where the filter is empty,
-/// for none. In version 1 `key` is required.
+/// In version 2 an entry of `samples`, `takes`, `permits` or `bounds` may leave out `key`. It then stands for one entry
+/// for each key of its reader's filter, in the filter's order, or of its writer's topic, in the topic's order; where
+/// the filter is empty, for none. In version 1 `key` is required.
 ///
-/// `At` is the first fault with its path, in this order: the document, `version` (WrongVersion where it is a whole number, but
-/// neither 1 nor 2), the least top-level key that is not listed, then `rows` (at most 64), `bounds` (16,384) and `totals` (256),
-/// each entry by entry, and in an entry its keys, its fields in the order of the format, and last whether it names something
-/// again: Duplicate at the entry, in version 2 where any of the keys that it stands for stands with the endpoint already.
-/// TooMany is told at a list: where its array is longer than it may be, before its entries, and where the single keys that its
-/// entries stand for come to more than 16,384, at the first entry that is one too many, after what is wrong with that entry. As
-/// a plan has at most 256 writers and 256 readers and a topic 64 keys, a Duplicate always comes before the latter. `NoMemory`
-/// comes where memory ran out, and says nothing of the bytes.
+/// `At` is the first fault with its path, in this order: the document, `version` (WrongVersion where it is a whole
+/// number, but neither 1 nor 2), the least top-level key that is not listed, then `rows` (at most 64), `bounds`
+/// (16,384) and `totals` (256), each entry by entry, and in an entry its keys, its fields in the order of the format,
+/// and last whether it names something again: Duplicate at the entry, in version 2 where any of the keys that it stands
+/// for stands with the endpoint already. TooMany is told at a list: where its array is longer than it may be, before
+/// its entries, and where the single keys that its entries stand for come to more than 16,384, at the first entry that
+/// is one too many, after what is wrong with that entry. As a plan has at most 256 writers and 256 readers and a topic
+/// 64 keys, a Duplicate always comes before the latter. `NoMemory` comes where memory ran out, and says nothing of the
+/// bytes.
 pub fn read_certificate(alloc: Global, plan: &Plan, bytes: &[u8]) -> Result<Certificate, CertFault>
     ensures answers { Answers certificate_view cert_flaw result (read plan.now bytes.now) }
     ensures fits { IfOk result (λ c. fits (network_of plan.now) (certificate_view c) ≡ true) }

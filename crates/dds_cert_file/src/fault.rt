@@ -23,8 +23,8 @@ pub enum CertKind {
     OutOfRange,
     /// 7: no such writer, reader or row, or a key outside the reader's filter or the writer's topic.
     UnknownName,
-    /// 8: a name of a row, an endpoint with a key, or the reader of a total that stands twice. An entry without `key` stands for
-    /// each key of its filter or topic.
+    /// 8: a name of a row, an endpoint with a key, or the reader of a total that stands twice. An entry without `key`
+    /// stands for each key of its filter or topic.
     Duplicate,
     /// 9: more entries than a list may have. An entry without `key` counts once for each key that it stands for.
     TooMany,

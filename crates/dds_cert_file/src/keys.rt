@@ -10,7 +10,8 @@ ghost use Rattle.dds_deploy.specs.Lists.{all_keys};
 ghost use Rattle.dds_deploy.specs.WellFormed.{filter_at};
 ghost use Rattle.dds_cert.specs.Fits.{keys_differ};
 ghost use Rattle.dds_cert.specs.Naming.{reader_keys, writer_keys};
-ghost use Rattle.dds_cert_file.specs.Keys.{heard_key, a_heard_key, one_key, keys_of_entry, reader_and_keys, writer_and_keys};
+ghost use Rattle.dds_cert_file.specs.Keys.{heard_key, a_heard_key, one_key, keys_of_entry, reader_and_keys};
+ghost use Rattle.dds_cert_file.specs.Keys.{writer_and_keys};
 
 use dds_base::{Endpoint, KeyNo, Names, NoMemory, ReaderNo, WriterNo};
 use dds_cert::naming::{keys_of_reader, keys_of_writer};
@@ -67,7 +68,8 @@ fn one_heard_key(
     value: &Value,
 ) -> Result<Vec<KeyNo>, ReadFault>
     requires { reader < length lists.now.readers.entries }
-    ensures { Gives (λ v. v.items) result (one_key (a_heard_key lists.now reader) (place_text path.now) (view value.now)) }
+    ensures { Gives (λ v. v.items) result
+        (one_key (a_heard_key lists.now reader) (place_text path.now) (view value.now)) }
 {
     let key = heard_key_of(alloc, lists, reader, path, value)?;
     Ok(Vec::from_slice(alloc, &[key])?)
@@ -91,7 +93,9 @@ fn heard_keys(
     table: &Table,
 ) -> Result<Vec<KeyNo>, ReadFault>
     requires { reader < length lists.now.readers.entries }
-    ensures { Gives (λ v. v.items) result (keys_of_entry version (filter_at lists.now.readers reader) (a_heard_key lists.now reader) (place_text path.now) (table_view table.now)) }
+    ensures { Gives (λ v. v.items) result
+        (keys_of_entry version (filter_at lists.now.readers reader) (a_heard_key lists.now reader) (place_text path.now)
+        (table_view table.now)) }
 {
     let at = Place::Key {
         parent: path,
@@ -140,7 +144,9 @@ fn known_keys(
     path: &Place,
     table: &Table,
 ) -> Result<Vec<KeyNo>, ReadFault>
-    ensures { Gives (λ v. v.items) result (keys_of_entry version (all_keys names.now) (a_known_name names.now) (place_text path.now) (table_view table.now)) }
+    ensures { Gives (λ v. v.items) result
+        (keys_of_entry version (all_keys names.now) (a_known_name names.now) (place_text path.now)
+        (table_view table.now)) }
 {
     let at = Place::Key {
         parent: path,
@@ -163,7 +169,8 @@ pub(crate) fn reader_field(
     path: &Place,
     table: &Table,
 ) -> Result<ReaderNo, ReadFault>
-    ensures gives { Gives (λ r. r) result (field (codes "reader") (a_known_name lists.now.readers.names) (place_text path.now) (table_view table.now)) }
+    ensures gives { Gives (λ r. r) result
+        (field (codes "reader") (a_known_name lists.now.readers.names) (place_text path.now) (table_view table.now)) }
     ensures within { IfOk result (λ r. r < length lists.now.readers.entries) }
 {
     // What is known of every deployment: each name has a reader.
@@ -178,7 +185,8 @@ fn writer_field(
     path: &Place,
     table: &Table,
 ) -> Result<WriterNo, ReadFault>
-    ensures gives { Gives (λ w. w) result (field (codes "writer") (a_known_name lists.now.writers.names) (place_text path.now) (table_view table.now)) }
+    ensures gives { Gives (λ w. w) result
+        (field (codes "writer") (a_known_name lists.now.writers.names) (place_text path.now) (table_view table.now)) }
     ensures within { IfOk result (λ w. w < length lists.now.writers.entries) }
 {
     // What is known of every deployment: each name has a writer.
@@ -201,15 +209,16 @@ pub(crate) trait EndpointFields {
     fn word() -> &'static str
         ensures { result.now ≡ word };
 
-    /// The endpoint that an entry names, and those of its keys that the entry stands for: the one that it names, and from version
-    /// 2 on, where it names none, all of them in their order.
+    /// The endpoint that an entry names, and those of its keys that the entry stands for: the one that it names, and
+    /// from version 2 on, where it names none, all of them in their order.
     fn endpoint_and_keys(
         &self,
         alloc: Global,
         path: &Place,
         table: &Table,
     ) -> Result<(Self::Number, Vec<KeyNo>), ReadFault>
-        ensures gives { Gives (λ e. (e.0, e.1.items)) result (endpoint_and_keys self.now (place_text path.now) (table_view table.now)) }
+        ensures gives { Gives
+            (λ e. (e.0, e.1.items)) result (endpoint_and_keys self.now (place_text path.now) (table_view table.now)) }
         ensures distinct { IfOk result (λ e. keys_differ e.1.items ≡ true) };
 }
 

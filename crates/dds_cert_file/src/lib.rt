@@ -1,5 +1,5 @@
-//! The certificate file. `read_certificate` gives the certificate that the bytes are, in either version, or the first fault of the file with
-//! its path; what it gives fits the plan that it was read for.
+//! The certificate file. `read_certificate` gives the certificate that the bytes are, in either version, or the first
+//! fault of the file with its path; what it gives fits the plan that it was read for.
 #![tactic(auto)]
 
 mod adding;

@@ -68,7 +68,8 @@ fn row_lists(
     path: &Place,
     table: &Table,
 ) -> Result<Row, ReadFault>
-    ensures gives { Gives row_view result (row_lists version lists.now name.now (place_text path.now) (table_view table.now)) }
+    ensures gives { Gives row_view result
+        (row_lists version lists.now name.now (place_text path.now) (table_view table.now)) }
     ensures named { IfOk result (λ r. string_bytes r.name ≡ name.now) }
 {
     let of_readers = ReaderFields { version, lists };

@@ -44,7 +44,8 @@ fn push_weights<E: Endpoint>(
     keys: &[KeyNo],
     weight: u32,
 ) -> Result<(), NoMemory>
-    requires new { any_stands (map (weight_place E.number_of) all.old.items.items) (E.number_of endpoint) keys.now ≡ false }
+    requires new { any_stands (map (weight_place E.number_of) all.old.items.items) (E.number_of endpoint) keys.now
+        ≡ false }
     requires distinct { keys_differ keys.now ≡ true }
     ensures { IfOk result (λ _. all.new.items.items ≡ all.old.items.items ++ weights_of (endpoint, keys.now) weight) }
 {
@@ -72,7 +73,8 @@ impl<F: EndpointFields> Items for WeightEntries<'_, F> {
 
     ghost state = { λ all. all.items.items };
 
-    ghost step = { λ it. weight F.Number.number_of F.word (F.endpoint_and_keys it.fields.now) (place_text it.list.now) };
+    ghost step = { λ it. weight F.Number.number_of F.word (F.endpoint_and_keys it.fields.now)
+        (place_text it.list.now) };
 
     #[tactic(auto, unfolding(crate::specs::Weights::weight, crate::specs::Adding::and_more))]
     fn add(
@@ -100,7 +102,9 @@ pub(crate) fn weights<F: EndpointFields>(
     table: &Table,
     key: &str,
 ) -> Result<Vec<Weight<F::Number>>, ReadFault>
-    ensures { Gives (λ v. v.items) result (optional key.now [] (weights F.Number.number_of F.word (F.endpoint_and_keys fields.now)) (place_text path.now) (table_view table.now)) }
+    ensures { Gives (λ v. v.items) result
+        (optional key.now [] (weights F.Number.number_of F.word (F.endpoint_and_keys fields.now)) (place_text path.now)
+        (table_view table.now)) }
 {
     let list = Place::Key { parent: path, key };
     let entries = WeightEntries {

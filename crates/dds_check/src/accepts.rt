@@ -39,14 +39,15 @@ fn first_no(plan: &Plan, certificate: &Certificate) -> Option<No>
     shown_no(plan, certificate)
 }
 
-/// Whether the certificate is accepted for the plan, and else the first condition that fails: by its number, then by row,
-/// endpoint and key, each in file order (of 33 bounds in the certificate's order, then totals in theirs). It takes no memory.
+/// Whether the certificate is accepted for the plan, and else the first condition that fails: by its number, then by
+/// row, endpoint and key, each in file order (of 33 bounds in the certificate's order, then totals in theirs). It takes
+/// no memory.
 ///
-/// Where it answers yes, the deployment is safe: exactly the intended pairs match, and in every run of the peers, whatever the order of
-/// writes, firings, takes, sends, losses, repeats and reorderings, no reader but a watcher rejects, overwrites or gives up a sample, what a
-/// KEEP_LAST writer drops each of them has taken, unread samples stay within the certified bounds, and each takes from each matched writer
-/// and instance a prefix, each watcher a part, of what was written, in order, once. A watcher is a best-effort reader, or one that the
-/// deployment lets lose samples.
+/// Where it answers yes, the deployment is safe: exactly the intended pairs match, and in every run of the peers,
+/// whatever the order of writes, firings, takes, sends, losses, repeats and reorderings, no reader but a watcher
+/// rejects, overwrites or gives up a sample, what a KEEP_LAST writer drops each of them has taken, unread samples stay
+/// within the certified bounds, and each takes from each matched writer and instance a prefix, each watcher a part, of
+/// what was written, in order, once. A watcher is a best-effort reader, or one that the deployment lets lose samples.
 pub fn accepts(plan: &Plan, certificate: &Certificate) -> Result<(), No>
     requires fits { fits (network_of plan.now) (certificate_view certificate.now) ≡ true }
     ensures answer { result_err result ≡ first_no plan.now (certificate_view certificate.now) }

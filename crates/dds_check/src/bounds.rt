@@ -1,5 +1,5 @@
-//! The bounds and the totals of a certificate by reader and key, in arrays of fixed size: a look-up takes constant time and
-//! no memory.
+//! The bounds and the totals of a certificate by reader and key, in arrays of fixed size: a look-up takes constant time
+//! and no memory.
 ghost use Rattle.std.specs.Prelude.{◌≡◌, ◌<◌, All, Some, None};
 ghost use Rattle.dds_check.specs.Tables.{bound_of, total_of, IsBoundWithin, IsTotalWithin, ShowsBounds, ShowsTotals};
 
@@ -121,7 +121,8 @@ impl<'a> Totals<'a> {
     }
 }
 
-/// The bound of a key of a reader in a list of bounds, if there is one: the first that the list names. Each call goes over the list.
+/// The bound of a key of a reader in a list of bounds, if there is one: the first that the list names. Each call goes
+/// over the list.
 pub fn find_bound(bounds: &[Bound], reader: ReaderNo, key: KeyNo) -> Option<u32>
     ensures { result ≡ bound_of bounds.now reader key }
 {
@@ -133,7 +134,8 @@ pub fn find_bound(bounds: &[Bound], reader: ReaderNo, key: KeyNo) -> Option<u32>
     None
 }
 
-/// The total of a reader in a list of totals, if there is one: the first that the list names. Each call goes over the list.
+/// The total of a reader in a list of totals, if there is one: the first that the list names. Each call goes over the
+/// list.
 pub fn find_total(totals: &[Total], reader: ReaderNo) -> Option<u32>
     ensures { result ≡ total_of totals.now reader }
 {

@@ -32,7 +32,9 @@ fn opened_by(weights: &Tables, rule: &Rule) -> u128
 
 fn opened_by_rule(plan: &Plan, weights: &Tables, u: RuleNo) -> u128
     requires { u < (network_of plan.now).rules }
-    ensures value { result ≡ weighed ((network_of plan.now).rule u).writes (row_of weights.now).permits * ((network_of plan.now).rule u).start }
+    ensures value { result
+        ≡ weighed ((network_of plan.now).rule u).writes (row_of weights.now).permits *
+        ((network_of plan.now).rule u).start }
     ensures small { result < 2 ^ 68 }
 {
     opened_by(weights, rule_at(plan, u))

@@ -52,7 +52,8 @@ impl Checked {
     }
 
     /// At most so many samples of the key are unread at the reader, where the certificate gives a bound: 0 to
-    /// 4,294,967,295, and the least that it gives. Each call goes over the certificate: a caller that asks for many takes `bounds`.
+    /// 4,294,967,295, and the least that it gives. Each call goes over the certificate: a caller that asks for many
+    /// takes `bounds`.
     pub fn bound(&self, reader: ReaderNo, key: KeyNo) -> Option<u64>
         ensures value { result ≡ bound_of self.now.certificate.bounds reader key }
         ensures least { IfSome result (IsLeastBound self.now.certificate reader key) }
@@ -63,8 +64,8 @@ impl Checked {
         }
     }
 
-    /// At most so many samples are stored at the reader, where the certificate gives a total: 0 to 4,294,967,295, and the
-    /// least that it gives. Each call goes over the certificate: a caller that asks for many takes `totals`.
+    /// At most so many samples are stored at the reader, where the certificate gives a total: 0 to 4,294,967,295, and
+    /// the least that it gives. Each call goes over the certificate: a caller that asks for many takes `totals`.
     pub fn total(&self, reader: ReaderNo) -> Option<u64>
         ensures value { result ≡ total_of self.now.certificate.totals reader }
         ensures least { IfSome result (IsLeastTotal self.now.certificate reader) }
@@ -75,8 +76,8 @@ impl Checked {
         }
     }
 
-    /// What `bound` answers, as a table: it is made in one pass over the certificate, and each look-up takes constant time. It takes no
-    /// memory, and stands on the caller's stack with 128 KiB.
+    /// What `bound` answers, as a table: it is made in one pass over the certificate, and each look-up takes constant
+    /// time. It takes no memory, and stands on the caller's stack with 128 KiB.
     pub fn bounds<'a>(&'a self) -> Bounds<'a>
         ensures value { result ≡ self.now.certificate.bounds }
         ensures least { (r k : ℕ) → IfSome (bound_of result r k) (IsLeastBound self.now.certificate r k) }
@@ -86,8 +87,8 @@ impl Checked {
         Bounds::new(&self.certificate.bounds)
     }
 
-    /// What `total` answers, as a table: it is made in one pass over the certificate, and each look-up takes constant time. It takes no
-    /// memory, and stands on the caller's stack with 2 KiB.
+    /// What `total` answers, as a table: it is made in one pass over the certificate, and each look-up takes constant
+    /// time. It takes no memory, and stands on the caller's stack with 2 KiB.
     pub fn totals<'a>(&'a self) -> Totals<'a>
         ensures value { result ≡ self.now.certificate.totals }
         ensures least { (r : ℕ) → IfSome (total_of result r) (IsLeastTotal self.now.certificate r) }
@@ -107,7 +108,8 @@ impl Checked {
         (plan, certificate)
     }
 
-    /// The plan and the certificate of `into_parts`, together again: the certificate is accepted for the plan, which the caller has to show.
+    /// The plan and the certificate of `into_parts`, together again: the certificate is accepted for the plan, which
+    /// the caller has to show.
     pub fn from_parts(plan: Plan, certificate: Certificate) -> Checked
         requires { IsAccepted plan (certificate_view certificate) }
         ensures plan { result.plan ≡ plan }
@@ -117,12 +119,15 @@ impl Checked {
     }
 }
 
-/// Accepts a certificate for a plan, or hands both back unchanged with the first condition that fails. It takes no memory. What is
-/// accepted is safe in every run, as `accepts` says.
+/// Accepts a certificate for a plan, or hands both back unchanged with the first condition that fails. It takes no
+/// memory. What is accepted is safe in every run, as `accepts` says.
 pub fn check(plan: Plan, certificate: Certificate) -> Result<Checked, (No, Plan, Certificate)>
     requires { fits (network_of plan) (certificate_view certificate) ≡ true }
-    ensures yes { IfOk result (λ x. (first_no plan (certificate_view certificate) ≡ None) × (x.plan ≡ plan) × (x.certificate ≡ certificate_view certificate)) }
-    ensures no { IfErr result (λ e. (first_no plan (certificate_view certificate) ≡ Some e.0) × (e.1 ≡ plan) × (e.2 ≡ certificate)) }
+    ensures yes { IfOk result
+        (λ x. (first_no plan (certificate_view certificate) ≡ None) × (x.plan ≡ plan)
+        × (x.certificate ≡ certificate_view certificate)) }
+    ensures no { IfErr result
+        (λ e. (first_no plan (certificate_view certificate) ≡ Some e.0) × (e.1 ≡ plan) × (e.2 ≡ certificate)) }
     ensures holds { IfOk result (λ x. Accepted (network_of x.plan) (certificate_of x.certificate)) }
     ensures safe { IfOk result (λ x. Safe (network_of x.plan) (certificate_of x.certificate)) }
 {

@@ -68,8 +68,8 @@ fn first_not_intended(plan: &Plan) -> Option<No>
     )
 }
 
-/// The first pair that is intended and doesn't match, else the first that matches and isn't intended; both by writer and
-/// then by reader, in file order.
+/// The first pair that is intended and doesn't match, else the first that matches and isn't intended; both by writer
+/// and then by reader, in file order.
 #[tactic(auto, unfolding(crate::specs::Pairs::pairs_no))]
 pub fn pairs_no(plan: &Plan) -> Option<No>
     ensures { result ≡ pairs_no (network_of plan.now) }

@@ -7,7 +7,8 @@ ghost use Rattle.dds_cert.specs.Views.{row_view, certificate_view};
 ghost use Rattle.dds_runs.specs.First.{first_in, IsFirstBefore};
 ghost use Rattle.dds_runs.specs.Accepted.{row_of, budget};
 ghost use Rattle.dds_check.specs.Tables.{IsTabled};
-ghost use Rattle.dds_check.specs.Shown.{shows, is_unshown, is_unshown_by, names_no_row, bound_not_shown, shows_all, total_not_shown, HasBudgets, shown_no};
+ghost use Rattle.dds_check.specs.Shown.{shows, is_unshown, is_unshown_by, names_no_row, bound_not_shown, shows_all};
+ghost use Rattle.dds_check.specs.Shown.{total_not_shown, HasBudgets, shown_no};
 
 use crate::budget::budget;
 use crate::first::first_below;
@@ -50,7 +51,8 @@ fn shows(
 
 fn shows_reached(plan: &Plan, weights: &Tables, opening: u128, total: &Total, key: KeyNo) -> bool
     requires { opening ≡ budget (network_of plan.now) (row_of weights.now) }
-    ensures { result ≡ (not (reach (network_of plan.now) total.now.reader key) || shows (network_of plan.now) (row_of weights.now) total.now.bound total.now.reader key) }
+    ensures { result ≡ (not (reach (network_of plan.now) total.now.reader key)
+        || shows (network_of plan.now) (row_of weights.now) total.now.bound total.now.reader key) }
 {
     !plan.reaches(total.reader, key)
         || shows(plan, weights, opening, total.bound, total.reader, key)
@@ -107,7 +109,8 @@ fn first_unshown_by(
 ) -> usize
     requires weighed { opening ≡ budget (network_of plan.now) (row_of weights.now) }
     requires there { end ≤ length (certificate_view certificate.now).bounds }
-    ensures { IsFirstBefore (certificate_view certificate.now).bounds (is_unshown_by (network_of plan.now) weights.now n) end result }
+    ensures { IsFirstBefore (certificate_view certificate.now).bounds
+        (is_unshown_by (network_of plan.now) weights.now n) end result }
 {
     for i in 0..end {
         if is_unshown_by(plan, weights, opening, n, bound_at(certificate, i)) {
@@ -119,7 +122,9 @@ fn first_unshown_by(
 
 /// The place of the first bound that names no row, else how many bounds there are.
 fn first_without_row(certificate: &Certificate) -> usize
-    ensures { IsFirstBefore (certificate_view certificate.now).bounds (names_no_row (certificate_view certificate.now).rows) (length (certificate_view certificate.now).bounds) result }
+    ensures { IsFirstBefore (certificate_view certificate.now).bounds
+        (names_no_row (certificate_view certificate.now).rows)
+        (length (certificate_view certificate.now).bounds) result }
 {
     for i in 0..certificate.bounds.len() {
         if bound_at(certificate, i).row >= certificate.rows.len() {
@@ -129,11 +134,14 @@ fn first_without_row(certificate: &Certificate) -> usize
     certificate.bounds.len()
 }
 
-/// The place of the first bound that its row doesn't show, else how many bounds there are. It fills the tables of each row once.
+/// The place of the first bound that its row doesn't show, else how many bounds there are. It fills the tables of each
+/// row once.
 fn first_unshown(plan: &Plan, certificate: &Certificate, budgets: &[u128; ROWS]) -> usize
     requires tabled { IsTabled (certificate_view certificate.now) }
     requires opened { HasBudgets (network_of plan.now) (certificate_view certificate.now).rows budgets.now }
-    ensures { IsFirstBefore (certificate_view certificate.now).bounds (is_unshown (network_of plan.now) (certificate_view certificate.now).rows) (length (certificate_view certificate.now).bounds) result }
+    ensures { IsFirstBefore (certificate_view certificate.now).bounds
+        (is_unshown (network_of plan.now) (certificate_view certificate.now).rows)
+        (length (certificate_view certificate.now).bounds) result }
 {
     let mut end = first_without_row(certificate);
     for n in 0..certificate.rows.len() {
@@ -150,7 +158,8 @@ fn first_bound_not_shown(
 ) -> Option<No>
     requires tabled { IsTabled (certificate_view certificate.now) }
     requires opened { HasBudgets (network_of plan.now) (certificate_view certificate.now).rows budgets.now }
-    ensures { result ≡ first_in (certificate_view certificate.now).bounds (bound_not_shown (network_of plan.now) (certificate_view certificate.now).rows) }
+    ensures { result ≡ first_in (certificate_view certificate.now).bounds
+        (bound_not_shown (network_of plan.now) (certificate_view certificate.now).rows) }
 {
     let first = first_unshown(plan, certificate, budgets);
     if first < certificate.bounds.len() {
@@ -171,7 +180,9 @@ fn is_total_shown(
 ) -> bool
     requires tabled { IsTabled (certificate_view certificate.now) }
     requires opened { HasBudgets (network_of plan.now) (certificate_view certificate.now).rows budgets.now }
-    ensures { result ≡ option_map_or (λ row. shows_all (network_of plan.now) (row_of row) total.now) (slice_get (certificate_view certificate.now).rows total.now.row) false }
+    ensures { result ≡ option_map_or
+        (λ row. shows_all (network_of plan.now) (row_of row) total.now)
+        (slice_get (certificate_view certificate.now).rows total.now.row) false }
 {
     match find_row(certificate, total.row) {
         Some(row) => {
@@ -204,7 +215,8 @@ fn first_total_not_shown(
 ) -> Option<No>
     requires tabled { IsTabled (certificate_view certificate.now) }
     requires opened { HasBudgets (network_of plan.now) (certificate_view certificate.now).rows budgets.now }
-    ensures { result ≡ first_in (certificate_view certificate.now).totals (total_not_shown (network_of plan.now) (certificate_view certificate.now).rows) }
+    ensures { result ≡ first_in (certificate_view certificate.now).totals
+        (total_not_shown (network_of plan.now) (certificate_view certificate.now).rows) }
 {
     first_below(
         certificate.totals.len(),

@@ -1,4 +1,5 @@
-//! What a write puts in flight, weighed by a row: for each key of each writer, accumulated over the samples that the row weighs.
+//! What a write puts in flight, weighed by a row: for each key of each writer, accumulated over the samples that the
+//! row weighs.
 ghost use Rattle.std.specs.Prelude.{◌<◌, ◌+◌};
 ghost use Rattle.dds_match.specs.Plan.{network_of};
 ghost use Rattle.dds_runs.specs.Accepted.{row_of};

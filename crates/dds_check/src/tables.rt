@@ -76,7 +76,8 @@ impl<'a> Model for Tables<'a> {
 
     ghost view = { λ t. row_view t.row.now };
 
-    ghost invariant = { λ t. (t.samples ≡ t.row.now.samples.items) × (t.takes ≡ t.row.now.takes.items) × (t.permits ≡ t.row.now.permits.items) };
+    ghost invariant = { λ t. (t.samples ≡ t.row.now.samples.items) × (t.takes ≡ t.row.now.takes.items)
+        × (t.permits ≡ t.row.now.permits.items) };
 }
 
 impl<'a> Tables<'a> {

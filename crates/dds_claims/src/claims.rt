@@ -15,8 +15,9 @@ use dds_check::{
 };
 use dds_match::Plan;
 
-/// Whether no event raises the weighted sum of any row of a certificate, and each row shows the bounds and totals that name it. Nothing is
-/// said of the limits, nor that each limit has a bound. `false` exactly where a condition on rows fails, or one on what they show.
+/// Whether no event raises the weighted sum of any row of a certificate, and each row shows the bounds and totals that
+/// name it. Nothing is said of the limits, nor that each limit has a bound. `false` exactly where a condition on rows
+/// fails, or one on what they show.
 pub fn shows(plan: &Plan, certificate: &Certificate) -> bool
     requires fits { fits (network_of plan.now) (certificate_view certificate.now) ≡ true }
     ensures decided { result ≡ shows (network_of plan.now) (certificate_view certificate.now) }
@@ -52,8 +53,8 @@ fn first_structure_no(plan: &Plan) -> Option<No>
     first_keep_last_filter(plan)
 }
 
-/// The first condition that fails of those that no certificate can change: numbers 10 to 20, 24 and 25. Where there is one no certificate is
-/// accepted.
+/// The first condition that fails of those that no certificate can change: numbers 10 to 20, 24 and 25. Where there is
+/// one no certificate is accepted.
 pub fn structure_no(plan: &Plan) -> Option<No>
     ensures no { result ≡ structure_no plan.now }
     ensures always { IfSome result (λ no. (cert : CertificateLists) → first_no plan.now cert ≢ None) }

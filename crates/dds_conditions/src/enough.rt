@@ -1,8 +1,8 @@
 //! Whether a row shows a bound.
 ghost use Rattle.std.specs.Prelude.{◌≡◌, ◌&&◌, ◌*◌, suc, nat_lt};
 
-/// Whether a row shows a bound: one sample more than the bound, each of this weight, would weigh more than the opening of the row. A weight of 0
-/// shows none.
+/// Whether a row shows a bound: one sample more than the bound, each of this weight, would weigh more than the opening
+/// of the row. A weight of 0 shows none.
 pub fn is_enough(weight: u32, opening: u128, bound: u32) -> bool
     ensures { result ≡ (nat_lt 0 weight && nat_lt opening (suc bound * weight)) }
 {

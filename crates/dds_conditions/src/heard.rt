@@ -8,12 +8,13 @@ use dds_base::grid::{KEYS, PLACES};
 use dds_base::{KeyNo, ReaderNo, WriterNo};
 use dds_match::Plan;
 
-/// Adds the weight of a key that the reader hears at the place of that key for each writer that matches the reader: a write of it there puts a sample in
-/// flight for each matched reader (OMG DDSI-RTPS 2.5, clause 8.4.7).
+/// Adds the weight of a key that the reader hears at the place of that key for each writer that matches the reader: a
+/// write of it there puts a sample in flight for each matched reader (OMG DDSI-RTPS 2.5, clause 8.4.7).
 pub fn add_heard(plan: &Plan, cells: &mut [u64; PLACES], reader: ReaderNo, key: KeyNo, weight: u32)
     requires key { key < 64 }
     requires room { (w : ℕ) → w < (network_of plan.now).writers → slice_index cells.old (w * 64 + key) < 2 ^ 63 }
-    ensures { Adds (network_of plan.now).writers (λ w k. if (key == k) && (network_of plan.now).matched w reader then weight else 0) cells.old cells.new }
+    ensures { Adds (network_of plan.now).writers
+        (λ w k. if (key == k) && (network_of plan.now).matched w reader then weight else 0) cells.old cells.new }
 {
     for w in 0..writers_of(plan) {
         if plan.matched(WriterNo::new(w), reader) {

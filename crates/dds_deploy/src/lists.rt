@@ -57,8 +57,8 @@ pub struct Application {
     pub readers: Vec<ReaderNo>,
 }
 
-/// After taking all of `takes`, the application may write all of `writes`. At the opening it may write `start` times these. What a free rule
-/// names may be written at any time.
+/// After taking all of `takes`, the application may write all of `writes`. At the opening it may write `start` times
+/// these. What a free rule names may be written at any time.
 #[derive(Drop)]
 pub struct Rule {
     pub application: AppNo,

@@ -7,7 +7,8 @@ ghost use Rattle.dds_fields.specs.Gives.{Gives};
 ghost use Rattle.dds_base.specs.Section.{listed};
 ghost use Rattle.dds_fields.specs.Places.{place_text};
 ghost use Rattle.dds_deploy.specs.Lists.{Application as ApplicationView, has};
-ghost use Rattle.dds_deploy_file.specs.Applications.{may_own, own, application_keys, application_fields, application_list, without_owner, are_owned, applications};
+ghost use Rattle.dds_deploy_file.specs.Applications.{may_own, own, application_keys, application_fields};
+ghost use Rattle.dds_deploy_file.specs.Applications.{application_list, without_owner, are_owned, applications};
 ghost use Rattle.dds_deploy.specs.Views.{participant_view, writer_view, reader_view, application_view};
 
 use crate::endpoints::Endpoints;
@@ -38,7 +39,9 @@ pub(crate) fn owned_at<E: Endpoints>(
     application: usize,
 ) -> &[E::Number]
     requires { application < length applications.now.names }
-    ensures { E.numbers result.now ≡ unwrap_or (option_map E.owned_by (slice_get (listed application_view applications.now).entries application)) [] }
+    ensures { E.numbers result.now
+        ≡ unwrap_or (option_map E.owned_by
+        (slice_get (listed application_view applications.now).entries application)) [] }
 {
     E::owned_by(&applications.entries[application])
 }
@@ -52,10 +55,12 @@ struct Own<'a, E> {
 }
 
 impl<E: Endpoints> Own<'_, E> {
-    // Whether the application may own the endpoint: it is there too, and neither the others nor the list so far have it.
+    // Whether the application may own the endpoint: it is there too, and neither the others nor the list so far have
+    // it.
     fn may_own(&self, own: &[E::Number], number: usize) -> bool
         requires { number < length (E.names self.now.endpoints.now) }
-        ensures { result ≡ may_own E.owned_by (E.participant_of self.now.endpoints.now) (listed application_view self.now.others.now) self.now.participant (E.numbers own.now) number }
+        ensures { result ≡ may_own E.owned_by (E.participant_of self.now.endpoints.now)
+            (listed application_view self.now.others.now) self.now.participant (E.numbers own.now) number }
     {
         !(is_owned::<E>(self.others, number) || E::has_number(own, number))
             && self.endpoints.participant_of(number) == self.participant
@@ -69,7 +74,8 @@ impl<E: Endpoints> Items for Own<'_, E> {
 
     ghost state = { λ own. E.numbers own.items };
 
-    ghost step = { λ it. own (E.names it.endpoints.now) E.owned_by (E.participant_of it.endpoints.now) (listed application_view it.others.now) it.participant };
+    ghost step = { λ it. own (E.names it.endpoints.now) E.owned_by (E.participant_of it.endpoints.now)
+        (listed application_view it.others.now) it.participant };
 
     #[tactic(auto, unfolding(crate::specs::Applications::own))]
     fn add(
@@ -98,7 +104,10 @@ fn application_fields(
     path: &Place,
     table: &Table,
 ) -> Result<Application, ReadFault>
-    ensures { Gives application_view result (application_fields (listed participant_view participants.now) (listed writer_view writers.now) (listed reader_view readers.now) (listed application_view others.now) (place_text path.now) (table_view table.now)) }
+    ensures { Gives application_view result
+        (application_fields (listed participant_view participants.now) (listed writer_view writers.now)
+        (listed reader_view readers.now) (listed application_view others.now) (place_text path.now)
+        (table_view table.now)) }
 {
     let number = known_name_field(alloc, &participants.names, path, table, "participant")?;
     let participant = ParticipantNo::new(number);
@@ -140,7 +149,8 @@ impl Entries for ApplicationEntries<'_> {
 
     ghost keys = { λ _. application_keys };
 
-    ghost fields = { λ it. application_fields (listed participant_view it.participants.now) (listed writer_view it.writers.now) (listed reader_view it.readers.now) };
+    ghost fields = { λ it. application_fields (listed participant_view it.participants.now)
+        (listed writer_view it.writers.now) (listed reader_view it.readers.now) };
 
     fn keys(&self) -> &'static [&'static str]
         ensures { map (λ key. key.now) result.now ≡ application_keys }
@@ -175,7 +185,9 @@ fn application_list(
     readers: &Section<Reader>,
     table: &Table,
 ) -> Result<Section<Application>, ReadFault>
-    ensures { Gives (listed application_view) result (application_list (listed participant_view participants.now) (listed writer_view writers.now) (listed reader_view readers.now) (table_view table.now)) }
+    ensures { Gives (listed application_view) result
+        (application_list (listed participant_view participants.now) (listed writer_view writers.now)
+        (listed reader_view readers.now) (table_view table.now)) }
 {
     let entries = ApplicationEntries {
         participants,
@@ -224,8 +236,8 @@ fn are_owned<E: Endpoints>(
     }
 }
 
-/// The section `applications`, at most 64 entries, which own each of the writers and readers once, or its first fault. An
-/// absent section has none.
+/// The section `applications`, at most 64 entries, which own each of the writers and readers once, or its first fault.
+/// An absent section has none.
 #[tactic(auto, unfolding(crate::specs::Applications::applications))]
 pub(crate) fn applications(
     alloc: Global,
@@ -234,7 +246,9 @@ pub(crate) fn applications(
     readers: &Section<Reader>,
     table: &Table,
 ) -> Result<Section<Application>, ReadFault>
-    ensures { Gives (listed application_view) result (applications (listed participant_view participants.now) (listed writer_view writers.now) (listed reader_view readers.now) (table_view table.now)) }
+    ensures { Gives (listed application_view) result
+        (applications (listed participant_view participants.now) (listed writer_view writers.now)
+        (listed reader_view readers.now) (table_view table.now)) }
 {
     let all = application_list(alloc, participants, writers, readers, table)?;
     match are_owned::<Section<Writer>>(alloc, "writers", &all, writers.entries.len()) {

@@ -69,7 +69,8 @@ pub(crate) fn connections(
     readers: &Section<Reader>,
     table: &Table,
 ) -> Result<Pairs, ReadFault>
-    ensures { Gives (λ p. p) result (connections (listed writer_view writers.now) (listed reader_view readers.now) (table_view table.now)) }
+    ensures { Gives (λ p. p) result
+        (connections (listed writer_view writers.now) (listed reader_view readers.now) (table_view table.now)) }
 {
     let entries = ConnectionEntries { writers, readers };
     section_of(

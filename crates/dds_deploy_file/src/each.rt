@@ -84,7 +84,10 @@ pub(crate) fn each_rule(
     table: &Table,
 ) -> Result<EachRule, ReadFault>
     requires { application < length known.now.applications.now.names }
-    ensures { Gives each_rule_view result (each_rule known.now.version (listed writer_view known.now.writers.now) (listed reader_view known.now.readers.now) (listed application_view known.now.applications.now) application (place_text path.now) (table_view table.now)) }
+    ensures { Gives each_rule_view result
+        (each_rule known.now.version (listed writer_view known.now.writers.now)
+        (listed reader_view known.now.readers.now) (listed application_view known.now.applications.now) application
+        (place_text path.now) (table_view table.now)) }
 {
     let of_readers = ShareEntries {
         endpoints: known.readers,

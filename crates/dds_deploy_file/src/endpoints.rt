@@ -4,7 +4,8 @@ ghost use Rattle.std.specs.List.{list_any};
 ghost use Rattle.dds_base.specs.Names.{number_of};
 ghost use Rattle.dds_base.specs.declared.portion.Portion.{Portion as PortionView};
 ghost use Rattle.dds_base.specs.Section.{Listed, listed};
-ghost use Rattle.dds_deploy.specs.Lists.{Application as ApplicationView, Topic as TopicView, keys_at, has, writer_topic, reader_topic};
+ghost use Rattle.dds_deploy.specs.Lists.{Application as ApplicationView, Topic as TopicView, keys_at, has};
+ghost use Rattle.dds_deploy.specs.Lists.{writer_topic, reader_topic};
 ghost use Rattle.dds_deploy_file.specs.Applications.{writer_participant, reader_participant};
 ghost use Rattle.dds_deploy_file.specs.Endpoints.{key_to_write, key_to_take};
 ghost use Rattle.dds_deploy_file.specs.Rules.{is_named};
@@ -86,7 +87,9 @@ pub(crate) trait Endpoints {
         key: KeyNo,
         count: u16,
     ) -> Result<(), NoMemory>
-        ensures { IfOk result (λ _. portions so_far.new.items ≡ portions so_far.old.items ++ record { endpoint = number; key = key; count = count } ∷ []) };
+        ensures { IfOk result
+            (λ _. portions so_far.new.items
+            ≡ portions so_far.old.items ++ record { endpoint = number; key = key; count = count } ∷ []) };
 
     /// Whether one of the shares is of the endpoint with this number.
     fn is_shared(so_far: &[(Self::Number, u16)], number: usize) -> bool

@@ -44,7 +44,8 @@ pub(crate) trait Entries {
         path: &Place,
         table: &Table,
     ) -> Result<Self::Entry, ReadFault>
-        ensures { Gives view result (fields self.now (listed view before.now) (place_text path.now) (table_view table.now)) };
+        ensures { Gives view result
+            (fields self.now (listed view before.now) (place_text path.now) (table_view table.now)) };
 }
 
 // What reads the entries as the items of a list.
@@ -86,7 +87,9 @@ pub(crate) fn section<E: Entries>(
     table: &Table,
     key: &str,
 ) -> Result<Section<E::Entry>, ReadFault>
-    ensures { Gives (listed E.view) result (a_section key.now limit (one_more (E.keys entries.now) (E.fields entries.now)) nothing (table_view table.now)) }
+    ensures { Gives (listed E.view) result
+        (a_section key.now limit (one_more (E.keys entries.now) (E.fields entries.now)) nothing
+        (table_view table.now)) }
 {
     let items = EntryItems { entries };
     section_of(alloc, limit, &items, Section::new(alloc), table, key)

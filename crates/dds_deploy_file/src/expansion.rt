@@ -6,7 +6,8 @@ ghost use Rattle.dds_fields.specs.Gives.{Gives};
 ghost use Rattle.dds_fields.specs.Places.{place_text};
 ghost use Rattle.dds_base.specs.Section.{listed};
 ghost use Rattle.dds_deploy.specs.Lists.{keys_at, key_name};
-ghost use Rattle.dds_deploy_file.specs.Expansion.{is_common, first_topic, common_keys, portion_at, rule_for, rules_for, origins_for, keys_to_expand, expanded, within_room};
+ghost use Rattle.dds_deploy_file.specs.Expansion.{is_common, first_topic, common_keys, portion_at, rule_for, rules_for};
+ghost use Rattle.dds_deploy_file.specs.Expansion.{origins_for, keys_to_expand, expanded, within_room};
 ghost use Rattle.dds_deploy.specs.Views.{topic_view, writer_view, reader_view, application_view, rule_view};
 ghost use Rattle.dds_deploy_file.specs.Each.{each_rule_view};
 
@@ -28,7 +29,9 @@ fn all_have<E: Endpoints>(
     shares: &[(E::Number, u16)],
     name: &str,
 ) -> bool
-    ensures { result ≡ list_all (λ x. is_some (E.key_at endpoints.now (listed topic_view topics.now) name.now (E.Number.number_of x.0))) shares.now }
+    ensures { result ≡ list_all
+        (λ x. is_some (E.key_at endpoints.now (listed topic_view topics.now) name.now
+        (E.Number.number_of x.0))) shares.now }
 {
     for share in shares {
         if endpoints.key_at(topics, name, share.0.place()).is_none() {
@@ -39,14 +42,16 @@ fn all_have<E: Endpoints>(
 }
 
 fn is_common(known: &Known, rule: &EachRule, name: &str) -> bool
-    ensures { result ≡ is_common (listed topic_view known.now.topics.now) (listed writer_view known.now.writers.now) (listed reader_view known.now.readers.now) (each_rule_view rule.now) name.now }
+    ensures { result ≡ is_common (listed topic_view known.now.topics.now) (listed writer_view known.now.writers.now)
+        (listed reader_view known.now.readers.now) (each_rule_view rule.now) name.now }
 {
     all_have(known.topics, known.readers, &rule.takes, name)
         && all_have(known.topics, known.writers, &rule.writes, name)
 }
 
 fn first_topic(known: &Known, rule: &EachRule) -> Option<usize>
-    ensures { result ≡ first_topic (listed writer_view known.now.writers.now) (listed reader_view known.now.readers.now) (each_rule_view rule.now) }
+    ensures { result ≡ first_topic (listed writer_view known.now.writers.now) (listed reader_view known.now.readers.now)
+        (each_rule_view rule.now) }
 {
     match rule.takes.get(0) {
         Some(take) => Some(known.readers.topic_of(take.0.number())),
@@ -65,7 +70,11 @@ fn add_common(
     keys: &mut Vec<KeyNo>,
     key: usize,
 ) -> Result<(), NoMemory>
-    ensures { IfOk result (λ _. keys.new.items ≡ keys.old.items ++ filter (λ k. is_common (listed topic_view known.now.topics.now) (listed writer_view known.now.writers.now) (listed reader_view known.now.readers.now) (each_rule_view rule.now) (key_name (listed topic_view known.now.topics.now) topic k)) (key ∷ [])) }
+    ensures { IfOk result
+        (λ _. keys.new.items ≡ keys.old.items
+        ++ filter (λ k. is_common (listed topic_view known.now.topics.now)
+        (listed writer_view known.now.writers.now) (listed reader_view known.now.readers.now)
+        (each_rule_view rule.now) (key_name (listed topic_view known.now.topics.now) topic k)) (key ∷ [])) }
 {
     if is_common(known, rule, key_name(known.topics, topic, key)) {
         keys.push(KeyNo::new(key))?;
@@ -90,7 +99,9 @@ fn common_keys(
     rule: &EachRule,
     topic: usize,
 ) -> Result<Vec<KeyNo>, NoMemory>
-    ensures { IfOk result (λ v. v.items ≡ common_keys (listed topic_view known.now.topics.now) (listed writer_view known.now.writers.now) (listed reader_view known.now.readers.now) (each_rule_view rule.now) topic) }
+    ensures { IfOk result
+        (λ v. v.items ≡ common_keys (listed topic_view known.now.topics.now) (listed writer_view known.now.writers.now)
+        (listed reader_view known.now.readers.now) (each_rule_view rule.now) topic) }
 {
     let mut keys = Vec::new(alloc);
     for key in 0..key_count(known.topics, topic) {
@@ -108,7 +119,9 @@ fn portions_for<E: Endpoints>(
     shares: &[(E::Number, u16)],
     name: &str,
 ) -> Result<Vec<Portion<E::Number>>, NoMemory>
-    ensures { IfOk result (λ v. v.items ≡ map (portion_at (λ e. E.key_at endpoints.now (listed topic_view topics.now) name.now (E.Number.number_of e))) shares.now) }
+    ensures { IfOk result
+        (λ v. v.items ≡ map (portion_at
+        (λ e. E.key_at endpoints.now (listed topic_view topics.now) name.now (E.Number.number_of e))) shares.now) }
 {
     let mut portions = Vec::new(alloc);
     for share in shares {
@@ -124,7 +137,9 @@ fn portions_for<E: Endpoints>(
 
 // The rule for the key with this name.
 fn rule_for(alloc: Global, known: &Known, rule: &EachRule, name: &str) -> Result<Rule, NoMemory>
-    ensures { IfOk result (λ u. rule_view u ≡ rule_for (listed topic_view known.now.topics.now) (listed writer_view known.now.writers.now) (listed reader_view known.now.readers.now) (each_rule_view rule.now) name.now) }
+    ensures { IfOk result
+        (λ u. rule_view u ≡ rule_for (listed topic_view known.now.topics.now) (listed writer_view known.now.writers.now)
+        (listed reader_view known.now.readers.now) (each_rule_view rule.now) name.now) }
 {
     let takes = portions_for(alloc, known.topics, known.readers, &rule.takes, name)?;
     let writes = portions_for(alloc, known.topics, known.writers, &rule.writes, name)?;
@@ -147,7 +162,12 @@ fn add_rule_for(
     rules: &mut Vec<Rule>,
     key: KeyNo,
 ) -> Result<(), NoMemory>
-    ensures { IfOk result (λ _. map rule_view rules.new.items ≡ map rule_view rules.old.items ++ rule_for (listed topic_view known.now.topics.now) (listed writer_view known.now.writers.now) (listed reader_view known.now.readers.now) (each_rule_view rule.now) (key_name (listed topic_view known.now.topics.now) topic key) ∷ []) }
+    ensures { IfOk result
+        (λ _. map rule_view rules.new.items
+        ≡ map rule_view rules.old.items
+        ++ rule_for (listed topic_view known.now.topics.now) (listed writer_view known.now.writers.now)
+        (listed reader_view known.now.readers.now) (each_rule_view rule.now)
+        (key_name (listed topic_view known.now.topics.now) topic key) ∷ []) }
 {
     let name = key_name(known.topics, topic, key.number());
     let one = rule_for(alloc, known, rule, name)?;
@@ -163,7 +183,10 @@ fn rules_for(
     topic: usize,
     keys: &[KeyNo],
 ) -> Result<Vec<Rule>, NoMemory>
-    ensures { IfOk result (λ v. map rule_view v.items ≡ rules_for (listed topic_view known.now.topics.now) (listed writer_view known.now.writers.now) (listed reader_view known.now.readers.now) (each_rule_view rule.now) topic keys.now) }
+    ensures { IfOk result
+        (λ v. map rule_view v.items
+        ≡ rules_for (listed topic_view known.now.topics.now) (listed writer_view known.now.writers.now)
+        (listed reader_view known.now.readers.now) (each_rule_view rule.now) topic keys.now) }
 {
     let mut rules = Vec::new(alloc);
     for key in keys {
@@ -197,7 +220,10 @@ fn keys_to_expand(
     known: &Known,
     rule: &EachRule,
 ) -> Result<Option<(usize, Vec<KeyNo>)>, NoMemory>
-    ensures { IfOk result (λ o. option_map (λ c. (c.0, c.1.items)) o ≡ keys_to_expand (listed topic_view known.now.topics.now) (listed writer_view known.now.writers.now) (listed reader_view known.now.readers.now) (each_rule_view rule.now)) }
+    ensures { IfOk result
+        (λ o. option_map (λ c. (c.0, c.1.items)) o
+        ≡ keys_to_expand (listed topic_view known.now.topics.now) (listed writer_view known.now.writers.now)
+        (listed reader_view known.now.readers.now) (each_rule_view rule.now)) }
 {
     match first_topic(known, rule) {
         Some(topic) => {
@@ -219,8 +245,9 @@ pub(crate) fn has_room(before: usize, more: usize) -> bool
     before <= 256 && more <= 256 - before
 }
 
-/// The rules of an entry with `each` and where they come from, or the first fault of its fields; RuleEntry at the entry where
-/// its endpoints have no key in common. None where they would be more than 256 with those before; no memory is taken for them then.
+/// The rules of an entry with `each` and where they come from, or the first fault of its fields; RuleEntry at the entry
+/// where its endpoints have no key in common. None where they would be more than 256 with those before; no memory is
+/// taken for them then.
 #[tactic(auto, unfolding(crate::specs::Expansion::expanded))]
 pub(crate) fn expanded(
     alloc: Global,
@@ -232,7 +259,12 @@ pub(crate) fn expanded(
     table: &Table,
 ) -> Result<Option<(Vec<Origin>, Vec<Rule>)>, ReadFault>
     requires { application < length known.now.applications.now.names }
-    ensures { Gives (option_map (λ us. (us.0.items, map rule_view us.1.items))) result (within_room before (expanded known.now.version (listed topic_view known.now.topics.now) (listed writer_view known.now.writers.now) (listed reader_view known.now.readers.now) (listed application_view known.now.applications.now) name application (place_text path.now) (table_view table.now))) }
+    ensures { Gives (option_map
+        (λ us. (us.0.items, map rule_view us.1.items))) result
+        (within_room before (expanded known.now.version (listed topic_view known.now.topics.now)
+        (listed writer_view known.now.writers.now) (listed reader_view known.now.readers.now)
+        (listed application_view known.now.applications.now) name application (place_text path.now)
+        (table_view table.now))) }
 {
     let rule = each_rule(alloc, known, application, path, table)?;
     match keys_to_expand(alloc, known, &rule)? {

@@ -1,5 +1,5 @@
-//! The deployment file. `read_deployment` gives the deployment that the bytes are, in any of the three versions, or the first fault of the file with
-//! its path; `migrate` a text of version 2 for a file of version 1.
+//! The deployment file. `read_deployment` gives the deployment that the bytes are, in any of the three versions, or the
+//! first fault of the file with its path; `migrate` a text of version 2 for a file of version 1.
 #![tactic(auto)]
 
 mod applications;

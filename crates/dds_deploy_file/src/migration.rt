@@ -21,7 +21,9 @@ fn set_version(alloc: Global, table: &mut Table) -> Result<(), NoMemory>
     ensures version { IfOk result (λ _. get_member (codes "version") (table_view table.new) ≡ Some (integer (pos 2))) }
     ensures keys { IfOk result (λ _. keys_of (table_view table.new) ≡ keys_of (table_view table.old)) }
     ensures depth { IfOk result (λ _. members_depth (table_view table.new) ≤ members_depth (table_view table.old)) }
-    ensures dates { IfOk result (λ _. members_have_valid_dates (table_view table.old) ≡ true → members_have_valid_dates (table_view table.new) ≡ true) }
+    ensures dates { IfOk result
+        (λ _. members_have_valid_dates (table_view table.old) ≡ true
+        → members_have_valid_dates (table_view table.new) ≡ true) }
     ensures elsewhere { IfOk result (λ _. AgreeElsewhere (table_view table.old) (table_view table.new)) }
 {
     let name = String::from_str(alloc, "version")?;
@@ -29,11 +31,11 @@ fn set_version(alloc: Global, table: &mut Table) -> Result<(), NoMemory>
     Ok(())
 }
 
-/// A text of version 2 for a file of version 1, so that the file can go on with what version 2 adds: the text is of version 2
-/// and stands for the same lists as the file. Comments and layout are not kept.
+/// A text of version 2 for a file of version 1, so that the file can go on with what version 2 adds: the text is of
+/// version 2 and stands for the same lists as the file. Comments and layout are not kept.
 ///
-/// An `Err` is the file's first fault as a file of version 1, with the numbers and paths of `read_deployment`, so that a file of
-/// version 2 or 3 is refused as 2 WrongVersion at `version`; or it is 14 NoMemory.
+/// An `Err` is the file's first fault as a file of version 1, with the numbers and paths of `read_deployment`, so that
+/// a file of version 2 or 3 is refused as 2 WrongVersion at `version`; or it is 14 NoMemory.
 #[tactic(auto, unfolding(crate::specs::Document::read_up_to))]
 pub fn migrate(alloc: Global, bytes: &[u8]) -> Result<String, DeployFault>
     ensures text { IfOk result (λ s. IsMigrated bytes.now (string_bytes s)) }

@@ -5,7 +5,12 @@ ghost use Rattle.std.specs.List.{list_all};
 ghost use Rattle.toml.specs.View.{table_view};
 ghost use Rattle.dds_fields.specs.Gives.{Gives};
 ghost use Rattle.dds_fields.specs.Places.{place_text};
-ghost use Rattle.dds_deploy_file.specs.Policies.{durability, access_scope, coherent, ordered, presentation, duration_of, duration, deadline, latency_budget, ownership, liveliness_kind, lease, liveliness, reliability, destination_order, history_kind, depth, history, max_samples, max_instances, max_samples_per_instance, resource_limits, timing, delivery, policies, is_partition_byte, is_partition_name, partition, partitions};
+ghost use Rattle.dds_deploy_file.specs.Policies.{durability, access_scope, coherent, ordered, presentation};
+ghost use Rattle.dds_deploy_file.specs.Policies.{duration_of, duration, deadline, latency_budget, ownership};
+ghost use Rattle.dds_deploy_file.specs.Policies.{liveliness_kind, lease, liveliness, reliability, destination_order};
+ghost use Rattle.dds_deploy_file.specs.Policies.{history_kind, depth, history, max_samples, max_instances};
+ghost use Rattle.dds_deploy_file.specs.Policies.{max_samples_per_instance, resource_limits, timing, delivery, policies};
+ghost use Rattle.dds_deploy_file.specs.Policies.{is_partition_byte, is_partition_name, partition, partitions};
 
 use dds_base::is_name_byte;
 use dds_fields::fault::{FaultKind, ReadFault, refuse};
@@ -402,8 +407,8 @@ pub(crate) fn partitions(
     optional_list(alloc, 16, &PartitionNames, none, path, table, "partitions")
 }
 
-/// The keys that the entry of a reader may have since version 3. Before it `may_lose`, the first, is none of them. But for
-/// `filter`, the second, the others are those of a writer.
+/// The keys that the entry of a reader may have since version 3. Before it `may_lose`, the first, is none of them. But
+/// for `filter`, the second, the others are those of a writer.
 pub(crate) const READER_KEYS: [&str; 22] = [
     "may_lose",
     "filter",

@@ -87,7 +87,8 @@ fn filter_field(
     table: &Table,
     key: &str,
 ) -> Result<Vec<KeyNo>, ReadFault>
-    ensures { Gives (λ v. v.items) result (optional key.now (all_keys names.now) (filter names.now) (place_text path.now) (table_view table.now)) }
+    ensures { Gives (λ v. v.items) result
+        (optional key.now (all_keys names.now) (filter names.now) (place_text path.now) (table_view table.now)) }
 {
     match value_at(table, key) {
         Some(value) => {
@@ -113,7 +114,9 @@ fn reader_fields(
     path: &Place,
     table: &Table,
 ) -> Result<Reader, ReadFault>
-    ensures { Gives reader_view result (reader_fields (listed participant_view participants.now) (listed topic_view topics.now) (place_text path.now) (table_view table.now)) }
+    ensures { Gives reader_view result
+        (reader_fields (listed participant_view participants.now) (listed topic_view topics.now) (place_text path.now)
+        (table_view table.now)) }
 {
     let participant = known_name_field(alloc, &participants.names, path, table, "participant")?;
     let topic = known_name_field(alloc, &topics.names, path, table, "topic")?;
@@ -165,7 +168,9 @@ impl Entries for ReaderEntries<'_> {
 
     ghost keys = { λ it. reader_keys it.version };
 
-    ghost fields = { λ it _. consistent (λ x. x.qos.requested) (reader_fields (listed participant_view it.participants.now) (listed topic_view it.topics.now)) };
+    ghost fields = { λ it _. consistent
+        (λ x. x.qos.requested)
+        (reader_fields (listed participant_view it.participants.now) (listed topic_view it.topics.now)) };
 
     fn keys(&self) -> &'static [&'static str]
         ensures { map (λ key. key.now) result.now ≡ reader_keys self.now.version }
@@ -201,7 +206,9 @@ pub(crate) fn readers(
     topics: &Section<Topic>,
     table: &Table,
 ) -> Result<Section<Reader>, ReadFault>
-    ensures { Gives (listed reader_view) result (readers version (listed participant_view participants.now) (listed topic_view topics.now) (table_view table.now)) }
+    ensures { Gives (listed reader_view) result
+        (readers version (listed participant_view participants.now) (listed topic_view topics.now)
+        (table_view table.now)) }
 {
     let entries = ReaderEntries {
         version,

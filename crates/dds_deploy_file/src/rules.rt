@@ -1,4 +1,5 @@
-//! The section `rules`: their names, applications, what each takes and writes, and how often it may write at the opening.
+//! The section `rules`: their names, applications, what each takes and writes, and how often it may write at the
+//! opening.
 ghost use Rattle.std.specs.Prelude.{◌≡◌, ◌<◌, List, ℕ, length, map, option_map};
 ghost use Rattle.toml.specs.View.{view, table_view};
 ghost use Rattle.dds_base.specs.declared.portion.Portion.{Portion as PortionView};
@@ -7,7 +8,8 @@ ghost use Rattle.dds_fields.specs.Places.{place_text};
 ghost use Rattle.dds_base.specs.Section.{listed};
 ghost use Rattle.dds_deploy.specs.Lists.{Rules as RulesView, has};
 ghost use Rattle.dds_deploy_file.specs.Expansion.{within_room};
-ghost use Rattle.dds_deploy_file.specs.Rules.{free_key, portion, plain_rule, single, rule_entry, rule_fields, rule, rules};
+ghost use Rattle.dds_deploy_file.specs.Rules.{free_key, portion, plain_rule, single, rule_entry, rule_fields, rule};
+ghost use Rattle.dds_deploy_file.specs.Rules.{rules};
 ghost use Rattle.dds_deploy.specs.Views.{topic_view, writer_view, reader_view, application_view, rule_view, rules_view};
 
 use crate::applications::owned_at;
@@ -36,7 +38,8 @@ struct PortionEntries<'a, E: Endpoints> {
 impl<E: Endpoints> PortionEntries<'_, E> {
     // The key with this name at the endpoint, where the application has it and no earlier element names both.
     fn free_key(&self, so_far: &[Portion<E::Number>], number: usize, name: &str) -> Option<KeyNo>
-        ensures { result ≡ free_key (has (E.numbers self.now.own.now) number) (E.portions so_far.now) number (E.key_at self.now.endpoints.now (listed topic_view self.now.topics.now) name.now number) }
+        ensures { result ≡ free_key (has (E.numbers self.now.own.now) number) (E.portions so_far.now) number
+            (E.key_at self.now.endpoints.now (listed topic_view self.now.topics.now) name.now number) }
     {
         let key = KeyNo::new(self.endpoints.key_at(self.topics, name, number)?);
         if E::has_number(self.own, number) && !E::is_named(so_far, number, key) {
@@ -54,7 +57,8 @@ impl<E: Endpoints> Items for PortionEntries<'_, E> {
 
     ghost state = { λ all. E.portions all.items };
 
-    ghost step = { λ it. portion E.word (E.names it.endpoints.now) (E.numbers it.own.now) (E.key_at it.endpoints.now (listed topic_view it.topics.now)) };
+    ghost step = { λ it. portion E.word (E.names it.endpoints.now) (E.numbers it.own.now)
+        (E.key_at it.endpoints.now (listed topic_view it.topics.now)) };
 
     #[tactic(auto, unfolding(crate::specs::Rules::portion))]
     fn add(
@@ -88,7 +92,11 @@ fn plain_rule(
     table: &Table,
 ) -> Result<Rule, ReadFault>
     requires { application < length known.now.applications.now.names }
-    ensures { Gives rule_view result (plain_rule known.now.version (listed topic_view known.now.topics.now) (listed writer_view known.now.writers.now) (listed reader_view known.now.readers.now) (listed application_view known.now.applications.now) application (place_text path.now) (table_view table.now)) }
+    ensures { Gives rule_view result
+        (plain_rule known.now.version (listed topic_view known.now.topics.now)
+        (listed writer_view known.now.writers.now) (listed reader_view known.now.readers.now)
+        (listed application_view known.now.applications.now) application (place_text path.now)
+        (table_view table.now)) }
 {
     let of_readers = PortionEntries {
         topics: known.topics,
@@ -146,7 +154,12 @@ fn single(
     table: &Table,
 ) -> Result<Option<(Vec<Origin>, Vec<Rule>)>, ReadFault>
     requires { application < length known.now.applications.now.names }
-    ensures { Gives (option_map (λ us. (us.0.items, map rule_view us.1.items))) result (within_room before (single known.now.version (listed topic_view known.now.topics.now) (listed writer_view known.now.writers.now) (listed reader_view known.now.readers.now) (listed application_view known.now.applications.now) name application (place_text path.now) (table_view table.now))) }
+    ensures { Gives (option_map
+        (λ us. (us.0.items, map rule_view us.1.items))) result
+        (within_room before (single known.now.version (listed topic_view known.now.topics.now)
+        (listed writer_view known.now.writers.now) (listed reader_view known.now.readers.now)
+        (listed application_view known.now.applications.now) name application (place_text path.now)
+        (table_view table.now))) }
 {
     let rule = plain_rule(alloc, known, application, path, table)?;
     if !has_room(before, 1) {
@@ -168,7 +181,11 @@ fn rule_fields(
     path: &Place,
     table: &Table,
 ) -> Result<Option<(Vec<Origin>, Vec<Rule>)>, ReadFault>
-    ensures { Gives (option_map (λ us. (us.0.items, map rule_view us.1.items))) result (within_room before (rule_fields known.now.version (listed topic_view known.now.topics.now) (listed writer_view known.now.writers.now) (listed reader_view known.now.readers.now) (listed application_view known.now.applications.now) name (place_text path.now) (table_view table.now))) }
+    ensures { Gives (option_map
+        (λ us. (us.0.items, map rule_view us.1.items))) result
+        (within_room before (rule_fields known.now.version (listed topic_view known.now.topics.now)
+        (listed writer_view known.now.writers.now) (listed reader_view known.now.readers.now)
+        (listed application_view known.now.applications.now) name (place_text path.now) (table_view table.now))) }
 {
     let applications = &known.applications.names;
     let application = known_name_field(alloc, applications, path, table, "application")?;
@@ -219,7 +236,9 @@ impl Items for RuleEntries<'_> {
 
     ghost state = { λ all. rules_view all };
 
-    ghost step = { λ it. rule it.known.version (listed topic_view it.known.topics.now) (listed writer_view it.known.writers.now) (listed reader_view it.known.readers.now) (listed application_view it.known.applications.now) };
+    ghost step = { λ it. rule it.known.version (listed topic_view it.known.topics.now)
+        (listed writer_view it.known.writers.now) (listed reader_view it.known.readers.now)
+        (listed application_view it.known.applications.now) };
 
     #[tactic(auto, unfolding(crate::specs::Rules::rule))]
     fn add(
@@ -242,10 +261,13 @@ impl Items for RuleEntries<'_> {
     }
 }
 
-/// The section `rules`, at most 256 entries, which stand for at most 256 rules, or its first fault. An absent section has
-/// none.
+/// The section `rules`, at most 256 entries, which stand for at most 256 rules, or its first fault. An absent section
+/// has none.
 pub(crate) fn rules(alloc: Global, known: &Known, table: &Table) -> Result<Rules, ReadFault>
-    ensures { Gives rules_view result (rules known.now.version (listed topic_view known.now.topics.now) (listed writer_view known.now.writers.now) (listed reader_view known.now.readers.now) (listed application_view known.now.applications.now) (table_view table.now)) }
+    ensures { Gives rules_view result
+        (rules known.now.version (listed topic_view known.now.topics.now) (listed writer_view known.now.writers.now)
+        (listed reader_view known.now.readers.now) (listed application_view known.now.applications.now)
+        (table_view table.now)) }
 {
     let entries = RuleEntries { known: *known };
     section_of(alloc, 256, &entries, Rules::new(alloc), table, "rules")

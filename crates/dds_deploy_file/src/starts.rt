@@ -59,8 +59,8 @@ fn optional_start(
     }
 }
 
-/// The start of a rule, 0 to 65,535 and 0 where it is absent, or `None` where the rule is free, which version 3 alone can
-/// say. OutOfRange where a rule that takes something would be free.
+/// The start of a rule, 0 to 65,535 and 0 where it is absent, or `None` where the rule is free, which version 3 alone
+/// can say. OutOfRange where a rule that takes something would be free.
 #[tactic(auto, unfolding(crate::specs::Starts::start_field))]
 pub(crate) fn start_field(
     alloc: Global,

@@ -7,7 +7,8 @@ ghost use Rattle.dds_fields.specs.Places.{place_text};
 ghost use Rattle.dds_fields.specs.Reading.{field};
 ghost use Rattle.dds_deploy.specs.Lists.{Topic as TopicView};
 ghost use Rattle.std.specs.List.{list_all};
-ghost use Rattle.dds_deploy_file.specs.Topics.{key, keys, is_type_byte, is_type_name, a_type_name, topic_keys, topic_fields, topics};
+ghost use Rattle.dds_deploy_file.specs.Topics.{key, keys, is_type_byte, is_type_name, a_type_name, topic_keys};
+ghost use Rattle.dds_deploy_file.specs.Topics.{topic_fields, topics};
 ghost use Rattle.dds_deploy.specs.Views.{topic_view};
 
 use crate::entries::{Entries, section};

@@ -28,7 +28,9 @@ fn writer_fields(
     path: &Place,
     table: &Table,
 ) -> Result<Writer, ReadFault>
-    ensures { Gives writer_view result (writer_fields (listed participant_view participants.now) (listed topic_view topics.now) (place_text path.now) (table_view table.now)) }
+    ensures { Gives writer_view result
+        (writer_fields (listed participant_view participants.now) (listed topic_view topics.now) (place_text path.now)
+        (table_view table.now)) }
 {
     let participant = known_name_field(alloc, &participants.names, path, table, "participant")?;
     let topic = known_name_field(alloc, &topics.names, path, table, "topic")?;
@@ -58,7 +60,9 @@ impl Entries for WriterEntries<'_> {
 
     ghost keys = { λ _. endpoint_keys };
 
-    ghost fields = { λ it _. consistent (λ x. x.qos.offered) (writer_fields (listed participant_view it.participants.now) (listed topic_view it.topics.now)) };
+    ghost fields = { λ it _. consistent
+        (λ x. x.qos.offered) (writer_fields (listed participant_view it.participants.now)
+        (listed topic_view it.topics.now)) };
 
     fn keys(&self) -> &'static [&'static str]
         ensures { map (λ key. key.now) result.now ≡ endpoint_keys }
@@ -89,7 +93,8 @@ pub(crate) fn writers(
     topics: &Section<Topic>,
     table: &Table,
 ) -> Result<Section<Writer>, ReadFault>
-    ensures { Gives (listed writer_view) result (writers (listed participant_view participants.now) (listed topic_view topics.now) (table_view table.now)) }
+    ensures { Gives (listed writer_view) result
+        (writers (listed participant_view participants.now) (listed topic_view topics.now) (table_view table.now)) }
 {
     let entries = WriterEntries {
         participants,

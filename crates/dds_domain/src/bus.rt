@@ -1,5 +1,6 @@
 //! The bus: 4,096 places for packets under way.
-ghost use Rattle.std.specs.Prelude.{◌≡◌, None, is_none, is_some, nat_lt, replicate, option_map, position, slice_set, IfOk};
+ghost use Rattle.std.specs.Prelude.{◌≡◌, None, is_none, is_some, nat_lt, replicate, option_map, position, slice_set};
+ghost use Rattle.std.specs.Prelude.{IfOk};
 ghost use Rattle.dds_runs.specs.Steps.{places};
 ghost use Rattle.dds_domain.specs.Bus.{IsLastPlace, at_place, last_taken, sent_to, taken_count, with_packet};
 
@@ -16,8 +17,8 @@ const BLOCK: usize = 64;
 /// How many blocks there are.
 const BLOCKS: usize = 64;
 
-/// The packets under way, each at a place from 0 to 4,095. It loses what is sent while each place is taken. How many places of each block are
-/// taken is counted, so that no call walks more than one block and the counts.
+/// The packets under way, each at a place from 0 to 4,095. It loses what is sent while each place is taken. How many
+/// places of each block are taken is counted, so that no call walks more than one block and the counts.
 #[derive(Drop)]
 pub(crate) struct Bus {
     held: Vec<Option<Packet>>,

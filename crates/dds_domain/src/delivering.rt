@@ -2,16 +2,19 @@
 ghost use Rattle.std.specs.Prelude.{◌≡◌, IfOk, OnErr, Some};
 ghost use Rattle.dds_base.specs.declared.events.Event.TheVariants.{Deliver, Lose};
 ghost use Rattle.dds_domain.specs.Bus.{at_place};
-ghost use Rattle.dds_domain.specs.Standing.{HasWorld, IsSent, OnRefused, Receives, ReceivesNotes, StepsNotes, StepsWorld};
+ghost use Rattle.dds_domain.specs.Standing.{HasWorld, IsSent, OnRefused, Receives, ReceivesNotes, StepsNotes};
+ghost use Rattle.dds_domain.specs.Standing.{StepsWorld};
 
 use crate::parts::Parts;
 use dds_base::{NoMemory, Packet, Refusal, Reply};
 
 impl Parts {
-    // A packet arrives at its reader, or an ACKNACK at its writer. An `Err` means that memory ran out; it changes nothing.
+    // A packet arrives at its reader, or an ACKNACK at its writer. An `Err` means that memory ran out; it changes
+    // nothing.
     fn receive(&mut self, packet: &Packet) -> Result<Reply, NoMemory>
         requires { IsSent self.old packet.now }
-        ensures receives { IfOk result (λ reply. Receives self.old packet.now reply self.new × ReceivesNotes self.old packet.now self.new) }
+        ensures receives { IfOk result
+            (λ reply. Receives self.old packet.now reply self.new × ReceivesNotes self.old packet.now self.new) }
         ensures arrives { IfOk result (λ reply. OnRefused reply ⊥) }
         ensures bus { self.new.bus ≡ self.old.bus }
         ensures plan { self.new.plan ≡ self.old.plan }

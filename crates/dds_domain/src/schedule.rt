@@ -3,7 +3,9 @@ ghost use Rattle.std.specs.Prelude.{◌≡◌, ◌<◌, ◌≤◌, length, true,
 ghost use Rattle.dds_match.specs.Plan.{matched, network_of};
 ghost use Rattle.dds_runs.specs.World.{World};
 ghost use Rattle.dds_domain.specs.Noted.{Noted};
-ghost use Rattle.dds_domain.specs.Schedule.{acknack_due, as_data, as_gap, by_fate, due, due_to, first_by_reader, first_by_writer, first_of_reader, first_of_writer, heartbeat_due, load, send_due, sending_of, writer_due};
+ghost use Rattle.dds_domain.specs.Schedule.{acknack_due, as_data, as_gap, by_fate, due, due_to, first_by_reader};
+ghost use Rattle.dds_domain.specs.Schedule.{first_by_writer, first_of_reader, first_of_writer, heartbeat_due, load};
+ghost use Rattle.dds_domain.specs.Schedule.{send_due, sending_of, writer_due};
 ghost use Rattle.dds_domain.specs.Standing.{PartsAt, IsRunning};
 ghost use Rattle.dds_domain.specs.declared.schedule.Sending.TheVariants.{AckNack};
 
@@ -65,7 +67,8 @@ impl Parts {
     /// What a participant is to do in its turn, if anything.
     pub(crate) fn due(&self, participant: ParticipantNo, turn: u64, fate: Fate) -> Option<Event>
         requires { IsRunning self.now }
-        ensures { (v : World) (noted : Noted) → PartsAt v noted self.now → result ≡ due self.now.plan v noted participant turn fate }
+        ensures { (v : World) (noted : Noted) → PartsAt v noted self.now
+            → result ≡ due self.now.plan v noted participant turn fate }
     {
         let odd = turn % 2 == 1;
         let enough = if odd { 1 } else { CROWDED };
@@ -104,7 +107,8 @@ impl Parts {
     // The first sending of a kind that is due at a participant.
     fn send_due(&self, participant: ParticipantNo, sending: Sending) -> Option<Event>
         requires { IsRunning self.now }
-        ensures { (v : World) (noted : Noted) → PartsAt v noted self.now → result ≡ send_due self.now.plan v noted participant sending }
+        ensures { (v : World) (noted : Noted) → PartsAt v noted self.now
+            → result ≡ send_due self.now.plan v noted participant sending }
     {
         match sending {
             Sending::AckNack => self.acknack_due(participant),
@@ -115,7 +119,8 @@ impl Parts {
     // The first DATA, GAP or HEARTBEAT that is due at a participant: by its writer, then by reader.
     fn write_due(&self, participant: ParticipantNo, sending: Sending) -> Option<Event>
         requires { IsRunning self.now }
-        ensures { (v : World) (noted : Noted) → PartsAt v noted self.now → result ≡ first_by_writer self.now.plan participant (due_to (network_of self.now.plan) v noted sending) }
+        ensures { (v : World) (noted : Noted) → PartsAt v noted self.now
+            → result ≡ first_by_writer self.now.plan participant (due_to (network_of self.now.plan) v noted sending) }
     {
         for writer in self.plan.writers_at(participant) {
             if let Some(event) = self.due_of_writer(*writer, sending) {
@@ -128,7 +133,8 @@ impl Parts {
     // The first DATA, GAP or HEARTBEAT that is due of a writer, by reader.
     fn due_of_writer(&self, writer: WriterNo, sending: Sending) -> Option<Event>
         requires { IsRunning self.now }
-        ensures { (v : World) (noted : Noted) → PartsAt v noted self.now → result ≡ first_of_writer self.now.plan writer (due_to (network_of self.now.plan) v noted sending) }
+        ensures { (v : World) (noted : Noted) → PartsAt v noted self.now
+            → result ≡ first_of_writer self.now.plan writer (due_to (network_of self.now.plan) v noted sending) }
     {
         for reader in self.plan.readers_of(writer) {
             if let Some(event) = self.due_to(writer, *reader, sending) {
@@ -142,7 +148,8 @@ impl Parts {
     fn due_to(&self, writer: WriterNo, reader: ReaderNo, sending: Sending) -> Option<Event>
         requires standing { IsRunning self.now }
         requires pair { matched self.now.plan writer reader ≡ true }
-        ensures { (v : World) (noted : Noted) → PartsAt v noted self.now → result ≡ due_to (network_of self.now.plan) v noted sending writer reader }
+        ensures { (v : World) (noted : Noted) → PartsAt v noted self.now
+            → result ≡ due_to (network_of self.now.plan) v noted sending writer reader }
     {
         match sending {
             Sending::Data => data_event(writer, reader, self.message_due(writer, reader)?),
@@ -156,7 +163,8 @@ impl Parts {
     fn message_due(&self, writer: WriterNo, reader: ReaderNo) -> Option<Due>
         requires standing { IsRunning self.now }
         requires pair { matched self.now.plan writer reader ≡ true }
-        ensures { (v : World) (noted : Noted) → PartsAt v noted self.now → result ≡ writer_due (network_of self.now.plan) v noted writer reader }
+        ensures { (v : World) (noted : Noted) → PartsAt v noted self.now
+            → result ≡ writer_due (network_of self.now.plan) v noted writer reader }
     {
         self.writers[writer.number()].due(reader)
     }
@@ -165,7 +173,8 @@ impl Parts {
     fn heartbeat_due(&self, writer: WriterNo, reader: ReaderNo) -> Option<Event>
         requires standing { IsRunning self.now }
         requires pair { matched self.now.plan writer reader ≡ true }
-        ensures { (v : World) (noted : Noted) → PartsAt v noted self.now → result ≡ heartbeat_due (network_of self.now.plan) v writer reader }
+        ensures { (v : World) (noted : Noted) → PartsAt v noted self.now
+            → result ≡ heartbeat_due (network_of self.now.plan) v writer reader }
     {
         let from = &self.writers[writer.number()];
         if self.plan.watcher(reader) {
@@ -180,7 +189,8 @@ impl Parts {
     // The first ACKNACK that is due at a participant: by its reader, then by writer.
     fn acknack_due(&self, participant: ParticipantNo) -> Option<Event>
         requires { IsRunning self.now }
-        ensures { (v : World) (noted : Noted) → PartsAt v noted self.now → result ≡ first_by_reader self.now.plan participant (acknack_due noted) }
+        ensures { (v : World) (noted : Noted) → PartsAt v noted self.now
+            → result ≡ first_by_reader self.now.plan participant (acknack_due noted) }
     {
         for reader in self.plan.readers_at(participant) {
             if let Some(event) = self.due_of_reader(*reader) {
@@ -194,7 +204,8 @@ impl Parts {
     fn due_of_reader(&self, reader: ReaderNo) -> Option<Event>
         requires standing { IsRunning self.now }
         requires reader { reader < length self.now.readers }
-        ensures { (v : World) (noted : Noted) → PartsAt v noted self.now → result ≡ first_of_reader self.now.plan reader (acknack_due noted) }
+        ensures { (v : World) (noted : Noted) → PartsAt v noted self.now
+            → result ≡ first_of_reader self.now.plan reader (acknack_due noted) }
     {
         let from = &self.readers[reader.number()];
         for writer in self.plan.writers_of(reader) {

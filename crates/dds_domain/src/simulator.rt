@@ -10,9 +10,9 @@ use dds_match::Plan;
 use std::alloc::Global;
 use std::marker::Model;
 
-/// Writers, readers, rule ledger and bus of a plan. What was done to them since they were opened, event by event with its reply, is a run of
-/// the plan, and they stand for the world that it leads to. Of a plan in which a reader's bounds don't suffice a reply may tell of a sample that is
-/// rejected or overwritten.
+/// Writers, readers, rule ledger and bus of a plan. What was done to them since they were opened, event by event with
+/// its reply, is a run of the plan, and they stand for the world that it leads to. Of a plan in which a reader's bounds
+/// don't suffice a reply may tell of a sample that is rejected or overwritten.
 #[derive(Drop)]
 pub struct Simulator {
     parts: Parts,
@@ -35,8 +35,8 @@ impl Model for Simulator {
 }
 
 impl Simulator {
-    /// The simulator of a plan before the first event: nothing is written, sent or stored. An `Err` means that memory ran out, and gives the
-    /// plan back.
+    /// The simulator of a plan before the first event: nothing is written, sent or stored. An `Err` means that memory
+    /// ran out, and gives the plan back.
     pub fn open(alloc: Global, plan: Plan) -> Result<Simulator, (NoMemory, Plan)>
         ensures plan { IfOk result (λ s. s.plan ≡ plan) }
         ensures opening { IfOk result (StandsAfter []) }
@@ -46,9 +46,9 @@ impl Simulator {
         Ok(Simulator { parts, alloc })
     }
 
-    /// Makes an event, and tells what came of it: after whatever run the simulator stood for its world, that run with the event and its reply
-    /// is a run of the plan, and the simulator stands for the world after it. A `Refused` changes nothing. An `Err` means that memory ran
-    /// out; it changes nothing.
+    /// Makes an event, and tells what came of it: after whatever run the simulator stood for its world, that run with
+    /// the event and its reply is a run of the plan, and the simulator stands for the world after it. A `Refused`
+    /// changes nothing. An `Err` means that memory ran out; it changes nothing.
     pub fn step(&mut self, event: Event) -> Result<Reply, NoMemory>
         ensures stood { IsRunning self.old }
         ensures steps { IfOk result (λ reply. GoesOn self.old ((event, reply) ∷ []) self.new) }
@@ -59,15 +59,18 @@ impl Simulator {
         self.parts.step(event)
     }
 
-    /// Makes events one after the other, and tells what came of each: after whatever run the simulator stood for its world, that run with
-    /// these events and their replies is a run of the plan, and the simulator stands for the world after it. A `Refused` changes nothing. An
-    /// `Err` means that memory ran out: then it has the replies of the events that were done, which stay done, and no later event was.
+    /// Makes events one after the other, and tells what came of each: after whatever run the simulator stood for its
+    /// world, that run with these events and their replies is a run of the plan, and the simulator stands for the world
+    /// after it. A `Refused` changes nothing. An `Err` means that memory ran out: then it has the replies of the events
+    /// that were done, which stay done, and no later event was.
     pub fn run(&mut self, events: &[Event]) -> Result<Vec<Reply>, (NoMemory, Vec<Reply>)>
         ensures all { IfOk result (λ replies. length replies.items ≡ length events.now) }
         ensures some { IfErr result (λ e. length e.1.items ≤ length events.now) }
         ensures stood { IsRunning self.old }
-        ensures runs { MatchResult result (λ replies. GoesOn self.old (paired events.now replies.items) self.new) (λ e. GoesOn self.old (paired events.now e.1.items) self.new) }
-        ensures each { MatchResult result (λ replies. Runs self.old (paired events.now replies.items) self.new) (λ e. Runs self.old (paired events.now e.1.items) self.new) }
+        ensures runs { MatchResult result (λ replies. GoesOn self.old (paired events.now replies.items) self.new)
+            (λ e. GoesOn self.old (paired events.now e.1.items) self.new) }
+        ensures each { MatchResult result (λ replies. Runs self.old (paired events.now replies.items) self.new)
+            (λ e. Runs self.old (paired events.now e.1.items) self.new) }
         ensures plan { self.new.plan ≡ self.old.plan }
     {
         self.parts.run(self.alloc, events)
@@ -82,7 +85,8 @@ impl Simulator {
 
     /// The packet at a place of the bus, 0 to 4,095, if there is one.
     pub fn at(&self, place: usize) -> Option<&Packet>
-        ensures { (ms : List (EventValue × ReplyValue)) → StandsAfter ms self.now → option_map (λ p. p.now) result ≡ (world_after self.now.plan ms).bus place }
+        ensures { (ms : List (EventValue × ReplyValue)) → StandsAfter ms self.now
+            → option_map (λ p. p.now) result ≡ (world_after self.now.plan ms).bus place }
     {
         self.parts.bus.packet(place)
     }

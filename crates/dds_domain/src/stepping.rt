@@ -40,8 +40,8 @@ impl Parts {
         }
     }
 
-    /// Makes events one after the other, and tells what came of each. An `Err` means that memory ran out: then it has the replies of the
-    /// events that were done, which stay done, and no later event was.
+    /// Makes events one after the other, and tells what came of each. An `Err` means that memory ran out: then it has
+    /// the replies of the events that were done, which stay done, and no later event was.
     pub(crate) fn run(
         &mut self,
         alloc: Global,
@@ -50,7 +50,8 @@ impl Parts {
         requires { IsRunning self.old }
         ensures all { IfOk result (λ replies. length replies.items ≡ length events.now) }
         ensures some { IfErr result (λ e. length e.1.items ≤ length events.now) }
-        ensures runs { MatchResult result (λ replies. Runs self.old (paired events.now replies.items) self.new) (λ e. Runs self.old (paired events.now e.1.items) self.new) }
+        ensures runs { MatchResult result (λ replies. Runs self.old (paired events.now replies.items) self.new)
+            (λ e. Runs self.old (paired events.now e.1.items) self.new) }
     {
         // The borrow checker finds the type inside `Reply` where the code names it.
         let _arrival: Option<Arrival> = None;

@@ -3,7 +3,9 @@ ghost use Rattle.std.specs.Prelude.{◌≡◌, ◌<◌, IfOk, length, option_map
 ghost use Rattle.dds_deploy.specs.Views.{application_view, participant_view};
 ghost use Rattle.dds_cert.specs.Text.{each_below};
 ghost use Rattle.dds_cert.specs.Views.{certificate_view};
-ghost use Rattle.dds_draw.specs.Clusters.{application_at, application_cluster, application_members, endpoint_name, participant_cluster, participant_clusters, participant_members, reader_at, rule_at, writer_at};
+ghost use Rattle.dds_draw.specs.Clusters.{application_at, application_cluster, application_members, endpoint_name};
+ghost use Rattle.dds_draw.specs.Clusters.{participant_cluster, participant_clusters, participant_members, reader_at};
+ghost use Rattle.dds_draw.specs.Clusters.{rule_at, writer_at};
 
 use crate::nodes::{reader_node, rule_node, writer_node};
 use dds_base::{AppNo, ParticipantNo, ReaderNo, RuleNo, WriterNo};
@@ -35,7 +37,8 @@ fn rule_at(alloc: Global, lists: &Deployment, application: AppNo, u: usize) -> T
 
 /// The nodes of the application's rules.
 fn rules_of(alloc: Global, lists: &Deployment, application: AppNo) -> TextResult
-    ensures { IfOk result (λ text. string_bytes text ≡ each_below (length lists.now.rules.entries) (rule_at lists.now application)) }
+    ensures { IfOk result
+        (λ text. string_bytes text ≡ each_below (length lists.now.rules.entries) (rule_at lists.now application)) }
 {
     text_below(
         alloc,
@@ -77,7 +80,8 @@ fn application_cluster(
     let name = name_at(lists.application_names(), number.number());
     let members = application_members(alloc, lists, number, x)?;
     format!(in alloc;
-        "    subgraph \"cluster application {name}\" {{\n      label=\"{name}\";\n      style=rounded;\n{members}    }}\n"
+        "    subgraph \"cluster application {name}\" {{\n      label=\"{name}\";\n      style=rounded;\n\
+         {members}    }}\n"
     )
 }
 
@@ -101,7 +105,9 @@ fn application_at(
 
 /// The clusters of the participant's applications.
 fn applications_of(alloc: Global, lists: &Deployment, participant: ParticipantNo) -> TextResult
-    ensures { IfOk result (λ text. string_bytes text ≡ each_below (length lists.now.applications.entries) (application_at lists.now participant)) }
+    ensures { IfOk result
+        (λ text. string_bytes text
+        ≡ each_below (length lists.now.applications.entries) (application_at lists.now participant)) }
 {
     text_below(
         alloc,
@@ -125,7 +131,8 @@ fn writer_at(alloc: Global, lists: &Deployment, participant: ParticipantNo, w: u
 
 /// The nodes of the participant's writers.
 fn writers_of(alloc: Global, lists: &Deployment, participant: ParticipantNo) -> TextResult
-    ensures { IfOk result (λ text. string_bytes text ≡ each_below (length lists.now.writers.entries) (writer_at lists.now participant)) }
+    ensures { IfOk result
+        (λ text. string_bytes text ≡ each_below (length lists.now.writers.entries) (writer_at lists.now participant)) }
 {
     text_below(
         alloc,
@@ -143,7 +150,9 @@ fn reader_at(
     r: usize,
 ) -> TextResult
     requires { r < length lists.now.readers.entries }
-    ensures { IfOk result (λ text. string_bytes text ≡ reader_at lists.now (option_map (λ c. certificate_view c.now) certificate.entry) participant r) }
+    ensures { IfOk result
+        (λ text. string_bytes text
+        ≡ reader_at lists.now (option_map (λ c. certificate_view c.now) certificate.entry) participant r) }
 {
     let number = ReaderNo::new(r);
     let reader = lists.reader(number);
@@ -160,7 +169,10 @@ fn readers_of(
     certificate: Option<&Certificate>,
     participant: ParticipantNo,
 ) -> TextResult
-    ensures { IfOk result (λ text. string_bytes text ≡ each_below (length lists.now.readers.entries) (reader_at lists.now (option_map (λ c. certificate_view c.now) certificate.entry) participant)) }
+    ensures { IfOk result
+        (λ text. string_bytes text
+        ≡ each_below (length lists.now.readers.entries) (reader_at lists.now (option_map
+        (λ c. certificate_view c.now) certificate.entry) participant)) }
 {
     text_below(
         alloc,
@@ -176,7 +188,9 @@ fn participant_members(
     certificate: Option<&Certificate>,
     participant: ParticipantNo,
 ) -> TextResult
-    ensures { IfOk result (λ text. string_bytes text ≡ participant_members lists.now (option_map (λ c. certificate_view c.now) certificate.entry) participant) }
+    ensures { IfOk result
+        (λ text. string_bytes text
+        ≡ participant_members lists.now (option_map (λ c. certificate_view c.now) certificate.entry) participant) }
 {
     let applications = applications_of(alloc, lists, participant)?;
     let writers = writers_of(alloc, lists, participant)?;
@@ -192,7 +206,10 @@ fn participant_cluster(
     number: ParticipantNo,
     x: &Participant,
 ) -> TextResult
-    ensures { IfOk result (λ text. string_bytes text ≡ participant_cluster lists.now (option_map (λ c. certificate_view c.now) certificate.entry) number (participant_view x.now)) }
+    ensures { IfOk result
+        (λ text. string_bytes text
+        ≡ participant_cluster lists.now (option_map
+        (λ c. certificate_view c.now) certificate.entry) number (participant_view x.now)) }
 {
     let name = name_at(lists.participant_names(), number.number());
     let domain = x.domain;
@@ -209,7 +226,9 @@ pub(crate) fn participant_clusters(
     lists: &Deployment,
     certificate: Option<&Certificate>,
 ) -> TextResult
-    ensures { IfOk result (λ text. string_bytes text ≡ participant_clusters lists.now (option_map (λ c. certificate_view c.now) certificate.entry)) }
+    ensures { IfOk result
+        (λ text. string_bytes text
+        ≡ participant_clusters lists.now (option_map (λ c. certificate_view c.now) certificate.entry)) }
 {
     text_below(alloc, lists.participants(), |p| {
         let number = ParticipantNo::new(p);

@@ -1,7 +1,8 @@
 //! What rules take and write, and which endpoints match, as edges.
 ghost use Rattle.std.specs.Prelude.{◌≡◌, IfOk, string_bytes};
 ghost use Rattle.dds_deploy.specs.Views.{rule_view};
-ghost use Rattle.dds_draw.specs.Edges.{all_pair_edges, all_rule_edges, connection_edge, edge_of, pair_edge, pair_edges, rule_edges, take_edge, write_edge};
+ghost use Rattle.dds_draw.specs.Edges.{all_pair_edges, all_rule_edges, connection_edge, edge_of, pair_edge, pair_edges};
+ghost use Rattle.dds_draw.specs.Edges.{rule_edges, take_edge, write_edge};
 
 use dds_base::{Portion, ReaderNo, RuleNo, WriterNo};
 use dds_cert::naming::{name_at, reader_key, writer_key};
@@ -64,8 +65,8 @@ fn connection_edge(alloc: Global, writer: &str, reader: &str, attributes: &str) 
     format!(in alloc; "  \"writer {writer}\" -> \"reader {reader}\"{attributes};\n")
 }
 
-/// The edge of a writer and a reader with these names, which match or don't for this reason; `named` says whether a connection names them. It is red where only
-/// one of the two holds, and there is none where neither does.
+/// The edge of a writer and a reader with these names, which match or don't for this reason; `named` says whether a
+/// connection names them. It is red where only one of the two holds, and there is none where neither does.
 fn edge_of(
     alloc: Global,
     writer: &str,

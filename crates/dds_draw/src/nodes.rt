@@ -1,8 +1,11 @@
-//! Endpoints and rules as nodes, with their labels. Names have no byte that DOT escapes; a label has `\n`, two bytes, where a new line begins.
+//! Endpoints and rules as nodes, with their labels. Names have no byte that DOT escapes; a label has `\n`, two bytes,
+//! where a new line begins.
 ghost use Rattle.std.specs.Prelude.{◌≡◌, IfOk, option_map, string_bytes};
 ghost use Rattle.dds_deploy.specs.Views.{reader_view, rule_view, writer_view};
 ghost use Rattle.dds_cert.specs.Views.{certificate_view};
-ghost use Rattle.dds_draw.specs.Nodes.{bound_line, certificate_lines, endpoint_label, history_line, limit_line, may_lose_line, policies_lines, reader_node, reliability_line, rule_node, start_line, total_line, writer_node};
+ghost use Rattle.dds_draw.specs.Nodes.{bound_line, certificate_lines, endpoint_label, history_line, limit_line};
+ghost use Rattle.dds_draw.specs.Nodes.{may_lose_line, policies_lines, reader_node, reliability_line, rule_node};
+ghost use Rattle.dds_draw.specs.Nodes.{start_line, total_line, writer_node};
 
 use dds_base::{ReaderNo, RuleNo, WriterNo};
 use dds_cert::naming::{name_at, reader_key};
@@ -93,7 +96,9 @@ fn certificate_lines(
     certificate: Option<&Certificate>,
     reader: ReaderNo,
 ) -> TextResult
-    ensures { IfOk result (λ text. string_bytes text ≡ certificate_lines lists.now reader (option_map (λ c. certificate_view c.now) certificate.entry)) }
+    ensures { IfOk result
+        (λ text. string_bytes text
+        ≡ certificate_lines lists.now reader (option_map (λ c. certificate_view c.now) certificate.entry)) }
 {
     let Some(certificate) = certificate else {
         return Ok(String::new(alloc));
@@ -145,7 +150,10 @@ pub(crate) fn reader_node(
     reader: ReaderNo,
     x: &Reader,
 ) -> TextResult
-    ensures { IfOk result (λ text. string_bytes text ≡ reader_node lists.now (option_map (λ c. certificate_view c.now) certificate.entry) reader (reader_view x.now)) }
+    ensures { IfOk result
+        (λ text. string_bytes text
+        ≡ reader_node lists.now (option_map
+        (λ c. certificate_view c.now) certificate.entry) reader (reader_view x.now)) }
 {
     let name = name_at(lists.reader_names(), reader.number());
     let topic = name_at(lists.topic_names(), x.topic.number());

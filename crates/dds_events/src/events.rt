@@ -19,7 +19,10 @@ fn numbered_text(
     reader: ReaderNo,
     number: u64,
 ) -> Result<String, NoMemory>
-    ensures { IfOk result (λ text. string_bytes text ≡ two_words what.now (three_words (writer_name lists.now writer) (reader_name lists.now reader) (decimal number))) }
+    ensures { IfOk result
+        (λ text. string_bytes text
+        ≡ two_words what.now (three_words (writer_name lists.now writer) (reader_name lists.now reader)
+        (decimal number))) }
 {
     let writer = writer_name(lists, writer);
     let reader = reader_name(lists, reader);
@@ -33,7 +36,8 @@ fn paired_text(alloc: Global, what: &str, first: &str, second: &str) -> Result<S
     format!(in alloc; "{what} {first} {second}")
 }
 
-/// What is done, in words, with the names of the file. The data of a write is not shown. Only want of memory is an error.
+/// What is done, in words, with the names of the file. The data of a write is not shown. Only want of memory is an
+/// error.
 pub fn event_text(alloc: Global, lists: &Deployment, event: &Event) -> Result<String, NoMemory>
     ensures { IfOk result (λ text. string_bytes text ≡ event_text lists.now event.now) }
 {

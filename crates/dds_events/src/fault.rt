@@ -4,7 +4,8 @@ ghost use Rattle.std.specs.Prelude.{◌≡◌};
 
 use std::alloc::{AllocError, AllocFailed};
 
-/// What is wrong with a file of events. No kind says that there are too many: each event takes a line, so a file of at most 1,048,576 bytes has fewer.
+/// What is wrong with a file of events. No kind says that there are too many: each event takes a line, so a file of at
+/// most 1,048,576 bytes has fewer.
 #[derive(Clone, Copy, Debug, PartialEq, Eq)]
 pub enum EventsFaultKind {
     /// The bytes are not UTF-8.

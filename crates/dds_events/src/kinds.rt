@@ -1,4 +1,5 @@
-//! The event of each kind that a text says. A function answers `None` only where the text is that of no event of its kind.
+//! The event of each kind that a text says. A function answers `None` only where the text is that of no event of its
+//! kind.
 ghost use Rattle.std.specs.Prelude.{◌≡◌, ◌≢◌, ◌<◌, ◌↔◌, ℕ, Bool, true, List, length, IfNone, IfSome};
 ghost use Rattle.dds_cert.specs.Naming.{reader_key, reader_keys, writer_key, writer_keys};
 ghost use Rattle.dds_deploy.specs.Lists.{Lists};
@@ -17,9 +18,13 @@ const NO_DATA: Data = [0; 32];
 /// The writer and the key of its topic whose names the text is.
 #[tactic(auto, using(crate::proofs::WordLaws::one_more))]
 fn writer_and_key(lists: &Deployment, text: &str) -> Option<(WriterNo, KeyNo)>
-    ensures within { IfSome result (λ x. (x.0 < length lists.now.writers.entries) × (x.1 < length (writer_keys lists.now x.0))) }
-    ensures some { IfSome result (λ x. two_words (writer_name lists.now x.0) (writer_key lists.now x.0 x.1) ≡ text.now) }
-    ensures none { IfNone result ((w k : ℕ) → w < length lists.now.writers.entries → k < length (writer_keys lists.now w) → two_words (writer_name lists.now w) (writer_key lists.now w k) ≢ text.now) }
+    ensures within { IfSome result
+        (λ x. (x.0 < length lists.now.writers.entries) × (x.1 < length (writer_keys lists.now x.0))) }
+    ensures some { IfSome result
+        (λ x. two_words (writer_name lists.now x.0) (writer_key lists.now x.0 x.1) ≡ text.now) }
+    ensures none { IfNone result ((w k : ℕ) → w < length lists.now.writers.entries
+        → k < length (writer_keys lists.now w)
+        → two_words (writer_name lists.now w) (writer_key lists.now w k) ≢ text.now) }
 {
     for number in 0..lists.writers() {
         let writer = WriterNo::new(number);
@@ -34,9 +39,13 @@ fn writer_and_key(lists: &Deployment, text: &str) -> Option<(WriterNo, KeyNo)>
 /// The reader and the key of its topic whose names the text is.
 #[tactic(auto, using(crate::proofs::WordLaws::one_more))]
 fn reader_and_key(lists: &Deployment, text: &str) -> Option<(ReaderNo, KeyNo)>
-    ensures within { IfSome result (λ x. (x.0 < length lists.now.readers.entries) × (x.1 < length (reader_keys lists.now x.0))) }
-    ensures some { IfSome result (λ x. two_words (reader_name lists.now x.0) (reader_key lists.now x.0 x.1) ≡ text.now) }
-    ensures none { IfNone result ((r k : ℕ) → r < length lists.now.readers.entries → k < length (reader_keys lists.now r) → two_words (reader_name lists.now r) (reader_key lists.now r k) ≢ text.now) }
+    ensures within { IfSome result
+        (λ x. (x.0 < length lists.now.readers.entries) × (x.1 < length (reader_keys lists.now x.0))) }
+    ensures some { IfSome result
+        (λ x. two_words (reader_name lists.now x.0) (reader_key lists.now x.0 x.1) ≡ text.now) }
+    ensures none { IfNone result ((r k : ℕ) → r < length lists.now.readers.entries
+        → k < length (reader_keys lists.now r)
+        → two_words (reader_name lists.now r) (reader_key lists.now r k) ≢ text.now) }
 {
     for number in 0..lists.readers() {
         let reader = ReaderNo::new(number);
@@ -85,7 +94,8 @@ fn rule_of(lists: &Deployment, text: &str) -> Option<RuleNo>
 pub(crate) fn write_of(lists: &Deployment, text: &str) -> Option<Event>
     ensures known { IfSome result (IsOfDeployment lists.now) }
     ensures some { IfSome result (IsSaidBy lists.now text.now) }
-    ensures none { IfNone result ((w k : ℕ) (payload : List ℕ) → IsUnsaidBy lists.now text.now (Event.Write w k payload)) }
+    ensures none { IfNone result ((w k : ℕ) (payload : List ℕ)
+        → IsUnsaidBy lists.now text.now (Event.Write w k payload)) }
 {
     let (writer, key) = writer_and_key(lists, after_word(text, "write")?)?;
     Some(Event::Write {
@@ -189,7 +199,8 @@ pub(crate) fn acknack_of(lists: &Deployment, text: &str) -> Option<Event>
 pub(crate) fn delivery_of(text: &str) -> Option<Event>
     ensures known { (d : Lists) → IfSome result (IsOfDeployment d) }
     ensures some { (d : Lists) → IfSome result (IsSaidBy d text.now) }
-    ensures none { IfNone result ((d : Lists) (place : ℕ) (keep : Bool) → IsUnsaidBy d text.now (Event.Deliver place keep)) }
+    ensures none { IfNone result ((d : Lists) (place : ℕ) (keep : Bool)
+        → IsUnsaidBy d text.now (Event.Deliver place keep)) }
 {
     let words = after_word(text, "deliver")?;
     if let Some(place) = number_of(words) {

@@ -22,7 +22,8 @@ pub fn line_text(
     format!(in alloc; "{event} -> {reply}\n")
 }
 
-/// The lines of events with their replies, in their order. Where one list is longer, the rest of it is left out. Only want of memory is an error.
+/// The lines of events with their replies, in their order. Where one list is longer, the rest of it is left out. Only
+/// want of memory is an error.
 pub fn lines_text(
     alloc: Global,
     lists: &Deployment,

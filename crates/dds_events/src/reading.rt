@@ -2,7 +2,8 @@
 ghost use Rattle.std.specs.Prelude.{◌≡◌, IfErr, IfNone, IfOk, IfSome, IsUtf8, OnOk, map};
 ghost use Rattle.std.specs.List.{All};
 ghost use Rattle.dds_events.specs.Events.{event_text};
-ghost use Rattle.dds_events.specs.Reading.{HasNoData, IsFaultOf, IsLineFaultOf, IsOfDeployment, IsSaidBy, SaysNoEvent, before_arrow, said_of, says_something};
+ghost use Rattle.dds_events.specs.Reading.{HasNoData, IsFaultOf, IsLineFaultOf, IsOfDeployment, IsSaidBy, SaysNoEvent};
+ghost use Rattle.dds_events.specs.Reading.{before_arrow, said_of, says_something};
 
 use crate::fault::{EventsFault, EventsFaultKind};
 use crate::kinds::{
@@ -12,7 +13,8 @@ use dds_base::Event;
 use dds_deploy::Deployment;
 use std::alloc::Global;
 
-/// The event of the deployment that a text says, `None` just where it is the text of none. A write that is read has 32 zero bytes of data.
+/// The event of the deployment that a text says, `None` just where it is the text of none. A write that is read has 32
+/// zero bytes of data.
 pub fn read_event(lists: &Deployment, line: &str) -> Option<Event>
     ensures known { IfSome result (IsOfDeployment lists.now) }
     ensures some { IfSome result (IsSaidBy lists.now line.now) }

@@ -1,5 +1,6 @@
-//! What the words of a text stand for: names by their numbers, and numbers. No word is cut off at a blank: a text is compared with each name that it may
-//! begin with, at most 256 of them, so what is found here doesn't rest on names that hold no blanks.
+//! What the words of a text stand for: names by their numbers, and numbers. No word is cut off at a blank: a text is
+//! compared with each name that it may begin with, at most 256 of them, so what is found here doesn't rest on names
+//! that hold no blanks.
 ghost use Rattle.std.specs.Prelude.{◌≡◌, ◌≢◌, ◌<◌, ◌↔◌, ◌^◌, ℕ, true, List, length, IfNone, IfSome};
 ghost use Rattle.std.specs.Fmt.{decimal};
 ghost use Rattle.dds_cert.specs.Naming.{name_at};
@@ -51,7 +52,8 @@ fn place_of(names: &Names, text: &str) -> Option<usize>
 pub(crate) fn place_after(names: &Names, word: &str, text: &str) -> Option<usize>
     ensures within { IfSome result (λ n. n < length names.now) }
     ensures some { IfSome result (λ n. two_words word.now (name_at names.now n) ≡ text.now) }
-    ensures none { IfNone result ((n : ℕ) → n < length names.now → two_words word.now (name_at names.now n) ≢ text.now) }
+    ensures none { IfNone result ((n : ℕ) → n < length names.now
+        → two_words word.now (name_at names.now n) ≢ text.now) }
 {
     place_of(names, after_word(text, word)?)
 }
@@ -69,7 +71,8 @@ fn number_after(word: &str, text: &str) -> Option<u64>
 pub(crate) fn pair_of(firsts: &Names, seconds: &Names, text: &str) -> Option<(usize, usize)>
     ensures within { IfSome result (λ x. (x.0 < length firsts.now) × (x.1 < length seconds.now)) }
     ensures some { IfSome result (λ x. two_words (name_at firsts.now x.0) (name_at seconds.now x.1) ≡ text.now) }
-    ensures none { IfNone result ((m n : ℕ) → m < length firsts.now → n < length seconds.now → two_words (name_at firsts.now m) (name_at seconds.now n) ≢ text.now) }
+    ensures none { IfNone result ((m n : ℕ) → m < length firsts.now → n < length seconds.now
+        → two_words (name_at firsts.now m) (name_at seconds.now n) ≢ text.now) }
 {
     for first in 0..firsts.len() {
         if let Some(second) = place_after(seconds, name_at(firsts, first), text) {
@@ -84,7 +87,8 @@ pub(crate) fn pair_of(firsts: &Names, seconds: &Names, text: &str) -> Option<(us
 fn numbered_of(names: &Names, text: &str) -> Option<(usize, u64)>
     ensures within { IfSome result (λ x. x.0 < length names.now) }
     ensures some { IfSome result (λ x. two_words (name_at names.now x.0) (decimal x.1) ≡ text.now) }
-    ensures none { IfNone result ((m n : ℕ) → m < length names.now → n < 2 ^ 64 → two_words (name_at names.now m) (decimal n) ≢ text.now) }
+    ensures none { IfNone result ((m n : ℕ) → m < length names.now → n < 2 ^ 64
+        → two_words (name_at names.now m) (decimal n) ≢ text.now) }
 {
     for name in 0..names.len() {
         if let Some(number) = number_after(name_at(names, name), text) {
@@ -98,7 +102,8 @@ fn numbered_of(names: &Names, text: &str) -> Option<(usize, u64)>
 fn numbered_after(names: &Names, word: &str, text: &str) -> Option<(usize, u64)>
     ensures within { IfSome result (λ x. x.0 < length names.now) }
     ensures some { IfSome result (λ x. three_words word.now (name_at names.now x.0) (decimal x.1) ≡ text.now) }
-    ensures none { IfNone result ((m n : ℕ) → m < length names.now → n < 2 ^ 64 → three_words word.now (name_at names.now m) (decimal n) ≢ text.now) }
+    ensures none { IfNone result ((m n : ℕ) → m < length names.now → n < 2 ^ 64
+        → three_words word.now (name_at names.now m) (decimal n) ≢ text.now) }
 {
     numbered_of(names, after_word(text, word)?)
 }
@@ -111,8 +116,10 @@ pub(crate) fn numbered_pair_of(
     text: &str,
 ) -> Option<(usize, usize, u64)>
     ensures within { IfSome result (λ x. (x.0 < length firsts.now) × (x.1 < length seconds.now)) }
-    ensures some { IfSome result (λ x. three_words (name_at firsts.now x.0) (name_at seconds.now x.1) (decimal x.2) ≡ text.now) }
-    ensures none { IfNone result ((l m n : ℕ) → l < length firsts.now → m < length seconds.now → n < 2 ^ 64 → three_words (name_at firsts.now l) (name_at seconds.now m) (decimal n) ≢ text.now) }
+    ensures some { IfSome result
+        (λ x. three_words (name_at firsts.now x.0) (name_at seconds.now x.1) (decimal x.2) ≡ text.now) }
+    ensures none { IfNone result ((l m n : ℕ) → l < length firsts.now → m < length seconds.now → n < 2 ^ 64
+        → three_words (name_at firsts.now l) (name_at seconds.now m) (decimal n) ≢ text.now) }
 {
     for first in 0..firsts.len() {
         if let Some((second, number)) = numbered_after(seconds, name_at(firsts, first), text) {

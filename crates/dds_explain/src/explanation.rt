@@ -1,7 +1,9 @@
 //! The reason of an answer of the checker: the numbers behind a refusal, and how tight what is accepted is.
 ghost use Rattle.std.specs.Prelude.{◌≡◌, IfOk, string_bytes};
 ghost use Rattle.dds_cert.specs.Views.{certificate_view};
-ghost use Rattle.dds_explain.specs.Explanation.{instance_reason, margins, pair_key_reason, pair_reason, reader_reason, reason, reason_of, rule_reason, take_reason, write_reason, writer_reason};
+ghost use Rattle.dds_explain.specs.Explanation.{instance_reason, margins, pair_key_reason, pair_reason, reader_reason};
+ghost use Rattle.dds_explain.specs.Explanation.{reason, reason_of, rule_reason, take_reason, write_reason};
+ghost use Rattle.dds_explain.specs.Explanation.{writer_reason};
 
 use crate::limits::{
     bound_over_line, keep_last_filter_lines, no_bound_line, no_total_lines, reader_instances_lines,
@@ -50,7 +52,9 @@ fn pair_key_reason(
     reader: ReaderNo,
     key: KeyNo,
 ) -> TextResult
-    ensures { IfOk result (λ text. string_bytes text ≡ pair_key_reason plan.now (certificate_view certificate.now) number writer reader key) }
+    ensures { IfOk result
+        (λ text. string_bytes text
+        ≡ pair_key_reason plan.now (certificate_view certificate.now) number writer reader key) }
 {
     match number {
         Number::WriterDepth => writer_depth_lines(alloc, plan, certificate, writer, reader, key),
@@ -67,7 +71,8 @@ fn instance_reason(
     reader: ReaderNo,
     key: KeyNo,
 ) -> TextResult
-    ensures { IfOk result (λ text. string_bytes text ≡ instance_reason plan.now (certificate_view certificate.now) number reader key) }
+    ensures { IfOk result
+        (λ text. string_bytes text ≡ instance_reason plan.now (certificate_view certificate.now) number reader key) }
 {
     match number {
         Number::NoBound => no_bound_line(alloc, plan, reader, key),
@@ -85,7 +90,8 @@ fn reader_reason(
     number: Number,
     reader: ReaderNo,
 ) -> TextResult
-    ensures { IfOk result (λ text. string_bytes text ≡ reader_reason plan.now (certificate_view certificate.now) number reader) }
+    ensures { IfOk result
+        (λ text. string_bytes text ≡ reader_reason plan.now (certificate_view certificate.now) number reader) }
 {
     match number {
         Number::Exclusive => exclusive_line(alloc, reader_name(plan, reader)),
@@ -122,7 +128,8 @@ fn take_reason(
     reader: ReaderNo,
     key: KeyNo,
 ) -> TextResult
-    ensures { IfOk result (λ text. string_bytes text ≡ take_reason plan.now (certificate_view certificate.now) number row reader key) }
+    ensures { IfOk result
+        (λ text. string_bytes text ≡ take_reason plan.now (certificate_view certificate.now) number row reader key) }
 {
     match number {
         Number::TakeRaises => take_raises_line(alloc, plan, certificate, row, reader, key),
@@ -139,7 +146,8 @@ fn rule_reason(
     row: usize,
     rule: RuleNo,
 ) -> TextResult
-    ensures { IfOk result (λ text. string_bytes text ≡ rule_reason plan.now (certificate_view certificate.now) number row rule) }
+    ensures { IfOk result
+        (λ text. string_bytes text ≡ rule_reason plan.now (certificate_view certificate.now) number row rule) }
 {
     match number {
         Number::RuleRaises => rule_raises_lines(alloc, plan, certificate, row, rule),
@@ -157,7 +165,8 @@ fn write_reason(
     writer: WriterNo,
     key: KeyNo,
 ) -> TextResult
-    ensures { IfOk result (λ text. string_bytes text ≡ write_reason plan.now (certificate_view certificate.now) number row writer key) }
+    ensures { IfOk result
+        (λ text. string_bytes text ≡ write_reason plan.now (certificate_view certificate.now) number row writer key) }
 {
     match number {
         Number::WriteRaises => write_raises_lines(alloc, plan, certificate, row, writer, key),
@@ -173,7 +182,8 @@ fn reason_of(
     number: Number,
     subject: Subject,
 ) -> TextResult
-    ensures { IfOk result (λ text. string_bytes text ≡ reason_of plan.now (certificate_view certificate.now) number subject) }
+    ensures { IfOk result
+        (λ text. string_bytes text ≡ reason_of plan.now (certificate_view certificate.now) number subject) }
 {
     match subject {
         Subject::Pair { writer, reader } => pair_reason(alloc, plan, number, writer, reader),
@@ -199,10 +209,10 @@ fn reason_of(
     }
 }
 
-/// The lines of the reason of a refusal. The first begins with `because` and has the numbers that the refusal compares, as the checker
-/// counts and weighs them, or the policy or the pair that it refuses (OMG DDS 1.4, clause 2.2.3); each further line is indented by
-/// two blanks and has a key or a term of one of these numbers. There is no line where the subject isn't one of the number, or names
-/// a row or a rule that isn't there. Only want of memory is an error.
+/// The lines of the reason of a refusal. The first begins with `because` and has the numbers that the refusal compares,
+/// as the checker counts and weighs them, or the policy or the pair that it refuses (OMG DDS 1.4, clause 2.2.3); each
+/// further line is indented by two blanks and has a key or a term of one of these numbers. There is no line where the
+/// subject isn't one of the number, or names a row or a rule that isn't there. Only want of memory is an error.
 #[tactic(auto, unfolding(crate::specs::Explanation::reason))]
 pub fn reason(alloc: Global, plan: &Plan, certificate: &Certificate, no: No) -> TextResult
     ensures { IfOk result (λ text. string_bytes text ≡ reason plan.now (certificate_view certificate.now) no) }
@@ -210,10 +220,10 @@ pub fn reason(alloc: Global, plan: &Plan, certificate: &Certificate, no: No) -> 
     reason_of(alloc, plan, certificate, no.number, no.subject)
 }
 
-/// How tight an accepted certificate is: a line for each bound and then for each total, in the order of the certificate. It has the
-/// number of samples, the limit of the reader that it keeps or `no limit` (OMG DDS 1.4, clauses 2.2.3.18 and 2.2.3.19), what the
-/// permits at the opening weigh by its row and, of a bound, what a sample weighs and the least bound that the row shows. Only
-/// want of memory is an error.
+/// How tight an accepted certificate is: a line for each bound and then for each total, in the order of the
+/// certificate. It has the number of samples, the limit of the reader that it keeps or `no limit` (OMG DDS 1.4, clauses
+/// 2.2.3.18 and 2.2.3.19), what the permits at the opening weigh by its row and, of a bound, what a sample weighs and
+/// the least bound that the row shows. Only want of memory is an error.
 #[tactic(auto, unfolding(crate::specs::Explanation::margins))]
 pub fn margins(alloc: Global, plan: &Plan, certificate: &Certificate) -> TextResult
     ensures { IfOk result (λ text. string_bytes text ≡ margins plan.now (certificate_view certificate.now)) }

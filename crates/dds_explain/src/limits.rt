@@ -1,5 +1,5 @@
-//! Why numbers 20 to 24 refuse an endpoint: how much can come, and the limit that is too small for it; and why 25 and 26 refuse a writer
-//! that keeps the last samples alone.
+//! Why numbers 20 to 24 refuse an endpoint: how much can come, and the limit that is too small for it; and why 25 and
+//! 26 refuse a writer that keeps the last samples alone.
 ghost use Rattle.std.specs.Prelude.{◌≡◌, ◌<◌, ◌^◌, IfOk, string_bytes};
 ghost use Rattle.dds_base.specs.Sums.{total};
 ghost use Rattle.dds_match.specs.Plan.{network_of};
@@ -9,7 +9,10 @@ ghost use Rattle.dds_cert.specs.Views.{certificate_view};
 ghost use Rattle.dds_check.specs.Limits.{is_bounded, is_heard, reached_bound};
 ghost use Rattle.dds_check.specs.Tables.{bound_of};
 ghost use Rattle.dds_events.specs.Naming.{reader_name};
-ghost use Rattle.dds_explain.specs.Limits.{bound_given, keep_last_filter_lines, unheard_key, writer_depth_lines, bound_line, bound_over_line, bound_text, no_bound_line, no_total_lines, reached_bound_line, reached_key, reader_instances_lines, samples_over_lines, total_line, unbounded_key, writer_instances_lines, written_key};
+ghost use Rattle.dds_explain.specs.Limits.{bound_given, keep_last_filter_lines, unheard_key, writer_depth_lines};
+ghost use Rattle.dds_explain.specs.Limits.{bound_line, bound_over_line, bound_text, no_bound_line, no_total_lines};
+ghost use Rattle.dds_explain.specs.Limits.{reached_bound_line, reached_key, reader_instances_lines, samples_over_lines};
+ghost use Rattle.dds_explain.specs.Limits.{total_line, unbounded_key, writer_instances_lines, written_key};
 
 use crate::pieces::{
     instance_limit_name, key_line, limit_text, reader_limits, reader_name, writer_limits,
@@ -156,7 +159,8 @@ pub(crate) fn no_total_lines(
     certificate: &Certificate,
     reader: ReaderNo,
 ) -> TextResult
-    ensures { IfOk result (λ text. string_bytes text ≡ no_total_lines plan.now (certificate_view certificate.now) reader) }
+    ensures { IfOk result
+        (λ text. string_bytes text ≡ no_total_lines plan.now (certificate_view certificate.now) reader) }
 {
     let name = reader_name(plan, reader);
     let limit = limit_text(alloc, reader_limits(plan, reader).max_samples)?;
@@ -181,7 +185,8 @@ pub(crate) fn bound_over_line(
     reader: ReaderNo,
     key: KeyNo,
 ) -> TextResult
-    ensures { IfOk result (λ text. string_bytes text ≡ bound_over_line plan.now (certificate_view certificate.now) reader key) }
+    ensures { IfOk result
+        (λ text. string_bytes text ≡ bound_over_line plan.now (certificate_view certificate.now) reader key) }
 {
     let limits = reader_limits(plan, reader);
     let bound = bound_text(
@@ -243,7 +248,8 @@ fn reached_bound_lines(alloc: Global, plan: &Plan, bounds: &[Bound], reader: Rea
         alloc,
         KEYS,
         |k|
-            ensures { IfOk result (λ text. string_bytes text ≡ reached_bound_line plan.entry.now bounds.entry.now reader k) }
+            ensures { IfOk result
+                (λ text. string_bytes text ≡ reached_bound_line plan.entry.now bounds.entry.now reader k) }
         { reached_bound_line(alloc, plan, bounds, reader, KeyNo::new(k)) },
     )
 }
@@ -277,7 +283,8 @@ pub(crate) fn samples_over_lines(
     certificate: &Certificate,
     reader: ReaderNo,
 ) -> TextResult
-    ensures { IfOk result (λ text. string_bytes text ≡ samples_over_lines plan.now (certificate_view certificate.now) reader) }
+    ensures { IfOk result
+        (λ text. string_bytes text ≡ samples_over_lines plan.now (certificate_view certificate.now) reader) }
 {
     let name = reader_name(plan, reader);
     let limit = limit_text(alloc, reader_limits(plan, reader).max_samples)?;
@@ -352,7 +359,10 @@ fn bound_of_key(
     reader: ReaderNo,
     key: KeyNo,
 ) -> TextResult
-    ensures { IfOk result (λ text. string_bytes text ≡ bound_given (reader_key plan.now reader key) (reader_name plan.now reader) (bound_of (certificate_view certificate.now).bounds reader key)) }
+    ensures { IfOk result
+        (λ text. string_bytes text
+        ≡ bound_given (reader_key plan.now reader key) (reader_name plan.now reader)
+        (bound_of (certificate_view certificate.now).bounds reader key)) }
 {
     let bound = find_bound(certificate.bounds.as_slice(), reader, key);
     let name = reader_key(plan.lists(), reader, key);
@@ -368,7 +378,8 @@ pub(crate) fn writer_depth_lines(
     reader: ReaderNo,
     key: KeyNo,
 ) -> TextResult
-    ensures { IfOk result (λ text. string_bytes text ≡ writer_depth_lines plan.now (certificate_view certificate.now) writer reader key) }
+    ensures { IfOk result
+        (λ text. string_bytes text ≡ writer_depth_lines plan.now (certificate_view certificate.now) writer reader key) }
 {
     let depth = limit_text(alloc, writer_limits(plan, writer).keep_last)?;
     let bound = bound_of_key(alloc, plan, certificate, reader, key)?;

@@ -3,7 +3,9 @@ ghost use Rattle.std.specs.Prelude.{◌≡◌, IfNone, IfOk, IfSome, None, Some,
 ghost use Rattle.dds_match.specs.Plan.{network_of};
 ghost use Rattle.dds_cert.specs.Views.{certificate_view, row_view};
 ghost use Rattle.dds_runs.specs.Accepted.{budget, row_of};
-ghost use Rattle.dds_explain.specs.Margin.{bound_line, bound_margin, bound_words, margin_lines, margin_text, named_instance_limit, named_limit, openings, total_line, total_margin, total_words};
+ghost use Rattle.dds_explain.specs.Margin.{bound_line, bound_margin, bound_words, margin_lines, margin_text};
+ghost use Rattle.dds_explain.specs.Margin.{named_instance_limit, named_limit, openings, total_line, total_margin};
+ghost use Rattle.dds_explain.specs.Margin.{total_words};
 
 use crate::pieces::{find_row, instance_limit_name, reader_limits, reader_name};
 use crate::shown::shown_text;
@@ -53,7 +55,8 @@ fn named_instance_limit(alloc: Global, plan: &Plan, reader: ReaderNo) -> TextRes
     named_limit(alloc, instance_limit_name(&limits), instance_limit(&limits))
 }
 
-/// A plan and a certificate, with what the permits at the opening weigh by each of its rows. Contracts see it as the two.
+/// A plan and a certificate, with what the permits at the opening weigh by each of its rows. Contracts see it as the
+/// two.
 #[derive(Drop)]
 struct Openings<'a> {
     plan: &'a Plan,
@@ -73,7 +76,8 @@ impl<'a> Model for Openings<'a> {
 
     ghost view = { λ o. (o.plan.now, certificate_view o.certificate.now) };
 
-    ghost invariant = { λ o. o.weights.items ≡ openings (network_of o.plan.now) (certificate_view o.certificate.now).rows };
+    ghost invariant = { λ o. o.weights.items
+        ≡ openings (network_of o.plan.now) (certificate_view o.certificate.now).rows };
 }
 
 /// What the permits at the opening weigh by each row, in the order of the rows.
@@ -82,7 +86,8 @@ fn weigh_openings(
     plan: &Plan,
     certificate: &Certificate,
 ) -> Result<Vec<u128>, NoMemory>
-    ensures { IfOk result (λ weights. weights.items ≡ openings (network_of plan.now) (certificate_view certificate.now).rows) }
+    ensures { IfOk result
+        (λ weights. weights.items ≡ openings (network_of plan.now) (certificate_view certificate.now).rows) }
 {
     let mut weights = Vec::new(alloc);
     for row in &certificate.rows {

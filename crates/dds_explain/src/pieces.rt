@@ -90,7 +90,10 @@ pub(crate) fn text_of_row<F: Fn(&Row) -> TextResult>(
     piece: F,
 ) -> TextResult
     requires { F.IsAlwaysCallable piece }
-    ensures { (text_of : _ → List ℕ) → ((row : _) (r : _) → F.post piece row r → IfOk r (λ text. string_bytes text ≡ text_of (row_view row.now))) → IfOk result (λ text. string_bytes text ≡ option_map_or text_of (slice_get (certificate_view certificate.now).rows n) []) }
+    ensures { (text_of : _ → List ℕ)
+        → ((row : _) (r : _) → F.post piece row r → IfOk r (λ text. string_bytes text ≡ text_of (row_view row.now)))
+        → IfOk result (λ text. string_bytes text
+        ≡ option_map_or text_of (slice_get (certificate_view certificate.now).rows n) []) }
 {
     match find_row(certificate, n) {
         Some(row) => piece(row),

@@ -1,6 +1,8 @@
-//! Why numbers 12 and 14 to 17 refuse an endpoint: the policy that the running profile doesn't have, and what it has instead.
+//! Why numbers 12 and 14 to 17 refuse an endpoint: the policy that the running profile doesn't have, and what it has
+//! instead.
 ghost use Rattle.std.specs.Prelude.{◌≡◌, IfOk, string_bytes};
-ghost use Rattle.dds_explain.specs.Policies.{best_effort_line, exclusive_line, keeps_last_line, ordered_line, policy_line, source_order_line};
+ghost use Rattle.dds_explain.specs.Policies.{best_effort_line, exclusive_line, keeps_last_line, ordered_line};
+ghost use Rattle.dds_explain.specs.Policies.{policy_line, source_order_line};
 
 use dds_show::texts::TextResult;
 use std::alloc::Global;

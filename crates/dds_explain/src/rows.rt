@@ -3,7 +3,9 @@ ghost use Rattle.std.specs.Prelude.{◌≡◌, IfOk, flat_map, length, string_by
 ghost use Rattle.dds_deploy.specs.Views.{rule_view};
 ghost use Rattle.dds_cert.specs.Text.{each_below};
 ghost use Rattle.dds_cert.specs.Views.{certificate_view, row_view};
-ghost use Rattle.dds_explain.specs.Rows.{permit_text, firing_line, firing_lines, heard_line, rule_lines, rule_raises_lines, take_line, take_raises_line, take_term, write_line, write_lines, write_raises_lines, write_term};
+ghost use Rattle.dds_explain.specs.Rows.{permit_text, firing_line, firing_lines, heard_line, rule_lines};
+ghost use Rattle.dds_explain.specs.Rows.{rule_raises_lines, take_line, take_raises_line, take_term, write_line};
+ghost use Rattle.dds_explain.specs.Rows.{write_lines, write_raises_lines, write_term};
 
 use crate::pieces::{reader_name, text_of_row, weighed_term, writer_name};
 use crate::weights::{
@@ -41,7 +43,8 @@ pub(crate) fn take_raises_line(
     reader: ReaderNo,
     key: KeyNo,
 ) -> TextResult
-    ensures { IfOk result (λ text. string_bytes text ≡ take_raises_line plan.now (certificate_view certificate.now) row reader key) }
+    ensures { IfOk result
+        (λ text. string_bytes text ≡ take_raises_line plan.now (certificate_view certificate.now) row reader key) }
 {
     text_of_row(alloc, certificate, row, |row| {
         take_line(alloc, plan, row, reader, key)
@@ -96,7 +99,8 @@ fn firing_line(alloc: Global, row: &Row, name: &str, rule: &Rule) -> TextResult
 
 /// What a rule writes and takes, weighed, with its terms.
 fn firing_lines(alloc: Global, plan: &Plan, row: &Row, u: RuleNo, rule: &Rule) -> TextResult
-    ensures { IfOk result (λ text. string_bytes text ≡ firing_lines plan.now (row_view row.now) u (rule_view rule.now)) }
+    ensures { IfOk result
+        (λ text. string_bytes text ≡ firing_lines plan.now (row_view row.now) u (rule_view rule.now)) }
 {
     let name = rule_text(alloc, plan.lists(), u)?;
     let line = firing_line(alloc, row, name.as_str(), rule)?;
@@ -124,7 +128,8 @@ pub(crate) fn rule_raises_lines(
     row: usize,
     rule: RuleNo,
 ) -> TextResult
-    ensures { IfOk result (λ text. string_bytes text ≡ rule_raises_lines plan.now (certificate_view certificate.now) row rule) }
+    ensures { IfOk result
+        (λ text. string_bytes text ≡ rule_raises_lines plan.now (certificate_view certificate.now) row rule) }
 {
     text_of_row(alloc, certificate, row, |row| {
         rule_lines(alloc, plan, row, rule)
@@ -153,7 +158,9 @@ fn heard_line(
 
 /// What a sample of the key weighs at each matched reader that hears it.
 fn heard_lines(alloc: Global, plan: &Plan, row: &Row, writer: WriterNo, key: KeyNo) -> TextResult
-    ensures { IfOk result (λ text. string_bytes text ≡ each_below (length plan.now.readers.entries) (heard_line plan.now (row_view row.now) writer key)) }
+    ensures { IfOk result
+        (λ text. string_bytes text
+        ≡ each_below (length plan.now.readers.entries) (heard_line plan.now (row_view row.now) writer key)) }
 {
     text_below(alloc, plan.lists().readers(), |r| {
         heard_line(alloc, plan, row, writer, key, ReaderNo::new(r))
@@ -203,7 +210,8 @@ pub(crate) fn write_raises_lines(
     writer: WriterNo,
     key: KeyNo,
 ) -> TextResult
-    ensures { IfOk result (λ text. string_bytes text ≡ write_raises_lines plan.now (certificate_view certificate.now) row writer key) }
+    ensures { IfOk result
+        (λ text. string_bytes text ≡ write_raises_lines plan.now (certificate_view certificate.now) row writer key) }
 {
     text_of_row(alloc, certificate, row, |row| {
         write_lines(alloc, plan, row, writer, key)

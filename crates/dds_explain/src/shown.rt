@@ -6,7 +6,10 @@ ghost use Rattle.dds_cert.specs.Text.{each_below};
 ghost use Rattle.dds_cert.specs.Views.{certificate_view, row_view};
 ghost use Rattle.dds_runs.specs.Accepted.{budget, row_of};
 ghost use Rattle.dds_check.specs.Shown.{shows, shows_all};
-ghost use Rattle.dds_explain.specs.Shown.{bound_claim, bound_lines, bound_not_shown_lines, permit_line, permit_lines, reached_sample_line, sample_line, shown_text, total_claim, total_lines, total_not_shown_lines, unshown_bound, unshown_bound_by, unshown_line, unshown_total, unshown_total_by, writer_permit_lines};
+ghost use Rattle.dds_explain.specs.Shown.{bound_claim, bound_lines, bound_not_shown_lines, permit_line, permit_lines};
+ghost use Rattle.dds_explain.specs.Shown.{reached_sample_line, sample_line, shown_text, total_claim, total_lines};
+ghost use Rattle.dds_explain.specs.Shown.{total_not_shown_lines, unshown_bound, unshown_bound_by, unshown_line};
+ghost use Rattle.dds_explain.specs.Shown.{unshown_total, unshown_total_by, writer_permit_lines};
 
 use crate::pieces::{find_row, reader_name, text_of_row, weighed_term, writer_name};
 use crate::weights::{budget, opening_permits, permit_weight, sample_weight};
@@ -69,7 +72,8 @@ fn writer_permit_lines(alloc: Global, plan: &Plan, row: &Row, writer: WriterNo) 
         alloc,
         KEYS,
         |k|
-            ensures { IfOk result (λ text. string_bytes text ≡ permit_line plan.entry.now (row_view row.entry.now) writer k) }
+            ensures { IfOk result
+                (λ text. string_bytes text ≡ permit_line plan.entry.now (row_view row.entry.now) writer k) }
         { permit_line(alloc, plan, row, writer, KeyNo::new(k)) },
     )
 }
@@ -82,7 +86,8 @@ fn permit_lines(alloc: Global, plan: &Plan, row: &Row) -> TextResult
         alloc,
         plan.lists().writers(),
         |w|
-            ensures { IfOk result (λ text. string_bytes text ≡ writer_permit_lines plan.entry.now (row_view row.entry.now) w) }
+            ensures { IfOk result
+                (λ text. string_bytes text ≡ writer_permit_lines plan.entry.now (row_view row.entry.now) w) }
         { writer_permit_lines(alloc, plan, row, WriterNo::new(w)) },
     )
 }
@@ -153,7 +158,8 @@ fn unshown_bound(
     key: KeyNo,
     bound: &Bound,
 ) -> TextResult
-    ensures { IfOk result (λ text. string_bytes text ≡ unshown_bound plan.now (certificate_view certificate.now) reader key bound.now) }
+    ensures { IfOk result
+        (λ text. string_bytes text ≡ unshown_bound plan.now (certificate_view certificate.now) reader key bound.now) }
 {
     if bound.reader == reader && bound.key == key {
         text_of_row(alloc, certificate, bound.row, |row| {
@@ -172,7 +178,8 @@ pub(crate) fn bound_not_shown_lines(
     reader: ReaderNo,
     key: KeyNo,
 ) -> TextResult
-    ensures { IfOk result (λ text. string_bytes text ≡ bound_not_shown_lines plan.now (certificate_view certificate.now) reader key) }
+    ensures { IfOk result
+        (λ text. string_bytes text ≡ bound_not_shown_lines plan.now (certificate_view certificate.now) reader key) }
 {
     text_of_each(alloc, certificate.bounds.as_slice(), |bound| {
         unshown_bound(alloc, plan, certificate, reader, key, bound)
@@ -182,7 +189,8 @@ pub(crate) fn bound_not_shown_lines(
 /// Whether a key can't reach the reader of a total, or the row shows the total for it.
 fn shows_reached(plan: &Plan, row: &Row, opening: u128, total: &Total, key: KeyNo) -> bool
     requires { opening ≡ budget (network_of plan.now) (row_of (row_view row.now)) }
-    ensures { result ≡ (not (reach (network_of plan.now) total.now.reader key) || shows (network_of plan.now) (row_of (row_view row.now)) total.now.bound total.now.reader key) }
+    ensures { result ≡ (not (reach (network_of plan.now) total.now.reader key)
+        || shows (network_of plan.now) (row_of (row_view row.now)) total.now.bound total.now.reader key) }
 {
     !plan.reaches(total.reader, key) || shows(plan, row, opening, total.bound, total.reader, key)
 }
@@ -219,7 +227,8 @@ fn reached_sample_line(
     reader: ReaderNo,
     key: KeyNo,
 ) -> TextResult
-    ensures { IfOk result (λ text. string_bytes text ≡ reached_sample_line plan.now (row_view row.now) opening reader key) }
+    ensures { IfOk result
+        (λ text. string_bytes text ≡ reached_sample_line plan.now (row_view row.now) opening reader key) }
 {
     if plan.reaches(reader, key) {
         sample_line(alloc, plan, row, opening, reader, key)
@@ -236,13 +245,16 @@ fn reached_sample_lines(
     opening: u128,
     reader: ReaderNo,
 ) -> TextResult
-    ensures { IfOk result (λ text. string_bytes text ≡ each_below 64 (reached_sample_line plan.now (row_view row.now) opening reader)) }
+    ensures { IfOk result
+        (λ text. string_bytes text ≡ each_below 64 (reached_sample_line plan.now (row_view row.now) opening reader)) }
 {
     text_below(
         alloc,
         KEYS,
         |k|
-            ensures { IfOk result (λ text. string_bytes text ≡ reached_sample_line plan.entry.now (row_view row.entry.now) opening reader k) }
+            ensures { IfOk result
+                (λ text. string_bytes text
+                ≡ reached_sample_line plan.entry.now (row_view row.entry.now) opening reader k) }
         { reached_sample_line(alloc, plan, row, opening, reader, KeyNo::new(k)) },
     )
 }
@@ -277,7 +289,8 @@ fn unshown_total(
     reader: ReaderNo,
     total: &Total,
 ) -> TextResult
-    ensures { IfOk result (λ text. string_bytes text ≡ unshown_total plan.now (certificate_view certificate.now) reader total.now) }
+    ensures { IfOk result
+        (λ text. string_bytes text ≡ unshown_total plan.now (certificate_view certificate.now) reader total.now) }
 {
     if total.reader == reader {
         match find_row(certificate, total.row) {
@@ -296,7 +309,8 @@ pub(crate) fn total_not_shown_lines(
     certificate: &Certificate,
     reader: ReaderNo,
 ) -> TextResult
-    ensures { IfOk result (λ text. string_bytes text ≡ total_not_shown_lines plan.now (certificate_view certificate.now) reader) }
+    ensures { IfOk result
+        (λ text. string_bytes text ≡ total_not_shown_lines plan.now (certificate_view certificate.now) reader) }
 {
     text_of_each(alloc, certificate.totals.as_slice(), |total| {
         unshown_total(alloc, plan, certificate, reader, total)

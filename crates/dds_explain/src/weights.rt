@@ -163,7 +163,8 @@ fn opened_by(permits: &Table<WriterNo>, rule: &Rule) -> u128
 
 fn opened_by_rule(plan: &Plan, permits: &Table<WriterNo>, u: RuleNo) -> u128
     requires { u < (network_of plan.now).rules }
-    ensures value { result ≡ weighed ((network_of plan.now).rule u).writes (weight_of permits.now) * ((network_of plan.now).rule u).start }
+    ensures value { result
+        ≡ weighed ((network_of plan.now).rule u).writes (weight_of permits.now) * ((network_of plan.now).rule u).start }
     ensures small { result < 2 ^ 68 }
 {
     opened_by(permits, rule_at(plan, u))
@@ -205,7 +206,8 @@ fn permitted_by(rule: &Rule, writer: WriterNo, key: KeyNo) -> u128
 
 fn permitted_by_rule(plan: &Plan, u: RuleNo, writer: WriterNo, key: KeyNo) -> u128
     requires { u < (network_of plan.now).rules }
-    ensures value { result ≡ named ((network_of plan.now).rule u).writes writer key * ((network_of plan.now).rule u).start }
+    ensures value { result
+        ≡ named ((network_of plan.now).rule u).writes writer key * ((network_of plan.now).rule u).start }
     ensures small { result < 2 ^ 36 }
 {
     permitted_by(rule_at(plan, u), writer, key)

@@ -1,7 +1,9 @@
 //! The values of fields.
 ghost use Rattle.std.specs.Prelude.{◌≡◌, ◌≤◌, ◌<◌, ◌^◌, IfOk, string_bytes, ℕ, length, codes};
 ghost use Rattle.toml.specs.View.{view, table_view, array_view, items_view};
-ghost use Rattle.dds_fields.specs.Reading.{a_text, a_table, an_array, a_number, a_name, a_new_name, a_known_name, field, only, shown, shown_char, or_fault, each, an_array_of, section, entry, optional};
+ghost use Rattle.dds_fields.specs.Reading.{a_text, a_table, an_array, a_number, a_name, a_new_name, a_known_name};
+ghost use Rattle.dds_fields.specs.Reading.{field, only, shown, shown_char, or_fault, each, an_array_of, section, entry};
+ghost use Rattle.dds_fields.specs.Reading.{optional};
 ghost use Rattle.std.specs.Prelude.{map, List, option_map};
 ghost use Rattle.std.specs.List.{list_any};
 ghost use Rattle.std.specs.Str.{bytes_eq};
@@ -128,7 +130,8 @@ pub fn required<'a>(
     table: &'a Table,
     key: &str,
 ) -> Result<&'a Value, ReadFault>
-    ensures { Gives (λ v. view v.now) result (or_fault MissingKey (place_text at.now) (get_member key.now (table_view table.now))) }
+    ensures { Gives (λ v. view v.now) result
+        (or_fault MissingKey (place_text at.now) (get_member key.now (table_view table.now))) }
 {
     match value_at(table, key) {
         Some(value) => Ok(value),
@@ -136,8 +139,8 @@ pub fn required<'a>(
     }
 }
 
-/// The name at a key that isn't one of `names` yet: MissingKey where the key is absent, else as for a new name. `path` is
-/// that of the table.
+/// The name at a key that isn't one of `names` yet: MissingKey where the key is absent, else as for a new name. `path`
+/// is that of the table.
 #[tactic(auto, unfolding(crate::specs::Reading::field))]
 pub fn new_name_field<'a>(
     alloc: Global,
@@ -146,7 +149,8 @@ pub fn new_name_field<'a>(
     table: &'a Table,
     key: &str,
 ) -> Result<&'a str, ReadFault>
-    ensures gives { Gives (λ s. s.now) result (field key.now (a_new_name names.now) (place_text path.now) (table_view table.now)) }
+    ensures gives { Gives
+        (λ s. s.now) result (field key.now (a_new_name names.now) (place_text path.now) (table_view table.now)) }
     ensures new { IfOk result (λ s. names_number names.now s.now ≡ None) }
 {
     let at = Place::Key { parent: path, key };
@@ -163,7 +167,8 @@ pub fn known_name_field(
     table: &Table,
     key: &str,
 ) -> Result<usize, ReadFault>
-    ensures gives { Gives (λ n. n) result (field key.now (a_known_name names.now) (place_text path.now) (table_view table.now)) }
+    ensures gives { Gives
+        (λ n. n) result (field key.now (a_known_name names.now) (place_text path.now) (table_view table.now)) }
     ensures within { IfOk result (λ n. n < length names.now) }
 {
     let at = Place::Key { parent: path, key };
@@ -293,7 +298,8 @@ pub fn entry<'a>(
     path: &Place,
     value: &'a Value,
 ) -> Result<&'a Table, ReadFault>
-    ensures { Gives (λ t. table_view t.now) result (entry (map (λ l. l.now) listed.now) (place_text path.now) (view value.now)) }
+    ensures { Gives (λ t. table_view t.now) result (entry (map
+        (λ l. l.now) listed.now) (place_text path.now) (view value.now)) }
 {
     let table = table_of(alloc, path, value)?;
     only(alloc, listed, path, table)?;
@@ -327,7 +333,8 @@ pub fn optional_number(
     table: &Table,
     key: &str,
 ) -> Result<u32, ReadFault>
-    ensures { Gives (λ n. n) result (optional key.now absent (a_number low high) (place_text path.now) (table_view table.now)) }
+    ensures { Gives (λ n. n) result
+        (optional key.now absent (a_number low high) (place_text path.now) (table_view table.now)) }
 {
     match value_at(table, key) {
         Some(value) => {
@@ -358,7 +365,8 @@ pub fn short_number_of(
     }
 }
 
-/// The whole number from `low` to `high` at a key: MissingKey where the key is absent, WrongKind and OutOfRange as above.
+/// The whole number from `low` to `high` at a key: MissingKey where the key is absent, WrongKind and OutOfRange as
+/// above.
 #[tactic(auto, unfolding(crate::specs::Reading::field))]
 pub fn short_number_field(
     alloc: Global,

@@ -33,7 +33,8 @@ pub trait Items {
         path: &Place,
         value: &Value,
     ) -> Result<(), ReadFault>
-        ensures { Gives (λ _. state all.new) result (step self.now (state all.old) (place_text path.now) (view value.now)) };
+        ensures { Gives (λ _. state all.new) result
+            (step self.now (state all.old) (place_text path.now) (view value.now)) };
 }
 
 /// The items in order, after what is there already, or the first fault.
@@ -44,7 +45,8 @@ pub fn each<I: Items>(
     path: &Place,
     values: &[Value],
 ) -> Result<I::Read, ReadFault>
-    ensures { Gives I.state result (each (I.step items.now) (place_text path.now) 0 (I.state all) (items_view values.now)) }
+    ensures { Gives I.state result
+        (each (I.step items.now) (place_text path.now) 0 (I.state all) (items_view values.now)) }
 {
     for (i, value) in values.iter().enumerate() {
         let at = Place::Index {
@@ -56,8 +58,8 @@ pub fn each<I: Items>(
     Ok(all)
 }
 
-/// The items of the list that a value is, of which there are at most `limit`: WrongKind where it is no list, TooMany where it is
-/// longer.
+/// The items of the list that a value is, of which there are at most `limit`: WrongKind where it is no list, TooMany
+/// where it is longer.
 #[tactic(auto, unfolding(crate::specs::Reading::a_list_of))]
 pub fn list_of<I: Items>(
     alloc: Global,
@@ -67,7 +69,8 @@ pub fn list_of<I: Items>(
     path: &Place,
     value: &Value,
 ) -> Result<I::Read, ReadFault>
-    ensures { Gives I.state result (a_list_of limit (I.step items.now) (I.state empty) (place_text path.now) (view value.now)) }
+    ensures { Gives I.state result
+        (a_list_of limit (I.step items.now) (I.state empty) (place_text path.now) (view value.now)) }
 {
     let values = array_of_limit(alloc, limit, path, value)?;
     each(alloc, items, empty, path, values)
@@ -84,7 +87,9 @@ pub fn optional_list<I: Items>(
     table: &Table,
     key: &str,
 ) -> Result<I::Read, ReadFault>
-    ensures { Gives I.state result (optional key.now (I.state empty) (a_list_of limit (I.step items.now) (I.state empty)) (place_text path.now) (table_view table.now)) }
+    ensures { Gives I.state result
+        (optional key.now (I.state empty) (a_list_of limit (I.step items.now) (I.state empty)) (place_text path.now)
+        (table_view table.now)) }
 {
     match value_at(table, key) {
         Some(value) => {
@@ -95,8 +100,8 @@ pub fn optional_list<I: Items>(
     }
 }
 
-/// The entries of the section at a key of the document, of which there are at most `limit`, `empty` where it is absent: WrongKind
-/// where it is no list, TooMany where it has more entries.
+/// The entries of the section at a key of the document, of which there are at most `limit`, `empty` where it is absent:
+/// WrongKind where it is no list, TooMany where it has more entries.
 #[tactic(auto, unfolding(crate::specs::Reading::a_section, crate::specs::Paths::key_path))]
 pub fn section_of<I: Items>(
     alloc: Global,

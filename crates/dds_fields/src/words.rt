@@ -50,7 +50,8 @@ pub fn optional_word<T: Copy>(
     table: &Table,
     key: &str,
 ) -> Result<T, ReadFault>
-    ensures { Gives (λ x. x) result (optional key.now absent (a_word (words_view words.now)) (place_text path.now) (table_view table.now)) }
+    ensures { Gives (λ x. x) result
+        (optional key.now absent (a_word (words_view words.now)) (place_text path.now) (table_view table.now)) }
 {
     match value_at(table, key) {
         Some(value) => {

@@ -9,7 +9,9 @@ ghost use Rattle.dds_answers.specs.Fault.{IsAnswerFault};
 ghost use Rattle.dds_answers.specs.Outcome.{outcome, told};
 ghost use Rattle.dds_answers.specs.Report.{because_lines, outcome_of};
 ghost use Rattle.dds_answers.specs.Syntax.{IsFaultTold};
-ghost use Rattle.dds_json.specs.Checking.{acceptance_document, bound_document, is_accepted, pair_key_document, reason_of, refusal_document, report_document, subject_document, total_document};
+ghost use Rattle.dds_json.specs.Checking.{acceptance_document, bound_document, is_accepted, pair_key_document};
+ghost use Rattle.dds_json.specs.Checking.{reason_of, refusal_document, report_document, subject_document};
+ghost use Rattle.dds_json.specs.Checking.{total_document};
 ghost use Rattle.dds_json.specs.Ends.{in_json};
 ghost use Rattle.dds_json.specs.Line.{line_of};
 
@@ -70,7 +72,9 @@ fn acceptance_document(
     certificate: &Certificate,
     because: Option<String>,
 ) -> Result<Value, NoMemory>
-    ensures { IfOk result (λ v. view v ≡ acceptance_document lists.now (certificate_view certificate.now) (option_map string_bytes because)) }
+    ensures { IfOk result
+        (λ v. view v ≡ acceptance_document lists.now (certificate_view certificate.now)
+        (option_map string_bytes because)) }
 {
     let bounds = bounds_array(alloc, lists, certificate.bounds.as_slice())?;
     let totals = totals_array(alloc, lists, certificate.totals.as_slice())?;
@@ -159,7 +163,9 @@ pub(crate) fn refusal_document(
     no: No,
     because: Option<String>,
 ) -> Result<Value, NoMemory>
-    ensures { IfOk result (λ v. view v ≡ refusal_document lists.now (certificate_view certificate.now) no (option_map string_bytes because)) }
+    ensures { IfOk result
+        (λ v. view v ≡ refusal_document lists.now (certificate_view certificate.now) no
+        (option_map string_bytes because)) }
 {
     let subject = subject_document(alloc, lists, certificate, no.subject)?;
     let number = no.number.number();
@@ -213,7 +219,8 @@ fn reason_of(alloc: Global, report: &Report, detail: Detail) -> Result<Option<St
 
 /// The line of a report's document.
 fn report_line(alloc: Global, report: &Report, detail: Detail) -> Result<String, NoMemory>
-    ensures { IfOk result (λ text. string_bytes text ≡ line_of (report_document report.now (reason_of report.now detail))) }
+    ensures { IfOk result
+        (λ text. string_bytes text ≡ line_of (report_document report.now (reason_of report.now detail))) }
 {
     let because = reason_of(alloc, report, detail)?;
     let document = report_document(alloc, report, because)?;
@@ -227,8 +234,8 @@ fn is_accepted(report: &Report) -> bool
     matches!(report, Report::Yes(_))
 }
 
-/// The answer that tells a report, which is needed no longer, as a document: yes where the certificate is accepted. Its reason is a member of it where it is
-/// asked for.
+/// The answer that tells a report, which is needed no longer, as a document: yes where the certificate is accepted. Its
+/// reason is a member of it where it is asked for.
 pub fn reported_in_json(alloc: Global, report: Report, detail: Detail) -> Result<Answer, ToolFault>
     ensures gives { Gives result (in_json (told detail (outcome_of report))) }
     ensures fault { IfErr result IsAnswerFault }

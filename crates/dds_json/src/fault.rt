@@ -2,7 +2,8 @@
 ghost use Rattle.std.specs.Prelude.{◌≡◌, IfOk, string_bytes};
 ghost use Rattle.serde_json.specs.View.{view};
 ghost use Rattle.dds_json.specs.Line.{line_of};
-ghost use Rattle.dds_json.specs.Fault.{events_document, fault_document, file_document, flaw_document, plain_document, syntax_document};
+ghost use Rattle.dds_json.specs.Fault.{events_document, fault_document, file_document, flaw_document, plain_document};
+ghost use Rattle.dds_json.specs.Fault.{syntax_document};
 
 use crate::line::line_of;
 use dds_answers::{SyntaxError, ToolFault};
@@ -43,7 +44,16 @@ fn syntax_document(
 {
     let message = error.message.as_str();
     json!(in alloc;
-        {"answer": "fault", "file": file, "number": number, "name": name, "path": path, "line": error.line, "column": error.column, "message": message}
+        {
+            "answer": "fault",
+            "file": file,
+            "number": number,
+            "name": name,
+            "path": path,
+            "line": error.line,
+            "column": error.column,
+            "message": message
+        }
     )
 }
 

@@ -12,8 +12,8 @@ use crate::matching::match_answer_in_json;
 use dds_answers::{Answer, Detail, Sources, ToolFault, read_file, read_files};
 use std::alloc::Global;
 
-/// The answer of `check` to two files as a document, with its reason where it is asked for. Both are read whole, the deployment first, before either is
-/// parsed.
+/// The answer of `check` to two files as a document, with its reason where it is asked for. Both are read whole, the
+/// deployment first, before either is parsed.
 #[tactic(auto, unfolding(dds_answers::specs::Outcome::check_file_outcome))]
 pub fn check_files_in_json<S: Sources>(
     alloc: Global,
@@ -22,13 +22,16 @@ pub fn check_files_in_json<S: Sources>(
     detail: Detail,
     files: &mut S,
 ) -> Result<Answer, ToolFault>
-    ensures gives { (d c : List ℕ) → S.holds files.old deployment.now ≡ Some d → S.holds files.old certificate.now ≡ Some c
+    ensures gives { (d c : List ℕ) → S.holds files.old deployment.now ≡ Some d
+        → S.holds files.old certificate.now ≡ Some c
         → Gives result (in_json (check_file_outcome detail d c)) }
-    ensures told { (d c : List ℕ) → S.holds files.old deployment.now ≡ Some d → S.holds files.old certificate.now ≡ Some c
+    ensures told { (d c : List ℕ) → S.holds files.old deployment.now ≡ Some d
+        → S.holds files.old certificate.now ≡ Some c
         → IfErr result (IsFaultTold detail d c) }
     ensures causes { IfErr result (IsFileFault (S.has_failed files.new)) }
     ensures opened { Opens (S.opened files.old) (S.opened files.new) (deployment.now ∷ certificate.now ∷ []) }
-    ensures all_opened { OnOk result (OpensAll (S.opened files.old) (S.opened files.new) (deployment.now ∷ certificate.now ∷ [])) }
+    ensures all_opened { OnOk result (OpensAll (S.opened files.old) (S.opened files.new)
+        (deployment.now ∷ certificate.now ∷ [])) }
 {
     let (deployment, certificate) = read_files(alloc, files, deployment, certificate)?;
     check_answer_in_json(alloc, deployment.as_slice(), certificate.as_slice(), detail)
@@ -41,7 +44,8 @@ pub fn match_file_in_json<S: Sources>(
     deployment: &str,
     files: &mut S,
 ) -> Result<Answer, ToolFault>
-    ensures gives { (d : List ℕ) → S.holds files.old deployment.now ≡ Some d → Gives result (in_json (match_file_outcome d)) }
+    ensures gives { (d : List ℕ) → S.holds files.old deployment.now ≡ Some d
+        → Gives result (in_json (match_file_outcome d)) }
     ensures causes { IfErr result (IsFileFault (S.has_failed files.new)) }
     ensures opened { OpensAll (S.opened files.old) (S.opened files.new) (deployment.now ∷ []) }
 {

@@ -1,5 +1,6 @@
-//! Answers as JSON documents, one for each answer and for each fault: what `check`, `match` and `propose` answer to files, and the document of a fault. A
-//! document is built as a `serde_json` value, and its text is that value's, without blanks, on a line of its own.
+//! Answers as JSON documents, one for each answer and for each fault: what `check`, `match` and `propose` answer to
+//! files, and the document of a fault. A document is built as a `serde_json` value, and its text is that value's,
+//! without blanks, on a line of its own.
 #![tactic(auto)]
 
 mod checking;

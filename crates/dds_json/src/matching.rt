@@ -65,7 +65,8 @@ fn push_writer(
     writer: WriterNo,
     readers: usize,
 ) -> Result<(), NoMemory>
-    ensures { IfOk result (λ _. map view documents.new.items ≡ map view documents.old.items ++ writer_pairs plan.now readers writer) }
+    ensures { IfOk result
+        (λ _. map view documents.new.items ≡ map view documents.old.items ++ writer_pairs plan.now readers writer) }
 {
     for r in 0..readers {
         documents.push(pair_document(alloc, plan, writer, ReaderNo::new(r))?)?;
@@ -75,7 +76,9 @@ fn push_writer(
 
 /// The pairs of all writers and readers, in file order.
 fn pairs_of(alloc: Global, plan: &Plan) -> Result<Vec<Value>, NoMemory>
-    ensures { IfOk result (λ documents. map view documents.items ≡ pairs plan.now (length plan.now.writers.entries) (length plan.now.readers.entries)) }
+    ensures { IfOk result
+        (λ documents. map view documents.items
+        ≡ pairs plan.now (length plan.now.writers.entries) (length plan.now.readers.entries)) }
 {
     let writers = plan.lists().writers();
     let readers = plan.lists().readers();

@@ -48,7 +48,8 @@ fn proposed_line(alloc: Global, answer: &Answer) -> Result<String, NoMemory>
 
 /// An answer of `propose`, told as a document. What it has besides stays.
 fn told_in_json(alloc: Global, answer: Answer) -> Result<Answer, ToolFault>
-    ensures gives { (end : Outcome) → EndsProposal end → IsAnswer answer end → IfOk result (λ told. IsAnswer told (in_json end)) }
+    ensures gives { (end : Outcome) → EndsProposal end → IsAnswer answer end
+        → IfOk result (λ told. IsAnswer told (in_json end)) }
     ensures fault { IfErr result (λ e. e ≡ ToolFault.NoMemory) }
 {
     match proposed_line(alloc, &answer) {
@@ -61,7 +62,8 @@ fn told_in_json(alloc: Global, answer: Answer) -> Result<Answer, ToolFault>
     }
 }
 
-/// What `propose` answers, told as a document. What an answer has besides stays, as does a fault. Only want of memory is an error of its own.
+/// What `propose` answers, told as a document. What an answer has besides stays, as does a fault. Only want of memory
+/// is an error of its own.
 pub fn proposed_in_json(
     alloc: Global,
     answer: Result<Answer, ToolFault>,

@@ -12,9 +12,9 @@ struct Star {
     tried: usize,
 }
 
-/// Whether a name has a pattern: `*` is any run of bytes, also the empty one, `?` is one byte, and every other byte stands for
-/// itself, `/` and a leading dot too. Bytes are compared, not characters. The steps are at most about the product of the
-/// lengths.
+/// Whether a name has a pattern: `*` is any run of bytes, also the empty one, `?` is one byte, and every other byte
+/// stands for itself, `/` and a leading dot too. Bytes are compared, not characters. The steps are at most about the
+/// product of the lengths.
 pub fn name_matches(pattern: &str, name: &str) -> bool
     ensures { result ≡ name_matches pattern.now name.now }
 {
@@ -59,9 +59,9 @@ fn has_only_stars(pattern: &[u8]) -> bool
     pattern.iter().all(|byte| *byte == b'*')
 }
 
-/// Whether partition lists match: some name of one matches some name of the other. An empty list counts as one empty name. Two
-/// names match when they are equal where neither has a `*` or `?`, by the pattern where exactly one has, and never where
-/// both have.
+/// Whether partition lists match: some name of one matches some name of the other. An empty list counts as one empty
+/// name. Two names match when they are equal where neither has a `*` or `?`, by the pattern where exactly one has, and
+/// never where both have.
 pub fn lists_match(writer: &[String], reader: &[String]) -> bool
     ensures { result ≡ lists_match (map string_bytes writer.now) (map string_bytes reader.now) }
 {

@@ -191,7 +191,8 @@ fn mark_coming(
     requires keys { All (λ e. e.key < 64) writes.now }
     requires reasons { ShowsReasons lists.now reasons.now }
     requires hearing { ShowsHearing lists.now hearing.now }
-    ensures { AddsMarks reached.old reached.new (λ r k. hears lists.now r k && list_any (λ e. (e.key == k) && matched lists.now e.endpoint r) writes.now) }
+    ensures { AddsMarks reached.old reached.new
+        (λ r k. hears lists.now r k && list_any (λ e. (e.key == k) && matched lists.now e.endpoint r) writes.now) }
 {
     for portion in writes {
         mark_readers(

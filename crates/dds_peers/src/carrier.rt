@@ -8,11 +8,12 @@ use dds_book::{Book, BookFault, Name, Seat};
 use std::sync::Wait;
 use std::time::Clock;
 
-/// After so many turns in a row without an event a participant waits for a change. In eight turns it has looked at each kind of packet.
+/// After so many turns in a row without an event a participant waits for a change. In eight turns it has looked at each
+/// kind of packet.
 const QUIET_TURNS: u32 = 8;
 
-/// After so many HEARTBEATs in a row, with nothing else sent between them, a participant gives way after each: whoever is to answer may not have the
-/// processor, and the events that a participant may make would be used up meanwhile.
+/// After so many HEARTBEATs in a row, with nothing else sent between them, a participant gives way after each: whoever
+/// is to answer may not have the processor, and the events that a participant may make would be used up meanwhile.
 const HEARTBEATS: u32 = 8;
 
 /// A participant's seat, and how far its thread has come.

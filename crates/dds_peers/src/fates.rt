@@ -8,7 +8,8 @@ use std::marker::Model;
 /// How many fates a circle has at most.
 const MOST: usize = 64;
 
-/// The fates that befall packets, one after the other and then from the first one again: 1 to 64. A contract sees the list.
+/// The fates that befall packets, one after the other and then from the first one again: 1 to 64. A contract sees the
+/// list.
 #[derive(Drop)]
 pub struct Fates {
     all: [Fate; MOST],

@@ -1,8 +1,10 @@
-//! A checked deployment that runs: boxed applications and participants on threads of their own, over a book and the lossy bus of its domain.
+//! A checked deployment that runs: boxed applications and participants on threads of their own, over a book and the
+//! lossy bus of its domain.
 //!
-//! An application decides what it does next and hears what came of it; it keeps a diary of both. Each participant moves packets and sends what is
-//! due, by a schedule of fates. When the run has ended, each application's diary is its part of the journal of the book, and that journal is a run of
-//! the plan: what the checker promises of every run is promised of this one.
+//! An application decides what it does next and hears what came of it; it keeps a diary of both. Each participant moves
+//! packets and sends what is due, by a schedule of fates. When the run has ended, each application's diary is its part
+//! of the journal of the book, and that journal is a run of the plan: what the checker promises of every run is
+//! promised of this one.
 #![tactic(auto)]
 
 mod carrier;

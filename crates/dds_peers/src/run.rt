@@ -131,7 +131,9 @@ fn threads_room<A: App, N: Name>(
     participants: usize,
 ) -> Result<Room<A, N>, NoMemory>
     ensures empty { IfOk result (λ r. (r.playing.items ≡ []) × (r.done.items ≡ []) × (vec_len r.carrying ≡ 0)) }
-    ensures room { IfOk result (λ r. (apps ≤ vec_capacity r.playing) × (apps ≤ vec_capacity r.done) × (participants ≤ vec_capacity r.carrying)) }
+    ensures room { IfOk result
+        (λ r. (apps ≤ vec_capacity r.playing) × (apps ≤ vec_capacity r.done)
+        × (participants ≤ vec_capacity r.carrying)) }
 {
     Ok(Room {
         playing: Vec::with_capacity(alloc, apps)?,
@@ -141,8 +143,11 @@ fn threads_room<A: App, N: Name>(
 }
 
 fn settled_room<A: App, N: Name>(alloc: Global, apps: usize) -> Result<Settled<A, N>, NoMemory>
-    ensures empty { IfOk result (λ r. (r.apps.items ≡ []) × (r.ends.items ≡ []) × (r.counts.items ≡ []) × (r.seats.items ≡ [])) }
-    ensures room { IfOk result (λ r. (apps ≤ vec_capacity r.apps) × (apps ≤ vec_capacity r.ends) × (apps ≤ vec_capacity r.counts) × (apps ≤ vec_capacity r.seats)) }
+    ensures empty { IfOk result
+        (λ r. (r.apps.items ≡ []) × (r.ends.items ≡ []) × (r.counts.items ≡ []) × (r.seats.items ≡ [])) }
+    ensures room { IfOk result
+        (λ r. (apps ≤ vec_capacity r.apps) × (apps ≤ vec_capacity r.ends) × (apps ≤ vec_capacity r.counts)
+        × (apps ≤ vec_capacity r.seats)) }
 {
     Ok(Settled {
         apps: Vec::with_capacity(alloc, apps)?,
@@ -159,10 +164,17 @@ fn rooms_for<A: App, N: Name>(
     participants: usize,
 ) -> Result<Rooms<A, N>, NoMemory>
     ensures players { IfOk result (λ r. (r.players.items ≡ []) × (apps ≤ vec_capacity r.players)) }
-    ensures threads_empty { IfOk result (λ r. (r.threads.playing.items ≡ []) × (r.threads.done.items ≡ []) × (vec_len r.threads.carrying ≡ 0)) }
-    ensures threads_room { IfOk result (λ r. (apps ≤ vec_capacity r.threads.playing) × (apps ≤ vec_capacity r.threads.done) × (participants ≤ vec_capacity r.threads.carrying)) }
-    ensures left_empty { IfOk result (λ r. (r.left.apps.items ≡ []) × (r.left.ends.items ≡ []) × (r.left.counts.items ≡ []) × (r.left.seats.items ≡ [])) }
-    ensures left_room { IfOk result (λ r. (apps ≤ vec_capacity r.left.apps) × (apps ≤ vec_capacity r.left.ends) × (apps ≤ vec_capacity r.left.counts) × (apps ≤ vec_capacity r.left.seats)) }
+    ensures threads_empty { IfOk result
+        (λ r. (r.threads.playing.items ≡ []) × (r.threads.done.items ≡ []) × (vec_len r.threads.carrying ≡ 0)) }
+    ensures threads_room { IfOk result
+        (λ r. (apps ≤ vec_capacity r.threads.playing) × (apps ≤ vec_capacity r.threads.done)
+        × (participants ≤ vec_capacity r.threads.carrying)) }
+    ensures left_empty { IfOk result
+        (λ r. (r.left.apps.items ≡ []) × (r.left.ends.items ≡ []) × (r.left.counts.items ≡ [])
+        × (r.left.seats.items ≡ [])) }
+    ensures left_room { IfOk result
+        (λ r. (apps ≤ vec_capacity r.left.apps) × (apps ≤ vec_capacity r.left.ends)
+        × (apps ≤ vec_capacity r.left.counts) × (apps ≤ vec_capacity r.left.seats)) }
 {
     Ok(Rooms {
         players: Vec::with_capacity(alloc, apps)?,
@@ -190,7 +202,8 @@ fn perform<A: App + Send, N: Name + Send + Sync, R: Threads + Wait + Clock + Syn
     requires counters { AreOwners gauge.now (length apps.items) counters.items }
     ensures journal { IfOk result (λ o. IsJournal N.plan o.journal) }
     ensures identities { IfOk result (λ o. map (λ a. A.identity a) o.apps.items ≡ map (λ a. A.identity a) apps.items) }
-    ensures diaries { IfOk result (λ o. map (λ a. (A.notes a).entries) o.apps.items ≡ parts_of (length apps.items) o.journal) }
+    ensures diaries { IfOk result
+        (λ o. map (λ a. (A.notes a).entries) o.apps.items ≡ parts_of (length apps.items) o.journal) }
     ensures gauge { IfOk result (λ o. o.gauge.items ≡ map length (parts_of (length apps.items) o.journal)) }
     ensures ends { IfOk result (λ o. length o.ends.items ≡ length apps.items) }
     ensures fresh { IfOk result (λ o. All (λ a. (A.notes a).entries ≡ []) apps.items) }
@@ -250,15 +263,19 @@ fn run_all<A: App + Send, R: Threads + Wait + Clock + Sync, G: Gate>(
     requires gauge { length checked.plan.applications.entries ≤ gauge.now.apps }
     requires seats { AreOwners gauge.now (length checked.plan.applications.entries) seats.items }
     ensures journal { IfOk result (λ o. IsJournal checked.plan o.journal) }
-    ensures safe { IfOk result (λ o. SafeRun (network_of checked.plan) (certificate_of checked.certificate) (as_moves (pairs_of o.journal))) }
+    ensures safe { IfOk result
+        (λ o. SafeRun (network_of checked.plan) (certificate_of checked.certificate) (as_moves (pairs_of o.journal))) }
     ensures identities { IfOk result (λ o. map (λ a. A.identity a) o.apps.items ≡ map (λ a. A.identity a) apps.items) }
-    ensures diaries { IfOk result (λ o. map (λ a. (A.notes a).entries) o.apps.items ≡ parts_of (length apps.items) o.journal) }
+    ensures diaries { IfOk result
+        (λ o. map (λ a. (A.notes a).entries) o.apps.items ≡ parts_of (length apps.items) o.journal) }
     ensures gauge { IfOk result (λ o. o.gauge.items ≡ map length (parts_of (length apps.items) o.journal)) }
     ensures ends { IfOk result (λ o. length o.ends.items ≡ length apps.items) }
     ensures fresh { IfOk result (λ o. All (λ a. (A.notes a).entries ≡ []) apps.items) }
     ensures mismatch { IfErr result (λ f. f ≡ DiaryMismatch → All (λ a. (A.notes a).entries ≡ []) apps.items → ⊥) }
-    ensures refused { length apps.items ≢ length checked.plan.applications.entries → result ≡ Err (AppCount checked apps seats) }
-    ensures counted { length apps.items ≡ length checked.plan.applications.entries → IfErr result (λ f. (c : _) (a : _) (s : _) → f ≡ AppCount c a s → ⊥) }
+    ensures refused { length apps.items ≢ length checked.plan.applications.entries
+        → result ≡ Err (AppCount checked apps seats) }
+    ensures counted { length apps.items ≡ length checked.plan.applications.entries
+        → IfErr result (λ f. (c : _) (a : _) (s : _) → f ≡ AppCount c a s → ⊥) }
 {
     if apps.len() != checked.plan().lists().applications() {
         return Err(RunFault::AppCount {
@@ -278,9 +295,9 @@ fn run_all<A: App + Send, R: Threads + Wait + Clock + Sync, G: Gate>(
     }
 }
 
-/// Runs each application and each participant of a checked deployment in a thread of its own: the applications' threads are joined, the book is
-/// stopped, the participants' are joined. The seats are those of the gauge's owners, in the order of the plan's applications, and each of their
-/// counts is 0; others may read the gauge while the run goes on.
+/// Runs each application and each participant of a checked deployment in a thread of its own: the applications' threads
+/// are joined, the book is stopped, the participants' are joined. The seats are those of the gauge's owners, in the
+/// order of the plan's applications, and each of their counts is 0; others may read the gauge while the run goes on.
 ///
 /// With `Ok` the applications come back in order: at each place is the one that was given there, by its identity. The
 /// journal is a journal of the plan, so all that the checker promises of a run holds of it: no reliable reader
@@ -301,15 +318,23 @@ pub fn run_peers<R: Threads + Wait + Clock + Sync, G: Gate>(
     requires gauge { length checked.plan.applications.entries ≤ gauge.now.apps }
     requires seats { AreOwners gauge.now (length checked.plan.applications.entries) seats.items }
     ensures journal { IfOk result (λ o. IsJournal checked.plan o.journal) }
-    ensures safe { IfOk result (λ o. SafeRun (network_of checked.plan) (certificate_of checked.certificate) (as_moves (pairs_of o.journal))) }
-    ensures identities { IfOk result (λ o. map (λ a. ⟦<Box<dyn App + Send> as App>⟧.identity a) o.apps.items ≡ map (λ a. ⟦<Box<dyn App + Send> as App>⟧.identity a) apps.items) }
-    ensures diaries { IfOk result (λ o. map (λ a. (⟦<Box<dyn App + Send> as App>⟧.notes a).entries) o.apps.items ≡ parts_of (length apps.items) o.journal) }
+    ensures safe { IfOk result
+        (λ o. SafeRun (network_of checked.plan) (certificate_of checked.certificate) (as_moves (pairs_of o.journal))) }
+    ensures identities { IfOk result
+        (λ o. map (λ a. ⟦<Box<dyn App + Send> as App>⟧.identity a) o.apps.items
+        ≡ map (λ a. ⟦<Box<dyn App + Send> as App>⟧.identity a) apps.items) }
+    ensures diaries { IfOk result
+        (λ o. map (λ a. (⟦<Box<dyn App + Send> as App>⟧.notes a).entries) o.apps.items
+        ≡ parts_of (length apps.items) o.journal) }
     ensures gauge { IfOk result (λ o. o.gauge.items ≡ map length (parts_of (length apps.items) o.journal)) }
     ensures ends { IfOk result (λ o. length o.ends.items ≡ length apps.items) }
     ensures fresh { IfOk result (λ o. All (λ a. (⟦<Box<dyn App + Send> as App>⟧.notes a).entries ≡ []) apps.items) }
-    ensures mismatch { IfErr result (λ f. f ≡ DiaryMismatch → All (λ a. (⟦<Box<dyn App + Send> as App>⟧.notes a).entries ≡ []) apps.items → ⊥) }
-    ensures refused { length apps.items ≢ length checked.plan.applications.entries → result ≡ Err (AppCount checked apps seats) }
-    ensures counted { length apps.items ≡ length checked.plan.applications.entries → IfErr result (λ f. (c : _) (a : _) (s : _) → f ≡ AppCount c a s → ⊥) }
+    ensures mismatch { IfErr result
+        (λ f. f ≡ DiaryMismatch → All (λ a. (⟦<Box<dyn App + Send> as App>⟧.notes a).entries ≡ []) apps.items → ⊥) }
+    ensures refused { length apps.items ≢ length checked.plan.applications.entries
+        → result ≡ Err (AppCount checked apps seats) }
+    ensures counted { length apps.items ≡ length checked.plan.applications.entries
+        → IfErr result (λ f. (c : _) (a : _) (s : _) → f ≡ AppCount c a s → ⊥) }
 {
     run_all(rt, alloc, checked, apps, fates, gate, gauge, seats, limits)
 }

@@ -18,7 +18,8 @@ fn is_fresh<A: App>(app: &A) -> bool
 
 /// Whether all diaries are empty.
 pub(crate) fn are_fresh<A: App>(apps: &[A]) -> bool
-    ensures { MatchBool result (All (λ a. (A.notes a).entries ≡ []) apps.now) (All (λ a. (A.notes a).entries ≡ []) apps.now → ⊥) }
+    ensures { MatchBool result (All (λ a. (A.notes a).entries ≡ []) apps.now) (All
+        (λ a. (A.notes a).entries ≡ []) apps.now → ⊥) }
 {
     for i in 0..apps.len() {
         if !is_fresh(&apps[i]) {
@@ -63,7 +64,8 @@ pub(crate) fn sit<A: App, N: Name>(
     players
 }
 
-/// What the applications leave: themselves, how their threads ended, their counts, their seats, and whether one has met a full journal.
+/// What the applications leave: themselves, how their threads ended, their counts, their seats, and whether one has met
+/// a full journal.
 #[derive(Drop)]
 pub(crate) struct Settled<A: App, N: Name> {
     pub(crate) apps: Vec<A>,
@@ -80,12 +82,15 @@ pub(crate) fn settle<A: App, N: Name>(
     players: Vec<Player<A, N>>,
     room: Settled<A, N>,
 ) -> Settled<A, N>
-    requires none { (room.apps.items ≡ []) × (room.ends.items ≡ []) × (room.counts.items ≡ []) × (room.seats.items ≡ []) }
-    requires room { (vec_len players ≤ vec_capacity room.apps) × (vec_len players ≤ vec_capacity room.ends) × (vec_len players ≤ vec_capacity room.counts) × (vec_len players ≤ vec_capacity room.seats) }
+    requires none { (room.apps.items ≡ []) × (room.ends.items ≡ []) × (room.counts.items ≡ [])
+        × (room.seats.items ≡ []) }
+    requires room { (vec_len players ≤ vec_capacity room.apps) × (vec_len players ≤ vec_capacity room.ends)
+        × (vec_len players ≤ vec_capacity room.counts) × (vec_len players ≤ vec_capacity room.seats) }
     requires players { All (λ p. IsKept gauge.now _fresh p.seat p.counter (A.notes p.app).entries) players.items }
     ensures numbers { map (λ s. s.number) result.seats.items ≡ map (λ p. p.seat.number) players.items }
     ensures identities { map (λ a. A.identity a) result.apps.items ≡ map (λ p. A.identity p.app) players.items }
-    ensures diaries { _fresh ≡ true → map (λ a. (A.notes a).entries) result.apps.items ≡ map done_by result.seats.items }
+    ensures diaries { _fresh ≡ true
+        → map (λ a. (A.notes a).entries) result.apps.items ≡ map done_by result.seats.items }
     ensures counts { result.counts.items ≡ map (λ s. length (done_by s)) result.seats.items }
     ensures ends { length result.ends.items ≡ length players.items }
 {

@@ -1,6 +1,7 @@
 //! An application that does all that it may do.
 ghost use Rattle.std.specs.Prelude.{◌≡◌, ℕ, ◌<◌, length, IfOk, IfSome, if◌then◌else◌};
-ghost use Rattle.dds_peers.specs.Steady.{IsNext, all_writes, circle_of, counted, data_of, event_of, is_wanted, steady_of, wanted};
+ghost use Rattle.dds_peers.specs.Steady.{IsNext, all_writes, circle_of, counted, data_of, event_of, is_wanted};
+ghost use Rattle.dds_peers.specs.Steady.{steady_of, wanted};
 
 use crate::circle::{Step, push_firings, push_takes, push_writes};
 use dds_apps::{Act, App, Diary};
@@ -31,12 +32,18 @@ impl Model for Steady {
 
     ghost Value = { SteadyState };
 
-    ghost view = { λ s. record { app = s.app; diary = s.diary; circle = s.circle.items; takes = s.takes; writes = s.writes } };
+    ghost view = { λ s. record {
+      app = s.app;
+      diary = s.diary;
+      circle = s.circle.items;
+      takes = s.takes;
+      writes = s.writes;
+    } };
 }
 
 impl Steady {
-    /// The application of this number, with so many writes and takes to make: one without readers takes nothing, and one whose rules write nothing
-    /// writes nothing. An `Err` means that memory ran out.
+    /// The application of this number, with so many writes and takes to make: one without readers takes nothing, and
+    /// one whose rules write nothing writes nothing. An `Err` means that memory ran out.
     pub fn new(
         alloc: Global,
         plan: &Plan,
@@ -159,7 +166,8 @@ impl App for Steady {
 fn circle_of(alloc: Global, plan: &Plan, app: AppNo) -> Result<(Vec<Step>, bool), NoMemory>
     requires { app < length plan.now.applications.entries }
     ensures circle { IfOk result (λ r. r.0.items ≡ circle_of plan.now app) }
-    ensures writes { IfOk result (λ r. (count : ℕ) → wanted (all_writes plan.now app) count ≡ (if r.1 then count else 0)) }
+    ensures writes { IfOk result
+        (λ r. (count : ℕ) → wanted (all_writes plan.now app) count ≡ (if r.1 then count else 0)) }
 {
     let lists = plan.lists();
     let mut circle = Vec::new(alloc);

@@ -28,7 +28,8 @@ impl<A: App, N: Name> Promise<Player<A, N>> for Plays<A> {
     ghost use Rattle.std.specs.Prelude.{◌≡◌};
     ghost use Rattle.dds_apps.specs.Kept.{IsKept};
 
-    ghost kept_by = { λ p r. (r.seat.number ≡ p.app) × (A.identity r.app ≡ A.identity p.was.value) × IsKept p.gauge.value p.fresh r.seat r.counter (A.notes r.app).entries };
+    ghost kept_by = { λ p r. (r.seat.number ≡ p.app) × (A.identity r.app ≡ A.identity p.was.value)
+        × IsKept p.gauge.value p.fresh r.seat r.counter (A.notes r.app).entries };
 }
 
 /// The handle of an application's thread.
@@ -57,7 +58,8 @@ fn start_players<
     requires players { All (λ p. IsKept gauge.now fresh p.seat p.counter (A.notes p.app).entries) players.items }
     requires numbers { map (λ p. p.seat.number) players.items ≡ range_with_len 0 (length players.items) }
     ensures all { result.1 ≡ true → map (λ h. h.promise.app) result.0.items ≡ range_with_len 0 (length players.items) }
-    ensures identities { result.1 ≡ true → map (λ h. A.identity h.promise.was.value) result.0.items ≡ map (λ p. A.identity p.app) players.items }
+    ensures identities { result.1 ≡ true
+        → map (λ h. A.identity h.promise.was.value) result.0.items ≡ map (λ p. A.identity p.app) players.items }
     ensures len { vec_len result.0 ≤ vec_len players }
     ensures promises { All (λ h. (h.promise.gauge.value ≡ gauge.now) × (h.promise.fresh ≡ fresh)) result.0.items }
 {
@@ -71,7 +73,8 @@ fn start_players<
         };
         let run = move || -> Player<A, N>
             requires { IsKept gauge.now fresh player.seat player.counter (A.notes player.app).entries }
-            ensures { (result.seat.number ≡ player.seat.number) × (A.identity result.app ≡ A.identity player.app) × IsKept gauge.entry.now fresh result.seat result.counter (A.notes result.app).entries }
+            ensures { (result.seat.number ≡ player.seat.number) × (A.identity result.app ≡ A.identity player.app)
+                × IsKept gauge.entry.now fresh result.seat result.counter (A.notes result.app).entries }
         {
             let _ = &fresh;
             player.play(rt, book, gauge, gate, limits)
@@ -95,7 +98,8 @@ fn join_players<A: App, N: Name, R: Threads>(
     requires none { (players.items ≡ []) × (vec_len handles ≤ vec_capacity players) }
     requires promises { All (λ h. (h.promise.gauge.value ≡ _gauge.now) × (h.promise.fresh ≡ _fresh)) handles.items }
     ensures numbers { map (λ p. p.seat.number) result.items ≡ map (λ h. h.promise.app) handles.items }
-    ensures identities { map (λ p. A.identity p.app) result.items ≡ map (λ h. A.identity h.promise.was.value) handles.items }
+    ensures identities { map (λ p. A.identity p.app) result.items
+        ≡ map (λ h. A.identity h.promise.was.value) handles.items }
     ensures players { All (λ p. IsKept _gauge.now _fresh p.seat p.counter (A.notes p.app).entries) result.items }
 {
     let mut players = players;
@@ -144,8 +148,9 @@ pub(crate) struct Room<A: App, N: Name> {
     pub(crate) done: Vec<Player<A, N>>,
 }
 
-/// Runs all threads in one scope: the applications' are joined, the book is stopped, the participants' are joined. It gives the applications back,
-/// and tells whether each thread could be made, and whether a participant has met a full journal.
+/// Runs all threads in one scope: the applications' are joined, the book is stopped, the participants' are joined. It
+/// gives the applications back, and tells whether each thread could be made, and whether a participant has met a full
+/// journal.
 pub(crate) fn together<
     A: App + Send,
     N: Name + Send + Sync,
@@ -168,8 +173,10 @@ pub(crate) fn together<
     requires carrying { vec_len room.carrying + vec_len carriers ≤ vec_capacity room.carrying }
     requires players { All (λ p. IsKept gauge.now fresh p.seat p.counter (A.notes p.app).entries) players.items }
     requires numbers { map (λ p. p.seat.number) players.items ≡ range_with_len 0 (length players.items) }
-    ensures numbers { result.1 ≡ true → map (λ p. p.seat.number) result.0.items ≡ range_with_len 0 (length players.items) }
-    ensures identities { result.1 ≡ true → map (λ p. A.identity p.app) result.0.items ≡ map (λ p. A.identity p.app) players.items }
+    ensures numbers { result.1 ≡ true
+        → map (λ p. p.seat.number) result.0.items ≡ range_with_len 0 (length players.items) }
+    ensures identities { result.1 ≡ true
+        → map (λ p. A.identity p.app) result.0.items ≡ map (λ p. A.identity p.app) players.items }
     ensures players { All (λ p. IsKept gauge.now fresh p.seat p.counter (A.notes p.app).entries) result.0.items }
 {
     let Room {
@@ -181,8 +188,15 @@ pub(crate) fn together<
         thread::scope_env(),
         rt,
         move |scope| -> (Vec<Player<A, N>>, bool, bool)
-            requires { (playing.items ≡ []) × (vec_len players ≤ vec_capacity playing) × (done.items ≡ []) × (vec_len players ≤ vec_capacity done) × (vec_len carrying + vec_len carriers ≤ vec_capacity carrying) × All (λ p. IsKept gauge.now fresh p.seat p.counter (A.notes p.app).entries) players.items × (map (λ p. p.seat.number) players.items ≡ range_with_len 0 (length players.items)) }
-            ensures { (result.1 ≡ true → map (λ p. p.seat.number) result.0.items ≡ range_with_len 0 (length players.items)) × (result.1 ≡ true → map (λ p. A.identity p.app) result.0.items ≡ map (λ p. A.identity p.app) players.items) × All (λ p. IsKept gauge.entry.now fresh p.seat p.counter (A.notes p.app).entries) result.0.items }
+            requires { (playing.items ≡ []) × (vec_len players ≤ vec_capacity playing) × (done.items ≡ [])
+                × (vec_len players ≤ vec_capacity done) × (vec_len carrying + vec_len carriers ≤ vec_capacity carrying)
+                × All (λ p. IsKept gauge.now fresh p.seat p.counter (A.notes p.app).entries) players.items
+                × (map (λ p. p.seat.number) players.items ≡ range_with_len 0 (length players.items)) }
+            ensures { (result.1 ≡ true
+                → map (λ p. p.seat.number) result.0.items ≡ range_with_len 0 (length players.items))
+                × (result.1 ≡ true → map (λ p. A.identity p.app) result.0.items
+                ≡ map (λ p. A.identity p.app) players.items)
+                × All (λ p. IsKept gauge.entry.now fresh p.seat p.counter (A.notes p.app).entries) result.0.items }
         {
             let (carrying, all_carry) = start_carriers(
                 scope,

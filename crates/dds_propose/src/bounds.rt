@@ -71,8 +71,8 @@ fn least_sample(plan: &Plan, target: &Target, weights: &Weights) -> u32
     least.unwrap_or(0)
 }
 
-/// At most so many samples count for the target at once: what the opening permits weigh, divided by the least weight of a sample, rounded
-/// down. `None` where that is above 4,294,967,295, or where no sample has a weight.
+/// At most so many samples count for the target at once: what the opening permits weigh, divided by the least weight of
+/// a sample, rounded down. `None` where that is above 4,294,967,295, or where no sample has a weight.
 pub(crate) fn bound_of(plan: &Plan, target: &Target, weights: &Weights) -> Option<u32>
     ensures { result ≡ bound (network_of plan.now) target.now (row_of weights.now) }
 {

@@ -18,7 +18,8 @@ fn add_weights<E: Endpoint>(
     table: &Table,
     endpoint: E,
 ) -> Result<(), NoMemory>
-    ensures { IfOk result (λ _. list.new.items ≡ list.old.items ++ entries_of endpoint (cell table.now (E.number_of endpoint)) 64) }
+    ensures { IfOk result
+        (λ _. list.new.items ≡ list.old.items ++ entries_of endpoint (cell table.now (E.number_of endpoint)) 64) }
 {
     for k in 0..KEYS {
         let key = KeyNo::new(k);

@@ -5,7 +5,8 @@ ghost use Rattle.dds_deploy.specs.Views.{rule_view};
 ghost use Rattle.dds_deploy.specs.WellFormed.{IsCounted};
 ghost use Rattle.dds_match.specs.Network.{weighed};
 ghost use Rattle.dds_match.specs.Plan.{network_of};
-ghost use Rattle.dds_propose.specs.Following.{IsMade, IsNeed, IsRisenHeard, IsRound, RaisesPermits, Follows, RaisesTakes, RaisesSamples};
+ghost use Rattle.dds_propose.specs.Following.{IsMade, IsNeed, IsRisenHeard, IsRound, RaisesPermits, Follows};
+ghost use Rattle.dds_propose.specs.Following.{RaisesTakes, RaisesSamples};
 ghost use Rattle.dds_propose.specs.Relaxation.{IsRest, IsSame, first_risen, opening, takes_risen};
 ghost use Rattle.dds_propose.specs.Tables.{cell, is_place, row_of};
 ghost use Rattle.dds_propose.specs.Targets.{IsReached, counts, reader_of};
@@ -47,8 +48,9 @@ fn raise_permits(
     Ok(!writers.is_empty())
 }
 
-/// Lets the permits of the matched writers follow the samples of a key of a reader. A permit weighs what the samples of its key weigh at
-/// all matched readers together; weights never fall, so it rises by as much as they have risen. Tells whether a permit rose.
+/// Lets the permits of the matched writers follow the samples of a key of a reader. A permit weighs what the samples of
+/// its key weigh at all matched readers together; weights never fall, so it rises by as much as they have risen. Tells
+/// whether a permit rose.
 fn follow_samples(
     plan: &Plan,
     weights: &mut Weights,
@@ -73,7 +75,9 @@ fn follow_samples(
 fn follow_target(plan: &Plan, target: &Target, weights: &mut Weights) -> Result<bool, NoRow>
     requires { IsRisenHeard (network_of plan.now) weights.old }
     ensures followed { IfOk result (Follows (network_of plan.now) weights.old weights.new) }
-    ensures done { IfOk result (λ _. (k : ℕ) → counts (network_of plan.now) target.now k ≡ true → cell weights.new.risen (reader_of target.now) k ≡ 0) }
+    ensures done { IfOk result
+        (λ _. (k : ℕ) → counts (network_of plan.now) target.now k ≡ true
+        → cell weights.new.risen (reader_of target.now) k ≡ 0) }
 {
     let mut changed = false;
     for k in 0..KEYS {
@@ -91,7 +95,9 @@ fn follow_need(plan: &Plan, weights: &mut Weights, u: RuleNo) -> Result<bool, No
     requires there { u < (network_of plan.now).rules }
     requires heard { IsRisenHeard (network_of plan.now) weights.old }
     ensures followed { IfOk result (Follows (network_of plan.now) weights.old weights.new) }
-    ensures done { IfOk result (λ _. (e : Portion ℕ) (es : List (Portion ℕ)) → ((network_of plan.now).rule u).takes ≡ e ∷ es → cell weights.new.risen e.endpoint e.key ≡ 0) }
+    ensures done { IfOk result
+        (λ _. (e : Portion ℕ) (es : List (Portion ℕ)) → ((network_of plan.now).rule u).takes ≡ e ∷ es
+        → cell weights.new.risen e.endpoint e.key ≡ 0) }
 {
     match plan.rule(u).takes.first() {
         Some(need) => follow_samples(plan, weights, need.endpoint, need.key),
@@ -113,12 +119,15 @@ fn follow_needs(plan: &Plan, weights: &mut Weights) -> Result<bool, NoRow>
     Ok(changed)
 }
 
-/// Raises the take of a rule's first need to the least weight at which what the rule writes weighs no more than what it needs. Tells
-/// whether it rose. A rule without needs is never fired.
+/// Raises the take of a rule's first need to the least weight at which what the rule writes weighs no more than what it
+/// needs. Tells whether it rose. A rule without needs is never fired.
 fn raise_take(weights: &mut Weights, rule: &Rule) -> Result<bool, NoRow>
     requires counted { All IsCounted rule.now.takes.items }
-    requires known { (e : Portion ℕ) (es : List (Portion ℕ)) → rule.now.takes.items ≡ e ∷ es → is_place e.endpoint e.key ≡ true }
-    ensures { IfOk result (RaisesTakes (first_risen rule.now.takes.items (weighed rule.now.writes.items (cell weights.old.permits)) (cell weights.old.takes)) weights.old weights.new) }
+    requires known { (e : Portion ℕ) (es : List (Portion ℕ)) → rule.now.takes.items ≡ e ∷ es
+        → is_place e.endpoint e.key ≡ true }
+    ensures { IfOk result
+        (RaisesTakes (first_risen rule.now.takes.items (weighed rule.now.writes.items (cell weights.old.permits))
+        (cell weights.old.takes)) weights.old weights.new) }
 {
     let Some(need) = rule.takes.first() else {
         return Ok(false);
@@ -144,7 +153,8 @@ fn counted_rule(plan: &Plan, u: RuleNo) -> &Rule
     requires { u < (network_of plan.now).rules }
     ensures value { rule_view result.now ≡ (network_of plan.now).rule u }
     ensures counted { All IsCounted result.now.takes.items }
-    ensures known { (e : Portion ℕ) (es : List (Portion ℕ)) → result.now.takes.items ≡ e ∷ es → is_place e.endpoint e.key ≡ true }
+    ensures known { (e : Portion ℕ) (es : List (Portion ℕ)) → result.now.takes.items ≡ e ∷ es
+        → is_place e.endpoint e.key ≡ true }
 {
     // What is known of every deployment: its counts are 1 to 65,535, and its rules take what is there.
     let _applications = plan.lists().applications();
@@ -153,7 +163,9 @@ fn counted_rule(plan: &Plan, u: RuleNo) -> &Rule
 
 /// Raises the takes, rules in file order. Tells whether one rose.
 fn raise_takes(plan: &Plan, weights: &mut Weights) -> Result<bool, NoRow>
-    ensures { IfOk result (RaisesTakes (takes_risen (network_of plan.now) (cell weights.old.permits) (cell weights.old.takes) (network_of plan.now).rules) weights.old weights.new) }
+    ensures { IfOk result
+        (RaisesTakes (takes_risen (network_of plan.now) (cell weights.old.permits) (cell weights.old.takes)
+        (network_of plan.now).rules) weights.old weights.new) }
 {
     let mut changed = false;
     for u in 0..plan.lists().rules() {
@@ -165,7 +177,8 @@ fn raise_takes(plan: &Plan, weights: &mut Weights) -> Result<bool, NoRow>
 
 /// Raises a sample to the weight of its take. Tells whether it rose.
 fn raise_sample(weights: &mut Weights, reader: ReaderNo, key: KeyNo) -> bool
-    requires { cell weights.old.samples reader key < cell weights.old.takes reader key → cell weights.old.risen reader key ≡ 0 }
+    requires { cell weights.old.samples reader key < cell weights.old.takes reader key
+        → cell weights.old.risen reader key ≡ 0 }
     ensures raised { RaisesSamples weights.old weights.new result }
     ensures done { cell weights.new.takes reader key ≤ cell weights.new.samples reader key }
 {
@@ -182,9 +195,11 @@ fn raise_sample(weights: &mut Weights, reader: ReaderNo, key: KeyNo) -> bool
 /// Raises the sample that a rule needs first to the weight of its take. Tells whether it rose.
 fn raise_need(plan: &Plan, weights: &mut Weights, u: RuleNo) -> bool
     requires there { u < (network_of plan.now).rules }
-    requires fresh { (r k : ℕ) → cell weights.old.samples r k < cell weights.old.takes r k → cell weights.old.risen r k ≡ 0 }
+    requires fresh { (r k : ℕ) → cell weights.old.samples r k < cell weights.old.takes r k
+        → cell weights.old.risen r k ≡ 0 }
     ensures raised { RaisesSamples weights.old weights.new result }
-    ensures done { (e : Portion ℕ) (es : List (Portion ℕ)) → ((network_of plan.now).rule u).takes ≡ e ∷ es → cell weights.new.takes e.endpoint e.key ≤ cell weights.new.samples e.endpoint e.key }
+    ensures done { (e : Portion ℕ) (es : List (Portion ℕ)) → ((network_of plan.now).rule u).takes ≡ e ∷ es
+        → cell weights.new.takes e.endpoint e.key ≤ cell weights.new.samples e.endpoint e.key }
 {
     match plan.rule(u).takes.first() {
         Some(need) => raise_sample(weights, need.endpoint, need.key),
@@ -192,11 +207,13 @@ fn raise_need(plan: &Plan, weights: &mut Weights, u: RuleNo) -> bool
     }
 }
 
-/// Raises the samples to the weights of their takes. Only a first need of a rule has a take with a weight. Tells whether one rose.
+/// Raises the samples to the weights of their takes. Only a first need of a rule has a take with a weight. Tells
+/// whether one rose.
 fn raise_samples(plan: &Plan, weights: &mut Weights) -> bool
     requires { (r k : ℕ) → cell weights.old.risen r k ≡ 0 }
     ensures raised { RaisesSamples weights.old weights.new result }
-    ensures done { (r k : ℕ) → IsNeed (network_of plan.now) r k → cell weights.new.takes r k ≤ cell weights.new.samples r k }
+    ensures done { (r k : ℕ) → IsNeed (network_of plan.now) r k
+        → cell weights.new.takes r k ≤ cell weights.new.samples r k }
 {
     let mut changed = false;
     for u in 0..plan.lists().rules() {
@@ -206,7 +223,8 @@ fn raise_samples(plan: &Plan, weights: &mut Weights) -> bool
     changed
 }
 
-/// One round: the permits follow the samples, then the takes the permits, then the samples the takes. Tells whether a weight rose.
+/// One round: the permits follow the samples, then the takes the permits, then the samples the takes. Tells whether a
+/// weight rose.
 fn round(plan: &Plan, target: &Target, weights: &mut Weights) -> Result<bool, NoRow>
     requires { IsMade (network_of plan.now) target.now weights.old }
     ensures { IfOk result (IsRound (network_of plan.now) target.now weights.old weights.new) }
@@ -253,8 +271,8 @@ fn opening_weights(alloc: Global, plan: &Plan, target: &Target) -> Result<Weight
     Ok(weights)
 }
 
-/// The weights of the row that shows a target. `None` where a weight would be above 4,294,967,295, or where each of 256 rounds changed
-/// something.
+/// The weights of the row that shows a target. `None` where a weight would be above 4,294,967,295, or where each of 256
+/// rounds changed something.
 pub(crate) fn row_weights(
     alloc: Global,
     plan: &Plan,

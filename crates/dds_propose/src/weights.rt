@@ -52,7 +52,8 @@ impl Table {
     /// Puts a number at a key of an endpoint. Nothing changes where there is no such place.
     #[tactic(auto, unfolding(crate::specs::Tables::cell))]
     pub(crate) fn put<E: Endpoint>(&mut self, endpoint: E, key: KeyNo, number: u32)
-        ensures { (e k : ℕ) → cell self.new e k ≡ if is_place e k && ((e == E.number_of endpoint) && (k == key)) then number else cell self.old e k }
+        ensures { (e k : ℕ) → cell self.new e k
+            ≡ if is_place e k && ((e == E.number_of endpoint) && (k == key)) then number else cell self.old e k }
     {
         let e = endpoint.place();
         let k = key.number();

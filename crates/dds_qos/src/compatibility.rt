@@ -1,13 +1,14 @@
-//! Which policies keep a writer and a reader from matching: those whose offer does not meet the request (OMG DDS 1.4, clause
-//! 2.2.3).
+//! Which policies keep a writer and a reader from matching: those whose offer does not meet the request (OMG DDS 1.4,
+//! clause 2.2.3).
 
 ghost use Rattle.std.specs.Prelude.{◌≡◌};
-ghost use Rattle.dds_qos.specs.Compatibility.{name_of, contains, is_empty, incompatible, is_met, is_presentation_met, is_liveliness_met};
+ghost use Rattle.dds_qos.specs.Compatibility.{name_of, contains, is_empty, incompatible, is_met, is_presentation_met};
+ghost use Rattle.dds_qos.specs.Compatibility.{is_liveliness_met};
 
 use crate::policies::{Liveliness, Policies, Presentation, ReaderQos, WriterQos};
 
-/// The policies in which an offer is compared with a request, in the order in which they are told. The clauses are those of
-/// OMG DDS 1.4.
+/// The policies in which an offer is compared with a request, in the order in which they are told. The clauses are
+/// those of OMG DDS 1.4.
 #[derive(Clone, Copy, Debug, PartialEq, Eq)]
 pub enum Policy {
     /// DURABILITY, clause 2.2.3.4: what of the past a late reader could get.

@@ -18,8 +18,8 @@ pub enum QosFault {
     SamplesUnderInstance,
 }
 
-/// Whether the policies that a writer offers go together. An `Err` is the first fault. An unlimited value passes both tests,
-/// and the depth of KEEP_ALL is not looked at.
+/// Whether the policies that a writer offers go together. An `Err` is the first fault. An unlimited value passes both
+/// tests, and the depth of KEEP_ALL is not looked at.
 pub fn consistent_writer(writer: &WriterQos) -> Result<(), QosFault>
     ensures { result_err result ≡ consistency_fault writer.now.offered }
 {

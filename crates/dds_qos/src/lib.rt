@@ -1,8 +1,9 @@
-//! Quality of service of one writer and one reader: the policies, whether an endpoint is consistent, which policies make
-//! two endpoints incompatible, what an endpoint may keep, and which endpoints the running profile has. Nothing here takes memory.
+//! Quality of service of one writer and one reader: the policies, whether an endpoint is consistent, which policies
+//! make two endpoints incompatible, what an endpoint may keep, and which endpoints the running profile has. Nothing
+//! here takes memory.
 //!
-//! Its specs also hold the words that speak of one writer or one reader alone (samples, admission, taking, reading, writing and the
-//! notes of what to send), on which the cache, the reader, the writer and the world of runs rest.
+//! Its specs also hold the words that speak of one writer or one reader alone (samples, admission, taking, reading,
+//! writing and the notes of what to send), on which the cache, the reader, the writer and the world of runs rest.
 #![tactic(auto)]
 
 pub mod admission;

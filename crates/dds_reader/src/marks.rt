@@ -76,8 +76,8 @@ impl Marks {
         }
     }
 
-    // Marks the numbers from one to another less one, and counts those that were not marked. It needs no memory where the first is not
-    // above the base or joins a range.
+    // Marks the numbers from one to another less one, and counts those that were not marked. It needs no memory where
+    // the first is not above the base or joins a range.
     pub(crate) fn mark(&mut self, writer: WriterNo, from: u64, until: u64) -> Result<u64, NoMemory>
         requires listed { IsTrue (has_marks writer self.old) }
         requires low { 1 ≤ from }
@@ -95,7 +95,8 @@ impl Marks {
     // Marks the numbers that a GAP covers, and counts those that were not marked.
     pub(crate) fn mark_gap(&mut self, gap: &GapMsg) -> Result<u64, NoMemory>
         requires { IsTrue (has_marks gap.now.writer self.old) }
-        ensures marks { OnOk result (AddsMarks (in_marks self.old) (in_marks self.new) gap.now.writer (covers gap.now)) }
+        ensures marks { OnOk result
+            (AddsMarks (in_marks self.old) (in_marks self.new) gap.now.writer (covers gap.now)) }
         ensures count { IfOk result (λ gone. gone ≡ gap_count (in_marks self.old gap.now.writer) gap.now) }
         ensures numbers { OnOk result (OnlyNumbers (covers gap.now)) }
         ensures writers { (v : ℕ) → has_marks v self.new ≡ has_marks v self.old }
@@ -107,8 +108,8 @@ impl Marks {
         }
     }
 
-    // Admits a sample that is not over a limit and whose number is not marked, and marks the numbers from one up to its own: from the
-    // first of all, or its own alone.
+    // Admits a sample that is not over a limit and whose number is not marked, and marks the numbers from one up to its
+    // own: from the first of all, or its own alone.
     pub(crate) fn store(
         &mut self,
         from: u64,
@@ -118,13 +119,16 @@ impl Marks {
         requires known { IsTrue (has_marks sample.now.writer self.old) }
         requires listed { IsTrue (is_listed sample.now.writer cache.old.writers) }
         requires fresh { IsFresh cache.old.stored sample.now }
-        requires accepted { is_rejected (admission cache.old.limits cache.old.stored cache.old.keys sample.now) ≡ false }
+        requires accepted { is_rejected (admission cache.old.limits cache.old.stored cache.old.keys sample.now)
+            ≡ false }
         requires unmarked { in_marks self.old sample.now.writer sample.now.sn ≡ false }
         requires first { (from ≡ 1) ⊎ (from ≡ sample.now.sn) }
         requires low { 1 ≤ sample.now.sn }
         requires high { sample.now.sn ≤ last_number }
         ensures answer { IfOk result (λ a. a ≡ admission cache.old.limits cache.old.stored cache.old.keys sample.now) }
-        ensures marks { OnOk result (AddsMarks (in_marks self.old) (in_marks self.new) sample.now.writer (is_between from (sample.now.sn + 1))) }
+        ensures marks { OnOk result
+            (AddsMarks (in_marks self.old) (in_marks self.new) sample.now.writer
+            (is_between from (sample.now.sn + 1))) }
         ensures cache { IfOk result (λ a. cache.new ≡ record cache.old {
           stored = stored_after a cache.old.stored sample.now;
           keys = keys_after a cache.old.keys sample.now;

@@ -42,7 +42,8 @@ pub(crate) fn opened(alloc: Global, writers: &[WriterNo]) -> Result<Vec<WriterPr
     Ok(proxies)
 }
 
-// In what follows `rising` tells that the notes stand in order of their writers' numbers, so that one is found by halving.
+// In what follows `rising` tells that the notes stand in order of their writers' numbers, so that one is found by
+// halving.
 
 // Whether a writer is noted.
 pub(crate) fn has_writer(proxies: &[WriterProxy], rising: bool, writer: WriterNo) -> bool

@@ -1,6 +1,7 @@
 //! The marked numbers of one writer: all below a base, and disjoint ranges above it, joined where they touch.
 
-ghost use Rattle.std.specs.Prelude.{◌≡◌, ℕ, ◌+◌, ◌-◌, ◌<◌, ◌≤◌, ◌==◌, cond, not, ◌&&◌, ◌||◌, true, false, None, Some, IfOk, OnOk, OnErr, IsTrue, MatchOption};
+ghost use Rattle.std.specs.Prelude.{◌≡◌, ℕ, ◌+◌, ◌-◌, ◌<◌, ◌≤◌, ◌==◌, cond, not, ◌&&◌, ◌||◌, true, false, None, Some};
+ghost use Rattle.std.specs.Prelude.{IfOk, OnOk, OnErr, IsTrue, MatchOption};
 ghost use Rattle.std.specs.Ordering.{nat_cmp};
 ghost use Rattle.std.specs.BTreeMap.{IsOrdered};
 ghost use Rattle.std.proofs.Common.{◌⊎◌};
@@ -12,7 +13,8 @@ ghost use Rattle.dds_qos.specs.Admission.{admission, is_rejected, stored_after, 
 ghost use Rattle.dds_qos.specs.Reading.{gap_count};
 ghost use Rattle.dds_qos.specs.Samples.{IsFresh};
 ghost use Rattle.dds_cache.specs.Released.{is_listed};
-ghost use Rattle.dds_reader.specs.Ranges.{at, has, is_between, IsAbove, IsAbsorbed, IsApart, IsFirstIn, IsFree, IsLastUpTo, IsLeastUnmarked, NoneIn, OnlyNumbers};
+ghost use Rattle.dds_reader.specs.Ranges.{at, has, is_between, IsAbove, IsAbsorbed, IsApart, IsFirstIn, IsFree};
+ghost use Rattle.dds_reader.specs.Ranges.{IsLastUpTo, IsLeastUnmarked, NoneIn, OnlyNumbers};
 
 use dds_base::{GapMsg, NoMemory, Sample, SnSet};
 use dds_cache::Cache;
@@ -21,8 +23,8 @@ use std::alloc::Global;
 use std::collections::BTreeMap;
 use std::ops::Bound;
 
-// The marked numbers of a writer: those from 1 below the base, and ranges above it, by their first number with the number after
-// their last, which neither overlap nor touch.
+// The marked numbers of a writer: those from 1 below the base, and ranges above it, by their first number with the
+// number after their last, which neither overlap nor touch.
 #[derive(Drop)]
 pub(crate) struct Ranges {
     pub(crate) base: u64,
@@ -119,12 +121,14 @@ impl Ranges {
         self.base
     }
 
-    // Marks the numbers from one to another less one, and counts those that were not marked. It needs no memory where the first is not
-    // above the base or joins a range.
+    // Marks the numbers from one to another less one, and counts those that were not marked. It needs no memory where
+    // the first is not above the base or joins a range.
     pub(crate) fn mark(&mut self, from: u64, until: u64) -> Result<u64, NoMemory>
         requires { 1 ≤ from }
-        ensures marks { OnOk result ((n : ℕ) → has self.new.base self.new.above n ≡ (has self.old.base self.old.above n || is_between from until n)) }
-        ensures count { IfOk result (λ k. k ≡ count_between (λ n. not (has self.old.base self.old.above n)) from until) }
+        ensures marks { OnOk result ((n : ℕ)
+            → has self.new.base self.new.above n ≡ (has self.old.base self.old.above n || is_between from until n)) }
+        ensures count { IfOk result
+            (λ k. k ≡ count_between (λ n. not (has self.old.base self.old.above n)) from until) }
         ensures only_free { OnErr result (IsFree self.old.above from) }
         ensures only_above { OnErr result (self.old.base < from) }
         ensures err_base { OnErr result (self.new.base ≡ self.old.base) }
@@ -169,8 +173,9 @@ impl Ranges {
         }
     }
 
-    // Admits a sample that is not over a limit and whose number is not marked, and marks the numbers from one up to its own: from its
-    // own on, or from one that is not above the base. What it answers is the cache's answer. Where it fails nothing changes.
+    // Admits a sample that is not over a limit and whose number is not marked, and marks the numbers from one up to its
+    // own: from its own on, or from one that is not above the base. What it answers is the cache's answer. Where it
+    // fails nothing changes.
     pub(crate) fn store(
         &mut self,
         from: u64,
@@ -179,13 +184,16 @@ impl Ranges {
     ) -> Result<Admit, NoMemory>
         requires listed { IsTrue (is_listed sample.now.writer cache.old.writers) }
         requires fresh { IsFresh cache.old.stored sample.now }
-        requires accepted { is_rejected (admission cache.old.limits cache.old.stored cache.old.keys sample.now) ≡ false }
+        requires accepted { is_rejected (admission cache.old.limits cache.old.stored cache.old.keys sample.now)
+            ≡ false }
         requires unmarked { has self.old.base self.old.above sample.now.sn ≡ false }
         requires low { 1 ≤ from }
         requires alone { (from ≤ self.old.base) ⊎ (from ≡ sample.now.sn) }
         requires high { sample.now.sn ≤ last_number }
         ensures answer { IfOk result (λ a. a ≡ admission cache.old.limits cache.old.stored cache.old.keys sample.now) }
-        ensures marks { OnOk result ((n : ℕ) → has self.new.base self.new.above n ≡ (has self.old.base self.old.above n || is_between from (sample.now.sn + 1) n)) }
+        ensures marks { OnOk result ((n : ℕ)
+            → has self.new.base self.new.above n
+            ≡ (has self.old.base self.old.above n || is_between from (sample.now.sn + 1) n)) }
         ensures cache { IfOk result (λ a. cache.new ≡ record cache.old {
           stored = stored_after a cache.old.stored sample.now;
           keys = keys_after a cache.old.keys sample.now;
@@ -213,8 +221,11 @@ impl Ranges {
     // Marks a number where the set has it, and counts it where it was not marked: 1, or 0.
     fn mark_one(&mut self, set: &SnSet, n: u64) -> Result<u64, NoMemory>
         requires { 1 ≤ n }
-        ensures marks { OnOk result ((m : ℕ) → has self.new.base self.new.above m ≡ (has self.old.base self.old.above m || (has_number set.now m && (m == n)))) }
-        ensures count { IfOk result (λ k. k ≡ cond (has_number set.now n && not (has self.old.base self.old.above n)) 1 0) }
+        ensures marks { OnOk result ((m : ℕ)
+            → has self.new.base self.new.above m
+            ≡ (has self.old.base self.old.above m || (has_number set.now m && (m == n)))) }
+        ensures count { IfOk result
+            (λ k. k ≡ cond (has_number set.now n && not (has self.old.base self.old.above n)) 1 0) }
         ensures one { IfOk result (λ k. k ≤ 1) }
         ensures number { OnOk result (has_number set.now n ≡ true → n ≤ last_number) }
     {
@@ -226,8 +237,12 @@ impl Ranges {
 
     // Marks the numbers of a set, and counts those that were not marked. Where it fails, some may be marked.
     fn mark_set(&mut self, set: &SnSet) -> Result<u64, NoMemory>
-        ensures marks { OnOk result ((n : ℕ) → has self.new.base self.new.above n ≡ (has self.old.base self.old.above n || has_number set.now n)) }
-        ensures count { IfOk result (λ k. k ≡ count_between (λ m. has_number set.now m && not (has self.old.base self.old.above m)) set.now.base (set.now.base + 256)) }
+        ensures marks { OnOk result ((n : ℕ)
+            → has self.new.base self.new.above n ≡ (has self.old.base self.old.above n || has_number set.now n)) }
+        ensures count { IfOk result
+            (λ k. k ≡ count_between
+            (λ m. has_number set.now m
+            && not (has self.old.base self.old.above m)) set.now.base (set.now.base + 256)) }
         ensures small { IfOk result (λ k. k ≤ 256) }
         ensures numbers { OnOk result (OnlyNumbers (has_number set.now)) }
     {
@@ -239,10 +254,11 @@ impl Ranges {
         Ok(count)
     }
 
-    // Marks the numbers that a GAP covers, and counts those that were not marked. It marks them on a copy, so that none is marked where
-    // it fails.
+    // Marks the numbers that a GAP covers, and counts those that were not marked. It marks them on a copy, so that none
+    // is marked where it fails.
     pub(crate) fn mark_gap(&mut self, gap: &GapMsg) -> Result<u64, NoMemory>
-        ensures marks { OnOk result ((n : ℕ) → has self.new.base self.new.above n ≡ (has self.old.base self.old.above n || covers gap.now n)) }
+        ensures marks { OnOk result ((n : ℕ)
+            → has self.new.base self.new.above n ≡ (has self.old.base self.old.above n || covers gap.now n)) }
         ensures count { IfOk result (λ k. k ≡ gap_count (has self.old.base self.old.above) gap.now) }
         ensures numbers { OnOk result (OnlyNumbers (covers gap.now)) }
         ensures err_base { OnErr result (self.new.base ≡ self.old.base) }

@@ -100,7 +100,8 @@ pub(crate) fn spend(spare: &mut Counts, takes: &[Portion<ReaderNo>])
 /// Gives permits for what a rule writes, so many times.
 pub(crate) fn give(permits: &mut Counts, writes: &[Portion<WriterNo>], times: u16)
     requires places { All (HasPlace permits.old.endpoints) writes.now }
-    requires room { All (λ e. count_at permits.old e.endpoint e.key + named writes.now e.endpoint e.key * times < 2 ^ 64) writes.now }
+    requires room { All (λ e. count_at permits.old e.endpoint e.key + named writes.now e.endpoint e.key * times
+        < 2 ^ 64) writes.now }
     ensures { IsMoreBy (λ w k. named writes.now w k * times) permits.old permits.new }
 {
     for given in writes {

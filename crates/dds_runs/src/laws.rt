@@ -1,13 +1,15 @@
-//! The laws of every run, over the definitions alone: four passes and what they come to. `accepts` rests on them. What they say of packets, of what is
-//! stored and of watchers holds of every plan; only counts, order and the safety that they come to need an accepted certificate.
+//! The laws of every run, over the definitions alone: four passes and what they come to. `accepts` rests on them. What
+//! they say of packets, of what is stored and of watchers holds of every plan; only counts, order and the safety that
+//! they come to need an accepted certificate.
 
 ghost use Rattle.dds_runs.specs.Before.{Before};
 ghost use Rattle.dds_runs.specs.CountRuns.{CountRuns};
 ghost use Rattle.dds_runs.specs.Laws.{Counts, Headline, Order, Packets, Parts, Settled, Stored, Watched};
-ghost use Rattle.dds_runs.specs.Unsafe.{EqualBoundOverflows, FilteredWriterLoses, ForgottenReaderOverflows, ShallowWriterLoses};
+ghost use Rattle.dds_runs.specs.Unsafe.{EqualBoundOverflows, FilteredWriterLoses, ForgottenReaderOverflows};
+ghost use Rattle.dds_runs.specs.Unsafe.{ShallowWriterLoses};
 
-/// Over writes, firings and takes alone, for every list of them for which permits and unspent takes suffice: no row's weight is above its
-/// budget, and no count is below 0.
+/// Over writes, firings and takes alone, for every list of them for which permits and unspent takes suffice: no row's
+/// weight is above its budget, and no count is below 0.
 pub fn count_runs()
     ensures { CountRuns }
 {}
@@ -17,13 +19,15 @@ pub fn counts()
     ensures { Counts }
 {}
 
-/// The second pass: of every packet that was ever sent, an ACKNACK's base is at most the reader's base, what is below a HEARTBEAT's first is
-/// below the reader's base or dropped, a DATA is its place in the writer's history, and a GAP covers irrelevant or dropped numbers alone.
+/// The second pass: of every packet that was ever sent, an ACKNACK's base is at most the reader's base, what is below a
+/// HEARTBEAT's first is below the reader's base or dropped, a DATA is its place in the writer's history, and a GAP
+/// covers irrelevant or dropped numbers alone.
 pub fn packets()
     ensures { Packets }
 {}
 
-/// The third pass: what is unread is in flight, an arriving sample included; so where a certificate is accepted no strict reader rejects or overwrites.
+/// The third pass: what is unread is in flight, an arriving sample included; so where a certificate is accepted no
+/// strict reader rejects or overwrites.
 pub fn stored()
     ensures { Stored }
 {}
@@ -33,8 +37,8 @@ pub fn order()
     ensures { Order }
 {}
 
-/// What joins the fourth pass and the second: what a writer with KEEP_LAST dropped, each strict reader that matches it has taken, so that no
-/// HEARTBEAT and no GAP costs it a sample.
+/// What joins the fourth pass and the second: what a writer with KEEP_LAST dropped, each strict reader that matches it
+/// has taken, so that no HEARTBEAT and no GAP costs it a sample.
 pub fn settled()
     ensures { Settled }
 {}
@@ -54,32 +58,32 @@ pub fn headline()
     ensures { Headline }
 {}
 
-/// A write puts a sample in flight for every matched reader: a rule that forgets one of two accepts a deployment in which a reader
-/// rejects a sample, so that it isn't safe.
+/// A write puts a sample in flight for every matched reader: a rule that forgets one of two accepts a deployment in
+/// which a reader rejects a sample, so that it isn't safe.
 pub fn forgotten_reader()
     ensures { ForgottenReaderOverflows }
 {}
 
-/// A bound must be strict: a rule by which the opening permits may weigh as much as one sample more accepts a deployment in which a
-/// reader rejects a sample, so that it isn't safe.
+/// A bound must be strict: a rule by which the opening permits may weigh as much as one sample more accepts a
+/// deployment in which a reader rejects a sample, so that it isn't safe.
 pub fn equal_bound()
     ensures { EqualBoundOverflows }
 {}
 
-/// The depth of a KEEP_LAST writer must be no less than the bound: a rule by which the bound may be one more accepts a deployment in which
-/// a reader gives up a sample, so that it isn't safe.
+/// The depth of a KEEP_LAST writer must be no less than the bound: a rule by which the bound may be one more accepts a
+/// deployment in which a reader gives up a sample, so that it isn't safe.
 pub fn shallow_writer()
     ensures { ShallowWriterLoses }
 {}
 
-/// A reader must hear all that rules write at a KEEP_LAST writer: a rule that doesn't ask for it accepts a deployment in which a reader
-/// gives up a number of a key that it doesn't hear, so that it isn't safe.
+/// A reader must hear all that rules write at a KEEP_LAST writer: a rule that doesn't ask for it accepts a deployment
+/// in which a reader gives up a number of a key that it doesn't hear, so that it isn't safe.
 pub fn filtered_writer()
     ensures { FilteredWriterLoses }
 {}
 
-/// Without KEEP_LAST writers, free writes and readers that may lose, the definitions of runs and certificates are those of a system that
-/// has none of them: each is written out in full there.
+/// Without KEEP_LAST writers, free writes and readers that may lose, the definitions of runs and certificates are those
+/// of a system that has none of them: each is written out in full there.
 pub fn before()
     ensures { Before }
 {}

@@ -7,8 +7,8 @@ use dds_propose::targets::Target;
 /// What is known of the bounds that weights show for a key of a reader, or for all its samples.
 #[derive(Clone, Copy, Debug, PartialEq, Eq)]
 pub enum Least {
-    /// Some weights show this bound, the least that one row of weights was found to show. For the samples of a reader a sum of bounds of
-    /// its keys may be less.
+    /// Some weights show this bound, the least that one row of weights was found to show. For the samples of a reader a
+    /// sum of bounds of its keys may be less.
     Shown(u32),
     /// The climb found that there is no least bound: firings in fractions bring more and more samples.
     Unbounded,
@@ -23,7 +23,8 @@ pub enum Missing {
     Structure(No),
     /// No weights were found that show a bound within this limit.
     Limit { target: Target, least: Least },
-    /// Each limit has weights, but they make no certificate: no 64 rows were found that show all limits, neither among theirs nor among sums of these.
+    /// Each limit has weights, but they make no certificate: no 64 rows were found that show all limits, neither among
+    /// theirs nor among sums of these.
     Rows,
     /// What was found isn't accepted, for this reason.
     Refused(No),

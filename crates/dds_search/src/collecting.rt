@@ -117,7 +117,8 @@ impl Collected {
         }
     }
 
-    /// Bounds of the keys of a reader whose sum is within its limit, which then is the last part. Else the first part that isn't.
+    /// Bounds of the keys of a reader whose sum is within its limit, which then is the last part. Else the first part
+    /// that isn't.
     fn add_parts(
         &mut self,
         alloc: Global,
@@ -134,8 +135,8 @@ impl Collected {
         Ok(Part::Within(limited.limit.saturating_sub(left)))
     }
 
-    /// Adds a row for a limit with the bound that it shows, or for the samples of a reader a bound for each of its keys. `None` where that
-    /// was done, and else what was found instead.
+    /// Adds a row for a limit with the bound that it shows, or for the samples of a reader a bound for each of its
+    /// keys. `None` where that was done, and else what was found instead.
     pub(crate) fn add_limit(
         &mut self,
         alloc: Global,

@@ -1,5 +1,5 @@
-//! Whether a strict reader gives a sample up when a HEARTBEAT comes. Which numbers it misses isn't seen from outside, so it is asked: its ACKNACK names the least
-//! one. That isn't a part of the run that is told.
+//! Whether a strict reader gives a sample up when a HEARTBEAT comes. Which numbers it misses isn't seen from outside,
+//! so it is asked: its ACKNACK names the least one. That isn't a part of the run that is told.
 ghost use Rattle.std.specs.Prelude.{◌≡◌, List, IfOk, IfSome};
 ghost use Rattle.dds_match.specs.Plan.{network_of};
 ghost use Rattle.dds_runs.specs.Steps.{Event as EventValue, Reply as ReplyValue};
@@ -30,7 +30,8 @@ fn heard(simulator: &Simulator, event: &Event) -> Option<(usize, Heartbeat)>
     }
 }
 
-/// The least number of a writer that a reader misses. The reader's ACKNACK, which says so, goes to another place than this one.
+/// The least number of a writer that a reader misses. The reader's ACKNACK, which says so, goes to another place than
+/// this one.
 fn missing(
     simulator: &mut Simulator,
     place: usize,
@@ -38,7 +39,8 @@ fn missing(
     writer: WriterNo,
 ) -> Result<Option<u64>, NoMemory>
     ensures plan { simulator.new.plan ≡ simulator.old.plan }
-    ensures asks { IfOk result (λ found. IfSome found (λ n. (ms : List (EventValue × ReplyValue)) → StandsAfter ms simulator.old
+    ensures asks { IfOk result
+        (λ found. IfSome found (λ n. (ms : List (EventValue × ReplyValue)) → StandsAfter ms simulator.old
         → Asks (network_of simulator.old.plan) ms place reader writer n simulator.new)) }
 {
     // The borrow checker finds the type inside `Reply` where the code names it.
@@ -88,7 +90,8 @@ fn written_key(events: &[Event], replies: &[Reply], writer: WriterNo, number: u6
     None
 }
 
-/// Makes the last event of a run, and tells whether a strict reader gives up a number by a HEARTBEAT that it brings, and then the key of the least one.
+/// Makes the last event of a run, and tells whether a strict reader gives up a number by a HEARTBEAT that it brings,
+/// and then the key of the least one.
 pub(crate) fn gave_up(
     simulator: &mut Simulator,
     before: &[Event],
@@ -97,7 +100,8 @@ pub(crate) fn gave_up(
 ) -> Result<Option<Told>, NoMemory>
     ensures plan { simulator.new.plan ≡ simulator.old.plan }
     ensures told { IfOk result (λ found. IfSome found (λ t. StandsAfter (paired before.now replies.now) simulator.old
-        → LosesAfter (network_of simulator.old.plan) (paired before.now replies.now) last.now t.reply t.reader t.key t.loss)) }
+        → LosesAfter (network_of simulator.old.plan)
+        (paired before.now replies.now) last.now t.reply t.reader t.key t.loss)) }
 {
     // The borrow checker finds the type inside `Reply` where the code names it.
     let _arrival: Option<Arrival> = None;

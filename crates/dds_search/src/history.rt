@@ -1,4 +1,5 @@
-//! What was written and what came where, while a run is made: for each writer the keys of its samples in order, and for each pair the next number to come.
+//! What was written and what came where, while a run is made: for each writer the keys of its samples in order, and for
+//! each pair the next number to come.
 
 use dds_base::{KeyNo, NoMemory, ReaderNo, WriterNo};
 use std::alloc::Global;
@@ -91,7 +92,8 @@ impl History {
         self.written.get(writer.number())?.get(came..)
     }
 
-    /// How many numbers come before the first sample of one of the keys that has not come to a reader, if there is such a sample.
+    /// How many numbers come before the first sample of one of the keys that has not come to a reader, if there is such
+    /// a sample.
     pub(crate) fn before(
         &self,
         writer: WriterNo,

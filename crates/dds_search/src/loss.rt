@@ -9,12 +9,13 @@ pub enum Loss {
     Rejected(Rejection),
     /// By KEEP_LAST the arriving sample took the place of one that was not taken yet.
     Overwrote,
-    /// By KEEP_LAST a writer dropped the sample before it came, and the reader gave its number up when a HEARTBEAT said so.
+    /// By KEEP_LAST a writer dropped the sample before it came, and the reader gave its number up when a HEARTBEAT said
+    /// so.
     Lost,
 }
 
-/// A run at whose end a strict reader loses a sample of this key: each event with its reply. The last event delivers a sample to the reader, or the
-/// HEARTBEAT after which it gives a sample up.
+/// A run at whose end a strict reader loses a sample of this key: each event with its reply. The last event delivers a
+/// sample to the reader, or the HEARTBEAT after which it gives a sample up.
 #[derive(Drop)]
 pub struct Counterexample {
     pub reader: ReaderNo,

@@ -91,7 +91,8 @@ fn greatest_need(needs: &[Change], values: &[i128]) -> Option<Change> {
     found.map(|(_, need)| need)
 }
 
-/// Raises a weight so that what the need takes weighs `lack` more at least. `None` where it would be above 4,294,967,295.
+/// Raises a weight so that what the need takes weighs `lack` more at least. `None` where it would be above
+/// 4,294,967,295.
 fn raise(weights: &mut Vec<u32>, need: Change, lack: u128) -> Option<()> {
     let count = u128::from(need.count);
     let rise = lack.checked_add(count.checked_sub(1)?)?.checked_div(count)?;
@@ -101,7 +102,8 @@ fn raise(weights: &mut Vec<u32>, need: Change, lack: u128) -> Option<()> {
     Some(())
 }
 
-/// Raises a need of a firing where what it gives weighs more than what it needs. Tells whether it did, `None` where it can't.
+/// Raises a need of a firing where what it gives weighs more than what it needs. Tells whether it did, `None` where it
+/// can't.
 fn repair(firing: &Firing, values: &[i128], weights: &mut Vec<u32>) -> Option<bool> {
     let given = weighed(&firing.gives, weights);
     let needed = weighed(&firing.needs, weights);

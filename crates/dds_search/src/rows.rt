@@ -1,4 +1,5 @@
-//! The rows that were found: equal ones are one, and where there are too many, some that show each limit, or sums of these.
+//! The rows that were found: equal ones are one, and where there are too many, some that show each limit, or sums of
+//! these.
 ghost use Rattle.std.specs.Prelude.{◌≡◌, Some, IfOk};
 ghost use Rattle.dds_search.specs.Rows.{weights_at};
 
@@ -106,7 +107,8 @@ fn close(open: &mut Vec<bool>, served: &[bool]) {
     }
 }
 
-/// Some of the rows, by their places, that serve each entry: the one that serves the most open entries, time and again. `None` where some entry isn't served.
+/// Some of the rows, by their places, that serve each entry: the one that serves the most open entries, time and again.
+/// `None` where some entry isn't served.
 fn chosen(
     alloc: Global,
     table: &[Vec<bool>],
@@ -157,7 +159,8 @@ fn choose_again(entries: &mut Vec<Entry>, rows: &[WeighedRow], chosen: &[usize])
     }
 }
 
-/// At most 64 rows, by their places, that serve each entry: some of them, or sums of some, which are added at the end. `None` where no such ones are found.
+/// At most 64 rows, by their places, that serve each entry: some of them, or sums of some, which are added at the end.
+/// `None` where no such ones are found.
 fn few(
     alloc: Global,
     net: &Net,
@@ -174,8 +177,9 @@ fn few(
     summed(alloc, net, rows, &chosen, &table, entries)
 }
 
-/// The rows of a certificate, by their places: all of them, and where they are more than 64 some that serve each entry, or sums of some, which are added to the
-/// rows. The entries name them by their places in it. `None` where no 64 such rows are found.
+/// The rows of a certificate, by their places: all of them, and where they are more than 64 some that serve each entry,
+/// or sums of some, which are added to the rows. The entries name them by their places in it. `None` where no 64 such
+/// rows are found.
 pub(crate) fn cover(
     alloc: Global,
     net: &Net,

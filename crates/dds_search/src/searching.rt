@@ -129,8 +129,10 @@ fn concluded(
 ) -> Result<Found, NoMemory>
     ensures fits { IfOk result (λ f. IfCertificate f (λ c. fits (network_of plan.now) (certificate_view c) ≡ true)) }
     ensures accepted { IfOk result (λ f. IfCertificate f (λ c. first_no plan.now (certificate_view c) ≡ None)) }
-    ensures holds { IfOk result (λ f. IfCertificate f (λ c. Accepted (network_of plan.now) (certificate_of (certificate_view c)))) }
-    ensures safe { IfOk result (λ f. IfCertificate f (λ c. Safe (network_of plan.now) (certificate_of (certificate_view c)))) }
+    ensures holds { IfOk result
+        (λ f. IfCertificate f (λ c. Accepted (network_of plan.now) (certificate_of (certificate_view c)))) }
+    ensures safe { IfOk result
+        (λ f. IfCertificate f (λ c. Safe (network_of plan.now) (certificate_of (certificate_view c)))) }
     ensures structure { IfOk result (λ f. IfStructure f (λ no. ⊥)) }
     ensures least { IfOk result (λ f. IfLimit f (λ target least. ⊥)) }
 {
@@ -145,8 +147,10 @@ fn concluded(
 fn search_limits(alloc: Global, plan: &Plan) -> Result<Found, NoMemory>
     ensures fits { IfOk result (λ f. IfCertificate f (λ c. fits (network_of plan.now) (certificate_view c) ≡ true)) }
     ensures accepted { IfOk result (λ f. IfCertificate f (λ c. first_no plan.now (certificate_view c) ≡ None)) }
-    ensures holds { IfOk result (λ f. IfCertificate f (λ c. Accepted (network_of plan.now) (certificate_of (certificate_view c)))) }
-    ensures safe { IfOk result (λ f. IfCertificate f (λ c. Safe (network_of plan.now) (certificate_of (certificate_view c)))) }
+    ensures holds { IfOk result
+        (λ f. IfCertificate f (λ c. Accepted (network_of plan.now) (certificate_of (certificate_view c)))) }
+    ensures safe { IfOk result
+        (λ f. IfCertificate f (λ c. Safe (network_of plan.now) (certificate_of (certificate_view c)))) }
     ensures structure { IfOk result (λ f. IfStructure f (λ no. ⊥)) }
     ensures least { IfOk result (λ f. IfLimit f (IsShownLeast (network_of plan.now))) }
 {
@@ -158,20 +162,23 @@ fn search_limits(alloc: Global, plan: &Plan) -> Result<Found, NoMemory>
     concluded(alloc, plan, &climber.net, &mut collected)
 }
 
-/// Looks for a certificate of a plan, by exact linear programming for each limit. What it gives fits the plan and is accepted, so the
-/// deployment is safe. Where it gives none it tells why: a condition that no certificate can change, or the first limit for which no weights
-/// were found, and then a bound that some weights do show, where it knows one.
+/// Looks for a certificate of a plan, by exact linear programming for each limit. What it gives fits the plan and is
+/// accepted, so the deployment is safe. Where it gives none it tells why: a condition that no certificate can change,
+/// or the first limit for which no weights were found, and then a bound that some weights do show, where it knows one.
 ///
-/// That a certificate is found where there is one isn't promised: numbers may pass 128 bits, weights 32 bits, or pivots and rows be too many.
-/// `NoMemory` is answered only where memory ran out.
+/// That a certificate is found where there is one isn't promised: numbers may pass 128 bits, weights 32 bits, or pivots
+/// and rows be too many. `NoMemory` is answered only where memory ran out.
 pub fn search(alloc: Global, plan: &Plan) -> Result<Found, NoMemory>
     ensures fits { IfOk result (λ f. IfCertificate f (λ c. fits (network_of plan.now) (certificate_view c) ≡ true)) }
     ensures accepted { IfOk result (λ f. IfCertificate f (λ c. first_no plan.now (certificate_view c) ≡ None)) }
-    ensures holds { IfOk result (λ f. IfCertificate f (λ c. Accepted (network_of plan.now) (certificate_of (certificate_view c)))) }
-    ensures safe { IfOk result (λ f. IfCertificate f (λ c. Safe (network_of plan.now) (certificate_of (certificate_view c)))) }
+    ensures holds { IfOk result
+        (λ f. IfCertificate f (λ c. Accepted (network_of plan.now) (certificate_of (certificate_view c)))) }
+    ensures safe { IfOk result
+        (λ f. IfCertificate f (λ c. Safe (network_of plan.now) (certificate_of (certificate_view c)))) }
     // What is told of the structure is so, and then no certificate is accepted.
     ensures structure { IfOk result (λ f. IfStructure f (λ no. structure_no plan.now ≡ Some no)) }
-    ensures always { IfOk result (λ f. IfStructure f (λ no. (cert : CertificateLists) → first_no plan.now cert ≢ None)) }
+    ensures always { IfOk result
+        (λ f. IfStructure f (λ no. (cert : CertificateLists) → first_no plan.now cert ≢ None)) }
     // Some weights show the bound that is told.
     ensures least { IfOk result (λ f. IfLimit f (IsShownLeast (network_of plan.now))) }
 {

@@ -5,7 +5,8 @@ ghost use Rattle.dds_cert.specs.Fits.{fits};
 ghost use Rattle.dds_cert.specs.Views.{certificate_view};
 ghost use Rattle.dds_runs.specs.Accepted.{certificate_of};
 ghost use Rattle.dds_claims.specs.Claims.{IsShown};
-ghost use Rattle.dds_search.specs.Sizes.{AreSizes, IsShownSize, claims, claims_all, claims_bound, has_bound, has_total, is_within, sum_of};
+ghost use Rattle.dds_search.specs.Sizes.{AreSizes, IsShownSize, claims, claims_all, claims_bound, has_bound, has_total};
+ghost use Rattle.dds_search.specs.Sizes.{is_within, sum_of};
 
 use crate::answer::Least;
 use crate::attempt::{Attempt, Climber};
@@ -95,9 +96,9 @@ fn climber_of(alloc: Global, plan: &Plan) -> Result<Climber, NoMemory> {
     Climber::new(alloc, Net::of(alloc, plan)?)
 }
 
-/// The least bounds that weights show for the keys that can reach strict readers and for the samples of each such reader together, in file
-/// order. That a bound is the least isn't promised: numbers may pass 32 bits, and are rounded then. `NoMemory` is answered only where memory ran
-/// out.
+/// The least bounds that weights show for the keys that can reach strict readers and for the samples of each such
+/// reader together, in file order. That a bound is the least isn't promised: numbers may pass 32 bits, and are rounded
+/// then. `NoMemory` is answered only where memory ran out.
 pub fn find_sizes(alloc: Global, plan: &Plan) -> Result<Vec<Size>, NoMemory>
     ensures { IfOk result (λ sizes. AreSizes (network_of plan.now) sizes.items) }
 {
@@ -121,8 +122,8 @@ fn is_within(sum: Option<u32>, most: u32) -> bool
     }
 }
 
-/// Whether a certificate needs a bound of a target: not of the samples of a reader together where the sum of the bounds of its keys is no
-/// greater.
+/// Whether a certificate needs a bound of a target: not of the samples of a reader together where the sum of the bounds
+/// of its keys is no greater.
 fn needs_bound(sizes: &[Size], target: &Target, bound: u32) -> bool {
     match target {
         Target::Instance { .. } => true,
@@ -195,8 +196,8 @@ fn has_total(certificate: &Certificate, reader: ReaderNo, most: u32) -> bool
         .any(|total| total.reader == reader && total.bound <= most)
 }
 
-/// Whether a certificate has a bound of a target: for the samples of a reader together a total, unless the sum of the bounds of its keys is no
-/// greater.
+/// Whether a certificate has a bound of a target: for the samples of a reader together a total, unless the sum of the
+/// bounds of its keys is no greater.
 fn claims_bound(certificate: &Certificate, sizes: &[Size], target: &Target, bound: u32) -> bool
     ensures { result ≡ claims_bound (certificate_view certificate.now) sizes.now target.now bound }
 {
@@ -250,7 +251,8 @@ fn concluded(
     sizes: &[Size],
 ) -> Result<Option<Certificate>, NoMemory>
     ensures fits { IfOk result (λ found. IfSome found (λ c. fits (network_of plan.now) (certificate_view c) ≡ true)) }
-    ensures shown { IfOk result (λ found. IfSome found (λ c. IsShown (network_of plan.now) (certificate_of (certificate_view c)))) }
+    ensures shown { IfOk result
+        (λ found. IfSome found (λ c. IsShown (network_of plan.now) (certificate_of (certificate_view c)))) }
     ensures all { IfOk result (λ found. IfSome found (λ c. claims_all (certificate_view c) sizes.now ≡ true)) }
 {
     let Some(chosen) = cover(alloc, net, &mut collected.rows, &mut collected.entries)? else {
@@ -278,14 +280,18 @@ fn collect_all(
     Ok(sizes)
 }
 
-/// The sizes of a plan, and a certificate that shows them: it fits the plan, no event raises the weighted sum of any of its rows, they show its
-/// bounds, and it has a bound for each key for which one was found, no greater than that, and for the samples of a reader together a total or
-/// bounds whose sum is no greater. Where each limit is at least what was found, and nothing but limits is amiss, it is accepted.
+/// The sizes of a plan, and a certificate that shows them: it fits the plan, no event raises the weighted sum of any of
+/// its rows, they show its bounds, and it has a bound for each key for which one was found, no greater than that, and
+/// for the samples of a reader together a total or bounds whose sum is no greater. Where each limit is at least what
+/// was found, and nothing but limits is amiss, it is accepted.
 pub fn find_limits_certificate(alloc: Global, plan: &Plan) -> Result<Sizes, NoMemory>
     ensures sizes { IfOk result (λ found. AreSizes (network_of plan.now) found.list.items) }
-    ensures fits { IfOk result (λ found. IfSome found.certificate (λ c. fits (network_of plan.now) (certificate_view c) ≡ true)) }
-    ensures shown { IfOk result (λ found. IfSome found.certificate (λ c. IsShown (network_of plan.now) (certificate_of (certificate_view c)))) }
-    ensures all { IfOk result (λ found. IfSome found.certificate (λ c. claims_all (certificate_view c) found.list.items ≡ true)) }
+    ensures fits { IfOk result
+        (λ found. IfSome found.certificate (λ c. fits (network_of plan.now) (certificate_view c) ≡ true)) }
+    ensures shown { IfOk result
+        (λ found. IfSome found.certificate (λ c. IsShown (network_of plan.now) (certificate_of (certificate_view c)))) }
+    ensures all { IfOk result
+        (λ found. IfSome found.certificate (λ c. claims_all (certificate_view c) found.list.items ≡ true)) }
 {
     let mut climber = climber_of(alloc, plan)?;
     let mut collected = Collected::none(alloc);

@@ -1,5 +1,5 @@
-//! Sums of rows, where a certificate has no room for all that are needed. What two rows show of their places their sum shows too, with a greater bound; it serves
-//! what they serve as long as its bounds stay within the limits.
+//! Sums of rows, where a certificate has no room for all that are needed. What two rows show of their places their sum
+//! shows too, with a greater bound; it serves what they serve as long as its bounds stay within the limits.
 
 use crate::lists::push;
 use crate::net::Net;
@@ -67,7 +67,8 @@ impl Sum {
     }
 }
 
-/// Adds a row with the entries that it is to serve to the first sum that then serves them all, and else as a sum of its own. `false` where there are 64 already.
+/// Adds a row with the entries that it is to serve to the first sum that then serves them all, and else as a sum of its
+/// own. `false` where there are 64 already.
 fn add(
     alloc: Global,
     net: &Net,
@@ -114,7 +115,8 @@ fn sums_of(
     Ok(Some(sums))
 }
 
-/// Adds at most 64 sums of the chosen rows that serve each entry, and gives their places. `None` where such ones aren't found.
+/// Adds at most 64 sums of the chosen rows that serve each entry, and gives their places. `None` where such ones aren't
+/// found.
 pub(crate) fn summed(
     alloc: Global,
     net: &Net,

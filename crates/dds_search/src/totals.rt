@@ -49,7 +49,8 @@ pub(crate) fn sum_of(sizes: &[Size], reader: ReaderNo) -> Option<u32>
     sum
 }
 
-/// What is known of the samples of a reader together: the lesser of what one row of weights shows and of the sum of the bounds of its keys.
+/// What is known of the samples of a reader together: the lesser of what one row of weights shows and of the sum of the
+/// bounds of its keys.
 pub fn total_of(sizes: &[Size], reader: ReaderNo, by_row: Least) -> Least
     ensures { result ≡ total_of sizes.now reader by_row }
 {

@@ -43,7 +43,8 @@ fn divided(alloc: Global, values: &[i128], divisor: i128) -> Result<Option<Vec<u
     Ok(Some(weights))
 }
 
-/// What a permit of an outlet weighs. A sum past 64 bits is given as the greatest number, which is past 32 bits as well.
+/// What a permit of an outlet weighs. A sum past 64 bits is given as the greatest number, which is past 32 bits as
+/// well.
 pub(crate) fn permit(outlet: &Outlet, weights: &[u32]) -> u64 {
     let mut sum: u64 = 0;
     for place in &outlet.places {

@@ -2,11 +2,15 @@
 ghost use Rattle.std.specs.Prelude.{◌≡◌, ◌++◌, ◌<◌, [], IfOk, length, map, slice_get, string_bytes};
 ghost use Rattle.std.specs.Option.{option_map_or};
 ghost use Rattle.dds_deploy.specs.Lists.{keys_at};
-ghost use Rattle.dds_deploy.specs.Views.{application_view, participant_view, reader_view, rule_view, topic_view, writer_view};
+ghost use Rattle.dds_deploy.specs.Views.{application_view, participant_view, reader_view, rule_view, topic_view};
+ghost use Rattle.dds_deploy.specs.Views.{writer_view};
 ghost use Rattle.dds_cert.specs.Naming.{name_at};
 ghost use Rattle.dds_cert.specs.Text.{each_below};
 ghost use Rattle.dds_show.specs.Pieces.{comma, quoted};
-ghost use Rattle.dds_show.specs.Entries.{application_entry, connection_entry, may_lose_field, numbered_items, origin_fields, participant_entry, place_fields, portion_entry, qos_fields, reader_entry, rule_entry, start_text, take_entry, take_items, topic_entry, write_entry, write_items, writer_entry};
+ghost use Rattle.dds_show.specs.Entries.{application_entry, connection_entry, may_lose_field, numbered_items};
+ghost use Rattle.dds_show.specs.Entries.{origin_fields, participant_entry, place_fields, portion_entry, qos_fields};
+ghost use Rattle.dds_show.specs.Entries.{reader_entry, rule_entry, start_text, take_entry, take_items, topic_entry};
+ghost use Rattle.dds_show.specs.Entries.{write_entry, write_items, writer_entry};
 
 use crate::pieces::{items_below, name_items, quoted, text_items};
 use crate::policies::policies_fields;
@@ -30,7 +34,11 @@ fn key_items(alloc: Global, names: &Names, keys: &[KeyNo]) -> TextResult
 
 /// In quotes the names of these writers or readers.
 fn endpoint_items<E: Endpoint>(alloc: Global, names: &Names, endpoints: &[E]) -> TextResult
-    ensures { IfOk result (λ text. string_bytes text ≡ each_below (length endpoints.now) (λ i. comma i ++ quoted (option_map_or (λ e. name_at names.now (E.number_of e)) (slice_get endpoints.now i) []))) }
+    ensures { IfOk result
+        (λ text. string_bytes text
+        ≡ each_below (length endpoints.now)
+        (λ i. comma i ++ quoted (option_map_or
+        (λ e. name_at names.now (E.number_of e)) (slice_get endpoints.now i) []))) }
 {
     items_below(
         alloc,
@@ -132,7 +140,8 @@ pub(crate) fn application_entry(
     let writers = endpoint_items(alloc, lists.writer_names(), x.writers.as_slice())?;
     let readers = endpoint_items(alloc, lists.reader_names(), x.readers.as_slice())?;
     format!(in alloc;
-        "{{\"name\": \"{name}\", \"participant\": \"{participant}\", \"writers\": [{writers}], \"readers\": [{readers}]}}"
+        "{{\"name\": \"{name}\", \"participant\": \"{participant}\", \
+         \"writers\": [{writers}], \"readers\": [{readers}]}}"
     )
 }
 
@@ -217,7 +226,8 @@ pub(crate) fn rule_entry(
     let writes = write_items(alloc, lists, x.writes.as_slice())?;
     let start = start_text(alloc, x)?;
     format!(in alloc;
-        "{{{origin}, \"application\": \"{application}\", \"takes\": [{takes}], \"writes\": [{writes}], \"start\": {start}}}"
+        "{{{origin}, \"application\": \"{application}\", \
+         \"takes\": [{takes}], \"writes\": [{writes}], \"start\": {start}}}"
     )
 }
 

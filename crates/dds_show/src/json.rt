@@ -1,8 +1,12 @@
-//! A deployment as it was read, in JSON: every section with its entries in file order, every field of an entry with its value.
+//! A deployment as it was read, in JSON: every section with its entries in file order, every field of an entry with its
+//! value.
 ghost use Rattle.std.specs.Prelude.{◌≡◌, ◌++◌, ◌<◌, ℕ, List, IfOk, length, string_bytes};
 ghost use Rattle.dds_cert.specs.Text.{each_below};
 ghost use Rattle.dds_show.specs.Pieces.{line_start};
-ghost use Rattle.dds_show.specs.Json.{application_item, applications_section, behaviour_sections, connections_section, deployment_json, endpoint_sections, pair_at, pairs, pairs_of_writer, participant_item, participants_section, reader_item, readers_section, rules_section, section, topic_item, topics_section, writer_item, writers_section};
+ghost use Rattle.dds_show.specs.Json.{application_item, applications_section, behaviour_sections, connections_section};
+ghost use Rattle.dds_show.specs.Json.{deployment_json, endpoint_sections, pair_at, pairs, pairs_of_writer};
+ghost use Rattle.dds_show.specs.Json.{participant_item, participants_section, reader_item, readers_section};
+ghost use Rattle.dds_show.specs.Json.{rules_section, section, topic_item, topics_section, writer_item, writers_section};
 
 use crate::entries::{
     application_entry, connection_entry, participant_entry, reader_entry, rule_entry, topic_entry,
@@ -25,7 +29,9 @@ fn section_text(alloc: Global, name: &str, items: &str) -> TextResult
 /// A section with the entries below `n`, each in a line of its own.
 fn section<F: Fn(usize) -> TextResult>(alloc: Global, name: &str, n: usize, entry: F) -> TextResult
     requires { (i : ℕ) → i < n → F.pre entry i }
-    ensures { (item_of : ℕ → List ℕ) → ((i : ℕ) (r : _) → i < n → F.post entry i r → IfOk r (λ text. line_start i ++ string_bytes text ≡ item_of i)) → IfOk result (λ text. string_bytes text ≡ section name.now (each_below n item_of)) }
+    ensures { (item_of : ℕ → List ℕ)
+        → ((i : ℕ) (r : _) → i < n → F.post entry i r → IfOk r (λ text. line_start i ++ string_bytes text ≡ item_of i))
+        → IfOk result (λ text. string_bytes text ≡ section name.now (each_below n item_of)) }
 {
     let items = lines_below(alloc, n, entry)?;
     section_text(alloc, name, items.as_str())
@@ -198,9 +204,10 @@ fn behaviour_sections(alloc: Global, lists: &Deployment) -> TextResult
     format!(in alloc; "{applications},\n{rules},\n{connections}")
 }
 
-/// A deployment in JSON: `participants`, `topics`, `writers`, `readers`, `applications`, `rules` and `connections`, each a list with its entries in file
-/// order, connections by writer and then by reader. An entry has every field of the file's format, with the default where the file has none; a rule that stands for one key
-/// of an entry with `each` has that `key` besides. Only want of memory is an error.
+/// A deployment in JSON: `participants`, `topics`, `writers`, `readers`, `applications`, `rules` and `connections`,
+/// each a list with its entries in file order, connections by writer and then by reader. An entry has every field of
+/// the file's format, with the default where the file has none; a rule that stands for one key of an entry with `each`
+/// has that `key` besides. Only want of memory is an error.
 pub fn deployment_json(alloc: Global, lists: &Deployment) -> TextResult
     ensures { IfOk result (λ text. string_bytes text ≡ deployment_json lists.now) }
 {

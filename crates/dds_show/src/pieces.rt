@@ -1,7 +1,8 @@
 //! Pieces of a deployment's JSON. Names and partitions have no byte that JSON escapes.
 ghost use Rattle.std.specs.Prelude.{◌≡◌, ◌++◌, ◌<◌, ℕ, List, IfOk, map, string_bytes};
 ghost use Rattle.dds_cert.specs.Text.{each_below};
-ghost use Rattle.dds_show.specs.Pieces.{comma, duration_text, flag_word, limit_text, line_start, name_items, quoted, start_of};
+ghost use Rattle.dds_show.specs.Pieces.{comma, duration_text, flag_word, limit_text, line_start, name_items, quoted};
+ghost use Rattle.dds_show.specs.Pieces.{start_of};
 
 use crate::texts::{TextResult, number_or, start_of, text_below};
 use dds_base::Names;
@@ -18,7 +19,10 @@ fn listed_below<F: Fn(usize) -> TextResult>(
     item: F,
 ) -> TextResult
     requires { (i : ℕ) → i < n → F.pre item i }
-    ensures { (item_of : ℕ → List ℕ) → ((i : ℕ) (r : _) → i < n → F.post item i r → IfOk r (λ text. start_of first.now next.now i ++ string_bytes text ≡ item_of i)) → IfOk result (λ text. string_bytes text ≡ each_below n item_of) }
+    ensures { (item_of : ℕ → List ℕ)
+        → ((i : ℕ) (r : _) → i < n → F.post item i r
+        → IfOk r (λ text. start_of first.now next.now i ++ string_bytes text ≡ item_of i))
+        → IfOk result (λ text. string_bytes text ≡ each_below n item_of) }
 {
     text_below(
         alloc,
@@ -40,7 +44,9 @@ pub(crate) fn items_below<F: Fn(usize) -> TextResult>(
     item: F,
 ) -> TextResult
     requires { (i : ℕ) → i < n → F.pre item i }
-    ensures { (item_of : ℕ → List ℕ) → ((i : ℕ) (r : _) → i < n → F.post item i r → IfOk r (λ text. comma i ++ string_bytes text ≡ item_of i)) → IfOk result (λ text. string_bytes text ≡ each_below n item_of) }
+    ensures { (item_of : ℕ → List ℕ)
+        → ((i : ℕ) (r : _) → i < n → F.post item i r → IfOk r (λ text. comma i ++ string_bytes text ≡ item_of i))
+        → IfOk result (λ text. string_bytes text ≡ each_below n item_of) }
 {
     listed_below(alloc, n, "", ", ", item)
 }
@@ -52,7 +58,9 @@ pub(crate) fn lines_below<F: Fn(usize) -> TextResult>(
     line: F,
 ) -> TextResult
     requires { (i : ℕ) → i < n → F.pre line i }
-    ensures { (line_of : ℕ → List ℕ) → ((i : ℕ) (r : _) → i < n → F.post line i r → IfOk r (λ text. line_start i ++ string_bytes text ≡ line_of i)) → IfOk result (λ text. string_bytes text ≡ each_below n line_of) }
+    ensures { (line_of : ℕ → List ℕ)
+        → ((i : ℕ) (r : _) → i < n → F.post line i r → IfOk r (λ text. line_start i ++ string_bytes text ≡ line_of i))
+        → IfOk result (λ text. string_bytes text ≡ each_below n line_of) }
 {
     listed_below(alloc, n, "\n    ", ",\n    ", line)
 }

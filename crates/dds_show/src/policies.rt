@@ -1,6 +1,7 @@
 //! The fields of an endpoint's policies in JSON, each with its value, in the order of the file's format.
 ghost use Rattle.std.specs.Prelude.{◌≡◌, IfOk, string_bytes};
-ghost use Rattle.dds_show.specs.Policies.{delivery_fields, history_fields, limits_fields, liveliness_fields, policies_fields, presentation_fields, timing_fields};
+ghost use Rattle.dds_show.specs.Policies.{delivery_fields, history_fields, limits_fields, liveliness_fields};
+ghost use Rattle.dds_show.specs.Policies.{policies_fields, presentation_fields, timing_fields};
 
 use crate::pieces::{duration_text, flag_word, limit_text};
 use crate::texts::TextResult;
@@ -52,7 +53,8 @@ fn delivery_fields(alloc: Global, p: &Policies) -> TextResult
     let reliability = reliability_word(p.reliability);
     let order = destination_order_word(p.destination_order);
     format!(in alloc;
-        "\"ownership\": \"{ownership}\", {liveliness}, \"reliability\": \"{reliability}\", \"destination_order\": \"{order}\""
+        "\"ownership\": \"{ownership}\", {liveliness}, \"reliability\": \"{reliability}\", \
+         \"destination_order\": \"{order}\""
     )
 }
 

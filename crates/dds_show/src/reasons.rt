@@ -12,7 +12,9 @@ use std::alloc::Global;
 
 /// Adds the name of a policy, if it is in the set.
 fn push_name(names: &mut Vec<&'static str>, set: PolicySet, policy: &Policy) -> Result<(), NoMemory>
-    ensures { IfOk result (λ _. map (λ s. s.now) names.new.items ≡ map (λ s. s.now) names.old.items ++ map name_of (filter (contains set) (policy.now ∷ []))) }
+    ensures { IfOk result
+        (λ _. map (λ s. s.now) names.new.items
+        ≡ map (λ s. s.now) names.old.items ++ map name_of (filter (contains set) (policy.now ∷ []))) }
 {
     if set.contains(*policy) {
         names.push(policy.name())?;
@@ -31,8 +33,8 @@ fn policies_text(alloc: Global, set: PolicySet) -> TextResult
     names.join(alloc, ",")
 }
 
-/// Why a writer and a reader don't match, in words: `domain`, `topic`, `partition`, or `policies` and the names of the incompatible ones, with commas between them
-/// (OMG DDS 1.4, clause 2.2.3). Only want of memory is an error.
+/// Why a writer and a reader don't match, in words: `domain`, `topic`, `partition`, or `policies` and the names of the
+/// incompatible ones, with commas between them (OMG DDS 1.4, clause 2.2.3). Only want of memory is an error.
 pub fn reason_text(alloc: Global, reason: WhyNot) -> TextResult
     ensures { IfOk result (λ text. string_bytes text ≡ reason_words reason) }
 {

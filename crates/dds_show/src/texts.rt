@@ -1,4 +1,5 @@
-//! Texts of a number that may be missing, and texts made of a text for each number below a bound, or for each element of a list.
+//! Texts of a number that may be missing, and texts made of a text for each number below a bound, or for each element
+//! of a list.
 ghost use Rattle.std.specs.Prelude.{◌≡◌, ◌<◌, ℕ, List, IfOk, flat_map, string_bytes};
 ghost use Rattle.dds_cert.specs.Naming.{name_at};
 ghost use Rattle.dds_cert.specs.Text.{each_below};
@@ -31,7 +32,9 @@ pub fn start_of<'a>(place: usize, first: &'a str, next: &'a str) -> &'a str
 /// The texts of the numbers below `n`, one after another. Only want of memory is an error, and what `piece` gives.
 pub fn text_below<F: Fn(usize) -> TextResult>(alloc: Global, n: usize, piece: F) -> TextResult
     requires { (i : ℕ) → i < n → F.pre piece i }
-    ensures { (text_of : ℕ → List ℕ) → ((i : ℕ) (r : _) → i < n → F.post piece i r → IfOk r (λ text. string_bytes text ≡ text_of i)) → IfOk result (λ text. string_bytes text ≡ each_below n text_of) }
+    ensures { (text_of : ℕ → List ℕ)
+        → ((i : ℕ) (r : _) → i < n → F.post piece i r → IfOk r (λ text. string_bytes text ≡ text_of i))
+        → IfOk result (λ text. string_bytes text ≡ each_below n text_of) }
 {
     let mut text = String::new(alloc);
     for i in 0..n {
@@ -44,7 +47,9 @@ pub fn text_below<F: Fn(usize) -> TextResult>(alloc: Global, n: usize, piece: F)
 /// The texts of these elements, one after another. Only want of memory is an error, and what `piece` gives.
 pub fn text_of_each<T, F: Fn(&T) -> TextResult>(alloc: Global, xs: &[T], piece: F) -> TextResult
     requires { F.IsAlwaysCallable piece }
-    ensures { (text_of : T → List ℕ) → ((x : _) (r : _) → F.post piece x r → IfOk r (λ text. string_bytes text ≡ text_of x.now)) → IfOk result (λ text. string_bytes text ≡ flat_map text_of xs.now) }
+    ensures { (text_of : T → List ℕ)
+        → ((x : _) (r : _) → F.post piece x r → IfOk r (λ text. string_bytes text ≡ text_of x.now))
+        → IfOk result (λ text. string_bytes text ≡ flat_map text_of xs.now) }
 {
     let mut text = String::new(alloc);
     for x in xs {
@@ -54,7 +59,8 @@ pub fn text_of_each<T, F: Fn(&T) -> TextResult>(alloc: Global, xs: &[T], piece: 
     Ok(text)
 }
 
-/// The texts of the names of these writers or readers, one after another. Only want of memory is an error, and what `piece` gives.
+/// The texts of the names of these writers or readers, one after another. Only want of memory is an error, and what
+/// `piece` gives.
 pub fn text_of_endpoints<E: Endpoint, F: Fn(&str) -> TextResult>(
     alloc: Global,
     names: &Names,
@@ -62,7 +68,10 @@ pub fn text_of_endpoints<E: Endpoint, F: Fn(&str) -> TextResult>(
     piece: F,
 ) -> TextResult
     requires { F.IsAlwaysCallable piece }
-    ensures { (text_of : List ℕ → List ℕ) → ((name : _) (r : _) → F.post piece name r → IfOk r (λ text. string_bytes text ≡ text_of name.now)) → IfOk result (λ text. string_bytes text ≡ flat_map (λ e. text_of (name_at names.now (E.number_of e))) endpoints.now) }
+    ensures { (text_of : List ℕ → List ℕ)
+        → ((name : _) (r : _) → F.post piece name r → IfOk r (λ text. string_bytes text ≡ text_of name.now))
+        → IfOk result (λ text. string_bytes text
+        ≡ flat_map (λ e. text_of (name_at names.now (E.number_of e))) endpoints.now) }
 {
     text_of_each(
         alloc,

@@ -1,6 +1,7 @@
 //! The words of policies, as a deployment file has them.
 ghost use Rattle.std.specs.Prelude.{◌≡◌};
-ghost use Rattle.dds_show.specs.Words.{access_scope_word, destination_order_word, durability_word, history_word, liveliness_word, ownership_word, reliability_word};
+ghost use Rattle.dds_show.specs.Words.{access_scope_word, destination_order_word, durability_word, history_word};
+ghost use Rattle.dds_show.specs.Words.{liveliness_word, ownership_word, reliability_word};
 
 use dds_qos::{
     AccessScope, DestinationOrder, Durability, HistoryKind, LivelinessKind, Ownership, Reliability,

@@ -1,5 +1,8 @@
-//! A dictionary: some variables in terms of the others, which are free. Where the free ones are 0, the others are not below 0.
-ghost use Rattle.std.specs.Prelude.{◌≡◌, ◌≢◌, ◌<◌, ◌≤◌, ◌<ℤ◌, ◌≤ℤ◌, ◌++◌, ◌∷◌, ℕ, pos, [], Err, None, Ok, Some, IfErr, IfNone, IfOk, IfSome, OnErr, OnOk, option_map, position, slice_index_or, true, vec_len};
+//! A dictionary: some variables in terms of the others, which are free. Where the free ones are 0, the others are not
+//! below 0.
+ghost use Rattle.std.specs.Prelude.{◌≡◌, ◌≢◌, ◌<◌, ◌≤◌, ◌<ℤ◌, ◌≤ℤ◌, ◌++◌, ◌∷◌, ℕ, pos, [], Err, None, Ok, Some, IfErr};
+ghost use Rattle.std.specs.Prelude.{IfNone, IfOk, IfSome, OnErr, OnOk, option_map, position, slice_index_or, true};
+ghost use Rattle.std.specs.Prelude.{vec_len};
 ghost use Rattle.std.specs.List.{All, HoldsAt};
 ghost use Rattle.dds_simplex.specs.Dictionary.{IsGreatest, IsUnbounded, fresh_columns, is_variable, line_of};
 ghost use Rattle.dds_simplex.specs.Keeping.{IsBasicKept, IsLineKept, kept_columns};
@@ -77,10 +80,12 @@ impl Dictionary {
         })
     }
 
-    /// Adds the line of a variable that isn't free, which is named by the line's place. Its constant has to be 0 or above. An `Err` means that memory ran out;
-    /// then nothing changes.
+    /// Adds the line of a variable that isn't free, which is named by the line's place. Its constant has to be 0 or
+    /// above. An `Err` means that memory ran out; then nothing changes.
     pub fn push(&mut self, line: Line) -> Result<(), AllocError>
-        ensures ok { OnOk result (self.new.basics.items ≡ self.old.basics.items ++ record { variable = Variable.Line (vec_len self.old.basics); line = line } ∷ []) }
+        ensures ok { OnOk result (self.new.basics.items
+            ≡ self.old.basics.items
+            ++ record { variable = Variable.Line (vec_len self.old.basics); line = line } ∷ []) }
         ensures err { OnErr result (self.new.basics.items ≡ self.old.basics.items) }
         ensures free { self.new.free ≡ self.old.free }
     {
@@ -98,11 +103,15 @@ impl Dictionary {
         &self.free
     }
 
-    /// Adds `times` a variable to a sum: its line, or its column where it is free. `None` where a number would pass 128 bits, which leaves a sum that means
-    /// nothing, where a line has more columns than the sum, and where there is no such variable.
+    /// Adds `times` a variable to a sum: its line, or its column where it is free. `None` where a number would pass 128
+    /// bits, which leaves a sum that means nothing, where a line has more columns than the sum, and where there is no
+    /// such variable.
     pub fn add(&self, sum: &mut Line, times: i128, variable: Variable) -> Option<()>
-        ensures given { (line : Line) → line_of self.now variable ≡ Some line → IfSome result (λ _. IsTimesMore times line sum.old sum.new) }
-        ensures free { line_of self.now variable ≡ None → IfSome result (λ _. IsColumnMore times (position (is_variable variable) self.now.free.items) sum.old sum.new) }
+        ensures given { (line : Line) → line_of self.now variable ≡ Some line
+            → IfSome result (λ _. IsTimesMore times line sum.old sum.new) }
+        ensures free { line_of self.now variable ≡ None
+            → IfSome result (λ _. IsColumnMore times
+            (position (is_variable variable) self.now.free.items) sum.old sum.new) }
         ensures columns { vec_len sum.new.numbers ≡ vec_len sum.old.numbers }
     {
         match self.line(variable) {
@@ -126,12 +135,15 @@ impl Dictionary {
         self.free.iter().position(|free| *free == variable)
     }
 
-    /// From here on a sum that has climbed keeps its greatest value: the variables that would lower it are 0 for good, and their columns are
-    /// dropped here and in the next sum, whose columns have to be the same. The others keep their order. The first sum is worth nothing any more.
+    /// From here on a sum that has climbed keeps its greatest value: the variables that would lower it are 0 for good,
+    /// and their columns are dropped here and in the next sum, whose columns have to be the same. The others keep their
+    /// order. The first sum is worth nothing any more.
     pub fn keep(&mut self, sum: &Line, next: &mut Line)
         ensures free { self.new.free.items ≡ kept_columns sum.now.numbers.items self.old.free.items }
         ensures basics { vec_len self.new.basics ≡ vec_len self.old.basics }
-        ensures lines { (place : ℕ) (other : Basic) → place < vec_len self.old.basics → IsBasicKept sum.now.numbers.items (slice_index_or self.old.basics.items place other) (slice_index_or self.new.basics.items place other) }
+        ensures lines { (place : ℕ) (other : Basic) → place < vec_len self.old.basics
+            → IsBasicKept sum.now.numbers.items (slice_index_or self.old.basics.items place other)
+            (slice_index_or self.new.basics.items place other) }
         ensures next { IsLineKept sum.now.numbers.items next.old next.new }
     {
         keep_columns(&mut self.free, sum);
@@ -146,7 +158,8 @@ impl Dictionary {
     /// The column of the least free variable that would raise the sum.
     fn entering(&self, sum: &Line) -> Option<usize>
         ensures greatest { IfNone result (IsGreatest self.now sum.now) }
-        ensures raises { IfSome result (λ column. (column < vec_len self.now.free) × (pos 0 <ℤ number_of sum.now column)) }
+        ensures raises { IfSome result
+            (λ column. (column < vec_len self.now.free) × (pos 0 <ℤ number_of sum.now column)) }
     {
         let mut found: Option<(Variable, usize)> = None;
         for column in 0..self.free.len() {
@@ -162,12 +175,14 @@ impl Dictionary {
         found.map(|(_, column)| column)
     }
 
-    /// The place of the line that bounds the free variable of a column the most, the least variable's where two are alike. None where no
-    /// line bounds it.
+    /// The place of the line that bounds the free variable of a column the most, the least variable's where two are
+    /// alike. None where no line bounds it.
     fn leaving(&self, column: usize) -> Result<Option<usize>, Stop>
         ensures overflow { IfErr result (λ e. e ≡ Stop.Overflow) }
-        ensures unbounded { IfOk result (λ place. IfNone place (All (λ b. pos 0 ≤ℤ number_of b.line column) self.now.basics.items)) }
-        ensures falls { IfOk result (λ place. IfSome place (λ k. HoldsAt (λ b. number_of b.line column <ℤ pos 0) self.now.basics.items k)) }
+        ensures unbounded { IfOk result
+            (λ place. IfNone place (All (λ b. pos 0 ≤ℤ number_of b.line column) self.now.basics.items)) }
+        ensures falls { IfOk result
+            (λ place. IfSome place (λ k. HoldsAt (λ b. number_of b.line column <ℤ pos 0) self.now.basics.items k)) }
     {
         let mut found: Option<usize> = None;
         for place in 0..self.basics.len() {
@@ -187,7 +202,8 @@ impl Dictionary {
         ensures budget { result ≢ Err Stop.Budget }
         ensures free { OnOk result (vec_len self.new.free ≡ vec_len self.old.free) }
         ensures points { column < vec_len self.old.free → OnOk result (KeepsPoints self.old sum.old self.new sum.new) }
-        ensures den { HoldsAt (λ b. number_of b.line column <ℤ pos 0) self.old.basics.items place → pos 0 <ℤ sum.old.den → OnOk result (pos 0 <ℤ sum.new.den) }
+        ensures den { HoldsAt (λ b. number_of b.line column <ℤ pos 0) self.old.basics.items place → pos 0 <ℤ sum.old.den
+            → OnOk result (pos 0 <ℤ sum.new.den) }
     {
         if place >= self.basics.len() {
             return Ok(());
@@ -214,13 +230,15 @@ impl Dictionary {
         }
     }
 
-    /// Goes from point to point until the sum has its greatest value, and then says the sum by the variables that are free there. It takes
-    /// the pivots that it makes from those that are left. After an `Err` the dictionary is worth nothing: `Overflow` where a number would pass 128 bits, `Memory`
-    /// where memory ran out, and `Budget` only where no pivot is left.
+    /// Goes from point to point until the sum has its greatest value, and then says the sum by the variables that are
+    /// free there. It takes the pivots that it makes from those that are left. After an `Err` the dictionary is worth
+    /// nothing: `Overflow` where a number would pass 128 bits, `Memory` where memory ran out, and `Budget` only where
+    /// no pivot is left.
     pub fn climb(&mut self, sum: &mut Line, left: &mut usize) -> Result<End, Stop>
         // Values that the lines allow they allow later too, and the sum has the same value there.
         ensures points { OnOk result (KeepsPoints self.old sum.old self.new sum.new) }
-        // At the greatest value no free variable would raise the sum, so that no values of which none is below 0 give it a greater one.
+        // At the greatest value no free variable would raise the sum, so that no values of which none is below 0 give
+        // it a greater one.
         ensures greatest { result ≡ Ok End.Greatest → IsGreatest self.new sum.new }
         ensures bound { result ≡ Ok End.Greatest → IsAtMost self.old sum.old sum.new.constant sum.new.den }
         // There is no greatest value where a free variable raises the sum and no line falls with it.
@@ -246,7 +264,10 @@ impl Dictionary {
 /// Puts a line in the place of its column's variable in each of the others.
 fn replace_each(basics: &mut Vec<Basic>, column: usize, given: &Line) -> Option<()>
     ensures basics { vec_len basics.new ≡ vec_len basics.old }
-    ensures lines { IfSome result (λ _. (place : ℕ) (other : Basic) → place < vec_len basics.old → IsBasicReplaced column given.now (slice_index_or basics.old.items place other) (slice_index_or basics.new.items place other)) }
+    ensures lines { IfSome result
+        (λ _. (place : ℕ) (other : Basic) → place < vec_len basics.old
+        → IsBasicReplaced column given.now (slice_index_or basics.old.items place other)
+        (slice_index_or basics.new.items place other)) }
 {
     for place in 0..basics.len() {
         if let Some(basic) = basics.get_mut(place) {
@@ -256,7 +277,8 @@ fn replace_each(basics: &mut Vec<Basic>, column: usize, given: &Line) -> Option<
     Some(())
 }
 
-/// Whether a line bounds the free variable of a column more than the best so far: constant by number, and then the variable, is less.
+/// Whether a line bounds the free variable of a column more than the best so far: constant by number, and then the
+/// variable, is less.
 fn is_first(basic: &Basic, best: Option<&Basic>, column: usize) -> Option<bool>
     ensures { IfNone best.entry (result ≡ Some true) }
 {

@@ -1,5 +1,6 @@
 //! A line of a dictionary: one variable in terms of others.
-ghost use Rattle.std.specs.Prelude.{◌≡◌, ◌+ℤ◌, ◌*ℤ◌, ◌<ℤ◌, ◌<◌, ℕ, int_div, pos, replicate, slice_index_or, slice_set, vec_len, IfNone, IfOk, IfSome};
+ghost use Rattle.std.specs.Prelude.{◌≡◌, ◌+ℤ◌, ◌*ℤ◌, ◌<ℤ◌, ◌<◌, ℕ, int_div, pos, replicate, slice_index_or, slice_set};
+ghost use Rattle.std.specs.Prelude.{vec_len, IfNone, IfOk, IfSome};
 ghost use Rattle.dds_simplex.specs.Keeping.{IsLineKept};
 ghost use Rattle.dds_simplex.specs.Line.{DividesLine, IsLineWithout, IsMixed, IsPairWithout, IsTimesMore};
 ghost use Rattle.dds_simplex.specs.Points.{IsReplaced, IsTurned};
@@ -8,7 +9,8 @@ use crate::divisor::common_divisor;
 use crate::keeping::keep_columns;
 use std::alloc::{AllocError, Global};
 
-/// `den * x = constant + numbers[0] * x0 + numbers[1] * x1 + ..`, by the free variables in the order of their columns. `den` is above 0.
+/// `den * x = constant + numbers[0] * x0 + numbers[1] * x1 + ..`, by the free variables in the order of their columns.
+/// `den` is above 0.
 #[derive(Drop)]
 pub struct Line {
     den: i128,
@@ -35,10 +37,14 @@ fn number_at(numbers: &[i128], column: usize) -> i128
     }
 }
 
-/// Each number becomes `own` times itself and `part` times the other one in its place, where there is one. `None` also where there are more of the others.
+/// Each number becomes `own` times itself and `part` times the other one in its place, where there is one. `None` also
+/// where there are more of the others.
 fn mix_numbers(numbers: &mut Vec<i128>, own: i128, other: &[i128], part: i128) -> Option<()>
     ensures columns { vec_len numbers.new ≡ vec_len numbers.old }
-    ensures mixed { IfSome result (λ _. (column : ℕ) → slice_index_or numbers.new.items column (pos 0) ≡ slice_index_or numbers.old.items column (pos 0) *ℤ own +ℤ slice_index_or other.now column (pos 0) *ℤ part) }
+    ensures mixed { IfSome result
+        (λ _. (column : ℕ) → slice_index_or numbers.new.items column (pos 0)
+        ≡ slice_index_or numbers.old.items column (pos 0) *ℤ own +ℤ slice_index_or other.now column
+        (pos 0) *ℤ part) }
 {
     if numbers.len() < other.len() {
         return None;
@@ -56,7 +62,9 @@ fn mix_numbers(numbers: &mut Vec<i128>, own: i128, other: &[i128], part: i128) -
 fn divide_numbers(numbers: &mut Vec<i128>, divisor: i128)
     requires { pos 0 <ℤ divisor }
     ensures columns { vec_len numbers.new ≡ vec_len numbers.old }
-    ensures divided { (column : ℕ) → slice_index_or numbers.new.items column (pos 0) ≡ int_div (slice_index_or numbers.old.items column (pos 0)) divisor }
+    ensures divided { (column : ℕ)
+        → slice_index_or numbers.new.items column (pos 0)
+        ≡ int_div (slice_index_or numbers.old.items column (pos 0)) divisor }
 {
     for i in 0..numbers.len() {
         if let Some(number) = numbers.get_mut(i) {
@@ -151,10 +159,13 @@ impl Line {
         self.reduce()
     }
 
-    /// Adds `times` a column's variable. Nothing changes where there is no such column. `None`, with nothing changed, where a number would
-    /// pass 128 bits.
+    /// Adds `times` a column's variable. Nothing changes where there is no such column. `None`, with nothing changed,
+    /// where a number would pass 128 bits.
     pub fn add_column(&mut self, times: i128, column: usize) -> Option<()>
-        ensures added { IfSome result (λ _. self.new.numbers.items ≡ slice_set self.old.numbers.items column (slice_index_or self.old.numbers.items column (pos 0) +ℤ times *ℤ self.old.den)) }
+        ensures added { IfSome result
+            (λ _. self.new.numbers.items
+            ≡ slice_set self.old.numbers.items column
+            (slice_index_or self.old.numbers.items column (pos 0) +ℤ times *ℤ self.old.den)) }
         ensures refused { IfNone result (self.new.numbers.items ≡ self.old.numbers.items) }
         ensures others { (self.new.den ≡ self.old.den) × (self.new.constant ≡ self.old.constant) }
     {
@@ -176,8 +187,8 @@ impl Line {
         Some(())
     }
 
-    /// Adds `times` another line. `None` where a number would pass 128 bits, and where the other line has more columns: then what is left of this one means
-    /// nothing, but it has as many columns as before.
+    /// Adds `times` another line. `None` where a number would pass 128 bits, and where the other line has more columns:
+    /// then what is left of this one means nothing, but it has as many columns as before.
     pub fn add(&mut self, times: i128, other: &Line) -> Option<()>
         ensures columns { vec_len self.new.numbers ≡ vec_len self.old.numbers }
         ensures added { IfSome result (λ _. IsTimesMore times other.now self.old self.new) }
@@ -211,10 +222,12 @@ impl Line {
         keep_columns(&mut self.numbers, sum);
     }
 
-    /// Says the column's variable in terms of the one that it gave, which takes the column. The column's number has to be below 0.
+    /// Says the column's variable in terms of the one that it gave, which takes the column. The column's number has to
+    /// be below 0.
     pub(crate) fn turn(&mut self, column: usize) -> Option<()>
         ensures turned { IfSome result (λ _. IsTurned column self.old self.new) }
-        ensures den { slice_index_or self.old.numbers.items column (pos 0) <ℤ pos 0 → IfSome result (λ _. pos 0 <ℤ self.new.den) }
+        ensures den { slice_index_or self.old.numbers.items column (pos 0) <ℤ pos 0
+            → IfSome result (λ _. pos 0 <ℤ self.new.den) }
     {
         let den = self.number(column).checked_neg()?;
         let own = self.den.checked_neg()?;

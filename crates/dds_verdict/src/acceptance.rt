@@ -35,7 +35,8 @@ fn push_bounds(
     lists: &Deployment,
     bounds: &[Bound],
 ) -> Result<(), NoMemory>
-    ensures { IfOk result (λ _. string_bytes text.new ≡ string_bytes text.old ++ flat_map (bound_line lists.now) bounds.now) }
+    ensures { IfOk result
+        (λ _. string_bytes text.new ≡ string_bytes text.old ++ flat_map (bound_line lists.now) bounds.now) }
 {
     for bound in bounds {
         let line = bound_text(alloc, lists, bound)?;
@@ -51,7 +52,8 @@ fn push_totals(
     lists: &Deployment,
     totals: &[Total],
 ) -> Result<(), NoMemory>
-    ensures { IfOk result (λ _. string_bytes text.new ≡ string_bytes text.old ++ flat_map (total_line lists.now) totals.now) }
+    ensures { IfOk result
+        (λ _. string_bytes text.new ≡ string_bytes text.old ++ flat_map (total_line lists.now) totals.now) }
 {
     for total in totals {
         let line = total_text(alloc, lists, total)?;
@@ -60,7 +62,8 @@ fn push_totals(
     Ok(())
 }
 
-/// The lines of an acceptance: `yes`, then each bound and each total of the certificate, in its order. Only want of memory is an error.
+/// The lines of an acceptance: `yes`, then each bound and each total of the certificate, in its order. Only want of
+/// memory is an error.
 pub fn acceptance_text(
     alloc: Global,
     lists: &Deployment,

@@ -18,7 +18,8 @@ fn subject_text(
     certificate: &Certificate,
     subject: Subject,
 ) -> Result<String, NoMemory>
-    ensures { IfOk result (λ text. string_bytes text ≡ subject_text lists.now (certificate_view certificate.now) subject) }
+    ensures { IfOk result
+        (λ text. string_bytes text ≡ subject_text lists.now (certificate_view certificate.now) subject) }
 {
     match subject {
         Subject::Pair { writer, reader } => {
@@ -69,8 +70,8 @@ fn subject_text(
     }
 }
 
-/// The line of a refusal: `no`, the condition's number and name, and the names of what it speaks of. The names of a row come from the certificate, all
-/// others from the lists. Only want of memory is an error.
+/// The line of a refusal: `no`, the condition's number and name, and the names of what it speaks of. The names of a row
+/// come from the certificate, all others from the lists. Only want of memory is an error.
 pub fn refusal_text(
     alloc: Global,
     no: No,

@@ -1,5 +1,5 @@
-//! The keys and the numbers of the kept samples, in order of key and then of number, so that what comes next of a key is found
-//! without a walk over the samples.
+//! The keys and the numbers of the kept samples, in order of key and then of number, so that what comes next of a key
+//! is found without a walk over the samples.
 
 ghost use Rattle.std.specs.Prelude.{◌≡◌, ℕ, suc, ◌==◌, ◌&&◌, ◌||◌, not, false, OnOk, OnErr};
 ghost use Rattle.dds_writer.specs.Order.{lists, lists_among, lesser, greater, TellsLast, TellsNext};

@@ -9,7 +9,8 @@ use crate::history::History;
 use crate::proxies::MatchedReader;
 use dds_base::{Numbered, ReaderNo, SnSet, WriterNo, place_of};
 
-// Whether a number is written and none below the least awaited one, and no sample of it is kept whose key the reader takes.
+// Whether a number is written and none below the least awaited one, and no sample of it is kept whose key the reader
+// takes.
 fn is_silent(
     history: &History,
     me: WriterNo,
@@ -60,12 +61,14 @@ fn next_asked(asked: &SnSet, from: u64) -> Option<u64>
     None
 }
 
-// The first number from one on that a reader wants, up to the last: the lesser of what it asked for and what was never sent.
+// The first number from one on that a reader wants, up to the last: the lesser of what it asked for and what was never
+// sent.
 pub(crate) fn next_wanted(proxy: &MatchedReader, from: u64, written: u64) -> Option<u64>
     requires { written ≤ last_number }
     ensures { MatchOption result
         ((n : ℕ) → from ≤ n → n ≤ written → wants proxy.now n ≡ false)
-        (λ m. (from ≤ m) × (m ≤ written) × (wants proxy.now m ≡ true) × ((n : ℕ) → from ≤ n → n < m → wants proxy.now n ≡ false)) }
+        (λ m. (from ≤ m) × (m ≤ written) × (wants proxy.now m ≡ true)
+        × ((n : ℕ) → from ≤ n → n < m → wants proxy.now n ≡ false)) }
 {
     let from = from.max(proxy.base());
     let unsent = from.max(proxy.sent.saturating_add(1));
@@ -118,7 +121,8 @@ pub(crate) fn note_sent(
 )
     requires order { IsInOrder rising proxies.old }
     requires own { AreOf me history.now.kept.items }
-    ensures { proxies.new ≡ map (after_message reader (is_silent_in history.now.kept.items me low written) sn) proxies.old }
+    ensures { proxies.new
+        ≡ map (after_message reader (is_silent_in history.now.kept.items me low written) sn) proxies.old }
 {
     if !rising {
         note_sent_each(proxies, reader, history, me, low, written, sn);
@@ -140,7 +144,8 @@ fn note_sent_each(
     sn: u64,
 )
     requires { AreOf me history.now.kept.items }
-    ensures { proxies.new ≡ map (after_message reader (is_silent_in history.now.kept.items me low written) sn) proxies.old }
+    ensures { proxies.new
+        ≡ map (after_message reader (is_silent_in history.now.kept.items me low written) sn) proxies.old }
 {
     for proxy in proxies.iter_mut() {
         proxy.note_sent(reader, history, me, low, written, sn);

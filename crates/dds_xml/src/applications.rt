@@ -19,7 +19,8 @@ fn owned_element(alloc: Global, group: &str, name: &str) -> TextResult
 
 /// An application at its participant.
 fn application_element(alloc: Global, lists: &Deployment, name: &str, x: &Application) -> TextResult
-    ensures { IfOk result (λ text. string_bytes text ≡ application_element lists.now name.now (application_view x.now)) }
+    ensures { IfOk result
+        (λ text. string_bytes text ≡ application_element lists.now name.now (application_view x.now)) }
 {
     let participant = name_at(lists.participant_names(), x.participant.number());
     let writers = x.writers.as_slice();
@@ -32,7 +33,8 @@ fn application_element(alloc: Global, lists: &Deployment, name: &str, x: &Applic
     })?;
     format!(in alloc;
         "    <application name=\"{name}\">\n      \
-         <domain_participant name=\"{participant}\" base_name=\"participants::{participant}\">\n{publishers}{subscribers}      \
+         <domain_participant name=\"{participant}\" base_name=\"participants::{participant}\">\n\
+         {publishers}{subscribers}      \
          </domain_participant>\n    </application>\n"
     )
 }

@@ -31,9 +31,10 @@ fn entity_sections(alloc: Global, lists: &Deployment) -> TextResult
     format!(in alloc; "{domain}{participants}{applications}")
 }
 
-/// A deployment for other DDS tools, in DDS-XML (OMG DDS-XML 1.0): types, a QoS profile for each endpoint, topics, participants with their endpoints, and
-/// applications, each in file order. Rules and connections have no place there and are left out. Lengths of time are in seconds and nanoseconds. The type of a topic
-/// is a struct of a key and 32 bytes, in a module of the topic's name; the enum beside it has the topic's keys. Only want of memory is an error.
+/// A deployment for other DDS tools, in DDS-XML (OMG DDS-XML 1.0): types, a QoS profile for each endpoint, topics,
+/// participants with their endpoints, and applications, each in file order. Rules and connections have no place there
+/// and are left out. Lengths of time are in seconds and nanoseconds. The type of a topic is a struct of a key and 32
+/// bytes, in a module of the topic's name; the enum beside it has the topic's keys. Only want of memory is an error.
 pub fn deployment_xml(alloc: Global, lists: &Deployment) -> TextResult
     ensures { IfOk result (λ text. string_bytes text ≡ deployment_xml lists.now) }
 {
@@ -41,7 +42,8 @@ pub fn deployment_xml(alloc: Global, lists: &Deployment) -> TextResult
     let entities = entity_sections(alloc, lists)?;
     format!(in alloc;
         "<?xml version=\"1.0\" encoding=\"UTF-8\"?>\n<dds xmlns=\"http://www.omg.org/spec/DDS-XML\">\n  \
-         <!-- Rules and connections have no place in DDS-XML and are left out. The enum of a module lists the keys of its topic. -->\n\
+         <!-- Rules and connections have no place in DDS-XML and are left out. \
+         The enum of a module lists the keys of its topic. -->\n\
          {profiles}{entities}</dds>\n"
     )
 }

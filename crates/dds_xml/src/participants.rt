@@ -1,7 +1,10 @@
-//! The participants in XML, each with its writers and then its readers, in file order (OMG DDS-XML 1.0, building block DomainParticipants).
+//! The participants in XML, each with its writers and then its readers, in file order (OMG DDS-XML 1.0, building block
+//! DomainParticipants).
 ghost use Rattle.std.specs.Prelude.{◌≡◌, ◌<◌, IfOk, length, string_bytes};
 ghost use Rattle.dds_deploy.specs.Views.{participant_view, reader_view, writer_view};
-ghost use Rattle.dds_xml.specs.Participants.{content_filter, data_reader, filter_expression, filter_term, participant_element, participant_library, publisher, publisher_at, publishers, subscriber, subscriber_at, subscribers};
+ghost use Rattle.dds_xml.specs.Participants.{content_filter, data_reader, filter_expression, filter_term};
+ghost use Rattle.dds_xml.specs.Participants.{participant_element, participant_library, publisher, publisher_at};
+ghost use Rattle.dds_xml.specs.Participants.{publishers, subscriber, subscriber_at, subscribers};
 
 use crate::pieces::library;
 use dds_base::{KeyNo, Names, ParticipantNo, ReaderNo, WriterNo};
@@ -51,7 +54,8 @@ fn content_filter(alloc: Global, name: &str, keys: &Names, filter: &[KeyNo]) -> 
     }
     let expression = filter_expression(alloc, keys, filter)?;
     format!(in alloc;
-        "          <content_filter name=\"{name}\">\n            <expression>{expression}</expression>\n          </content_filter>\n"
+        "          <content_filter name=\"{name}\">\n            \
+         <expression>{expression}</expression>\n          </content_filter>\n"
     )
 }
 
@@ -74,7 +78,8 @@ fn subscriber(alloc: Global, lists: &Deployment, name: &str, x: &Reader) -> Text
 {
     let reader = data_reader(alloc, lists, name, x)?;
     format!(in alloc;
-        "      <subscriber name=\"{name}\">\n        <subscriber_qos base_name=\"readers::{name}\"/>\n{reader}      </subscriber>\n"
+        "      <subscriber name=\"{name}\">\n        \
+         <subscriber_qos base_name=\"readers::{name}\"/>\n{reader}      </subscriber>\n"
     )
 }
 
@@ -136,7 +141,8 @@ fn participant_element(
     let publishers = publishers(alloc, lists, p)?;
     let subscribers = subscribers(alloc, lists, p)?;
     format!(in alloc;
-        "    <domain_participant name=\"{name}\" domain_ref=\"domains::topics\" domain_id=\"{domain}\">\n{publishers}{subscribers}    </domain_participant>\n"
+        "    <domain_participant name=\"{name}\" domain_ref=\"domains::topics\" domain_id=\"{domain}\">\n\
+         {publishers}{subscribers}    </domain_participant>\n"
     )
 }
 

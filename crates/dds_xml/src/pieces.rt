@@ -1,7 +1,8 @@
 //! Pieces of a deployment's XML. Names and partitions have no character that XML escapes.
 ghost use Rattle.std.specs.Prelude.{◌≡◌, ◌<◌, ℕ, List, IfOk, string_bytes};
 ghost use Rattle.dds_cert.specs.Text.{each_below};
-ghost use Rattle.dds_xml.specs.Pieces.{duration_element, library, limit_element, limit_text, nanoseconds_text, seconds_text};
+ghost use Rattle.dds_xml.specs.Pieces.{duration_element, library, limit_element, limit_text, nanoseconds_text};
+ghost use Rattle.dds_xml.specs.Pieces.{seconds_text};
 
 use dds_qos::Duration;
 use dds_show::texts::{TextResult, number_or, text_below};
@@ -43,7 +44,8 @@ pub(crate) fn duration_element(alloc: Global, name: &str, duration: Duration) ->
     let seconds = seconds_text(alloc, duration)?;
     let rest = nanoseconds_text(alloc, duration)?;
     format!(in alloc;
-        "          <{name}>\n            <sec>{seconds}</sec>\n            <nanosec>{rest}</nanosec>\n          </{name}>\n"
+        "          <{name}>\n            <sec>{seconds}</sec>\n            \
+         <nanosec>{rest}</nanosec>\n          </{name}>\n"
     )
 }
 
@@ -71,7 +73,9 @@ pub(crate) fn library<F: Fn(usize) -> TextResult>(
     entry: F,
 ) -> TextResult
     requires { (i : ℕ) → i < n → F.pre entry i }
-    ensures { (text_of : ℕ → List ℕ) → ((i : ℕ) (r : _) → i < n → F.post entry i r → IfOk r (λ text. string_bytes text ≡ text_of i)) → IfOk result (λ text. string_bytes text ≡ library kind.now name.now (each_below n text_of)) }
+    ensures { (text_of : ℕ → List ℕ)
+        → ((i : ℕ) (r : _) → i < n → F.post entry i r → IfOk r (λ text. string_bytes text ≡ text_of i))
+        → IfOk result (λ text. string_bytes text ≡ library kind.now name.now (each_below n text_of)) }
 {
     let entries = text_below(alloc, n, entry)?;
     format!(in alloc; "  <{kind} name=\"{name}\">\n{entries}  </{kind}>\n")

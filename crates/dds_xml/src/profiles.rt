@@ -1,7 +1,11 @@
-//! The QoS profiles of the endpoints in XML (OMG DDS-XML 1.0, building block QoS). Policies and their kinds have the names of the IDL (OMG DDS 1.4, clause 2.3.3).
+//! The QoS profiles of the endpoints in XML (OMG DDS-XML 1.0, building block QoS). Policies and their kinds have the
+//! names of the IDL (OMG DDS 1.4, clause 2.3.3).
 ghost use Rattle.std.specs.Prelude.{◌≡◌, IfOk, map, string_bytes};
 ghost use Rattle.dds_deploy.specs.Views.{reader_view, writer_view};
-ghost use Rattle.dds_xml.specs.Profiles.{delivery_elements, endpoint_elements, group_elements, history_element, kind_element, limits_element, liveliness_element, partition_element, partition_name, presentation_element, profile, qos_element, reader_library, reader_profile, timing_elements, writer_library, writer_profile};
+ghost use Rattle.dds_xml.specs.Profiles.{delivery_elements, endpoint_elements, group_elements, history_element};
+ghost use Rattle.dds_xml.specs.Profiles.{kind_element, limits_element, liveliness_element, partition_element};
+ghost use Rattle.dds_xml.specs.Profiles.{partition_name, presentation_element, profile, qos_element, reader_library};
+ghost use Rattle.dds_xml.specs.Profiles.{reader_profile, timing_elements, writer_library, writer_profile};
 
 use crate::pieces::{duration_element, library, limit_element};
 use dds_base::{ReaderNo, WriterNo};
@@ -37,7 +41,8 @@ fn timing_elements(alloc: Global, p: &Policies) -> TextResult
     let deadline = duration_element(alloc, "period", p.deadline)?;
     let budget = duration_element(alloc, "duration", p.latency_budget)?;
     format!(in alloc;
-        "{durability}        <deadline>\n{deadline}        </deadline>\n        <latency_budget>\n{budget}        </latency_budget>\n"
+        "{durability}        <deadline>\n{deadline}        </deadline>\n        <latency_budget>\n\
+         {budget}        </latency_budget>\n"
     )
 }
 
@@ -78,7 +83,8 @@ fn history_element(alloc: Global, x: History) -> TextResult
     let kind = history_word(x.kind);
     let depth = x.depth;
     format!(in alloc;
-        "        <history>\n          <kind>{kind}_HISTORY_QOS</kind>\n          <depth>{depth}</depth>\n        </history>\n"
+        "        <history>\n          <kind>{kind}_HISTORY_QOS</kind>\n          \
+         <depth>{depth}</depth>\n        </history>\n"
     )
 }
 
@@ -155,7 +161,8 @@ fn qos_element(alloc: Global, name: &str, policies: &str) -> TextResult
     format!(in alloc; "      <{name}>\n{policies}      </{name}>\n")
 }
 
-/// The profile of an endpoint. `entity` and `group` are the elements of its own policies and of those of its publisher or subscriber.
+/// The profile of an endpoint. `entity` and `group` are the elements of its own policies and of those of its publisher
+/// or subscriber.
 fn profile(
     alloc: Global,
     entity: &str,
@@ -164,7 +171,8 @@ fn profile(
     p: &Policies,
     partitions: &[String],
 ) -> TextResult
-    ensures { IfOk result (λ text. string_bytes text ≡ profile entity.now group.now name.now p.now (map string_bytes partitions.now)) }
+    ensures { IfOk result
+        (λ text. string_bytes text ≡ profile entity.now group.now name.now p.now (map string_bytes partitions.now)) }
 {
     let own = endpoint_elements(alloc, p)?;
     let own = qos_element(alloc, entity, own.as_str())?;

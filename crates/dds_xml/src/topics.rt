@@ -1,4 +1,5 @@
-//! The domain library in XML: one domain, with the registered types and the topics (OMG DDS-XML 1.0, building block Domains).
+//! The domain library in XML: one domain, with the registered types and the topics (OMG DDS-XML 1.0, building block
+//! Domains).
 ghost use Rattle.std.specs.Prelude.{◌≡◌, IfOk, string_bytes};
 ghost use Rattle.dds_deploy.specs.Views.{topic_view};
 ghost use Rattle.dds_cert.specs.Naming.{name_at};
@@ -67,6 +68,7 @@ pub(crate) fn domain_library(alloc: Global, lists: &Deployment) -> TextResult
     let types = register_types(alloc, lists)?;
     let topics = topics(alloc, lists)?;
     format!(in alloc;
-        "  <domain_library name=\"domains\">\n    <domain name=\"topics\">\n{types}{topics}    </domain>\n  </domain_library>\n"
+        "  <domain_library name=\"domains\">\n    <domain name=\"topics\">\n\
+         {types}{topics}    </domain>\n  </domain_library>\n"
     )
 }

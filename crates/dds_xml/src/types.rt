@@ -1,4 +1,5 @@
-//! The types of topics in XML. The type of a topic is a struct of a key and 32 bytes, in a module of the topic's name. The enum beside it has the topic's keys.
+//! The types of topics in XML. The type of a topic is a struct of a key and 32 bytes, in a module of the topic's name.
+//! The enum beside it has the topic's keys.
 ghost use Rattle.std.specs.Prelude.{◌≡◌, IfOk, string_bytes};
 ghost use Rattle.dds_deploy.specs.Views.{topic_view};
 ghost use Rattle.dds_xml.specs.Types.{enumerator, enumerators, module_element, types_section};
@@ -30,7 +31,8 @@ fn module_element(alloc: Global, name: &str, x: &Topic) -> TextResult
     let keys = enumerators(alloc, &x.keys)?;
     let type_name = x.type_name.as_str();
     format!(in alloc;
-        "    <module name=\"{name}\">\n      <enum name=\"keys\">\n{keys}      </enum>\n      <struct name=\"{type_name}\">\n        \
+        "    <module name=\"{name}\">\n      <enum name=\"keys\">\n{keys}      </enum>\n      \
+         <struct name=\"{type_name}\">\n        \
          <member name=\"key\" type=\"string\" stringMaxLength=\"64\" key=\"true\"/>\n        \
          <member name=\"data\" type=\"byte\" arrayDimensions=\"32\"/>\n      </struct>\n    </module>\n"
     )

@@ -1,6 +1,7 @@
-//! The commands by which users begin, `check`, `match`, `propose` and `migrate`, on words that are the command and the names of its files, for the
-//! toolchain's interpreter: it reads such words itself, so that the interpreter has neither `clap` nor the other commands to compile, and answers in less
-//! than half the time. Where nothing is built, `./ddscheck` hands these words to it.
+//! The commands by which users begin, `check`, `match`, `propose` and `migrate`, on words that are the command and the
+//! names of its files, for the toolchain's interpreter: it reads such words itself, so that the interpreter has neither
+//! `clap` nor the other commands to compile, and answers in less than half the time. Where nothing is built,
+//! `./ddscheck` hands these words to it.
 #![tactic(auto)]
 
 use dds_answers::{

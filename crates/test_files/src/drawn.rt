@@ -175,7 +175,8 @@ fn push_connections(alloc: Global, text: &mut String, drawn: &Drawn) -> Result<(
     Ok(())
 }
 
-/// The deployment of a seed: up to three topics, writers and readers, with limits, filters, partitions and policies of several kinds.
+/// The deployment of a seed: up to three topics, writers and readers, with limits, filters, partitions and policies of
+/// several kinds.
 pub fn deployment(alloc: Global, seed: u32) -> Result<String, AllocError> {
     let mut dice = Dice::new(seed);
     let topics = one_to_three(&mut dice);

@@ -1,5 +1,5 @@
-//! The files that several crates of tests read: deployments with their certificates, what is proposed for them, and deployments that are drawn; and the
-//! plans and checked deployments of such files.
+//! The files that several crates of tests read: deployments with their certificates, what is proposed for them, and
+//! deployments that are drawn; and the plans and checked deployments of such files.
 #![tactic(auto)]
 
 pub mod dice;

@@ -1,5 +1,5 @@
-//! Plans and checked deployments of texts, as tests and programs that measure open them. Where a text has a fault or memory is refused there is
-//! none: these callers don't ask why.
+//! Plans and checked deployments of texts, as tests and programs that measure open them. Where a text has a fault or
+//! memory is refused there is none: these callers don't ask why.
 ghost use Rattle.std.specs.Prelude.{◌≡◌, Ok, true, IfSome};
 ghost use Rattle.dds_deploy_file.specs.Document.{read as deployment_read};
 ghost use Rattle.dds_match.specs.Plan.{network_of};

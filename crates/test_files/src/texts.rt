@@ -49,7 +49,8 @@ takes = [{ reader = "ping_r", key = "k", weight = 1 }, { reader = "pong_r", key 
 permits = [{ writer = "ping_w", key = "k", weight = 1 }, { writer = "pong_w", key = "k", weight = 1 }]
 "#;
 
-/// Two applications that answer each other, where one sample in one direction stands for two in the other, as in `examples/loop`.
+/// Two applications that answer each other, where one sample in one direction stands for two in the other, as in
+/// `examples/loop`.
 pub const LOOP: &str = r#"version = 1
 participants = [{ name = "p1", domain = 0 }, { name = "p2", domain = 0 }]
 topics = [

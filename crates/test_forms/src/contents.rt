@@ -43,7 +43,9 @@ impl Contents {
 
     // Stores a sample, in place of the first of its key where asked, and makes its key known.
     pub(crate) fn store(&mut self, sample: &Sample, overwrites: bool) -> Result<(), NoMemory>
-        ensures stored { OnOk result (self.new.stored.items ≡ (cond overwrites (remove self.old.stored.items (first_of sample.now.key self.old.stored.items)) self.old.stored.items) ++ sample.now ∷ []) }
+        ensures stored { OnOk result (self.new.stored.items
+            ≡ (cond overwrites (remove self.old.stored.items
+            (first_of sample.now.key self.old.stored.items)) self.old.stored.items) ++ sample.now ∷ []) }
         ensures keys { OnOk result (self.new.keys.items ≡ learned self.old.keys.items sample.now.key) }
         ensures stored_err { OnErr result (self.new.stored.items ≡ self.old.stored.items) }
         ensures keys_err { OnErr result (self.new.keys.items ≡ self.old.keys.items) }

@@ -1,6 +1,8 @@
-//! The marks of a plain reader and its cache, which belong together: each writer's samples are released up to its base less one.
+//! The marks of a plain reader and its cache, which belong together: each writer's samples are released up to its base
+//! less one.
 
-ghost use Rattle.std.specs.Prelude.{◌≡◌, ◌+◌, ◌-◌, ◌<◌, ◌≤◌, ◌==◌, ◌&&◌, [], ◌∷◌, ◌++◌, cond, not, true, false, IfOk, OnOk, OnErr, IsTrue, MatchOption, vec_len, vec_capacity};
+ghost use Rattle.std.specs.Prelude.{◌≡◌, ◌+◌, ◌-◌, ◌<◌, ◌≤◌, ◌==◌, ◌&&◌, [], ◌∷◌, ◌++◌, cond, not, true, false, IfOk};
+ghost use Rattle.std.specs.Prelude.{OnOk, OnErr, IsTrue, MatchOption, vec_len, vec_capacity};
 ghost use Rattle.std.specs.FinSet as set;
 ghost use Rattle.dds_base.specs.Counts.{count_between};
 ghost use Rattle.dds_base.specs.Messages.{covers};
@@ -73,16 +75,19 @@ impl Held {
         missing(&self.marks, writer, base, heard)
     }
 
-    // Admits a sample, and where it is stored marks the numbers from one on up to its own. A sample over a limit needs no memory and
-    // changes nothing.
+    // Admits a sample, and where it is stored marks the numbers from one on up to its own. A sample over a limit needs
+    // no memory and changes nothing.
     pub(crate) fn store(&mut self, sample: &Sample, from: u64) -> Result<Admit, NoMemory>
         requires listed { IsTrue (is_listed sample.now.writer self.old.cache.writers) }
         requires unmarked { in_marks self.old.marks.items sample.now.writer sample.now.sn ≡ false }
         requires low { 1 ≤ from }
         requires order { from ≤ sample.now.sn }
         requires high { sample.now.sn ≤ last_number }
-        ensures answer { IfOk result (λ a. a ≡ admission self.old.cache.limits self.old.cache.stored self.old.cache.keys sample.now) }
-        ensures marks { IfOk result (λ a. AddsMarks (in_marks self.old.marks.items) (in_marks self.new.marks.items) sample.now.writer (λ n. not (is_rejected a) && is_between from (sample.now.sn + 1) n)) }
+        ensures answer { IfOk result
+            (λ a. a ≡ admission self.old.cache.limits self.old.cache.stored self.old.cache.keys sample.now) }
+        ensures marks { IfOk result
+            (λ a. AddsMarks (in_marks self.old.marks.items) (in_marks self.new.marks.items) sample.now.writer
+            (λ n. not (is_rejected a) && is_between from (sample.now.sn + 1) n)) }
         ensures cache { IfOk result (λ a. CacheAfter a sample.now self.old.cache self.new.cache) }
         ensures rejected_marks { IfOk result (λ a. is_rejected a ≡ true → self.new.marks.items ≡ self.old.marks.items) }
         ensures rejected_cache { IfOk result (λ a. is_rejected a ≡ true → self.new.cache ≡ self.old.cache) }
@@ -105,9 +110,11 @@ impl Held {
 
     // What the cache gives.
     pub(crate) fn take(&mut self, key: KeyNo) -> Option<Sample>
-        ensures answer { MatchOption result (available_in (in_marks self.old.marks.items) self.old.cache.stored key ≡ []) (λ x. IsLeastOfWriter x (available_in (in_marks self.old.marks.items) self.old.cache.stored key)) }
+        ensures answer { MatchOption result (available_in (in_marks self.old.marks.items) self.old.cache.stored key
+            ≡ []) (λ x. IsLeastOfWriter x (available_in (in_marks self.old.marks.items) self.old.cache.stored key)) }
         ensures marks { self.new.marks.items ≡ self.old.marks.items }
-        ensures cache { MatchOption result (self.new.cache ≡ self.old.cache) (λ x. CacheTaken x self.old.cache self.new.cache) }
+        ensures cache { MatchOption result (self.new.cache ≡ self.old.cache)
+            (λ x. CacheTaken x self.old.cache self.new.cache) }
     {
         self.cache.take(key)
     }
@@ -118,7 +125,9 @@ impl Held {
         requires low { 1 ≤ from }
         requires order { from ≤ n }
         requires high { n ≤ last_number }
-        ensures marks { OnOk result (AddsMarks (in_marks self.old.marks.items) (in_marks self.new.marks.items) writer (is_between from (n + 1))) }
+        ensures marks { OnOk result
+            (AddsMarks (in_marks self.old.marks.items) (in_marks self.new.marks.items) writer
+            (is_between from (n + 1))) }
         ensures cache { SameCache self.old.cache self.new.cache }
         ensures err_marks { OnErr result (self.new.marks.items ≡ self.old.marks.items) }
         ensures err_cache { OnErr result (self.new.cache ≡ self.old.cache) }
@@ -128,13 +137,15 @@ impl Held {
         Ok(())
     }
 
-    // Marks the numbers below a HEARTBEAT's first, and counts those that were not marked. Where there is none, it needs no memory.
+    // Marks the numbers below a HEARTBEAT's first, and counts those that were not marked. Where there is none, it needs
+    // no memory.
     pub(crate) fn mark_below(&mut self, writer: WriterNo, first: u64) -> Result<u64, NoMemory>
         requires listed { IsTrue (is_listed writer self.old.cache.writers) }
         requires low { 1 ≤ first }
         requires high { first ≤ last_number + 1 }
         ensures count { IfOk result (λ lost. lost ≡ heartbeat_count (in_marks self.old.marks.items writer) first) }
-        ensures marks { OnOk result (AddsMarks (in_marks self.old.marks.items) (in_marks self.new.marks.items) writer (below_first first)) }
+        ensures marks { OnOk result
+            (AddsMarks (in_marks self.old.marks.items) (in_marks self.new.marks.items) writer (below_first first)) }
         ensures cache { SameCache self.old.cache self.new.cache }
         ensures err_marks { OnErr result (self.new.marks.items ≡ self.old.marks.items) }
         ensures err_cache { OnErr result (self.new.cache ≡ self.old.cache) }
@@ -152,7 +163,9 @@ impl Held {
     pub(crate) fn mark_gap(&mut self, gap: &GapMsg) -> Result<u64, NoMemory>
         requires { IsTrue (is_listed gap.now.writer self.old.cache.writers) }
         ensures count { IfOk result (λ gone. gone ≡ gap_count (in_marks self.old.marks.items gap.now.writer) gap.now) }
-        ensures marks { OnOk result (AddsMarks (in_marks self.old.marks.items) (in_marks self.new.marks.items) gap.now.writer (covers gap.now)) }
+        ensures marks { OnOk result
+            (AddsMarks (in_marks self.old.marks.items) (in_marks self.new.marks.items) gap.now.writer
+            (covers gap.now)) }
         ensures cache { SameCache self.old.cache self.new.cache }
         ensures err_marks { OnErr result (self.new.marks.items ≡ self.old.marks.items) }
         ensures err_cache { OnErr result (self.new.cache ≡ self.old.cache) }
@@ -164,7 +177,8 @@ impl Held {
         Ok(before + within)
     }
 
-    // Marks the numbers from `from` to `until` less one, and counts those that were not marked. Where there is none, nothing is added.
+    // Marks the numbers from `from` to `until` less one, and counts those that were not marked. Where there is none,
+    // nothing is added.
     fn mark_range(&mut self, writer: WriterNo, from: u64, until: u64) -> u64
         requires room { vec_len self.old.marks < vec_capacity self.old.marks }
         requires listed { IsTrue (is_listed writer self.old.cache.writers) }
@@ -173,7 +187,8 @@ impl Held {
         requires high { until ≤ last_number + 1 }
         ensures count { result ≡ count_between (λ n. not (in_marks self.old.marks.items writer n)) from until }
         ensures small { result ≤ until - from }
-        ensures marks { AddsMarks (in_marks self.old.marks.items) (in_marks self.new.marks.items) writer (is_between from until) }
+        ensures marks { AddsMarks (in_marks self.old.marks.items) (in_marks self.new.marks.items) writer
+            (is_between from until) }
         ensures len { vec_len self.new.marks ≤ vec_len self.old.marks + 1 }
         ensures capacity { vec_capacity self.new.marks ≡ vec_capacity self.old.marks }
         ensures cache { SameCache self.old.cache self.new.cache }
@@ -205,12 +220,14 @@ impl Held {
         self.cache.release(writer, base - 1);
     }
 
-    // Marks one number where the set has it, and counts it where it was not marked. What is marked already is not added again.
+    // Marks one number where the set has it, and counts it where it was not marked. What is marked already is not added
+    // again.
     fn mark_one(&mut self, writer: WriterNo, set: &SnSet, n: u64) -> u64
         requires room { vec_len self.old.marks < vec_capacity self.old.marks }
         requires listed { IsTrue (is_listed writer self.old.cache.writers) }
         requires low { 1 ≤ n }
-        ensures marks { AddsMarks (in_marks self.old.marks.items) (in_marks self.new.marks.items) writer (λ m. has set.now m && (m == n)) }
+        ensures marks { AddsMarks (in_marks self.old.marks.items) (in_marks self.new.marks.items) writer
+            (λ m. has set.now m && (m == n)) }
         ensures len { vec_len self.new.marks ≤ vec_len self.old.marks + 1 }
         ensures capacity { vec_capacity self.new.marks ≡ vec_capacity self.old.marks }
         ensures cache { SameCache self.old.cache self.new.cache }
@@ -233,7 +250,9 @@ impl Held {
         requires listed { IsTrue (is_listed writer self.old.cache.writers) }
         ensures marks { AddsMarks (in_marks self.old.marks.items) (in_marks self.new.marks.items) writer (has set.now) }
         ensures cache { SameCache self.old.cache self.new.cache }
-        ensures count { result ≡ count_between (λ m. has set.now m && not (in_marks self.old.marks.items writer m)) set.now.base (set.now.base + 256) }
+        ensures count { result
+            ≡ count_between (λ m. has set.now m
+            && not (in_marks self.old.marks.items writer m)) set.now.base (set.now.base + 256) }
         ensures small { result ≤ 256 }
     {
         let base = set.base();

@@ -1,6 +1,7 @@
 //! The kept samples of a plain writer, in order of number.
 
-ghost use Rattle.std.specs.Prelude.{◌≡◌, ℕ, ◌<◌, ◌≤◌, ◌&&◌, nat_lt, cond, true, false, [], ◌∷◌, ◌++◌, MatchOption, vec_len, vec_capacity, position};
+ghost use Rattle.std.specs.Prelude.{◌≡◌, ℕ, ◌<◌, ◌≤◌, ◌&&◌, nat_lt, cond, true, false, [], ◌∷◌, ◌++◌, MatchOption};
+ghost use Rattle.std.specs.Prelude.{vec_len, vec_capacity, position};
 ghost use Rattle.dds_qos.specs.Samples.{has_key, in_instance};
 ghost use Rattle.dds_qos.specs.Writing.{is_relevant_in, make_room, still_awaited};
 ghost use Rattle.dds_writer.specs.Proxies.{bases_of, hears, is_unsent, wants};
@@ -53,7 +54,8 @@ pub(crate) fn next_heard(kept: &[Sample], proxy: &MatchedReader, start: u64) -> 
     kept.iter().position(|s| start < s.sn && proxy.hears(s.key))
 }
 
-// Whether a number is written and none below the least awaited one, and no sample of it is kept whose key the reader takes.
+// Whether a number is written and none below the least awaited one, and no sample of it is kept whose key the reader
+// takes.
 fn is_silent(
     kept: &[Sample],
     me: WriterNo,
@@ -95,7 +97,8 @@ pub(crate) fn first_silent(
 pub(crate) fn next_wanted(proxy: &MatchedReader, from: u64, written: u64) -> Option<u64>
     ensures { MatchOption result
         ((n : ℕ) → from ≤ n → n ≤ written → wants proxy.now n ≡ false)
-        (λ m. (from ≤ m) × (m ≤ written) × (wants proxy.now m ≡ true) × ((n : ℕ) → from ≤ n → n < m → wants proxy.now n ≡ false)) }
+        (λ m. (from ≤ m) × (m ≤ written) × (wants proxy.now m ≡ true)
+        × ((n : ℕ) → from ≤ n → n < m → wants proxy.now n ≡ false)) }
 {
     let mut n = from;
     while n <= written {

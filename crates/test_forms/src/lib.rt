@@ -1,5 +1,5 @@
-//! The plain forms of the cache, the reader and the writer: the same calls with the same contracts, over lists that each call walks.
-//! Only tests use them: they give both forms the same calls, and compare the answers.
+//! The plain forms of the cache, the reader and the writer: the same calls with the same contracts, over lists that
+//! each call walks. Only tests use them: they give both forms the same calls, and compare the answers.
 #![tactic(auto)]
 
 pub mod cache;

@@ -1,4 +1,5 @@
-//! Which numbers of each writer of a plain reader are marked: a list of ranges, which may overlap and stand in any order.
+//! Which numbers of each writer of a plain reader are marked: a list of ranges, which may overlap and stand in any
+//! order.
 
 ghost use Rattle.std.specs.Prelude.{◌≡◌, ℕ, ◌+◌, ◌-◌, ◌<◌, ◌≤◌, true, false, not, MatchOption};
 ghost use Rattle.dds_base.specs.Counts.{count_between};
@@ -59,7 +60,8 @@ impl Range {
 
     // Its first number, where it is of the writer, and the number is between two others.
     fn start_between(&self, writer: WriterNo, low: u64, high: u64) -> Option<u64>
-        ensures { MatchOption result ((self.now.writer ≡ writer) → (low < self.now.from) → (self.now.from < high) → ⊥) (λ s. (s ≡ self.now.from) × (low < s) × (s < high)) }
+        ensures { MatchOption result ((self.now.writer ≡ writer) → (low < self.now.from) → (self.now.from < high) → ⊥)
+            (λ s. (s ≡ self.now.from) × (low < s) × (s < high)) }
     {
         if self.writer == writer && low < self.from && self.from < high {
             Some(self.from)
@@ -78,7 +80,8 @@ pub(crate) fn is_in(marks: &[Range], writer: WriterNo, n: u64) -> bool
 
 // The end of a range that has the number.
 fn end_of(marks: &[Range], writer: WriterNo, n: u64) -> Option<u64>
-    ensures { MatchOption result (in_marks marks.now writer n ≡ false) (λ e. (n < e) × ((k : ℕ) → n ≤ k → k < e → in_marks marks.now writer k ≡ true)) }
+    ensures { MatchOption result (in_marks marks.now writer n ≡ false)
+        (λ e. (n < e) × ((k : ℕ) → n ≤ k → k < e → in_marks marks.now writer k ≡ true)) }
 {
     for m in marks {
         if m.has(writer, n) {

@@ -1,9 +1,11 @@
-//! The readers that a plain writer is matched with, and what it holds for each: the RTPS reader proxies (DDSI-RTPS 2.5, clause 8.4.7.5).
+//! The readers that a plain writer is matched with, and what it holds for each: the RTPS reader proxies (DDSI-RTPS 2.5,
+//! clause 8.4.7.5).
 
 ghost use Rattle.std.specs.Prelude.{◌≡◌, ◌≤◌, ◌&&◌, not, cond, leb, map, Some, None, IsTrue, IfOk};
 ghost use Rattle.dds_base.specs.Sets.{has, set_of, last_number};
 ghost use Rattle.dds_qos.specs.Writing.{is_awaited};
-ghost use Rattle.dds_writer.specs.Proxies.{is_of, is_matched, is_watched, is_unsent, proxy_of, bases_of, lowest, awaits, hears, wants, opening_proxy, after_acknack, after_message};
+ghost use Rattle.dds_writer.specs.Proxies.{is_of, is_matched, is_watched, is_unsent, proxy_of, bases_of, lowest};
+ghost use Rattle.dds_writer.specs.Proxies.{awaits, hears, wants, opening_proxy, after_acknack, after_message};
 ghost use Rattle.dds_writer.specs.History.{is_silent_in};
 
 use crate::history::first_silent;
@@ -31,7 +33,13 @@ impl Model for MatchedReader {
 
     ghost Value = { ProxyState };
 
-    ghost view = { λ a. record { reader = a.reader; filter = a.filter.items; watcher = a.watcher; base = a.base; notes = record { sent = a.sent; asked = a.asked } } };
+    ghost view = { λ a. record {
+      reader = a.reader;
+      filter = a.filter.items;
+      watcher = a.watcher;
+      base = a.base;
+      notes = record { sent = a.sent; asked = a.asked };
+    } };
 }
 
 impl MatchedReader {
@@ -115,7 +123,8 @@ impl MatchedReader {
         }
     }
 
-    // An ACKNACK of a strict reader came: its base counts where it is neither below the held one nor above the next number.
+    // An ACKNACK of a strict reader came: its base counts where it is neither below the held one nor above the next
+    // number.
     fn acknowledge(&mut self, reader: ReaderNo, set: &SnSet, written: u64)
         requires { written ≤ last_number }
         ensures { self.new ≡ after_acknack reader set.now written self.old }

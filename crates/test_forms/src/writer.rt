@@ -1,12 +1,15 @@
 //! The plain writer.
-ghost use Rattle.std.specs.Prelude.{◌≡◌, ◌⊎◌, ◌+◌, ◌<◌, ◌≤◌, ◌&&◌, not, cond, true, false, length, map, IsTrue, IfOk, IfErr, OnErr, IfSome, MatchOption, is_some, None, Some, [], ◌∷◌, ◌++◌};
+ghost use Rattle.std.specs.Prelude.{◌≡◌, ◌⊎◌, ◌+◌, ◌<◌, ◌≤◌, ◌&&◌, not, cond, true, false, length, map, IsTrue, IfOk};
+ghost use Rattle.std.specs.Prelude.{IfErr, OnErr, IfSome, MatchOption, is_some, None, Some, [], ◌∷◌, ◌++◌};
 ghost use Rattle.std.specs.FinSet as set;
 ghost use Rattle.dds_base.specs.Sets.{last_number};
 ghost use Rattle.dds_base.specs.Sums.{In};
-ghost use Rattle.dds_qos.specs.Writing.{first_kept, make_room, still_awaited, write_refusal, gap_end, gap_of, heartbeat_of};
+ghost use Rattle.dds_qos.specs.Writing.{first_kept, make_room, still_awaited, write_refusal, gap_end, gap_of};
+ghost use Rattle.dds_qos.specs.Writing.{heartbeat_of};
 ghost use Rattle.dds_qos.specs.Notes.{due_of, watch_due_of};
 ghost use Rattle.dds_writer.specs.Proxies.{is_matched, is_watched, proxy_of, bases_of, after_acknack, after_message};
-ghost use Rattle.dds_writer.specs.Writer.{IsKept, keeps, is_last, is_offered, is_pending, is_relevant, is_silent, opening_of, Tells};
+ghost use Rattle.dds_writer.specs.Writer.{IsKept, keeps, is_last, is_offered, is_pending, is_relevant, is_silent};
+ghost use Rattle.dds_writer.specs.Writer.{opening_of, Tells};
 
 use crate::history::{
     count_of, is_relevant, keep, make_room, next_heard, next_unsent, next_wanted, place_of, trim,
@@ -26,12 +29,14 @@ use std::marker::Model;
 
 /// The plain form of `dds_writer::Writer`, over lists, which tests compare with the fast one.
 ///
-/// A reliable stateful writer (DDSI-RTPS 2.5, clause 8.4.9.2). It keeps what some matched strict reader has not acknowledged, by KEEP_LAST
-/// of each key no more than the depth, the newest. It never waits for a watcher, a best-effort reader.
+/// A reliable stateful writer (DDSI-RTPS 2.5, clause 8.4.9.2). It keeps what some matched strict reader has not
+/// acknowledged, by KEEP_LAST of each key no more than the depth, the newest. It never waits for a watcher, a
+/// best-effort reader.
 ///
-/// A contract sees its number, limits, matched readers, kept samples in order of number, last written sample, written keys and count of
-/// written samples. Each kept sample is a written one that some matched strict reader has not acknowledged: with no such reader none is
-/// kept. A writer with a watcher also holds the last sample that it wrote, outside all limits.
+/// A contract sees its number, limits, matched readers, kept samples in order of number, last written sample, written
+/// keys and count of written samples. Each kept sample is a written one that some matched strict reader has not
+/// acknowledged: with no such reader none is kept. A writer with a watcher also holds the last sample that it wrote,
+/// outside all limits.
 #[derive(Drop)]
 pub struct PlainWriter {
     me: WriterNo,
@@ -63,8 +68,8 @@ impl Model for PlainWriter {
 }
 
 impl PlainWriter {
-    /// A writer that has written nothing. Each reader's acknowledged base is 1, and nothing is noted. An `Err` means that memory ran
-    /// out.
+    /// A writer that has written nothing. Each reader's acknowledged base is 1, and nothing is noted. An `Err` means
+    /// that memory ran out.
     pub fn new(
         alloc: Global,
         me: WriterNo,
@@ -76,8 +81,8 @@ impl PlainWriter {
         PlainWriter::starting(alloc, me, limits, proxies, 0)
     }
 
-    /// A writer of which so many samples, 0 to 2^63 - 1, are written and acknowledged by each reader: each base is `written` + 1,
-    /// nothing is kept, held or noted, and no key counts as written. An `Err` means that memory ran out.
+    /// A writer of which so many samples, 0 to 2^63 - 1, are written and acknowledged by each reader: each base is
+    /// `written` + 1, nothing is kept, held or noted, and no key counts as written. An `Err` means that memory ran out.
     pub fn starting(
         alloc: Global,
         me: WriterNo,
@@ -138,8 +143,8 @@ impl PlainWriter {
         self.written
     }
 
-    /// How many samples are kept. Each is one that some matched strict reader has not acknowledged; the last sample that a writer holds
-    /// for watchers doesn't count.
+    /// How many samples are kept. Each is one that some matched strict reader has not acknowledged; the last sample
+    /// that a writer holds for watchers doesn't count.
     pub fn kept(&self) -> usize
         ensures count { result ≡ length self.now.kept }
         ensures which { IsKept self.now }
@@ -147,8 +152,8 @@ impl PlainWriter {
         self.kept.len()
     }
 
-    /// The base that a matched reader acknowledged: the least number that it did not acknowledge, 1 to `written` + 1. Of a watcher it is
-    /// the one of the opening.
+    /// The base that a matched reader acknowledged: the least number that it did not acknowledge, 1 to `written` + 1.
+    /// Of a watcher it is the one of the opening.
     pub fn base(&self, reader: ReaderNo) -> u64
         requires { IsTrue (is_matched reader self.now.proxies) }
         ensures { result ≡ (proxy_of reader self.now.proxies).base }
@@ -199,25 +204,29 @@ impl PlainWriter {
         None
     }
 
-    /// Writes a sample of a key, and gives its number, the next one (OMG DDS 1.4, clause 2.2.2.4.2.11). By KEEP_LAST, where as many samples
-    /// of the key are kept as the depth, the oldest of them is dropped (clause 2.2.3.18). The sample is kept where some matched strict
-    /// reader is to acknowledge it, and held as the last one, outside all limits, where some matched reader is a
-    /// watcher. An `Err` is the first refusal that holds, changes nothing and uses no number: `SequenceEnd`, `InstanceLimit`, `Full`,
-    /// `InstanceFull`; where none holds, `NoMemory`.
+    /// Writes a sample of a key, and gives its number, the next one (OMG DDS 1.4, clause 2.2.2.4.2.11). By KEEP_LAST,
+    /// where as many samples of the key are kept as the depth, the oldest of them is dropped (clause 2.2.3.18). The
+    /// sample is kept where some matched strict reader is to acknowledge it, and held as the last one, outside all
+    /// limits, where some matched reader is a watcher. An `Err` is the first refusal that holds, changes nothing and
+    /// uses no number: `SequenceEnd`, `InstanceLimit`, `Full`, `InstanceFull`; where none holds, `NoMemory`.
     pub fn write(&mut self, key: KeyNo, payload: Data) -> Result<u64, WriteRefused>
-        ensures ok { IfOk result (λ n. write_refusal self.old.limits self.old.written self.old.keys self.old.kept key ≡ None) }
+        ensures ok { IfOk result
+            (λ n. write_refusal self.old.limits self.old.written self.old.keys self.old.kept key ≡ None) }
         ensures number { IfOk result (λ n. n ≡ self.old.written + 1) }
         ensures state { IfOk result (λ n. self.new ≡ record {
           me = self.old.me;
           limits = self.old.limits;
           proxies = self.old.proxies;
-          kept = make_room self.old.limits key self.old.kept ++ still_awaited (bases_of self.old.proxies) (record { writer = self.old.me; sn = n; key = key; payload = payload } ∷ []);
-          last = cond (is_watched self.old.proxies) (Some (record { writer = self.old.me; sn = n; key = key; payload = payload })) None;
+          kept = make_room self.old.limits key self.old.kept ++ still_awaited (bases_of self.old.proxies)
+              (record { writer = self.old.me; sn = n; key = key; payload = payload } ∷ []);
+          last = cond (is_watched self.old.proxies)
+              (Some (record { writer = self.old.me; sn = n; key = key; payload = payload })) None;
           keys = set.insert self.old.keys key;
           written = n;
         }) }
 
-        ensures refused { IfErr result (λ e. Tells e (write_refusal self.old.limits self.old.written self.old.keys self.old.kept key)) }
+        ensures refused { IfErr result
+            (λ e. Tells e (write_refusal self.old.limits self.old.written self.old.keys self.old.kept key)) }
         ensures err { OnErr result (self.new ≡ self.old) }
     {
         if let Some(why) = self.refusal(key) {
@@ -242,12 +251,14 @@ impl PlainWriter {
         Ok(sn)
     }
 
-    /// The DATA of a number for a matched reader (DDSI-RTPS 2.5, clause 8.3.8.2). `None` exactly where the number isn't kept, nor, for a
-    /// watcher, the last one written and held, or its key isn't in the reader's filter.
+    /// The DATA of a number for a matched reader (DDSI-RTPS 2.5, clause 8.3.8.2). `None` exactly where the number isn't
+    /// kept, nor, for a watcher, the last one written and held, or its key isn't in the reader's filter.
     pub fn data(&self, reader: ReaderNo, sn: u64) -> Option<DataMsg>
         requires { IsTrue (is_matched reader self.now.proxies) }
         ensures found { is_some result ≡ is_offered self.now (proxy_of reader self.now.proxies) sn }
-        ensures message { IfSome result (λ d. (d.reader ≡ reader) × (d.sample.sn ≡ sn) × (In d.sample self.now.kept ⊎ (self.now.last ≡ Some d.sample))) }
+        ensures message { IfSome result
+            (λ d. (d.reader ≡ reader) × (d.sample.sn ≡ sn)
+            × (In d.sample self.now.kept ⊎ (self.now.last ≡ Some d.sample))) }
     {
         match self.kept_data(reader, sn) {
             Some(data) => Some(data),
@@ -258,8 +269,10 @@ impl PlainWriter {
     // The DATA of the last written number for a watcher.
     fn last_data(&self, reader: ReaderNo, sn: u64) -> Option<DataMsg>
         requires { IsTrue (is_matched reader self.now.proxies) }
-        ensures found { is_some result ≡ ((proxy_of reader self.now.proxies).watcher && is_last self.now (proxy_of reader self.now.proxies) sn) }
-        ensures message { IfSome result (λ d. (d.reader ≡ reader) × (d.sample.sn ≡ sn) × (self.now.last ≡ Some d.sample)) }
+        ensures found { is_some result
+            ≡ ((proxy_of reader self.now.proxies).watcher && is_last self.now (proxy_of reader self.now.proxies) sn) }
+        ensures message { IfSome result
+            (λ d. (d.reader ≡ reader) × (d.sample.sn ≡ sn) × (self.now.last ≡ Some d.sample)) }
     {
         let proxy = self.proxy(reader);
         if !proxy.is_watcher() {
@@ -285,13 +298,18 @@ impl PlainWriter {
         DataMsg::new(reader, self.kept[at])
     }
 
-    /// The GAP for a matched reader that begins at a number: all numbers from it to the next one that the reader may still get, being kept and
-    /// of a key in its filter, or that is not written yet (DDSI-RTPS 2.5, clause 8.3.8.4). `None` exactly where the reader is a watcher, no
-    /// matched strict reader awaits the number, or it is kept and its key is in the reader's filter.
+    /// The GAP for a matched reader that begins at a number: all numbers from it to the next one that the reader may
+    /// still get, being kept and of a key in its filter, or that is not written yet (DDSI-RTPS 2.5, clause 8.3.8.4).
+    /// `None` exactly where the reader is a watcher, no matched strict reader awaits the number, or it is kept and its
+    /// key is in the reader's filter.
     pub fn gap(&self, reader: ReaderNo, start: u64) -> Option<GapMsg>
         requires { IsTrue (is_matched reader self.now.proxies) }
-        ensures found { is_some result ≡ (not (proxy_of reader self.now.proxies).watcher && is_silent self.now (proxy_of reader self.now.proxies) start) }
-        ensures message { IfSome result (λ g. g ≡ gap_of self.now.me reader (is_relevant self.now (proxy_of reader self.now.proxies)) self.now.written start) }
+        ensures found { is_some result
+            ≡ (not (proxy_of reader self.now.proxies).watcher
+            && is_silent self.now (proxy_of reader self.now.proxies) start) }
+        ensures message { IfSome result
+            (λ g. g ≡ gap_of self.now.me reader
+            (is_relevant self.now (proxy_of reader self.now.proxies)) self.now.written start) }
     {
         let proxy = self.proxy(reader);
         if proxy.is_watcher() {
@@ -315,7 +333,8 @@ impl PlainWriter {
     fn gap_end(&self, reader: ReaderNo, start: u64) -> u64
         requires matched { IsTrue (is_matched reader self.now.proxies) }
         requires written { start ≤ self.now.written }
-        ensures end { result ≡ gap_end (is_relevant self.now (proxy_of reader self.now.proxies)) self.now.written start }
+        ensures end { result ≡ gap_end
+            (is_relevant self.now (proxy_of reader self.now.proxies)) self.now.written start }
         ensures low { start < result }
         ensures high { result ≤ self.now.written + 1 }
     {
@@ -329,7 +348,9 @@ impl PlainWriter {
     fn kept_gap(&self, reader: ReaderNo, start: u64) -> Option<GapMsg>
         requires { IsTrue (is_matched reader self.now.proxies) }
         ensures found { is_some result ≡ is_silent self.now (proxy_of reader self.now.proxies) start }
-        ensures message { IfSome result (λ g. g ≡ gap_of self.now.me reader (is_relevant self.now (proxy_of reader self.now.proxies)) self.now.written start) }
+        ensures message { IfSome result
+            (λ g. g ≡ gap_of self.now.me reader
+            (is_relevant self.now (proxy_of reader self.now.proxies)) self.now.written start) }
     {
         if !self.is_silent(reader, start) {
             return None;
@@ -338,8 +359,8 @@ impl PlainWriter {
         GapMsg::new(self.me, reader, start, SnSet::new(end, &[])?)
     }
 
-    /// The HEARTBEAT for a strict reader: from the least kept number, or else the next one, to the greatest number written (DDSI-RTPS 2.5,
-    /// clause 8.3.8.6).
+    /// The HEARTBEAT for a strict reader: from the least kept number, or else the next one, to the greatest number
+    /// written (DDSI-RTPS 2.5, clause 8.3.8.6).
     pub fn heartbeat(&self, reader: ReaderNo) -> Heartbeat
         requires { (proxy_of reader self.now.proxies).watcher ≡ false }
         ensures { result ≡ heartbeat_of self.now.me reader (keeps self.now) self.now.written }
@@ -347,16 +368,19 @@ impl PlainWriter {
         Heartbeat::new(self.me, reader, self.first(), self.written).unwrap()
     }
 
-    /// An ACKNACK came (DDSI-RTPS 2.5, clause 8.4.7.5). Where its base is neither below the base held for its reader nor above the
-    /// next number, it becomes that base, its set is what the reader asks for, and what no matched strict reader awaits any more is
-    /// dropped. Otherwise nothing changes; nor does it where the reader isn't matched, or is a watcher. It takes no memory.
+    /// An ACKNACK came (DDSI-RTPS 2.5, clause 8.4.7.5). Where its base is neither below the base held for its reader
+    /// nor above the next number, it becomes that base, its set is what the reader asks for, and what no matched strict
+    /// reader awaits any more is dropped. Otherwise nothing changes; nor does it where the reader isn't matched, or is
+    /// a watcher. It takes no memory.
     pub fn on_acknack(&mut self, acknack: &AckNack)
         requires { acknack.now.writer ≡ self.old.me }
         ensures { self.new ≡ record {
           me = self.old.me;
           limits = self.old.limits;
           proxies = map (after_acknack acknack.now.reader acknack.now.set self.old.written) self.old.proxies;
-          kept = still_awaited (bases_of (map (after_acknack acknack.now.reader acknack.now.set self.old.written) self.old.proxies)) self.old.kept;
+          kept = still_awaited
+              (bases_of (map (after_acknack acknack.now.reader acknack.now.set self.old.written) self.old.proxies))
+              self.old.kept;
           last = self.old.last;
           keys = self.old.keys;
           written = self.old.written;
@@ -367,9 +391,10 @@ impl PlainWriter {
         trim(&mut self.kept, &self.proxies);
     }
 
-    /// Notes that a message went to a reader: a DATA of this number, or a GAP with this number below the base of its set. The
-    /// greatest number sent grows to it, and what the reader asked for loses it and, where the reader won't get it, the unbroken run of such
-    /// awaited numbers below it. Nothing changes where the reader isn't matched. It takes no memory.
+    /// Notes that a message went to a reader: a DATA of this number, or a GAP with this number below the base of its
+    /// set. The greatest number sent grows to it, and what the reader asked for loses it and, where the reader won't
+    /// get it, the unbroken run of such awaited numbers below it. Nothing changes where the reader isn't matched. It
+    /// takes no memory.
     pub fn note_sent(&mut self, reader: ReaderNo, sn: u64)
         ensures { self.new ≡ record {
           me = self.old.me;
@@ -393,14 +418,17 @@ impl PlainWriter {
         );
     }
 
-    /// What is to be sent to a matched reader next: of the numbers that it has not acknowledged, the least that it asked for or that was
-    /// never sent; as DATA where it is kept and its key is in the reader's filter, as GAP where not. To a watcher: as DATA the least number
-    /// above all that was sent, kept or last written, whose key is in its filter. `None` where there is no such number.
+    /// What is to be sent to a matched reader next: of the numbers that it has not acknowledged, the least that it
+    /// asked for or that was never sent; as DATA where it is kept and its key is in the reader's filter, as GAP where
+    /// not. To a watcher: as DATA the least number above all that was sent, kept or last written, whose key is in its
+    /// filter. `None` where there is no such number.
     pub fn due(&self, reader: ReaderNo) -> Option<Due>
         requires { IsTrue (is_matched reader self.now.proxies) }
         ensures { result ≡ cond (proxy_of reader self.now.proxies).watcher
-            (watch_due_of (is_offered self.now (proxy_of reader self.now.proxies)) (proxy_of reader self.now.proxies).notes self.now.written)
-            (due_of (is_pending self.now) (is_relevant self.now (proxy_of reader self.now.proxies)) (proxy_of reader self.now.proxies).base (proxy_of reader self.now.proxies).notes self.now.written) }
+            (watch_due_of (is_offered self.now (proxy_of reader self.now.proxies))
+            (proxy_of reader self.now.proxies).notes self.now.written)
+            (due_of (is_pending self.now) (is_relevant self.now (proxy_of reader self.now.proxies))
+            (proxy_of reader self.now.proxies).base (proxy_of reader self.now.proxies).notes self.now.written) }
     {
         if self.proxy(reader).is_watcher() {
             return self.watch_due(reader);
@@ -412,7 +440,8 @@ impl PlainWriter {
     fn watch_due(&self, reader: ReaderNo) -> Option<Due>
         requires matched { IsTrue (is_matched reader self.now.proxies) }
         requires watching { (proxy_of reader self.now.proxies).watcher ≡ true }
-        ensures { result ≡ watch_due_of (is_offered self.now (proxy_of reader self.now.proxies)) (proxy_of reader self.now.proxies).notes self.now.written }
+        ensures { result ≡ watch_due_of (is_offered self.now (proxy_of reader self.now.proxies))
+            (proxy_of reader self.now.proxies).notes self.now.written }
     {
         let proxy = self.proxy(reader);
         if let Some(at) = next_unsent(&self.kept, proxy) {
@@ -430,7 +459,8 @@ impl PlainWriter {
     fn kept_due(&self, reader: ReaderNo) -> Option<Due>
         requires matched { IsTrue (is_matched reader self.now.proxies) }
         requires reliable { (proxy_of reader self.now.proxies).watcher ≡ false }
-        ensures { result ≡ due_of (is_pending self.now) (is_relevant self.now (proxy_of reader self.now.proxies)) (proxy_of reader self.now.proxies).base (proxy_of reader self.now.proxies).notes self.now.written }
+        ensures { result ≡ due_of (is_pending self.now) (is_relevant self.now (proxy_of reader self.now.proxies))
+            (proxy_of reader self.now.proxies).base (proxy_of reader self.now.proxies).notes self.now.written }
     {
         let proxy = self.proxy(reader);
         let sn = next_wanted(proxy, proxy.base().max(1), self.written)?;

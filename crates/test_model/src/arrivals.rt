@@ -9,7 +9,8 @@ use dds_base::{
 };
 use dds_qos::Admit;
 
-/// Whether the key of a sample is new while max_instances keys are known. A key is known once a sample of it was stored.
+/// Whether the key of a sample is new while max_instances keys are known. A key is known once a sample of it was
+/// stored.
 fn is_one_key_too_many(world: &World, reader: ReaderNo, sample: &Sample) -> Result<bool, NoMemory> {
     let keys = keys_of(world, world.received(reader))?;
     let limit = world.layout.reader_limits(reader).max_instances;
@@ -79,7 +80,8 @@ fn admit(world: &mut World, reader: ReaderNo, sample: &Sample) -> Result<Arrival
     Ok(arrival_of(&answer))
 }
 
-/// Whether the DATA of a number came before: at a strict reader the number is marked, at a watcher it is below the base.
+/// Whether the DATA of a number came before: at a strict reader the number is marked, at a watcher it is below the
+/// base.
 fn is_repeat(world: &World, reader: ReaderNo, writer: WriterNo, sn: u64) -> bool {
     if world.layout.is_watcher(reader) {
         sn < world.base(reader, writer)
@@ -152,7 +154,8 @@ fn unmarked_between(
     Ok(unmarked)
 }
 
-/// A GAP arrives: the unmarked numbers from its start up to the base of its set, and those of the set, are irrelevant. At a watcher none is.
+/// A GAP arrives: the unmarked numbers from its start up to the base of its set, and those of the set, are irrelevant.
+/// At a watcher none is.
 fn on_gap(world: &mut World, gap: &GapMsg) -> Result<Arrival, NoMemory> {
     let (reader, writer) = (gap.reader, gap.writer);
     if !world.layout.matched(writer, reader) {
@@ -174,8 +177,8 @@ fn on_gap(world: &mut World, gap: &GapMsg) -> Result<Arrival, NoMemory> {
     Ok(Arrival::Irrelevant(fresh.len() as u64))
 }
 
-/// A HEARTBEAT arrives: the unmarked numbers below its first are lost, the last number heard grows, and an ACKNACK is owed. A watcher
-/// heeds none.
+/// A HEARTBEAT arrives: the unmarked numbers below its first are lost, the last number heard grows, and an ACKNACK is
+/// owed. A watcher heeds none.
 fn on_heartbeat(world: &mut World, heartbeat: &Heartbeat) -> Result<Arrival, NoMemory> {
     let (reader, writer) = (heartbeat.reader, heartbeat.writer);
     if !world.layout.matched(writer, reader) {
@@ -208,8 +211,8 @@ fn asked_by(world: &World, acknack: &AckNack) -> Result<Vec<u64>, NoMemory> {
     Ok(asked)
 }
 
-/// An ACKNACK arrives: its base is held, unless it is below the one held or above the next number to be written. Where it is held, what
-/// it asks for is noted. One of a watcher changes nothing.
+/// An ACKNACK arrives: its base is held, unless it is below the one held or above the next number to be written. Where
+/// it is held, what it asks for is noted. One of a watcher changes nothing.
 fn on_acknack(world: &mut World, acknack: &AckNack) -> Result<(), NoMemory> {
     let (reader, writer) = (acknack.reader, acknack.writer);
     if !world.layout.follows(writer, reader) {

@@ -1,5 +1,5 @@
-//! Permits and unspent takes, counted from the history: what the rules gave less what was written, and what was taken less what
-//! the rules spent.
+//! Permits and unspent takes, counted from the history: what the rules gave less what was written, and what was taken
+//! less what the rules spent.
 
 use crate::layout::RuleLayout;
 use crate::world::World;

@@ -1,5 +1,5 @@
-//! What endpoints note beside the world: which numbers a writer sent and was asked for, and whether a reader owes an ACKNACK. No reply
-//! depends on it.
+//! What endpoints note beside the world: which numbers a writer sent and was asked for, and whether a reader owes an
+//! ACKNACK. No reply depends on it.
 
 use crate::reading::has;
 use crate::sends::gap_end;
@@ -8,7 +8,8 @@ use dds_base::{Event, NoMemory, ReaderNo, WriterNo};
 use dds_qos::Due;
 
 impl World {
-    /// Whether a number is pending, and the reader won't get it: it is dropped, or its key isn't in the reader's filter.
+    /// Whether a number is pending, and the reader won't get it: it is dropped, or its key isn't in the reader's
+    /// filter.
     fn is_silent(&self, writer: WriterNo, reader: ReaderNo, sn: u64) -> bool {
         self.is_pending(writer, sn) && !self.is_offered(writer, reader, sn)
     }
@@ -60,7 +61,8 @@ impl World {
         None
     }
 
-    /// What a writer is to send a reader next: the least number that is due, as a DATA or as a GAP, to a watcher never as a GAP.
+    /// What a writer is to send a reader next: the least number that is due, as a DATA or as a GAP, to a watcher never
+    /// as a GAP.
     pub fn due(&self, writer: WriterNo, reader: ReaderNo) -> Option<Due> {
         if self.layout.is_watcher(reader) {
             return self.watch_due(writer, reader);
@@ -82,7 +84,8 @@ impl World {
     }
 }
 
-/// What a reader asked for, without a number that is sent to it and the unbroken run of silent numbers that ends with it.
+/// What a reader asked for, without a number that is sent to it and the unbroken run of silent numbers that ends with
+/// it.
 fn asked_beside(
     world: &World,
     writer: WriterNo,
@@ -100,8 +103,8 @@ fn asked_beside(
     Ok(asked)
 }
 
-/// A DATA of this number was sent to a reader, or a GAP with this number below the base of its set. The greatest number sent grows, and
-/// what the reader asked for loses the number and the unbroken run of silent numbers that ends with it.
+/// A DATA of this number was sent to a reader, or a GAP with this number below the base of its set. The greatest number
+/// sent grows, and what the reader asked for loses the number and the unbroken run of silent numbers that ends with it.
 fn note_sent(
     world: &mut World,
     writer: WriterNo,

@@ -20,7 +20,8 @@ pub(crate) fn has(numbers: &[u64], n: u64) -> bool {
 }
 
 impl World {
-    /// Whether a reader has settled a writer's number for good: received, irrelevant or lost. A watcher's are always those below its base.
+    /// Whether a reader has settled a writer's number for good: received, irrelevant or lost. A watcher's are always
+    /// those below its base.
     pub(crate) fn is_marked(&self, reader: ReaderNo, writer: WriterNo, sn: u64) -> bool {
         if has_number(self.received(reader), writer, sn) {
             return true;

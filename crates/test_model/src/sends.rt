@@ -25,7 +25,8 @@ pub(crate) fn gap_end(world: &World, writer: WriterNo, reader: ReaderNo, start: 
     world.written(writer).saturating_add(1)
 }
 
-/// The GAP from a number on. None where the reader is a watcher, or no matched strict reader awaits the number, or the reader may still get it.
+/// The GAP from a number on. None where the reader is a watcher, or no matched strict reader awaits the number, or the
+/// reader may still get it.
 fn gap(world: &World, writer: WriterNo, reader: ReaderNo, start: u64) -> Option<Packet> {
     if world.layout.is_watcher(reader) {
         return None;

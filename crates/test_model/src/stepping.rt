@@ -32,9 +32,10 @@ fn made(world: &mut World, event: &Event, wanted: &Option<Sample>) -> Result<Rep
     }
 }
 
-/// Makes an event in the world, and answers its reply. A refusal changes nothing. A take that may give samples of several writers gives
-/// the wanted one where it may, as one that was taken elsewhere, and else one of the writer whose sample was stored first. An `Err` means that
-/// memory ran out; the world may be changed in part then, and is of no more use.
+/// Makes an event in the world, and answers its reply. A refusal changes nothing. A take that may give samples of
+/// several writers gives the wanted one where it may, as one that was taken elsewhere, and else one of the writer whose
+/// sample was stored first. An `Err` means that memory ran out; the world may be changed in part then, and is of no
+/// more use.
 pub fn step_as(
     world: &mut World,
     event: &Event,

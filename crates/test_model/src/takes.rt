@@ -37,8 +37,8 @@ fn may_give(sample: &Sample, available: &[Sample]) -> bool {
     available.iter().any(|s| *s == *sample) && is_least(sample, available)
 }
 
-/// The sample that a take gives where these are available: the wanted one if it may, else one of the writer whose sample was stored
-/// first.
+/// The sample that a take gives where these are available: the wanted one if it may, else one of the writer whose
+/// sample was stored first.
 fn chosen(available: &[Sample], wanted: &Option<Sample>) -> Option<Sample> {
     match wanted {
         Some(sample) if may_give(sample, available) => Some(*sample),

@@ -1,5 +1,5 @@
-//! Worked runs: each event with the reply that was worked out for it by hand, in plain numbers. Tests of the whole make them in the world of
-//! this crate, and in the parts that a running deployment is made of.
+//! Worked runs: each event with the reply that was worked out for it by hand, in plain numbers. Tests of the whole make
+//! them in the world of this crate, and in the parts that a running deployment is made of.
 
 use dds_base::{
     Arrival, Event, KeyNo, Packet, ReaderNo, Refusal, Rejection, Reply, RuleNo, Sample, WriterNo,
@@ -20,8 +20,9 @@ pub enum Stage {
     WatcherAlone,
     /// As `Small(3)`, but the writer keeps the last two samples of an instance.
     KeepsLast,
-    /// Two writers and two readers. Rule 0 takes one of reader 1 and writes two of writer 0, which it may do twice at first. Rule 1 takes
-    /// two of reader 0 and writes one of writer 1. The readers take four and two samples of an instance.
+    /// Two writers and two readers. Rule 0 takes one of reader 1 and writes two of writer 0, which it may do twice at
+    /// first. Rule 1 takes two of reader 0 and writes one of writer 1. The readers take four and two samples of an
+    /// instance.
     Loop,
 }
 
@@ -314,7 +315,8 @@ const HALF: &[(Move, Told)] = &[
     (Move::Fire(1), Told::Refused(Refusal::NotEnough)),
 ];
 
-/// A watcher takes the last sample alone: an older one that comes late counts as a repeat. It is sent nothing but DATA, and sends nothing.
+/// A watcher takes the last sample alone: an older one that comes late counts as a repeat. It is sent nothing but DATA,
+/// and sends nothing.
 const WATCHED: &[(Move, Told)] = &[
     (Move::Write(0, 0, 11), Told::Written(1)),
     (Move::Write(0, 0, 12), Told::Written(2)),
@@ -358,7 +360,8 @@ const WATCHER_ALONE: &[(Move, Told)] = &[
     (Move::Take(0, 0), Told::Took(2, 12)),
 ];
 
-/// A writer that keeps the last two samples drops the first one. A GAP tells of it, so that no HEARTBEAT makes the reader give it up.
+/// A writer that keeps the last two samples drops the first one. A GAP tells of it, so that no HEARTBEAT makes the
+/// reader give it up.
 const DROPPED: &[(Move, Told)] = &[
     (Move::Write(0, 0, 11), Told::Written(1)),
     (Move::Write(0, 0, 12), Told::Written(2)),

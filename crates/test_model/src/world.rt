@@ -1,5 +1,5 @@
-//! The world of a run: all that has happened so far, and the packets under way. Nothing is forgotten, and whatever can be worked
-//! out from it is not kept beside it.
+//! The world of a run: all that has happened so far, and the packets under way. Nothing is forgotten, and whatever can
+//! be worked out from it is not kept beside it.
 
 ghost use Rattle.std.specs.Prelude.{◌≡◌, IfOk};
 

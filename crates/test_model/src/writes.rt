@@ -13,7 +13,8 @@ fn is_one_key_too_many(world: &World, writer: WriterNo, key: KeyNo) -> Result<bo
     Ok(is_reached(limit, keys.len()) && !keys.iter().any(|k| *k == key))
 }
 
-/// Why a write is refused: the first reason. Where KEEP_LAST's depth of the key is kept, the sample takes the place of the oldest of them.
+/// Why a write is refused: the first reason. Where KEEP_LAST's depth of the key is kept, the sample takes the place of
+/// the oldest of them.
 fn refusal(world: &World, writer: WriterNo, key: KeyNo) -> Result<Option<Refusal>, NoMemory> {
     if !world.layout.writes_key(writer, key) {
         return Ok(Some(Refusal::Foreign));

@@ -65,7 +65,8 @@ impl World {
         later.filter(|e| e.key == key).count()
     }
 
-    /// Whether the writer dropped a number: by KEEP_LAST, once as many later samples of its key are written as the depth.
+    /// Whether the writer dropped a number: by KEEP_LAST, once as many later samples of its key are written as the
+    /// depth.
     fn is_dropped(&self, writer: WriterNo, sn: u64) -> bool {
         match self.sample(writer, sn) {
             Some(sample) => is_reached(

@@ -40,8 +40,8 @@ impl<E> Split<PairView<E>> for InHalves {
     ghost right = { half };
 }
 
-/// The front that a change gives. A step's outcome has no parameter of its own, so the front gets into it by this type; a call at `Brand`
-/// picks it.
+/// The front that a change gives. A step's outcome has no parameter of its own, so the front gets into it by this type;
+/// a call at `Brand` picks it.
 pub(crate) trait Given<E> {
     ghost use Rattle.std.specs.Prelude.{List};
 
@@ -97,7 +97,8 @@ pub(crate) fn change<E: Owned, F: Given<E>>(
     front: &[E],
 ) -> (Seat<(), PairView<E>>, Seat<(), PairView<E>>)
     requires front { front.now ≡ F.front }
-    requires tables { (mine.table_id ≡ table.now.table_id) × (theirs.table_id ≡ table.now.table_id) × (table.now.table_id.words ≡ 1) }
+    requires tables { (mine.table_id ≡ table.now.table_id) × (theirs.table_id ≡ table.now.table_id)
+        × (table.now.table_id.words ≡ 1) }
     requires slots { (mine.me.1 ≡ []) × (theirs.me.1 ≡ []) }
     requires parts { (0 < mine.me.0.parts) × (0 < theirs.me.0.parts) }
     requires more { entries_by E.owner table.now.key front.now ≡ entries_by E.owner table.now.key mine.me.0.front + 1 }
@@ -120,11 +121,13 @@ pub(crate) fn agree<E: Owned>(
     mut mine: Seat<(), PairView<E>>,
     theirs: Seat<(), PairView<E>>,
 ) -> Seat<(), PairView<E>>
-    requires tables { (mine.table_id ≡ table.now.table_id) × (theirs.table_id ≡ table.now.table_id) × (table.now.table_id.words ≡ 1) }
+    requires tables { (mine.table_id ≡ table.now.table_id) × (theirs.table_id ≡ table.now.table_id)
+        × (table.now.table_id.words ≡ 1) }
     requires slots { (mine.me.1 ≡ []) × (theirs.me.1 ≡ []) }
     requires parts { (0 < mine.me.0.parts) × (0 < theirs.me.0.parts) }
     ensures equal { mine.me.0.front ≡ theirs.me.0.front }
-    ensures same { (result.table_id ≡ table.now.table_id) × (result.me.1 ≡ []) × (0 < result.me.0.parts) × (result.me.0.front ≡ mine.me.0.front) }
+    ensures same { (result.table_id ≡ table.now.table_id) × (result.me.1 ≡ []) × (0 < result.me.0.parts)
+        × (result.me.0.front ≡ mine.me.0.front) }
 {
     table.join_seat::<Both>(&mut mine, theirs);
     table.load::<SeeEqual>(&mut mine, 0);

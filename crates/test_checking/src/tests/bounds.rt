@@ -1,4 +1,5 @@
-//! The bounds and totals of a checked deployment: both those that are searched in its certificate and those of its tables.
+//! The bounds and totals of a checked deployment: both those that are searched in its certificate and those of its
+//! tables.
 
 use crate::tests::expecting::expect_equal;
 use crate::tests::plans::NO_MEMORY;

@@ -1,8 +1,9 @@
-//! Which policies of one endpoint go together, and which fault is told where they don't: worked by hand, and as Eclipse Cyclone DDS 0.10.2 answers,
-//! which doesn't name the fault.
+//! Which policies of one endpoint go together, and which fault is told where they don't: worked by hand, and as Eclipse
+//! Cyclone DDS 0.10.2 answers, which doesn't name the fault.
 //!
-//! A case is a line of words: the side, the endpoint and the fault, or `-` for none. An endpoint is `name=value` joined by `;`, where `ms` is
-//! `max_samples` and `mspi` is `max_samples_per_instance`, or `-` where all policies have their defaults.
+//! A case is a line of words: the side, the endpoint and the fault, or `-` for none. An endpoint is `name=value` joined
+//! by `;`, where `ms` is `max_samples` and `mspi` is `max_samples_per_instance`, or `-` where all policies have their
+//! defaults.
 
 mod answers;
 

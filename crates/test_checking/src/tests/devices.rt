@@ -1,5 +1,5 @@
-//! Files that are as large as they may be or too large, every beginning of a file, readers that are slow or fail, and an output that fails, by
-//! each command.
+//! Files that are as large as they may be or too large, every beginning of a file, readers that are slow or fail, and
+//! an output that fails, by each command.
 use crate::tests::expecting::expect_equal;
 use crate::tests::files::{Command, Pair, expect, readable, text_of, told_by};
 use crate::tests::plans::NO_MEMORY;

@@ -1,4 +1,5 @@
-//! Comparisons that end a test. One that stands in a function of its own is proved once, and not again wherever it is made.
+//! Comparisons that end a test. One that stands in a function of its own is proved once, and not again wherever it is
+//! made.
 
 use std::fmt::Debug;
 use std::process::Abort;

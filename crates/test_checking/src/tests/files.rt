@@ -12,7 +12,8 @@ use std::io::{self, ErrorKind, Read};
 use std::process::Abort;
 use std::str;
 
-/// A file that is interrupted for a while before it gives its bytes, gives at most `chunk` of them at a time, and fails after some.
+/// A file that is interrupted for a while before it gives its bytes, gives at most `chunk` of them at a time, and fails
+/// after some.
 #[derive(Drop)]
 pub(crate) struct Rough<'a> {
     pub bytes: &'a [u8],
@@ -46,8 +47,8 @@ impl<'a> Read for Rough<'a> {
     }
 }
 
-/// A deployment at the path `d` and a certificate at the path `c`, and no other file. It counts the files that were opened, those that
-/// were given back, and notes whether one has failed.
+/// A deployment at the path `d` and a certificate at the path `c`, and no other file. It counts the files that were
+/// opened, those that were given back, and notes whether one has failed.
 #[derive(Clone, Copy)]
 pub(crate) struct Pair<'a> {
     pub deployment: &'a [u8],

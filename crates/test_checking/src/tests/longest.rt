@@ -1,5 +1,5 @@
-//! The longest lists: each key of each endpoint of the greatest plan, by entries without `key`. No list has more single keys,
-//! since one more names an endpoint and key again. So TooMany is told of arrays alone.
+//! The longest lists: each key of each endpoint of the greatest plan, by entries without `key`. No list has more single
+//! keys, since one more names an endpoint and key again. So TooMany is told of arrays alone.
 
 use crate::tests::expecting::expect_equal;
 use crate::tests::plans::{NO_MEMORY, certificate_of, plan_of};

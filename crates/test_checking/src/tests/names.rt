@@ -1,4 +1,5 @@
-//! Names that are added one after the other, under a limit: each gets the next number, or is refused for the first of the reasons.
+//! Names that are added one after the other, under a limit: each gets the next number, or is refused for the first of
+//! the reasons.
 
 use crate::tests::expecting::expect_equal;
 use dds_base::{NameFault, Names};

@@ -1,5 +1,5 @@
-//! Plans of deployment files, and certificates that are read for them. The functions have no clauses: what they give is compared when the
-//! tests run, and nothing of it is to be proved.
+//! Plans of deployment files, and certificates that are read for them. The functions have no clauses: what they give is
+//! compared when the tests run, and nothing of it is to be proved.
 
 use dds_cert::Certificate;
 use dds_cert_file::read_certificate;
@@ -11,8 +11,8 @@ use test_files::plans::planned;
 /// What is told where memory is refused, which ends a test.
 pub(crate) const NO_MEMORY: &str = "no memory";
 
-/// Two topics, of the keys `a`, `b`, `c` and of the key `d`, each with a writer. The reader `r` takes all keys of the first, `s` two of them, which
-/// it names in another order, `o` is of the second topic, and `e` takes no key.
+/// Two topics, of the keys `a`, `b`, `c` and of the key `d`, each with a writer. The reader `r` takes all keys of the
+/// first, `s` two of them, which it names in another order, `o` is of the second topic, and `e` takes no key.
 pub(crate) const FILTERS: &str = r#"version = 1
 participants = [{ name = "p", domain = 0 }]
 topics = [{ name = "t", type = "T", keys = ["a", "b", "c"] }, { name = "u", type = "T", keys = ["d"] }]

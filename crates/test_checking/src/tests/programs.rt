@@ -119,7 +119,8 @@ fn over_free(alloc: Global, dictionary: &Dictionary, x: i128, y: i128) -> Result
     }
 }
 
-/// What is left after a sum was kept: the variables that are free, the greatest value under that, and the first two variables there.
+/// What is left after a sum was kept: the variables that are free, the greatest value under that, and the first two
+/// variables there.
 #[derive(Clone, Copy, Debug, PartialEq)]
 struct Kept {
     ends: (Result<End, Stop>, Result<End, Stop>),

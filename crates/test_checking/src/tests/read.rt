@@ -264,7 +264,8 @@ static TWO_FILES: [File; 4] = [
     },
 ];
 
-/// Several rows, with keys by their place in the topic whatever the order of a filter, weights of zero, and lists in the order of the file.
+/// Several rows, with keys by their place in the topic whatever the order of a filter, weights of zero, and lists in
+/// the order of the file.
 const MIXED: &str = r#"version = 1
 totals = [
   { reader = "o", row = "last", bound = 0 },

@@ -1,9 +1,10 @@
 //! Programs of calls on a cache of either form, each call with the answer that Eclipse Cyclone DDS 0.10.2 gave.
 //!
-//! A program is a line: the depth of KEEP_LAST, max_samples, max_instances and max_samples_per_instance, each `-` where there is none,
-//! and then its calls in order. A call is a key, `a` to `d`, and its answer. Of a sample that arrives with the next number: `N` stored,
-//! `O` and a number stored in place of the sample with that number, `I`, `S` or `P` rejected by max_instances, max_samples or
-//! max_samples_per_instance. Of a take: `T` and a number took the sample with that number, `E` nothing was available.
+//! A program is a line: the depth of KEEP_LAST, max_samples, max_instances and max_samples_per_instance, each `-` where
+//! there is none, and then its calls in order. A call is a key, `a` to `d`, and its answer. Of a sample that arrives
+//! with the next number: `N` stored, `O` and a number stored in place of the sample with that number, `I`, `S` or `P`
+//! rejected by max_instances, max_samples or max_samples_per_instance. Of a take: `T` and a number took the sample with
+//! that number, `E` nothing was available.
 
 mod earlier;
 mod later;

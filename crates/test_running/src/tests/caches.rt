@@ -1,4 +1,5 @@
-//! Caches call by call: which samples their limits let in, which they give, and from when on. Each run is made on both forms.
+//! Caches call by call: which samples their limits let in, which they give, and from when on. Each run is made on both
+//! forms.
 ghost use Rattle.std.specs.Prelude.{◌≡◌, ℕ, ◌<◌, ◌≤◌, cond, true, slice_index_or};
 ghost use Rattle.std.specs.List.{All};
 ghost use Rattle.dds_qos.specs.Admission.{is_rejected};
@@ -56,8 +57,8 @@ impl<C: CacheForm> Fed<C> {
         if writer < 2 { self.last[writer] } else { 0 }
     }
 
-    /// A sample of the writer and the key arrives. `None` for another writer than the two, and for a number that isn't above each one of
-    /// the writer that was stored.
+    /// A sample of the writer and the key arrives. `None` for another writer than the two, and for a number that isn't
+    /// above each one of the writer that was stored.
     pub(crate) fn admit(
         &mut self,
         writer: usize,

@@ -45,8 +45,8 @@ impl Chance {
         KeyNo::new(self.number(2))
     }
 
-    /// A number of a writer: mostly one of the next four from the base that the reader acknowledged, for a watcher mostly one of the last four
-    /// written, and at times any up to the one after the next to be written.
+    /// A number of a writer: mostly one of the next four from the base that the reader acknowledged, for a watcher
+    /// mostly one of the last four written, and at times any up to the one after the next to be written.
     fn sn(&mut self, world: &World, writer: WriterNo, reader: ReaderNo) -> u64 {
         if self.below(8) == 0 {
             return self.below(world.written(writer).saturating_add(3));

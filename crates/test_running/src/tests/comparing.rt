@@ -30,8 +30,8 @@ fn taken(reply: &Reply) -> Option<Sample> {
     }
 }
 
-/// Makes an event in the plain world, which has to reply the same. Which writer's sample a take gives is free, so the world is asked for the
-/// one that was given.
+/// Makes an event in the plain world, which has to reply the same. Which writer's sample a take gives is free, so the
+/// world is asked for the one that was given.
 pub(crate) fn expect_step(rt: &impl Abort, world: &mut World, event: &Event, reply: &Reply) {
     let other = step_as(world, event, &taken(reply)).expect(rt, NO_MEMORY);
     expect_equal(
@@ -58,7 +58,8 @@ impl Both {
     }
 }
 
-/// Compares what is seen on one side with what is seen on the other. A comparison that stands in a function of its own is proved once.
+/// Compares what is seen on one side with what is seen on the other. A comparison that stands in a function of its own
+/// is proved once.
 pub(crate) fn expect_equal<T: Copy + Debug + PartialEq>(
     rt: &impl Abort,
     have: T,

@@ -28,8 +28,9 @@ fn domain_of(rt: &impl Abort, alloc: Global, stage: Stage) -> Domain {
     opened(rt, alloc, plan)
 }
 
-/// What the domain answers to a question, after so many samples were written; none where it isn't asked for that. Each worked run that asks for
-/// an acknowledged base has one reader, which has acknowledged all that was written and isn't kept.
+/// What the domain answers to a question, after so many samples were written; none where it isn't asked for that. Each
+/// worked run that asks for an acknowledged base has one reader, which has acknowledged all that was written and isn't
+/// kept.
 fn answer(domain: &Domain, written: u64, asked: Move) -> Option<Told> {
     match asked {
         Move::Look(place) => Some(told_of_packet(&domain.at(place).copied())),

@@ -1,7 +1,8 @@
-//! Drawn calls on both forms of a cache, a reader and a writer: each answer is the same, and so is all that is seen after each call.
+//! Drawn calls on both forms of a cache, a reader and a writer: each answer is the same, and so is all that is seen
+//! after each call.
 //!
-//! Each form has dice of its own, which begin alike, and draws its calls by them and by what it shows. So both draw the same calls as
-//! long as they show the same.
+//! Each form has dice of its own, which begin alike, and draws its calls by them and by what it shows. So both draw the
+//! same calls as long as they show the same.
 
 ghost use Rattle.std.specs.Prelude.{◌<◌};
 
@@ -16,7 +17,8 @@ use dds_qos::ReaderLimits;
 use std::alloc::Global;
 use std::process::Abort;
 
-/// The limits of a reader: how many samples it keeps of a key, and how many samples, keys and samples of a key it may have.
+/// The limits of a reader: how many samples it keeps of a key, and how many samples, keys and samples of a key it may
+/// have.
 fn reader_limits(row: [Option<u32>; 4]) -> ReaderLimits {
     let [
         keep_last,
@@ -89,7 +91,8 @@ trait Subject: Drop {
     fn shown(&self) -> Seen;
 }
 
-/// Makes the next drawn call on both forms, and gives it with the kind of its answer. `None` where the answers differ, or what is seen then.
+/// Makes the next drawn call on both forms, and gives it with the kind of its answer. `None` where the answers differ,
+/// or what is seen then.
 fn make_both<F: Subject, P: Subject>(
     fast: &mut F,
     plain: &mut P,

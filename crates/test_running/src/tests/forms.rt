@@ -1,5 +1,5 @@
-//! The calls that the tests make on caches, readers and writers, with what the calls require. The fast and the plain form of each have
-//! them, so a test is written once and run on both.
+//! The calls that the tests make on caches, readers and writers, with what the calls require. The fast and the plain
+//! form of each have them, so a test is written once and run on both.
 
 mod fast;
 mod plain;
@@ -50,7 +50,8 @@ pub(crate) trait CacheForm: Drop {
         ensures writers { (state self.new).writers ≡ raised writer upto (state self.old).writers };
 
     fn take(&mut self, key: KeyNo) -> Option<Sample>
-        ensures stored { MatchOption result ((state self.new).stored ≡ (state self.old).stored) (λ x. (state self.new).stored ≡ without x (state self.old).stored) }
+        ensures stored { MatchOption result ((state self.new).stored ≡ (state self.old).stored)
+            (λ x. (state self.new).stored ≡ without x (state self.old).stored) }
         ensures writers { (state self.new).writers ≡ (state self.old).writers };
 }
 

@@ -1,5 +1,5 @@
-//! The rule ledger of two applications that answer each other, call by call. `to_a` takes one sample of `rb` and writes two of `wa`, which
-//! it may do twice at first; `to_b` takes two of `ra` and writes one of `wb`.
+//! The rule ledger of two applications that answer each other, call by call. `to_a` takes one sample of `rb` and writes
+//! two of `wa`, which it may do twice at first; `to_b` takes two of `ra` and writes one of `wb`.
 
 ghost use Rattle.std.specs.Prelude.{◌≡◌, ◌<◌};
 

@@ -1,5 +1,5 @@
-//! Readers call by call: limits, messages that come twice or out of order, numbers that are lost or irrelevant, and ACKNACKs; and watchers.
-//! Each run is made on both forms.
+//! Readers call by call: limits, messages that come twice or out of order, numbers that are lost or irrelevant, and
+//! ACKNACKs; and watchers. Each run is made on both forms.
 ghost use Rattle.std.specs.Prelude.{◌≡◌};
 
 use crate::tests::caches::{is_sent, sample};

@@ -53,7 +53,8 @@ fn a_run_of_a_loop_is_one_of_the_plain_world(rt: HostRuntime) {
     assert!(rt; expect_refuted(&rt, alloc, text.as_str()));
 }
 
-/// A reader of the answers to what is written without permits overflows, and so does one of that itself, where it has a limit.
+/// A reader of the answers to what is written without permits overflows, and so does one of that itself, where it has a
+/// limit.
 #[test]
 fn free_writes_are_more_than_a_reader_takes(rt: HostRuntime) {
     let alloc = rt.alloc();
@@ -80,8 +81,9 @@ fn given_up(run: &Counterexample) -> Option<(ReaderNo, KeyNo, u64)> {
     }
 }
 
-/// Three samples may be under way from a writer that keeps two. The reader that may lose none gives the first one up, in three writes, a HEARTBEAT and its
-/// arrival; the viewer beside it, which may lose samples, isn't named, nor is what publishes by a clock for a best-effort reader.
+/// Three samples may be under way from a writer that keeps two. The reader that may lose none gives the first one up,
+/// in three writes, a HEARTBEAT and its arrival; the viewer beside it, which may lose samples, isn't named, nor is what
+/// publishes by a clock for a best-effort reader.
 #[test]
 fn a_sample_that_a_writer_drops_is_given_up(rt: HostRuntime) {
     let alloc = rt.alloc();

@@ -1,6 +1,7 @@
 //! The deployments that are compared.
 
-/// Of the keys a and b the first reader takes a alone, the second both, of which it may know one. The writer keeps 5 samples, 3 of an instance.
+/// Of the keys a and b the first reader takes a alone, the second both, of which it may know one. The writer keeps 5
+/// samples, 3 of an instance.
 pub(crate) const FILTERED: &str = r#"version = 1
 participants = [{ name = "p", domain = 0 }, { name = "q", domain = 0 }]
 topics = [{ name = "t", type = "Num", keys = ["a", "b"] }]
@@ -59,8 +60,8 @@ writes = [
 start = 100
 "#;
 
-/// A reliable reader and two watchers of the keys a and b. The first watcher takes a alone and stores its last sample, the second stores one
-/// sample. The writer keeps 4 samples.
+/// A reliable reader and two watchers of the keys a and b. The first watcher takes a alone and stores its last sample,
+/// the second stores one sample. The writer keeps 4 samples.
 pub(crate) const WATCHED: &str = r#"version = 1
 participants = [{ name = "p", domain = 0 }, { name = "q", domain = 0 }]
 topics = [{ name = "t", type = "Num", keys = ["a", "b"] }]
@@ -83,8 +84,8 @@ writes = [{ writer = "w", key = "a", count = 1 }, { writer = "w", key = "b", cou
 start = 100
 "#;
 
-/// Writers that keep the last two samples of a key, three in all, and the last one of each, with a reader of both keys, one of a alone and a
-/// watcher that stores the last sample of each.
+/// Writers that keep the last two samples of a key, three in all, and the last one of each, with a reader of both keys,
+/// one of a alone and a watcher that stores the last sample of each.
 pub(crate) const DROPPING: &str = r#"version = 1
 participants = [{ name = "p", domain = 0 }, { name = "q", domain = 0 }]
 topics = [{ name = "t", type = "Num", keys = ["a", "b"] }]
@@ -122,8 +123,8 @@ writes = [
 start = 100
 "#;
 
-/// An application writes again what it takes, of three samples at first. Two watchers look on: one stores the last sample, the other one
-/// sample.
+/// An application writes again what it takes, of three samples at first. Two watchers look on: one stores the last
+/// sample, the other one sample.
 pub(crate) const AGAIN: &str = r#"version = 1
 participants = [{ name = "p", domain = 0 }, { name = "q", domain = 0 }]
 topics = [{ name = "t", type = "Num", keys = ["k"] }]
@@ -147,9 +148,9 @@ writes = [{ writer = "w", key = "k", count = 1 }]
 start = 3
 "#;
 
-/// As the field configures a system, in version 3. An application writes again what it takes, of three samples at first, at a writer that keeps
-/// the last three; a viewer that may lose samples looks on. Two more writers publish by a clock, without permits: one is best-effort, the other
-/// keeps the last sample.
+/// As the field configures a system, in version 3. An application writes again what it takes, of three samples at
+/// first, at a writer that keeps the last three; a viewer that may lose samples looks on. Two more writers publish by a
+/// clock, without permits: one is best-effort, the other keeps the last sample.
 pub(crate) const FIELD: &str = r#"version = 3
 participants = [{ name = "p", domain = 0 }, { name = "q", domain = 0 }]
 topics = [
@@ -191,8 +192,8 @@ writes = [{ writer = "laser", key = "all", count = 1 }, { writer = "clock", key 
 start = "unlimited"
 "#;
 
-/// A writer publishes by a clock, without permits, and an application answers each two samples that it takes of that. The reader of the answers
-/// has room for two.
+/// A writer publishes by a clock, without permits, and an application answers each two samples that it takes of that.
+/// The reader of the answers has room for two.
 pub(crate) const CLOCK: &str = r#"version = 3
 participants = [{ name = "p", domain = 0 }, { name = "q", domain = 0 }]
 topics = [{ name = "scan", type = "Num", keys = ["all"] }, { name = "t", type = "Num", keys = ["k"] }]

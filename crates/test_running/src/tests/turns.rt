@@ -1,5 +1,5 @@
-//! A run by the schedule: each participant does what is due in its turns, the fates of packets come in a circle, and in between the applications
-//! take, fire and write.
+//! A run by the schedule: each participant does what is due in its turns, the fates of packets come in a circle, and in
+//! between the applications take, fire and write.
 
 use crate::tests::comparing::expect_equal;
 use crate::tests::domains::{make, opened};

@@ -1,4 +1,5 @@
-//! Long runs of events drawn at random, made by the domain of a checked plan with watchers and in the plain world, compared after each event.
+//! Long runs of events drawn at random, made by the domain of a checked plan with watchers and in the plain world,
+//! compared after each event.
 
 use crate::tests::chance::Chance;
 use crate::tests::comparing::{SOME_KEYS, SOME_PLACES, expect_equal, expect_step};
@@ -12,12 +13,28 @@ use std::alloc::Global;
 use std::process::Abort;
 use test_model::World;
 
-/// How many events a run has.
-const EVENTS: usize = 2000;
+/// From which seed a run is drawn, and how many events it has.
+#[derive(Clone, Copy)]
+struct Run {
+    seed: u64,
+    events: usize,
+}
 
-const SEED: u64 = 5;
+const LONG: Run = Run {
+    seed: 5,
+    events: 2000,
+};
 
-/// Kinds of replies that come in each run.
+/// How many events a short run has: a step of the plain world looks at all that was before, so that many short runs
+/// cost no more than a long one.
+const SHORT: usize = 500;
+
+/// The seeds of the short runs of a deployment, which have 10,000 events together with the long one.
+static SEEDS: [u64; 16] = [
+    1, 2, 3, 4, 6, 7, 8, 9, 10, 11, 12, 13, 14, 20_250, 65_537, 777_777,
+];
+
+/// Kinds of replies that come in each long run, and in some of many short ones.
 static ALWAYS: [Kind; 8] = [
     Kind::Written,
     Kind::Took,
@@ -79,46 +96,58 @@ fn expect_same(rt: &impl Abort, domain: &Domain, world: &World) {
     expect_same_places(rt, domain, world);
 }
 
-/// Makes the run on both sides, and answers the kinds of its replies.
-fn kinds_of_run(
+/// Makes so many drawn events on both sides, and adds the kinds of their replies.
+fn make_events(
     rt: &impl Abort,
-    alloc: Global,
     domain: &mut Domain,
     world: &mut World,
-) -> Vec<Kind> {
-    let mut chance = Chance::new(SEED);
-    let mut kinds = Vec::new(alloc);
-    for _ in 0..EVENTS {
+    run: Run,
+    kinds: &mut Vec<Kind>,
+) {
+    let mut chance = Chance::new(run.seed);
+    for _ in 0..run.events {
         let event = chance.lively_event(world);
         let kind = make_both(rt, domain, world, event);
         kinds.push(kind).expect(rt, NO_MEMORY);
         expect_same(rt, domain, world);
     }
-    kinds
 }
 
-/// Makes the run, and sees that each kind of reply came, this one too.
-fn expect_run(
-    rt: &impl Abort,
-    alloc: Global,
-    domain: &mut Domain,
-    world: &mut World,
-    wanted: Kind,
-) {
-    let kinds = kinds_of_run(rt, alloc, domain, world);
+/// Makes a run of a deployment, and adds the kinds of its replies.
+fn make_run(rt: &impl Abort, alloc: Global, text: &str, run: Run, kinds: &mut Vec<Kind>) {
+    let plan = plan_of(rt, alloc, text);
+    let mut world = world_of(rt, alloc, &plan);
+    let mut domain = opened(rt, alloc, plan);
+    make_events(rt, &mut domain, &mut world, run, kinds);
+    drop(domain);
+    drop(world);
+}
+
+/// Sees that each kind of reply that always comes is among these, and this one too.
+fn expect_all(rt: &impl Abort, kinds: &[Kind], wanted: Kind) {
     for kind in ALWAYS.iter().chain(&[wanted]) {
         assert!(rt; kinds.iter().any(|k| *k == *kind), "{kind:?} never came");
     }
 }
 
-/// Makes the run of a deployment, in which this kind of reply comes beside those that always do.
+/// Makes a long run of a deployment, in which this kind of reply comes beside those that always do.
 fn expect_kinds(rt: &impl Abort, alloc: Global, text: &str, wanted: Kind) {
-    let plan = plan_of(rt, alloc, text);
-    let mut world = world_of(rt, alloc, &plan);
-    let mut domain = opened(rt, alloc, plan);
-    expect_run(rt, alloc, &mut domain, &mut world, wanted);
-    drop(domain);
-    drop(world);
+    let mut kinds: Vec<Kind> = Vec::new(alloc);
+    make_run(rt, alloc, text, LONG, &mut kinds);
+    expect_all(rt, kinds.as_slice(), wanted);
+}
+
+/// Makes runs of a deployment from many seeds, in which this kind of reply comes beside those that always do.
+fn expect_kinds_often(rt: &impl Abort, alloc: Global, text: &str, wanted: Kind) {
+    let mut kinds: Vec<Kind> = Vec::new(alloc);
+    for seed in &SEEDS {
+        let run = Run {
+            seed: *seed,
+            events: SHORT,
+        };
+        make_run(rt, alloc, text, run, &mut kinds);
+    }
+    expect_all(rt, kinds.as_slice(), wanted);
 }
 
 #[test]
@@ -126,8 +155,18 @@ fn a_domain_with_watchers(rt: HostRuntime) {
     expect_kinds(&rt, rt.alloc(), AGAIN, Kind::SamplesPerInstanceLimit);
 }
 
+#[test]
+fn many_runs_with_watchers(rt: HostRuntime) {
+    expect_kinds_often(&rt, rt.alloc(), AGAIN, Kind::SamplesPerInstanceLimit);
+}
+
 // Its clock writes without permits, and w is refused without one.
 #[test]
 fn a_domain_of_the_field(rt: HostRuntime) {
     expect_kinds(&rt, rt.alloc(), FIELD, Kind::NoPermit);
+}
+
+#[test]
+fn many_runs_of_the_field(rt: HostRuntime) {
+    expect_kinds_often(&rt, rt.alloc(), FIELD, Kind::NoPermit);
 }

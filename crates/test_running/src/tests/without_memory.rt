@@ -1,5 +1,6 @@
-//! Each event of worked runs where memory is refused: nothing changes, and the same event then answers as with ample memory. The tests of this
-//! file also pass where any one allocation is refused, which is how they are run once for each allocation that they make.
+//! Each event of worked runs where memory is refused: nothing changes, and the same event then answers as with ample
+//! memory. The tests of this file also pass where any one allocation is refused, which is how they are run once for
+//! each allocation that they make.
 
 use crate::tests::comparing::expect_equal;
 use crate::tests::domains::{expect_replies, listed};
@@ -80,8 +81,8 @@ impl Twins {
         }
     }
 
-    /// Makes an event in the first domain. Where memory is refused, the domain is as before, which the second still is, and the event is
-    /// made again.
+    /// Makes an event in the first domain. Where memory is refused, the domain is as before, which the second still is,
+    /// and the event is made again.
     fn make_first(&mut self, rt: &impl Abort, event: Event) -> Reply {
         if let Ok(reply) = self.first.step(event) {
             return reply;
@@ -135,7 +136,8 @@ fn each_event_without_memory(rt: HostRuntime) -> Result<(), Fail> {
     Ok(())
 }
 
-/// Runs the list. Where memory is refused the replies are those of the events that were done, and the rest is run after them.
+/// Runs the list. Where memory is refused the replies are those of the events that were done, and the rest is run after
+/// them.
 fn run_list(rt: &impl Abort, domain: &mut Domain, events: &[Event]) {
     let done = match domain.run(events) {
         Ok(replies) => {

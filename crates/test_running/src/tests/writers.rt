@@ -1,5 +1,5 @@
-//! Writers call by call: what their limits refuse, what they send to a reader and to a watcher, what they keep, and the end of their numbers.
-//! Each run is made on both forms.
+//! Writers call by call: what their limits refuse, what they send to a reader and to a watcher, what they keep, and the
+//! end of their numbers. Each run is made on both forms.
 
 ghost use Rattle.std.specs.Prelude.{◌≤◌};
 ghost use Rattle.dds_base.specs.Sets.{last_number};
@@ -270,7 +270,8 @@ impl<W: WriterForm> Speaker<W> {
     }
 }
 
-/// A writer with its readers, each with the count of its keys and whether it watches, and its calls in order with their answers.
+/// A writer with its readers, each with the count of its keys and whether it watches, and its calls in order with their
+/// answers.
 struct Run {
     about: &'static str,
     limits: WriterLimits,

@@ -8,10 +8,12 @@ use test_files::plans::{planned, proposed};
 use test_files::texts::PING;
 use test_model::worked::{Move, Told};
 
-/// A call: the seat, what it makes, and what is told. The seats are those of the two applications and then those of their participants.
+/// A call: the seat, what it makes, and what is told. The seats are those of the two applications and then those of
+/// their participants.
 pub(crate) type Call = (usize, Move, Result<Told, BookFault>);
 
-/// A sample goes from one application to the other; then two calls that aren't the seat's own, of which the second is every seat's.
+/// A sample goes from one application to the other; then two calls that aren't the seat's own, of which the second is
+/// every seat's.
 pub(crate) const CALLS: [Call; 7] = [
     (0, Move::Write(0, 0, 11), Ok(Told::Written(1))),
     (2, Move::SendData(0, 0, 1), Ok(Told::Sent(0))),

@@ -1,5 +1,5 @@
-//! The applications run side by side, and a monitor reads the gauge while they do: each first call is held until the other's has come, and the first
-//! application's also until the monitor has seen that the second one made a call.
+//! The applications run side by side, and a monitor reads the gauge while they do: each first call is held until the
+//! other's has come, and the first application's also until the monitor has seen that the second one made a call.
 ghost use Rattle.std.specs.Prelude.{◌≡◌, ◌<◌, ◌≤◌, IfOk, IfSome, length};
 ghost use Rattle.dds_apps.specs.Kept.{AreOwners};
 
@@ -167,7 +167,9 @@ fn met<R: Threads + Wait + Clock + Sync>(
         thread::scope_env(),
         rt,
         move |scope| -> Result<Told, Fault>
-            requires { (length checked.plan.applications.entries ≤ gauge.now.apps) × AreOwners gauge.now (length checked.plan.applications.entries) owners.items × (monitor.table ≡ gauge.now.table) × (1 < gauge.now.apps) }
+            requires { (length checked.plan.applications.entries ≤ gauge.now.apps)
+                × AreOwners gauge.now (length checked.plan.applications.entries) owners.items
+                × (monitor.table ≡ gauge.now.table) × (1 < gauge.now.apps) }
         {
             let run = move || -> ()
                 requires { (monitor.table ≡ gauge.now.table) × (1 < gauge.now.apps) }

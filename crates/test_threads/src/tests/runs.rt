@@ -38,7 +38,8 @@ pub(crate) struct Told {
 /// Why a run gave nothing.
 #[derive(Clone, Copy, PartialEq, Eq, Debug)]
 pub(crate) enum Fault {
-    /// There weren't as many applications as the plan has; this is how many of them, and of seats, came back with the plan.
+    /// There weren't as many applications as the plan has; this is how many of them, and of seats, came back with the
+    /// plan.
     AppCount {
         owed: usize,
         apps: usize,

@@ -1,5 +1,6 @@
-//! The calls of seats where memory is refused: nothing is entered, and the same call then answers as with ample memory. The test also passes where
-//! any one allocation is refused, which is how it is run once for each allocation that it makes.
+//! The calls of seats where memory is refused: nothing is entered, and the same call then answers as with ample memory.
+//! The test also passes where any one allocation is refused, which is how it is run once for each allocation that it
+//! makes.
 
 ghost use Rattle.dds_book.specs.Kit.{IsKitOf};
 
@@ -47,8 +48,8 @@ fn expect_calls<N: Name>(rt: &impl Abort, state: &mut BookState<N>, seats: &mut 
     }
 }
 
-/// Turns of participants after the calls: the seat, the turn, and what is told, none where there is nothing to do. The sample was sent and has
-/// arrived, so what is left is the HEARTBEAT of its writer, and the ACKNACK that it asks for.
+/// Turns of participants after the calls: the seat, the turn, and what is told, none where there is nothing to do. The
+/// sample was sent and has arrived, so what is left is the HEARTBEAT of its writer, and the ACKNACK that it asks for.
 const TURNS: [(usize, u64, Option<Told>); 7] = [
     (2, 0, None),
     (2, 1, None),

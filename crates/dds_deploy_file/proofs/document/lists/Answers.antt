@@ -17,7 +17,7 @@ pub returns-in-Err-connections : goal.returns-in-Err-connections
 unfolding lists
 returns-in-Err-connections c = rw (c.in_ok-ends.ensures, c.in-Ok.ensures, c.in-Ok-rules.ensures) (fails_then c.in-Err-connections.fault _ _ c.in-Err-connections.ensures)
 
-pub new-requires : goal.new-requires
+pub into_deployment-requires : goal.into_deployment-requires
 unfolding lists
-new-requires c =
+into_deployment-requires c =
     lists_keep c.args.version (table_view c.args.table.now) _ (rw (c.in_ok-ends.ensures, c.in-Ok.ensures, c.in-Ok-rules.ensures, c.in-Ok-connections.ensures) refl)

@@ -1,5 +1,5 @@
-//! Drawn messages of two writers, of four keys of which the reader takes three: in any order, some twice, with holes, and at times of a
-//! writer that the reader doesn't know.
+//! Drawn messages of two writers, of four keys of which the reader takes three: in any order, some twice, with holes,
+//! and at times of a writer that the reader doesn't know.
 
 use crate::tests::drawn::told::{Call, Kind, Seen, Told};
 use crate::tests::drawn::{Dice, Subject, Tally, reader_limits};
@@ -100,8 +100,8 @@ fn compare(
     tally.compare(rt, fast, plain, seed as u64, 100)
 }
 
-/// Compares readers of each of the limits, and gives the calls that were made. A plain reader grows slow with all that it ever marked, so
-/// each reader gets few calls.
+/// Compares readers of each of the limits, and gives the calls that were made. A plain reader grows slow with all that
+/// it ever marked, so each reader gets few calls.
 fn compared(rt: &impl Abort, alloc: Global, watching: bool) -> Result<Tally, NoMemory> {
     let mut tally = Tally::new(alloc);
     for seed in 0..180 {

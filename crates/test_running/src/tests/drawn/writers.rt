@@ -1,5 +1,5 @@
-//! Drawn calls of a writer with three readers: one of three of the four keys, one of the first key alone, and a watcher of two. Some
-//! writers begin near the end of the numbers.
+//! Drawn calls of a writer with three readers: one of three of the four keys, one of the first key alone, and a watcher
+//! of two. Some writers begin near the end of the numbers.
 
 use crate::tests::drawn::told::{Call, Kind, Seen, Told};
 use crate::tests::drawn::{Dice, Subject, Tally};
