@@ -86,3 +86,21 @@ applications = [{{ name = "a", participant = "p", writers = ["w"], readers = ["r
 rules = [{{ name = "u", application = "a", start = {start}, writes = [{{ writer = "w", key = "k", count = 1 }}] }}]
 connections = [{{ writer = "w", reader = "r" }}]
 """
+
+
+def gaps_deployment():
+    """A writer of two keys, whose reader hears one of them alone: a GAP from a number on leads past all samples of the other key."""
+    return f"""version = 1
+{HEAD}
+topics = [{{ name = "t", type = "n", keys = ["a", "b"] }}]
+writers = [{{ name = "w", participant = "p", topic = "t", history = "KEEP_ALL" }}]
+readers = [{{ name = "r", participant = "p", topic = "t", filter = ["b"], reliability = "RELIABLE", history = "KEEP_ALL" }}]
+applications = [{{ name = "x", participant = "p", writers = ["w"], readers = ["r"] }}]
+rules = [{{ name = "u", application = "x", start = 65535, writes = [{{ writer = "w", key = "a", count = 1 }}] }}]
+connections = [{{ writer = "w", reader = "r" }}]
+"""
+
+
+def gaps_events(count):
+    """So many samples of the key that isn't heard, and then as many GAPs past all of them, each of which is lost."""
+    return "write w a\n" * count + "gap w r 1\nlose 0\n" * count

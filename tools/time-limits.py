@@ -22,7 +22,14 @@ def explain_all_bounds(room):
     return ["check", "d.toml", "c.toml", "--explain"], "yes\nbound a a 4096\n", "weighs 4096 at the opening and a sample 1, which shows 4096\n", 0, 1
 
 
-CASES = [explain_all_bounds]
+def replay_gaps(room):
+    """65,535 GAPs, each past as many samples that the writer keeps: none of them is to walk these."""
+    (room / "d.toml").write_text(inputs.gaps_deployment())
+    (room / "events").write_text(inputs.gaps_events(65535))
+    return ["replay", "d.toml", "events"], "write w a -> written 1\n", "gap w r 1 -> place 0\nlose 0 -> dropped\n", 0, 2
+
+
+CASES = [explain_all_bounds, replay_gaps]
 
 
 def fault_of(case):

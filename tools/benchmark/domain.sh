@@ -10,7 +10,7 @@ trap 'rm -rf "$room"' EXIT
 [ -x "$domain" ] || { echo "there is no program at $domain: run 'rt run' in crates/bench_ping" >&2 && exit 1; }
 for every in 1 3; do
     for trips in 1000 10000 1000000; do
-        memory=$(/usr/bin/time -f '%M KiB at most' "$domain" $trips $every 0 0 2>&1 | tr '\n' ' ')
+        memory=$(/usr/bin/time -f '%M KiB at most' "$domain" $trips $every 0 0 0 2>&1 | tr '\n' ' ')
         echo "acknowledged after $every: $memory"
     done
 done

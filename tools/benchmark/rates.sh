@@ -11,7 +11,7 @@ trap 'rm -rf "$room"' EXIT
 
 [ -x "$peers" ] || { echo "there is no program at $peers: run 'rt run' in crates/bench_ping" >&2 && exit 1; }
 for lost in 0 1 6 19; do
-    echo "peers, $lost of 64 lost: $("$peers" 0 1 "$samples" $lost 2>&1 | tr '\n' ' ')"
+    echo "peers, $lost of 64 lost: $("$peers" 0 1 "$samples" $lost 0 2>&1 | tr '\n' ' ')"
 done
 command -v idlc >/dev/null || { echo 'idlc of Cyclone DDS is not installed' && exit; }
 cp "$here"/tools/benchmark/cyclone/* "$room" && cd "$room" || exit 1
