@@ -1,7 +1,7 @@
 -- How a migration of a deployment ends.
 use Rattle.std.proofs.Common.{◌≡◌, ℕ, true, List, Result, Ok, Err, IfOk, IfErr, String, Global, inl, refl, ap, string_bytes}
-use Rattle.dds_deploy_file.specs.Migration.{IsMigrated}
-use Rattle.dds_deploy_file.specs.Document.{read_up_to}
+use Rattle.dds_deploy.specs.Migration.{IsMigrated}
+use Rattle.dds_deploy.specs.Document.{read_up_to}
 use Rattle.dds_answers.specs.declared.answer.Answer.{Answer}
 use Rattle.dds_answers.specs.declared.fault.ToolFault.{ToolFault}
 use Rattle.dds_answers.specs.declared.fault.ToolFault.TheVariants as fault

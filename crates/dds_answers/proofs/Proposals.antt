@@ -2,8 +2,8 @@
 use Rattle.std.proofs.Common.{◌≡◌, ◌<◌, ℕ, Bool, true, false, List, length, nat_le, Result, Ok, Err, refl, inl, inr, string_bytes}
 use Rattle.std.specs.Result.{IsErrAnd}
 use Rattle.dds_fields.specs.Reading.{Read}
-use Rattle.dds_deploy.specs.Lists.{Lists}
-use Rattle.dds_cert.specs.Lists.{Certificate}
+use Rattle.dds_lists.specs.Lists.{Lists}
+use Rattle.dds_weights.specs.Lists.{Certificate}
 use Rattle.dds_answers.specs.declared.answer.Answer.{Answer}
 use Rattle.dds_answers.specs.declared.fault.ToolFault.{ToolFault}
 use Rattle.dds_answers.specs.declared.fault.ToolFault.TheVariants as fault

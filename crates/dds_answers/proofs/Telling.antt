@@ -2,11 +2,11 @@
 use Rattle.std.proofs.Common.{◌≡◌, Err, refl, string_bytes}
 use Rattle.dds_fields.specs.Reading.{Flaw, Read}
 use Rattle.dds_fields.specs.Gives.{FailsAs}
-use Rattle.dds_deploy.specs.Lists.{Lists}
-use Rattle.dds_cert.specs.Lists.{Certificate}
-use Rattle.dds_cert_file.specs.Faults.{cert_flaw, kind_of}
-use Rattle.dds_cert_file.specs.declared.fault.CertFault.{CertFault}
-use Rattle.dds_cert_file.specs.declared.fault.CertFault.TheVariants.{At, NoMemory}
+use Rattle.dds_lists.specs.Lists.{Lists}
+use Rattle.dds_weights.specs.Lists.{Certificate}
+use Rattle.dds_cert.specs.Faults.{cert_flaw, kind_of}
+use Rattle.dds_cert.specs.declared.fault.CertFault.{CertFault}
+use Rattle.dds_cert.specs.declared.fault.CertFault.TheVariants.{At, NoMemory}
 use Rattle.dds_answers.specs.declared.fault.ToolFault.{ToolFault}
 use Rattle.dds_answers.specs.declared.fault.ToolFault.TheVariants as fault
 use Rattle.dds_answers.specs.declared.report.Detail.{Detail}

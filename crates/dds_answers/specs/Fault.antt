@@ -2,7 +2,7 @@
 use Rattle.std.specs.Prelude.{ℕ, List, [], Option, Some, None, ◌++◌, length, codes, string_bytes, ◌==◌, if◌then◌else◌}
 use Rattle.std.specs.Fmt.{decimal}
 use Rattle.dds_fields.specs.FaultTable as deployment
-use Rattle.dds_cert_file.specs.Faults.{kind_entry}
+use Rattle.dds_cert.specs.Faults.{kind_entry}
 use Rattle.dds_events.specs.Faults as events
 use Rattle.dds_answers.specs.Exit.{exit_status}
 use Rattle.dds_answers.specs.declared.exit.Exit.{Exit}

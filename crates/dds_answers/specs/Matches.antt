@@ -1,12 +1,12 @@
 -- The lines that tell which endpoints match, and whether these are the connections.
 use Rattle.std.specs.Prelude.{ℕ, Bool, not, if◌then◌else◌, List, ◌++◌, codes, Option, Some, None}
-use Rattle.dds_deploy.specs.Lists.{Lists}
+use Rattle.dds_lists.specs.Lists.{Lists}
 use Rattle.dds_match.specs.Matching.{why_not}
 use Rattle.dds_match.specs.Network.{Network}
 use Rattle.dds_match.specs.declared.matching.WhyNot.{WhyNot}
 use Rattle.dds_runs.specs.First.{all_below}
-use Rattle.dds_cert.specs.Naming.{name_at}
-use Rattle.dds_cert.specs.Text.{each_below}
+use Rattle.dds_weights.specs.Naming.{name_at}
+use Rattle.dds_weights.specs.Text.{each_below}
 use Rattle.dds_show.specs.Reasons.{reason_words}
 
 -- the line of a pair with these names that matches, or doesn't for this reason

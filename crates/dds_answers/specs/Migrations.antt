@@ -1,9 +1,9 @@
 -- How a migration of a deployment may end.
 use Rattle.std.specs.Prelude.{ℕ, List, ◌≡◌, Ok, Err}
 use Rattle.dds_fields.specs.Reading.{Read}
-use Rattle.dds_deploy.specs.Lists.{Lists}
-use Rattle.dds_deploy_file.specs.Migration.{IsMigrated}
-use Rattle.dds_deploy_file.specs.Document.{read_up_to}
+use Rattle.dds_lists.specs.Lists.{Lists}
+use Rattle.dds_deploy.specs.Migration.{IsMigrated}
+use Rattle.dds_deploy.specs.Document.{read_up_to}
 use Rattle.dds_answers.specs.Outcome.{MayOfFile, Outcome, bad_deployment, migrated}
 
 -- bytes that are read as a deployment of version 1 become a text of version 2 that stands for the same lists; else the flaw is told

@@ -4,10 +4,10 @@ use Rattle.dds_answers.specs.declared.format.Format.{Format}
 use Rattle.dds_answers.specs.declared.report.Detail.{Detail}
 use Rattle.dds_answers.specs.declared.report.Detail.TheVariants.{Plain, Explained}
 use Rattle.dds_fields.specs.Reading.{Read, Flaw}
-use Rattle.dds_deploy.specs.Lists.{Lists}
-use Rattle.dds_deploy_file.specs.Document as deployment
-use Rattle.dds_cert.specs.Lists.{Certificate}
-use Rattle.dds_cert_file.specs.Document as certificate
+use Rattle.dds_lists.specs.Lists.{Lists}
+use Rattle.dds_deploy.specs.Document as deployment
+use Rattle.dds_weights.specs.Lists.{Certificate}
+use Rattle.dds_cert.specs.Document as certificate
 use Rattle.dds_check.specs.Accepts.{first_no}
 use Rattle.dds_check.specs.declared.verdict.No.{No}
 use Rattle.dds_events.specs.declared.fault.EventsFaultKind.{EventsFaultKind}

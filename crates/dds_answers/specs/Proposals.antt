@@ -1,11 +1,11 @@
 -- How a search for a certificate may end.
 use Rattle.std.specs.Prelude.{ℕ, List, ◌≡◌, ◌⊎◌, None, Ok, Err, true}
 use Rattle.dds_fields.specs.Reading.{Read}
-use Rattle.dds_deploy.specs.Lists.{Lists}
-use Rattle.dds_deploy_file.specs.Document as deployment
+use Rattle.dds_lists.specs.Lists.{Lists}
+use Rattle.dds_deploy.specs.Document as deployment
 use Rattle.dds_match.specs.Plan.{network_of}
-use Rattle.dds_cert.specs.Fits.{fits}
-use Rattle.dds_cert.specs.Lists.{Certificate}
+use Rattle.dds_weights.specs.Fits.{fits}
+use Rattle.dds_weights.specs.Lists.{Certificate}
 use Rattle.dds_check.specs.Accepts.{first_no}
 use Rattle.dds_propose.specs.Proposal.{IsProposal}
 use Rattle.dds_answers.specs.Outcome.{MayOfFile, Outcome, bad_deployment, proposed, unproposed}

@@ -3,16 +3,16 @@ use Rattle.std.specs.Prelude.{ℕ, List, [], ◌++◌, ◌≡◌, length, if◌t
 use Rattle.dds_fields.specs.Reading.{Read}
 use Rattle.dds_fields.specs.declared.fault.ReadFault.{ReadFault}
 use Rattle.dds_fields.specs.declared.fault.ReadFault.TheVariants as unread
-use Rattle.dds_deploy.specs.Lists.{Lists}
-use Rattle.dds_cert_file.specs.declared.fault.CertFault.{CertFault}
-use Rattle.dds_cert_file.specs.declared.fault.CertFault.TheVariants as uncertified
-use Rattle.dds_cert_file.specs.Faults.{kind_of}
-use Rattle.dds_cert.specs.Lists.{Certificate}
-use Rattle.dds_cert.specs.Views.{certificate_view}
+use Rattle.dds_lists.specs.Lists.{Lists}
+use Rattle.dds_cert.specs.declared.fault.CertFault.{CertFault}
+use Rattle.dds_cert.specs.declared.fault.CertFault.TheVariants as uncertified
+use Rattle.dds_cert.specs.Faults.{kind_of}
+use Rattle.dds_weights.specs.Lists.{Certificate}
+use Rattle.dds_weights.specs.Views.{certificate_view}
 use Rattle.dds_check.specs.declared.verdict.No.{No}
 use Rattle.dds_match.specs.Plan.{network_of}
 use Rattle.dds_answers.specs.Matches.{is_as_intended, lines_of}
-use Rattle.dds_cert.specs.Text.{certificate_text}
+use Rattle.dds_weights.specs.Text.{certificate_text}
 use Rattle.dds_show.specs.Json.{deployment_json}
 use Rattle.dds_xml.specs.Document.{deployment_xml}
 use Rattle.dds_draw.specs.Picture.{drawing}

@@ -4,7 +4,7 @@ use Rattle.dds_base.specs.Names.{is_between}
 use Rattle.dds_fields.specs.Document.{document}
 use Rattle.dds_fields.specs.declared.fault.FaultKind.{FaultKind}
 use Rattle.dds_fields.specs.declared.fault.FaultKind.TheVariants.{NotToml}
-use Rattle.dds_cert_file.specs.Faults.{kind_of}
+use Rattle.dds_cert.specs.Faults.{kind_of}
 use Rattle.dds_answers.specs.declared.fault.ToolFault.{ToolFault}
 use Rattle.dds_answers.specs.declared.fault.ToolFault.TheVariants as fault
 use Rattle.dds_answers.specs.declared.report.Detail.{Detail}

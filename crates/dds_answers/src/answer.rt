@@ -1,6 +1,6 @@
 //! What each command answers to the bytes of its files.
 ghost use Rattle.std.specs.Prelude.{◌≡◌, ◌≤◌, IfErr, IfOk, IsOk, Ok, OnOk, option_map, string_bytes, true};
-ghost use Rattle.dds_cert.specs.Views.{certificate_view};
+ghost use Rattle.dds_weights.specs.Views.{certificate_view};
 ghost use Rattle.dds_answers.specs.Answers.{Gives, GivesOneOf, answer_exit};
 ghost use Rattle.dds_answers.specs.Fault.{IsAnswerFault};
 ghost use Rattle.dds_answers.specs.Outcome.{Outcome, compared, match_outcome, outcome, proposed, show_outcome, shown};
@@ -10,7 +10,7 @@ ghost use Rattle.dds_answers.specs.Notes.{length_note};
 ghost use Rattle.dds_answers.specs.Proposals.{MayPropose};
 ghost use Rattle.dds_answers.specs.Report.{outcome_of, shown_text};
 ghost use Rattle.dds_answers.specs.Syntax.{IsFaultTold};
-ghost use Rattle.dds_deploy_file.specs.Document.{read as deployment_read, read_up_to};
+ghost use Rattle.dds_deploy.specs.Document.{read as deployment_read, read_up_to};
 
 use crate::exit::Exit;
 use crate::fault::ToolFault;
@@ -20,12 +20,12 @@ use crate::planning::read_plan;
 use crate::reading::MAX_FILE;
 use crate::report::{Detail, Report, deployment_fault, detailed_check, detailed_text};
 use dds_base::NoMemory;
-use dds_cert::{Certificate, certificate_text};
-use dds_deploy::Deployment;
-use dds_deploy_file::{migrate, read_deployment};
+use dds_deploy::{migrate, read_deployment};
+use dds_lists::Deployment;
 use dds_match::Plan;
 use dds_propose::propose;
 use dds_show::deployment_json;
+use dds_weights::{Certificate, certificate_text};
 use dds_xml::deployment_xml;
 use std::alloc::Global;
 

@@ -1,7 +1,7 @@
 //! What `draw` answers to the bytes of its files.
 ghost use Rattle.std.specs.Prelude.{◌≡◌, IfErr, Ok, option_map};
-ghost use Rattle.dds_cert_file.specs.Document.{read as certificate_read};
-ghost use Rattle.dds_cert.specs.Views.{certificate_view};
+ghost use Rattle.dds_cert.specs.Document.{read as certificate_read};
+ghost use Rattle.dds_weights.specs.Views.{certificate_view};
 ghost use Rattle.dds_answers.specs.Answers.{Gives};
 ghost use Rattle.dds_answers.specs.Fault.{IsAnswerFault};
 ghost use Rattle.dds_answers.specs.Outcome.{draw_outcome, drawing, drawing_with, drawn};
@@ -10,10 +10,10 @@ use crate::answer::{Answer, answered};
 use crate::fault::ToolFault;
 use crate::planning::read_plan;
 use crate::report::certificate_fault;
-use dds_cert::Certificate;
-use dds_cert_file::read_certificate;
+use dds_cert::read_certificate;
 use dds_draw::drawing;
 use dds_match::Plan;
+use dds_weights::Certificate;
 use std::alloc::Global;
 
 /// The answer with the picture of a plan, which is needed no longer.

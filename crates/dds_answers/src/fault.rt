@@ -5,7 +5,7 @@ ghost use Rattle.dds_answers.specs.Fault.{events_line, exit_of, fault_line, flaw
 use crate::exit::Exit;
 use crate::syntax::SyntaxError;
 use dds_base::NoMemory;
-use dds_cert_file::CertFlaw;
+use dds_cert::CertFlaw;
 use dds_events::EventsFaultKind;
 use dds_fields::fault::Fault;
 use std::alloc::Global;

@@ -2,12 +2,12 @@
 ghost use Rattle.std.specs.Prelude.{◌≡◌, IfErr, IfOk, Ok};
 ghost use Rattle.dds_answers.specs.Fault.{IsAnswerFault};
 ghost use Rattle.dds_answers.specs.Report.{IsUnread};
-ghost use Rattle.dds_deploy_file.specs.Document.{read as deployment_read};
+ghost use Rattle.dds_deploy.specs.Document.{read as deployment_read};
 
 use crate::fault::ToolFault;
 use crate::report::deployment_fault;
-use dds_deploy::Deployment;
-use dds_deploy_file::read_deployment;
+use dds_deploy::read_deployment;
+use dds_lists::Deployment;
 use dds_match::Plan;
 use dds_match::planning::plan;
 use std::alloc::Global;

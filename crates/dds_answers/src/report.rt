@@ -1,11 +1,11 @@
 //! The answer to two files, and its text.
 ghost use Rattle.std.specs.Prelude.{◌≡◌, Err, IfErr, IfOk, string_bytes, true};
 ghost use Rattle.dds_match.specs.Plan.{network_of};
-ghost use Rattle.dds_cert.specs.Fits.{fits};
-ghost use Rattle.dds_cert.specs.Views.{certificate_view};
+ghost use Rattle.dds_weights.specs.Fits.{fits};
+ghost use Rattle.dds_weights.specs.Views.{certificate_view};
 ghost use Rattle.dds_check.specs.Accepts.{first_no};
 ghost use Rattle.dds_answers.specs.Outcome.{Outcome, judged, outcome, told, verdict};
-ghost use Rattle.dds_cert_file.specs.Document.{read as certificate_read};
+ghost use Rattle.dds_cert.specs.Document.{read as certificate_read};
 ghost use Rattle.dds_answers.specs.Report.{IsCertificateFault, IsDeploymentFault, Tells, because_lines, outcome_of};
 ghost use Rattle.dds_answers.specs.Report.{output_of, report_text_of};
 ghost use Rattle.dds_answers.specs.Syntax.{IsFaultTold};
@@ -14,14 +14,14 @@ use crate::fault::ToolFault;
 use crate::planning::read_plan;
 use crate::syntax::syntax_told;
 use dds_base::NoMemory;
-use dds_cert::Certificate;
-use dds_cert_file::{CertFault, CertKind, read_certificate};
+use dds_cert::{CertFault, CertKind, read_certificate};
 use dds_check::{Checked, No, check};
-use dds_deploy_file::DeployFault;
+use dds_deploy::DeployFault;
 use dds_explain::{margins, reason};
 use dds_fields::fault::FaultKind;
 use dds_match::Plan;
 use dds_verdict::{acceptance_text, refusal_text};
+use dds_weights::Certificate;
 use std::alloc::Global;
 
 /// How much is told of a report.

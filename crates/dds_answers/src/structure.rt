@@ -4,10 +4,10 @@ ghost use Rattle.dds_answers.specs.Structure.{nothing};
 ghost use Rattle.dds_verdict.specs.Refusal.{refusal_line};
 
 use dds_base::NoMemory;
-use dds_cert::Certificate;
 use dds_check::No;
-use dds_deploy::Deployment;
+use dds_lists::Deployment;
 use dds_verdict::refusal_text;
+use dds_weights::Certificate;
 use std::alloc::Global;
 
 /// The line of a refusal, as `check` prints it, where there is no certificate. Only want of memory is an error.

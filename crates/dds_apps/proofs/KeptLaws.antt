@@ -5,7 +5,7 @@ use Rattle.std.proofs.lemmas.List.Sums.{sum_by-append}
 use Rattle.std.specs.List.{filter}
 use Rattle.dds_base.specs.declared.events.Event.{Event}
 use Rattle.dds_base.specs.declared.events.Reply.{Reply}
-use Rattle.dds_deploy.specs.Lists.{Lists}
+use Rattle.dds_lists.specs.Lists.{Lists}
 use Rattle.dds_book.specs.declared.entry.Entry.{Entry}
 use Rattle.dds_book.specs.Gauge.{GaugeSeatState, GaugeState}
 use Rattle.dds_book.specs.Journal.{IsCall, IsFront, calls_by, entry_of, pairs_of}

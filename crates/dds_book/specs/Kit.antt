@@ -2,7 +2,7 @@
 use Rattle.std.specs.Prelude.{◌≡◌, ℕ, suc, List, [], ◌∷◌, map}
 use Rattle.atomic_table.specs.Seated.{TableId}
 use Rattle.dds_base.specs.Section.{nothing}
-use Rattle.dds_deploy.specs.Lists.{Lists, no_rules}
+use Rattle.dds_lists.specs.Lists.{Lists, no_rules}
 use Rattle.dds_check.specs.Checked.{Judged}
 use Rattle.dds_book.specs.declared.entry.Entry.{Entry}
 use Rattle.dds_book.specs.Halves.{HalfState, HolderState, half_of, holder_of}

@@ -4,7 +4,7 @@ use Rattle.std.specs.Prelude.{ℕ, ◌+◌, ◌-◌, Bool, false, not, ◌&&◌,
 use Rattle.std.specs.Option.{option_map_or}
 use Rattle.dds_base.specs.declared.events.Event.{Event}
 use Rattle.dds_base.specs.declared.events.Event.TheVariants.{Write, Fire, Take, SendData, SendGap, SendHeartbeat, SendAckNack, Deliver, Lose}
-use Rattle.dds_deploy.specs.Lists.{Application, Lists, Reader, Rule, Writer, has}
+use Rattle.dds_lists.specs.Lists.{Application, Lists, Reader, Rule, Writer, has}
 
 -- ── seats
 -- the applications have the first seats, by number, and the participants those after them

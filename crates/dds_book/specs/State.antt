@@ -4,7 +4,7 @@ use Rattle.atomic_table.specs.Seated.{TableId}
 use Rattle.dds_base.specs.declared.events.Event.{Event}
 use Rattle.dds_base.specs.declared.events.Fate.{Fate}
 use Rattle.dds_base.specs.declared.events.Reply.{Reply}
-use Rattle.dds_deploy.specs.Lists.{Lists}
+use Rattle.dds_lists.specs.Lists.{Lists}
 use Rattle.dds_match.specs.Plan.{network_of}
 use Rattle.dds_runs.specs.Certified.{IsGood}
 use Rattle.dds_runs.specs.Runs.{brought, is_watchers}

@@ -80,7 +80,7 @@ impl Gauge {
         ensures seats { IfOk result
             (λ r. r.1.items ≡ map (fresh_seat r.0.table apps) (range_with_len 0 (apps + monitors))) }
     {
-        opened(alloc, apps, monitors)
+        open_gauge(alloc, apps, monitors)
     }
 
     /// Raises the seat's own count by one, and tells it. A full count stays as it is.
@@ -121,7 +121,11 @@ impl Gauge {
 }
 
 // A new gauge with its seats.
-fn opened(alloc: Global, apps: usize, monitors: usize) -> Result<(Gauge, Vec<GaugeSeat>), NoMemory>
+fn open_gauge(
+    alloc: Global,
+    apps: usize,
+    monitors: usize,
+) -> Result<(Gauge, Vec<GaugeSeat>), NoMemory>
     ensures apps { IfOk result (λ r. r.0.apps ≡ apps) }
     ensures seats { IfOk result
         (λ r. r.1.items ≡ map (fresh_seat r.0.table apps) (range_with_len 0 (apps + monitors))) }

@@ -17,7 +17,7 @@ use std::marker::{Brand, Model};
 pub trait Name {
     ghost use Rattle.std.specs.Prelude.{List};
     ghost use Rattle.atomic_table.specs.Seated.{TableId};
-    ghost use Rattle.dds_deploy.specs.Lists.{Lists};
+    ghost use Rattle.dds_lists.specs.Lists.{Lists};
 
     ghost plan: { Lists };
 

@@ -4,7 +4,7 @@ ghost use Rattle.dds_book.specs.Owning.{has_reader, has_rule, has_writer, is_own
 ghost use Rattle.dds_book.specs.Owning.{participant_of, seat_count, sends_of_reader, sends_of_writer};
 
 use dds_base::{AppNo, Event, ParticipantNo, ReaderNo, RuleNo, WriterNo};
-use dds_deploy::Deployment;
+use dds_lists::Deployment;
 
 /// How many seats there are: one for each application, and then one for each participant.
 pub(crate) fn seat_count(lists: &Deployment) -> usize

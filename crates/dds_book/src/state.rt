@@ -99,7 +99,7 @@ impl<N: Name> BookState<N> {
         let Ok(reply) = self.domain.step(event) else {
             return Err(BookFault::NoMemory);
         };
-        self.changes = counted(self.changes, &reply);
+        self.changes = count_change(self.changes, &reply);
         let told = reply;
         self.journal.push_reserved(Entry {
             seat: seat.number,
@@ -232,7 +232,7 @@ fn same(holders: &mut Vec<Holder<Entry>>, number: usize, half: Half<Entry>)
 }
 
 // One change more, if the event was not refused.
-fn counted(changes: u64, reply: &Reply) -> u64
+fn count_change(changes: u64, reply: &Reply) -> u64
     requires { changes < 2 ^ 63 }
     ensures { result ≡ changes + (if is_refused reply.now then 0 else 1) }
 {

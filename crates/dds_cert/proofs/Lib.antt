@@ -1,5 +1,4 @@
-pub mod DistinctLaws
-pub mod NamedLaws
-pub mod FitLaws
-pub mod WeighingLaws
-pub mod TextLaws
+pub mod KindLaws
+pub mod KeyLaws
+pub mod ReadLaws
+pub mod WorkedFiles

@@ -1,7 +1,8 @@
-pub mod Lists
-pub mod Views
-pub mod Naming
-pub mod Fits
-pub mod Named
-pub mod Weighing
-pub mod Text
+pub mod Keys
+pub mod Adding
+pub mod Weights
+pub mod Rows
+pub mod Bounds
+pub mod Totals
+pub mod Document
+pub mod Faults

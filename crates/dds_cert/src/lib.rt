@@ -1,13 +1,16 @@
-//! Certificates: weights for the samples, takes and permits of a plan, and the bounds that they show.
-//! `Certificate::fits` tells whether one fits a plan, and `certificate_text` gives its text.
+//! The certificate file. `read_certificate` gives the certificate that the bytes are, in either version, or the first
+//! fault of the file with its path; what it gives fits the plan that it was read for.
 #![tactic(auto)]
 
-pub mod certificate;
-mod fit;
-pub mod named;
-pub mod naming;
-pub mod text;
-pub mod weighing;
+mod adding;
+mod bounds;
+pub mod document;
+pub mod fault;
+mod keys;
+mod rows;
+mod totals;
+mod weights;
 
-pub use certificate::{Bound, Certificate, Row, Total, Weight};
-pub use text::certificate_text;
+pub use dds_weights::{Bound, Certificate, Row, Total, Weight, certificate_text};
+pub use document::read_certificate;
+pub use fault::{CertFault, CertFlaw, CertKind};

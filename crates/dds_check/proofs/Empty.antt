@@ -4,8 +4,8 @@ use Rattle.std.specs.List.{AllByRecursion}
 use Rattle.std.proofs.lemmas.List.{get_or-replicate, length-replicate, drop_all}
 use Rattle.std.proofs.lemmas.List.Elements.{recursion_from_All}
 use Rattle.std.proofs.lemmas.Bool.Decides.{nat_tests}
-use Rattle.dds_cert.specs.declared.certificate.Bound.{Bound}
-use Rattle.dds_cert.specs.declared.certificate.Total.{Total}
+use Rattle.dds_weights.specs.declared.certificate.Bound.{Bound}
+use Rattle.dds_weights.specs.declared.certificate.Total.{Total}
 use Rattle.dds_check.specs.Tables.{bound_of, total_of, IsBoundWithin, IsTotalWithin, ShowsBounds, ShowsTotals}
 
 pub no_bounds : (n : ℕ) (entries : List Bound) → n ≡ 16384 → ShowsBounds (replicate n None) (drop (length entries) entries)

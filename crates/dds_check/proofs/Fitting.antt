@@ -3,14 +3,14 @@ use Rattle.std.proofs.Common.{ℕ, ◌≡◌, ◌<◌, ◌≤◌, ◌&&◌, ◌=
 use Rattle.std.specs.List.{AllByRecursion, list_all}
 use Rattle.std.proofs.lemmas.Bool.Decides.{nat_tests}
 use Rattle.std.proofs.lemmas.List.Elements.{All-from_recursion}
-use Rattle.dds_deploy.specs.Lists.{Lists}
-use Rattle.dds_deploy.specs.WellFormed.{IsWellFormed}
+use Rattle.dds_lists.specs.Lists.{Lists}
+use Rattle.dds_lists.specs.WellFormed.{IsWellFormed}
 use Rattle.dds_match.specs.Plan.{network_of, hears, writes_key}
-use Rattle.dds_cert.specs.declared.certificate.Weight.{Weight}
-use Rattle.dds_cert.specs.declared.certificate.Bound.{Bound}
-use Rattle.dds_cert.specs.declared.certificate.Total.{Total}
-use Rattle.dds_cert.specs.Lists.{Row, Certificate}
-use Rattle.dds_cert.specs.Fits.{is_distinct, same_weight_place, weights_fit, row_fits, names_differ, rows_fit, same_bound_place, bounds_fit, totals_fit, fits}
+use Rattle.dds_weights.specs.declared.certificate.Weight.{Weight}
+use Rattle.dds_weights.specs.declared.certificate.Bound.{Bound}
+use Rattle.dds_weights.specs.declared.certificate.Total.{Total}
+use Rattle.dds_weights.specs.Lists.{Row, Certificate}
+use Rattle.dds_weights.specs.Fits.{is_distinct, same_weight_place, weights_fit, row_fits, names_differ, rows_fit, same_bound_place, bounds_fit, totals_fit, fits}
 use Rattle.dds_check.specs.Tables.{IsWithin, IsRowWithin, IsBoundWithin, IsTotalWithin, IsTabled}
 use Rattle.dds_check.proofs.FirstLemmas.{both_first, both_second}
 use Rattle.dds_check.proofs.Plans.{heard_in, written_in}

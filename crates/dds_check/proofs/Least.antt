@@ -6,10 +6,10 @@ use Rattle.std.proofs.lemmas.Option.{none-some, same_Some}
 use Rattle.dds_base.proofs.Bools.{or_true}
 use Rattle.dds_base.specs.Sums.{In}
 use Rattle.dds_match.specs.Network.{Network}
-use Rattle.dds_cert.specs.Lists as lists
-use Rattle.dds_cert.specs.declared.certificate.Bound.{Bound as BoundEntry}
-use Rattle.dds_cert.specs.declared.certificate.Total.{Total as TotalEntry}
-use Rattle.dds_cert.specs.Fits.{is_distinct, same_bound_place, rows_fit, bounds_fit, totals_fit, fits}
+use Rattle.dds_weights.specs.Lists as lists
+use Rattle.dds_weights.specs.declared.certificate.Bound.{Bound as BoundEntry}
+use Rattle.dds_weights.specs.declared.certificate.Total.{Total as TotalEntry}
+use Rattle.dds_weights.specs.Fits.{is_distinct, same_bound_place, rows_fit, bounds_fit, totals_fit, fits}
 use Rattle.dds_runs.specs.Accepted.{Bound, Total, bound_with, total_with}
 use Rattle.dds_check.specs.Checked.{IsLeastBound, IsLeastTotal}
 use Rattle.dds_check.specs.Tables.{bound_of, total_of}

@@ -5,8 +5,8 @@ use Rattle.std.proofs.lemmas.Bool.{eqb-true, leb-true}
 use Rattle.std.proofs.lemmas.Bool.Decides.{nat_tests}
 use Rattle.std.proofs.lemmas.Option.{slice_get_within, slice_get_past}
 use Rattle.dds_match.specs.Network.{Network}
-use Rattle.dds_cert.specs.Lists as lists
-use Rattle.dds_cert.specs.declared.certificate.Bound.{Bound}
+use Rattle.dds_weights.specs.Lists as lists
+use Rattle.dds_weights.specs.declared.certificate.Bound.{Bound}
 use Rattle.dds_check.specs.declared.verdict.Number.TheVariants.{BoundNotShown}
 use Rattle.dds_check.specs.declared.verdict.Subject.TheVariants.{Instance}
 use Rattle.dds_runs.specs.First.{first_in, at_item, IsFirstBefore}

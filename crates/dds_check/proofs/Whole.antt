@@ -1,9 +1,9 @@
 -- Where nothing is refused, the certificate is accepted.
 use Rattle.std.proofs.Common.{◌≡◌, None}
-use Rattle.dds_deploy.specs.Lists.{Lists}
-use Rattle.dds_deploy.specs.WellFormed.{IsWellFormed}
+use Rattle.dds_lists.specs.Lists.{Lists}
+use Rattle.dds_lists.specs.WellFormed.{IsWellFormed}
 use Rattle.dds_match.specs.Plan.{network_of}
-use Rattle.dds_cert.specs.Lists.{Certificate}
+use Rattle.dds_weights.specs.Lists.{Certificate}
 use Rattle.dds_runs.specs.First.{◌orElse◌}
 use Rattle.dds_runs.specs.Accepted.{Accepted, certificate_of}
 use Rattle.dds_check.specs.Pairs.{pairs_no}

@@ -1,8 +1,8 @@
 -- The first condition that fails, in the order of the numbers.
 use Rattle.std.specs.Prelude.{Option}
-use Rattle.dds_deploy.specs.Lists.{Lists}
+use Rattle.dds_lists.specs.Lists.{Lists}
 use Rattle.dds_match.specs.Plan.{network_of}
-use Rattle.dds_cert.specs.Lists.{Certificate}
+use Rattle.dds_weights.specs.Lists.{Certificate}
 use Rattle.dds_check.specs.declared.verdict.No.{No}
 use Rattle.dds_runs.specs.First.{◌orElse◌}
 use Rattle.dds_check.specs.Pairs.{pairs_no}

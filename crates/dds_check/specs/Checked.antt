@@ -1,9 +1,9 @@
 -- A plan with a certificate that was accepted for it.
 use Rattle.std.specs.Prelude.{◌≡◌, ℕ, ◌≤◌, true, None}
-use Rattle.dds_deploy.specs.Lists.{Lists}
+use Rattle.dds_lists.specs.Lists.{Lists}
 use Rattle.dds_match.specs.Plan.{network_of}
-use Rattle.dds_cert.specs.Fits.{fits}
-use Rattle.dds_cert.specs.Lists.{Certificate}
+use Rattle.dds_weights.specs.Fits.{fits}
+use Rattle.dds_weights.specs.Lists.{Certificate}
 use Rattle.dds_runs.specs.Accepted.{Accepted, certificate_of, IsBound, IsTotal}
 use Rattle.dds_check.specs.Accepts.{first_no}
 use Rattle.dds_runs.specs.Certified.{Safe}

@@ -2,9 +2,9 @@
 use Rattle.std.specs.Prelude.{ℕ, suc, ◌*◌, Bool, false, ◌&&◌, ◌||◌, ◌==◌, ◌≡◌, not, nat_lt, nat_le, List, length, Option, Some, slice_get, slice_index}
 use Rattle.std.specs.Option.{option_map_or}
 use Rattle.dds_match.specs.Network.{Network, reach}
-use Rattle.dds_cert.specs.declared.certificate.Bound.{Bound}
-use Rattle.dds_cert.specs.declared.certificate.Total.{Total}
-use Rattle.dds_cert.specs.Lists as lists
+use Rattle.dds_weights.specs.declared.certificate.Bound.{Bound}
+use Rattle.dds_weights.specs.declared.certificate.Total.{Total}
+use Rattle.dds_weights.specs.Lists as lists
 use Rattle.dds_check.specs.declared.verdict.No.{No}
 use Rattle.dds_check.specs.declared.verdict.Number.TheVariants.{BoundNotShown}
 use Rattle.dds_check.specs.declared.verdict.Subject.TheVariants.{Instance, Reader}

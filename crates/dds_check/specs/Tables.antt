@@ -1,10 +1,10 @@
 -- Look-ups in the lists of a certificate, and tables that answer them at once.
 use Rattle.std.specs.Prelude.{ℕ, ◌≡◌, ◌+◌, ◌*◌, ◌<◌, ◌≤◌, ◌==◌, ◌&&◌, List, [], ◌∷◌, All, length, slice_index_or, Option, Some, None, if◌then◌else◌}
 use Rattle.dds_base.specs.declared.portion.Portion.{Portion}
-use Rattle.dds_cert.specs.Lists.{Row, Certificate}
-use Rattle.dds_cert.specs.declared.certificate.Weight.{Weight}
-use Rattle.dds_cert.specs.declared.certificate.Bound.{Bound}
-use Rattle.dds_cert.specs.declared.certificate.Total.{Total}
+use Rattle.dds_weights.specs.Lists.{Row, Certificate}
+use Rattle.dds_weights.specs.declared.certificate.Weight.{Weight}
+use Rattle.dds_weights.specs.declared.certificate.Bound.{Bound}
+use Rattle.dds_weights.specs.declared.certificate.Total.{Total}
 
 -- the bound of a key of a reader, if the list names one: the first
 abbrev pub bound_of : List Bound → ℕ → ℕ → Option ℕ

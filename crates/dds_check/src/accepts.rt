@@ -1,10 +1,10 @@
 //! Whether a certificate is accepted for a plan.
 ghost use Rattle.std.specs.Prelude.{◌≡◌, true, OnOk};
 ghost use Rattle.std.specs.Result.{result_err};
-ghost use Rattle.dds_deploy.specs.WellFormed.{IsWellFormed};
+ghost use Rattle.dds_lists.specs.WellFormed.{IsWellFormed};
 ghost use Rattle.dds_match.specs.Plan.{network_of};
-ghost use Rattle.dds_cert.specs.Fits.{fits};
-ghost use Rattle.dds_cert.specs.Views.{certificate_view};
+ghost use Rattle.dds_weights.specs.Fits.{fits};
+ghost use Rattle.dds_weights.specs.Views.{certificate_view};
 ghost use Rattle.dds_runs.specs.Accepted.{Accepted, certificate_of};
 ghost use Rattle.dds_check.specs.Accepts.{first_no};
 ghost use Rattle.dds_runs.specs.Certified.{Safe};
@@ -16,8 +16,8 @@ use crate::profile::profile_no;
 use crate::rows::rows_no;
 use crate::shown::shown_no;
 use crate::verdict::No;
-use dds_cert::Certificate;
 use dds_match::Plan;
+use dds_weights::Certificate;
 
 #[tactic(auto, unfolding(crate::specs::Accepts::first_no))]
 fn first_no(plan: &Plan, certificate: &Certificate) -> Option<No>

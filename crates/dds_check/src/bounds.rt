@@ -5,7 +5,7 @@ ghost use Rattle.dds_check.specs.Tables.{bound_of, total_of, IsBoundWithin, IsTo
 
 use dds_base::grid::{ENDPOINTS, KEYS, PLACES};
 use dds_base::{KeyNo, ReaderNo};
-use dds_cert::{Bound, Total};
+use dds_weights::{Bound, Total};
 use std::marker::Model;
 
 /// The bounds of a certificate, with each where its reader and key say. Contracts see it as the list.
@@ -17,7 +17,7 @@ pub struct Bounds<'a> {
 
 impl<'a> Model for Bounds<'a> {
     ghost use Rattle.std.specs.Prelude.{List, All};
-    ghost use Rattle.dds_cert.specs.declared.certificate.Bound.{Bound};
+    ghost use Rattle.dds_weights.specs.declared.certificate.Bound.{Bound};
     ghost use Rattle.dds_check.specs.Tables.{IsBoundWithin, ShowsBounds};
 
     ghost Value = { List Bound };
@@ -36,7 +36,7 @@ pub struct Totals<'a> {
 
 impl<'a> Model for Totals<'a> {
     ghost use Rattle.std.specs.Prelude.{List, All};
-    ghost use Rattle.dds_cert.specs.declared.certificate.Total.{Total};
+    ghost use Rattle.dds_weights.specs.declared.certificate.Total.{Total};
     ghost use Rattle.dds_check.specs.Tables.{IsTotalWithin, ShowsTotals};
 
     ghost Value = { List Total };

@@ -1,6 +1,6 @@
 //! What the permits at the opening weigh by a row.
 ghost use Rattle.std.specs.Prelude.{◌≡◌, ◌≤◌, ◌<◌, ◌*◌, ◌^◌, length};
-ghost use Rattle.dds_deploy.specs.Views.{rule_view};
+ghost use Rattle.dds_lists.specs.Views.{rule_view};
 ghost use Rattle.dds_match.specs.Network.{weighed};
 ghost use Rattle.dds_match.specs.Plan.{network_of};
 ghost use Rattle.dds_runs.specs.Accepted.{row_of, budget};
@@ -8,7 +8,7 @@ ghost use Rattle.dds_runs.specs.Accepted.{row_of, budget};
 use crate::tables::Tables;
 use dds_base::RuleNo;
 use dds_conditions::rules_of;
-use dds_deploy::Rule;
+use dds_lists::Rule;
 use dds_match::Plan;
 
 /// The rule of the plan with this number, which writes at most 16 keys.

@@ -1,8 +1,8 @@
 //! A plan with a certificate that was accepted for it.
 ghost use Rattle.std.specs.Prelude.{◌≡◌, ℕ, true, Some, None, IfSome, IfOk, IfErr};
 ghost use Rattle.dds_match.specs.Plan.{network_of};
-ghost use Rattle.dds_cert.specs.Fits.{fits};
-ghost use Rattle.dds_cert.specs.Views.{certificate_view};
+ghost use Rattle.dds_weights.specs.Fits.{fits};
+ghost use Rattle.dds_weights.specs.Views.{certificate_view};
 ghost use Rattle.dds_runs.specs.Accepted.{Accepted, certificate_of};
 ghost use Rattle.dds_check.specs.Accepts.{first_no};
 ghost use Rattle.dds_runs.specs.Certified.{Safe};
@@ -13,8 +13,8 @@ use crate::accepts::accepts;
 use crate::bounds::{Bounds, Totals, find_bound, find_total};
 use crate::verdict::No;
 use dds_base::{KeyNo, ReaderNo};
-use dds_cert::Certificate;
 use dds_match::Plan;
+use dds_weights::Certificate;
 use std::marker::Model;
 
 /// A plan, and a certificate that was accepted for it, so that the deployment is safe in every run. `check` makes one.
@@ -25,7 +25,7 @@ pub struct Checked {
 }
 
 impl Model for Checked {
-    ghost use Rattle.dds_cert.specs.Views.{certificate_view};
+    ghost use Rattle.dds_weights.specs.Views.{certificate_view};
     ghost use Rattle.dds_check.specs.Checked.{Judged, IsAccepted};
 
     ghost Value = { Judged };

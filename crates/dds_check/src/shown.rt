@@ -3,7 +3,7 @@ ghost use Rattle.std.specs.Prelude.{◌≡◌, ◌||◌, ℕ, not, false, slice_
 ghost use Rattle.std.specs.Option.{option_map_or};
 ghost use Rattle.dds_match.specs.Network.{reach};
 ghost use Rattle.dds_match.specs.Plan.{network_of};
-ghost use Rattle.dds_cert.specs.Views.{row_view, certificate_view};
+ghost use Rattle.dds_weights.specs.Views.{row_view, certificate_view};
 ghost use Rattle.dds_runs.specs.First.{first_in, IsFirstBefore};
 ghost use Rattle.dds_runs.specs.Accepted.{row_of, budget};
 ghost use Rattle.dds_check.specs.Tables.{IsTabled};
@@ -16,9 +16,9 @@ use crate::tables::{Tables, tables_of};
 use crate::verdict::{No, Number, Subject, refusal_if};
 use dds_base::grid::KEYS;
 use dds_base::{KeyNo, ReaderNo};
-use dds_cert::{Bound, Certificate, Row, Total};
 use dds_conditions::is_enough;
 use dds_match::Plan;
+use dds_weights::{Bound, Certificate, Row, Total};
 
 /// No certificate has more rows.
 const ROWS: usize = 64;

@@ -1,15 +1,15 @@
 //! The weights of a row by endpoint and key, in arrays of fixed size: a look-up takes constant time and no memory.
 ghost use Rattle.std.specs.Prelude.{◌≡◌, ◌<◌, ◌≤◌, ◌*◌, ◌^◌, length, slice_get, Some, vec_len};
 ghost use Rattle.dds_match.specs.Network.{weighed};
-ghost use Rattle.dds_cert.specs.Views.{row_view, certificate_view};
+ghost use Rattle.dds_weights.specs.Views.{row_view, certificate_view};
 ghost use Rattle.dds_runs.specs.Accepted.{row_of};
-ghost use Rattle.dds_cert.specs.Weighing.{weight_by};
+ghost use Rattle.dds_weights.specs.Weighing.{weight_by};
 ghost use Rattle.dds_check.specs.Tables.{weighed_by, IsWithin, IsRowWithin, IsTabled};
 
 use dds_base::grid::{ENDPOINTS, KEYS, PLACES};
 use dds_base::{Endpoint, KeyNo, Portion, ReaderNo, WriterNo};
-use dds_cert::weighing::weights_by_place;
-use dds_cert::{Certificate, Row, Weight};
+use dds_weights::weighing::weights_by_place;
+use dds_weights::{Certificate, Row, Weight};
 use std::marker::Model;
 
 /// A list of weights, with each where its endpoint and key say. Contracts see it as the list.
@@ -21,8 +21,8 @@ pub struct Table<'a, E: Endpoint> {
 
 impl<'a, E: Endpoint> Model for Table<'a, E> {
     ghost use Rattle.std.specs.Prelude.{List};
-    ghost use Rattle.dds_cert.specs.declared.certificate.Weight.{Weight};
-    ghost use Rattle.dds_cert.specs.Weighing.{ShowsWeights};
+    ghost use Rattle.dds_weights.specs.declared.certificate.Weight.{Weight};
+    ghost use Rattle.dds_weights.specs.Weighing.{ShowsWeights};
     ghost use Rattle.dds_check.specs.Tables.{IsWithin};
 
     ghost Value = { List (Weight E) };
@@ -69,8 +69,8 @@ pub struct Tables<'a> {
 
 impl<'a> Model for Tables<'a> {
     ghost use Rattle.std.specs.Prelude.{◌≡◌};
-    ghost use Rattle.dds_cert.specs.Lists.{Row};
-    ghost use Rattle.dds_cert.specs.Views.{row_view};
+    ghost use Rattle.dds_weights.specs.Lists.{Row};
+    ghost use Rattle.dds_weights.specs.Views.{row_view};
 
     ghost Value = { Row };
 

@@ -1,19 +1,19 @@
 //! Parts of the answer to a certificate: what its rows show by themselves, and what fails whatever the certificate is.
 ghost use Rattle.std.specs.Prelude.{◌≡◌, ◌≢◌, true, None, IsTrue, IfSome};
 ghost use Rattle.dds_match.specs.Plan.{network_of};
-ghost use Rattle.dds_cert.specs.Lists.{Certificate as CertificateLists};
-ghost use Rattle.dds_cert.specs.Fits.{fits};
-ghost use Rattle.dds_cert.specs.Views.{certificate_view};
+ghost use Rattle.dds_weights.specs.Lists.{Certificate as CertificateLists};
+ghost use Rattle.dds_weights.specs.Fits.{fits};
+ghost use Rattle.dds_weights.specs.Views.{certificate_view};
 ghost use Rattle.dds_runs.specs.Accepted.{certificate_of};
 ghost use Rattle.dds_check.specs.Accepts.{first_no};
 ghost use Rattle.dds_claims.specs.Claims.{IsShown, shows, structure_no};
 
-use dds_cert::Certificate;
 use dds_check::{
     No, first_keep_last_filter, first_reader_instances, first_writer_instances, pairs_no,
     profile_no, rows_no, shown_no,
 };
 use dds_match::Plan;
+use dds_weights::Certificate;
 
 /// Whether no event raises the weighted sum of any row of a certificate, and each row shows the bounds and totals that
 /// name it. Nothing is said of the limits, nor that each limit has a bound. `false` exactly where a condition on rows

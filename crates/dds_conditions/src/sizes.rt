@@ -1,6 +1,6 @@
 //! How many endpoints, rules and keys the conditions go over.
 ghost use Rattle.std.specs.Prelude.{◌≡◌, ◌≤◌, length};
-ghost use Rattle.dds_deploy.specs.WellFormed.{IsWellFormed};
+ghost use Rattle.dds_lists.specs.WellFormed.{IsWellFormed};
 ghost use Rattle.dds_match.specs.Plan.{network_of};
 
 use dds_match::Plan;

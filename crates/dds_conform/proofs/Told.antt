@@ -9,7 +9,7 @@ use Rattle.std.proofs.lemmas.List.{length-take, map-append, take_more}
 use Rattle.std.proofs.lemmas.List.Elements.{All-append}
 use Rattle.std.proofs.lemmas.Option.{slice_get_read}
 use Rattle.dds_base.proofs.Places.{list_any-position}
-use Rattle.dds_deploy.specs.Lists.{Lists}
+use Rattle.dds_lists.specs.Lists.{Lists}
 use Rattle.dds_match.specs.Plan.{network_of}
 use Rattle.dds_conform.specs.declared.actions.Action.{Action}
 use Rattle.dds_conform.specs.declared.actions.Action.TheVariants.{Write, Take}

@@ -3,7 +3,7 @@ use Rattle.std.proofs.Common.{◌≡◌, ◌≢◌, ℕ, ◌+◌, ◌<◌, inl, 
 use Rattle.std.proofs.lemmas.Bool.{cases_eq}
 use Rattle.std.proofs.lemmas.List.{append_cancel_left}
 use Rattle.dds_base.specs.declared.events.Event.TheVariants as event
-use Rattle.dds_deploy.specs.Lists.{Lists}
+use Rattle.dds_lists.specs.Lists.{Lists}
 use Rattle.dds_events.specs.Naming.{two_words}
 use Rattle.dds_events.specs.Reading.{SaysNoEvent}
 use Rattle.dds_conform.specs.declared.actions.Action.{Action}

@@ -2,9 +2,9 @@
 use Rattle.std.specs.Prelude.{ℕ, ◌<◌, Bool, ◌&&◌, List, ◌++◌, codes, length, Option, Some, None}
 use Rattle.dds_base.specs.declared.events.Event.{Event}
 use Rattle.dds_base.specs.declared.events.Event.TheVariants as event
-use Rattle.dds_deploy.specs.Lists.{Lists, has, readers_at, writers_at}
+use Rattle.dds_lists.specs.Lists.{Lists, has, readers_at, writers_at}
 use Rattle.dds_match.specs.Plan.{hears, writes_key}
-use Rattle.dds_cert.specs.Naming.{name_at, reader_key, reader_keys, writer_key, writer_keys}
+use Rattle.dds_weights.specs.Naming.{name_at, reader_key, reader_keys, writer_key, writer_keys}
 use Rattle.dds_events.specs.Naming.{reader_name, two_words, writer_name}
 use Rattle.dds_conform.specs.declared.actions.Action.{Action}
 use Rattle.dds_conform.specs.declared.actions.Action.TheVariants.{Write, Take}

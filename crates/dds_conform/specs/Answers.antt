@@ -1,8 +1,8 @@
 -- The text of an answer.
 use Rattle.std.specs.Prelude.{ℕ, List, [], ◌∷◌, ◌++◌, codes, flat_map}
 use Rattle.std.specs.Fmt.{decimal}
-use Rattle.dds_deploy.specs.Lists.{Lists}
-use Rattle.dds_cert.specs.Naming.{reader_key, writer_key}
+use Rattle.dds_lists.specs.Lists.{Lists}
+use Rattle.dds_weights.specs.Naming.{reader_key, writer_key}
 use Rattle.dds_events.specs.Naming.{reader_name, rule_text, writer_name}
 use Rattle.dds_conform.specs.declared.conformance.Conformance.{Conformance}
 use Rattle.dds_conform.specs.declared.conformance.Conformance.TheVariants.{Kept, NoPermit, Unknown}

@@ -3,7 +3,7 @@ use Rattle.std.specs.Prelude.{◌≡◌, ◌≢◌, ℕ, suc, ◌-◌, ◌<◌, 
 use Rattle.std.specs.List.{after_first, before_first, starts_with, list_all, list_any}
 use Rattle.std.specs.Str.Lines.{lines}
 use Rattle.dds_base.specs.Names.{is_between}
-use Rattle.dds_deploy.specs.Lists.{Lists}
+use Rattle.dds_lists.specs.Lists.{Lists}
 use Rattle.dds_conform.specs.declared.actions.Action.{Action}
 use Rattle.dds_conform.specs.declared.actions.Entry.{Entry}
 use Rattle.dds_conform.specs.declared.fault.TraceFault.{TraceFault}

@@ -2,7 +2,7 @@
 ghost use Rattle.std.specs.Prelude.{◌≡◌, ◌≢◌, ◌<◌, ◌==◌, ◌||◌, ℕ, Some, None, List, length, count_by};
 ghost use Rattle.std.specs.Prelude.{IfSome, IfNone, IfOk, IfErr};
 ghost use Rattle.std.specs.List.{list_all, list_any};
-ghost use Rattle.dds_cert.specs.Naming.{name_at};
+ghost use Rattle.dds_weights.specs.Naming.{name_at};
 ghost use Rattle.dds_events.specs.Naming.{two_words};
 ghost use Rattle.dds_conform.specs.Actions.{IsThere, action_in, action_text, is_own, what_text};
 ghost use Rattle.dds_conform.specs.Entries.{entry_action, entry_application, entry_line};
@@ -12,10 +12,10 @@ ghost use Rattle.dds_conform.specs.Reading.{says_something, told};
 use crate::actions::{Action, Entry};
 use crate::fault::{TraceFault, TraceFaultKind};
 use dds_base::{AppNo, Event};
-use dds_cert::naming::name_at;
-use dds_deploy::Deployment;
 use dds_events::read_event;
+use dds_lists::Deployment;
 use dds_match::Plan;
+use dds_weights::naming::name_at;
 
 /// Whether a line says something: it is not empty, and no comment.
 pub(crate) fn says_something(line: &str) -> bool

@@ -7,7 +7,7 @@ use Rattle.dds_base.specs.declared.events.Fate.{Fate}
 use Rattle.dds_base.specs.declared.events.Fate.TheVariants.{Pass, Keep, Last, Lose as LoseIt}
 use Rattle.dds_base.specs.declared.events.Refusal.TheVariants.{NoPacket}
 use Rattle.dds_base.proofs.SumLaws.{least_passes, least_le}
-use Rattle.dds_deploy.specs.Lists.{Lists}
+use Rattle.dds_lists.specs.Lists.{Lists}
 use Rattle.dds_match.specs.Network.{Network}
 use Rattle.dds_runs.specs.World.{World}
 use Rattle.dds_runs.specs.Steps.{places, is_none_of, refusal}

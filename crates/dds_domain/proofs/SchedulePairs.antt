@@ -8,7 +8,7 @@ use Rattle.std.proofs.lemmas.List.{at_drop_all, at_drop_more}
 use Rattle.std.proofs.lemmas.List.Elements.{filter_passes}
 use Rattle.std.proofs.lemmas.Option.{slice_get_within}
 use Rattle.dds_base.proofs.Lists.{kept_push}
-use Rattle.dds_deploy.specs.Lists.{Lists, Reader}
+use Rattle.dds_lists.specs.Lists.{Lists, Reader}
 use Rattle.dds_match.specs.Plan.{is_reader_of}
 use Rattle.dds_runs.specs.First.{◌orElse◌, first_below}
 

@@ -4,7 +4,7 @@ use Rattle.std.specs.Prelude.{IfSome}
 use Rattle.dds_base.specs.declared.events.Fate.{Fate}
 use Rattle.dds_runs.specs.World.{World}
 use Rattle.dds_runs.specs.Steps.{Event, refusal}
-use Rattle.dds_deploy.specs.Lists.{Lists}
+use Rattle.dds_lists.specs.Lists.{Lists}
 use Rattle.dds_match.specs.Plan.{network_of}
 use Rattle.dds_domain.specs.Noted.{Noted}
 use Rattle.dds_domain.specs.Schedule.{by_fate, due, is_bus_turn, send_due, sending_of}

@@ -8,7 +8,7 @@ use Rattle.dds_base.specs.declared.events.Fate.TheVariants.{Pass, Keep, Last, Lo
 use Rattle.dds_qos.specs.declared.notes.Due.{Due}
 use Rattle.dds_qos.specs.declared.notes.Due.TheVariants.{Data as DueData, Gap as DueGap}
 use Rattle.dds_qos.specs.Notes.{due_of, watch_due_of}
-use Rattle.dds_deploy.specs.Lists.{Lists}
+use Rattle.dds_lists.specs.Lists.{Lists}
 use Rattle.dds_match.specs.Network.{Network}
 use Rattle.dds_match.specs.Plan.{matched, network_of}
 pub use Rattle.dds_match.specs.Plan.{is_reader_of, is_writer_of}

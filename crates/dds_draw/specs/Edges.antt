@@ -3,12 +3,12 @@ use Rattle.std.specs.Prelude.{codes, ℕ, Bool, List, [], ◌++◌, flat_map, le
 use Rattle.std.specs.Fmt.{decimal}
 use Rattle.std.specs.Option.{option_map_or}
 use Rattle.dds_base.specs.declared.portion.Portion.{Portion}
-use Rattle.dds_deploy.specs.Lists.{Lists, Rule}
+use Rattle.dds_lists.specs.Lists.{Lists, Rule}
 use Rattle.dds_match.specs.Matching.{why_not}
 use Rattle.dds_match.specs.Plan.{intended}
 use Rattle.dds_match.specs.declared.matching.WhyNot.{WhyNot}
-use Rattle.dds_cert.specs.Naming.{name_at, reader_key, writer_key}
-use Rattle.dds_cert.specs.Text.{each_below}
+use Rattle.dds_weights.specs.Naming.{name_at, reader_key, writer_key}
+use Rattle.dds_weights.specs.Text.{each_below}
 use Rattle.dds_show.specs.Reasons.{reason_words}
 
 -- what a rule takes of a key at a reader

@@ -6,11 +6,11 @@ use Rattle.dds_qos.specs.declared.policies.HistoryKind.TheVariants.{KeepLast, Ke
 use Rattle.dds_qos.specs.declared.policies.Policies.{Policies}
 use Rattle.dds_qos.specs.declared.policies.Reliability.{Reliability}
 use Rattle.dds_qos.specs.declared.policies.Reliability.TheVariants.{BestEffort, Reliable}
-use Rattle.dds_deploy.specs.Lists.{Lists, Reader, Rule, Writer}
-use Rattle.dds_cert.specs.Lists.{Certificate}
-use Rattle.dds_cert.specs.Naming.{name_at, reader_key}
-use Rattle.dds_cert.specs.declared.certificate.Bound.{Bound}
-use Rattle.dds_cert.specs.declared.certificate.Total.{Total}
+use Rattle.dds_lists.specs.Lists.{Lists, Reader, Rule, Writer}
+use Rattle.dds_weights.specs.Lists.{Certificate}
+use Rattle.dds_weights.specs.Naming.{name_at, reader_key}
+use Rattle.dds_weights.specs.declared.certificate.Bound.{Bound}
+use Rattle.dds_weights.specs.declared.certificate.Total.{Total}
 use Rattle.dds_events.specs.Naming.{rule_text}
 
 -- how many samples of an instance stay by KEEP_LAST; nothing of KEEP_ALL (OMG DDS 1.4, clause 2.2.3.18)

@@ -1,7 +1,7 @@
 -- The picture of a deployment, as a document in DOT.
 use Rattle.std.specs.Prelude.{codes, ℕ, List, ◌++◌, Option}
-use Rattle.dds_deploy.specs.Lists.{Lists}
-use Rattle.dds_cert.specs.Lists.{Certificate}
+use Rattle.dds_lists.specs.Lists.{Lists}
+use Rattle.dds_weights.specs.Lists.{Certificate}
 use Rattle.dds_draw.specs.Clusters.{participant_clusters}
 use Rattle.dds_draw.specs.Edges.{all_pair_edges, all_rule_edges}
 

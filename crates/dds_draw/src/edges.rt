@@ -1,15 +1,15 @@
 //! What rules take and write, and which endpoints match, as edges.
 ghost use Rattle.std.specs.Prelude.{◌≡◌, IfOk, string_bytes};
-ghost use Rattle.dds_deploy.specs.Views.{rule_view};
+ghost use Rattle.dds_lists.specs.Views.{rule_view};
 ghost use Rattle.dds_draw.specs.Edges.{all_pair_edges, all_rule_edges, connection_edge, edge_of, pair_edge, pair_edges};
 ghost use Rattle.dds_draw.specs.Edges.{rule_edges, take_edge, write_edge};
 
 use dds_base::{Portion, ReaderNo, RuleNo, WriterNo};
-use dds_cert::naming::{name_at, reader_key, writer_key};
-use dds_deploy::{Deployment, Rule};
+use dds_lists::{Deployment, Rule};
 use dds_match::{Plan, WhyNot};
 use dds_show::reasons::reason_text;
 use dds_show::texts::{TextResult, text_below, text_of_each};
+use dds_weights::naming::{name_at, reader_key, writer_key};
 use std::alloc::Global;
 
 /// What a rule takes of a key at a reader.

@@ -1,19 +1,19 @@
 //! Endpoints and rules as nodes, with their labels. Names have no byte that DOT escapes; a label has `\n`, two bytes,
 //! where a new line begins.
 ghost use Rattle.std.specs.Prelude.{◌≡◌, IfOk, option_map, string_bytes};
-ghost use Rattle.dds_deploy.specs.Views.{reader_view, rule_view, writer_view};
-ghost use Rattle.dds_cert.specs.Views.{certificate_view};
+ghost use Rattle.dds_lists.specs.Views.{reader_view, rule_view, writer_view};
+ghost use Rattle.dds_weights.specs.Views.{certificate_view};
 ghost use Rattle.dds_draw.specs.Nodes.{bound_line, certificate_lines, endpoint_label, history_line, limit_line};
 ghost use Rattle.dds_draw.specs.Nodes.{may_lose_line, policies_lines, reader_node, reliability_line, rule_node};
 ghost use Rattle.dds_draw.specs.Nodes.{start_line, total_line, writer_node};
 
 use dds_base::{ReaderNo, RuleNo, WriterNo};
-use dds_cert::naming::{name_at, reader_key};
-use dds_cert::{Bound, Certificate, Total};
-use dds_deploy::{Deployment, Reader, Rule, Writer};
 use dds_events::rule_text;
+use dds_lists::{Deployment, Reader, Rule, Writer};
 use dds_qos::{History, HistoryKind, Policies, Reliability};
 use dds_show::texts::{TextResult, text_of_each};
+use dds_weights::naming::{name_at, reader_key};
+use dds_weights::{Bound, Certificate, Total};
 use std::alloc::Global;
 
 /// How many samples of an instance stay by KEEP_LAST; nothing of KEEP_ALL.

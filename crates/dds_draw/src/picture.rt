@@ -1,13 +1,13 @@
 //! The picture of a deployment, as a document in DOT.
 ghost use Rattle.std.specs.Prelude.{◌≡◌, IfOk, option_map, string_bytes};
-ghost use Rattle.dds_cert.specs.Views.{certificate_view};
+ghost use Rattle.dds_weights.specs.Views.{certificate_view};
 ghost use Rattle.dds_draw.specs.Picture.{drawing};
 
 use crate::clusters::participant_clusters;
 use crate::edges::{all_pair_edges, all_rule_edges};
-use dds_cert::Certificate;
 use dds_match::Plan;
 use dds_show::texts::TextResult;
+use dds_weights::Certificate;
 use std::alloc::Global;
 
 /// A deployment as a document in DOT, which Graphviz renders: `dot -Tsvg`. Each participant is a cluster, and in it

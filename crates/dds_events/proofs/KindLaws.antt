@@ -4,9 +4,9 @@ use Rattle.std.specs.Option.{option_or}
 use Rattle.std.specs.Str.{bytes_eq}
 use Rattle.std.proofs.lemmas.Slice.Eq.{bytes_eq-Decides}
 use Rattle.dds_base.specs.declared.events.Event.TheVariants.{Write, Fire, Take, SendData, SendGap, SendHeartbeat, SendAckNack, Deliver, Lose}
-use Rattle.dds_deploy.specs.Lists.{Lists, key_name}
-use Rattle.dds_deploy.specs.declared.lists.Origin.{Origin}
-use Rattle.dds_cert.specs.Naming.{name_at}
+use Rattle.dds_lists.specs.Lists.{Lists, key_name}
+use Rattle.dds_lists.specs.declared.lists.Origin.{Origin}
+use Rattle.dds_weights.specs.Naming.{name_at}
 use Rattle.dds_events.specs.Naming.{rule_text, two_words}
 use Rattle.dds_events.specs.Reading.{IsUnsaidBy, SaysNoEvent}
 use Rattle.dds_events.proofs.WordLaws.{one_after}

@@ -8,7 +8,7 @@ use Rattle.std.proofs.lemmas.List.{map-append}
 use Rattle.std.proofs.lemmas.List.Elements.{All-append, filter-append}
 use Rattle.std.proofs.lemmas.Option.{slice_get_read}
 use Rattle.dds_base.specs.declared.events.Event.{Event}
-use Rattle.dds_deploy.specs.Lists.{Lists}
+use Rattle.dds_lists.specs.Lists.{Lists}
 use Rattle.dds_events.specs.Events.{event_text}
 use Rattle.dds_events.specs.Reading.{HasNoData, IsFaultOf, IsLineFaultOf, IsOfDeployment, SaysNoEvent, before_arrow, said_by, says_something}
 use Rattle.dds_events.specs.declared.fault.EventsFault.{EventsFault}

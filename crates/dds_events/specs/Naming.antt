@@ -1,9 +1,9 @@
 -- Names of a deployment side by side, and the names of its rules.
 use Rattle.std.specs.Prelude.{ℕ, List, [], ◌++◌, slice_get, codes}
 use Rattle.std.specs.Option.{option_map_or}
-use Rattle.dds_deploy.specs.Lists.{Lists, key_name}
-use Rattle.dds_deploy.specs.declared.lists.Origin.{Origin}
-use Rattle.dds_cert.specs.Naming.{name_at}
+use Rattle.dds_lists.specs.Lists.{Lists, key_name}
+use Rattle.dds_lists.specs.declared.lists.Origin.{Origin}
+use Rattle.dds_weights.specs.Naming.{name_at}
 
 -- two words, with a blank between them
 abbrev pub two_words : List ℕ → List ℕ → List ℕ

@@ -10,7 +10,7 @@ use Rattle.dds_base.specs.declared.sample.Arrival.TheVariants as arrival
 use Rattle.dds_base.specs.declared.sample.Rejection.{Rejection}
 use Rattle.dds_base.specs.declared.sample.Rejection.TheVariants as rejection
 use Rattle.dds_base.specs.declared.sample.Sample.{Sample}
-use Rattle.dds_deploy.specs.Lists.{Lists}
+use Rattle.dds_lists.specs.Lists.{Lists}
 use Rattle.dds_events.specs.Naming.{two_words, writer_name}
 
 -- the word for why an event is refused

@@ -6,8 +6,8 @@ ghost use Rattle.dds_events.specs.Naming.{reader_name, three_words, two_words, w
 
 use crate::naming::{reader_name, rule_text, writer_name};
 use dds_base::{Event, NoMemory, ReaderNo, WriterNo};
-use dds_cert::naming::{reader_key, writer_key};
-use dds_deploy::Deployment;
+use dds_lists::Deployment;
+use dds_weights::naming::{reader_key, writer_key};
 use std::alloc::Global;
 
 /// What a writer sends a reader: the word for it, their names and its number, with blanks between them.

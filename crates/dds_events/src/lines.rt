@@ -5,7 +5,7 @@ ghost use Rattle.dds_events.specs.Lines.{line_of, lines_of};
 use crate::events::event_text;
 use crate::replies::reply_text;
 use dds_base::{Event, NoMemory, Reply};
-use dds_deploy::Deployment;
+use dds_lists::Deployment;
 use std::alloc::Global;
 
 /// The line of an event with its reply: `EVENT -> REPLY` and a line feed. Only want of memory is an error.

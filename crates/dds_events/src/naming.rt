@@ -3,8 +3,8 @@ ghost use Rattle.std.specs.Prelude.{◌≡◌, IfOk, string_bytes};
 ghost use Rattle.dds_events.specs.Naming.{reader_name, rule_text, writer_name};
 
 use dds_base::{NoMemory, ReaderNo, RuleNo, WriterNo};
-use dds_cert::naming::name_at;
-use dds_deploy::Deployment;
+use dds_lists::Deployment;
+use dds_weights::naming::name_at;
 use std::alloc::Global;
 
 /// The name of a rule's entry, and after a blank the key where the rule stands for one of an entry with `each`.

@@ -10,7 +10,7 @@ use crate::kinds::{
     acknack_of, data_of, delivery_of, fire_of, gap_of, heartbeat_of, loss_of, take_of, write_of,
 };
 use dds_base::Event;
-use dds_deploy::Deployment;
+use dds_lists::Deployment;
 use std::alloc::Global;
 
 /// The event of the deployment that a text says, `None` just where it is the text of none. A write that is read has 32

@@ -4,7 +4,7 @@ ghost use Rattle.dds_events.specs.Replies.{arrival_text, refusal_name, rejection
 
 use crate::naming::writer_name;
 use dds_base::{Arrival, NoMemory, Refusal, Rejection, Reply, Sample};
-use dds_deploy::Deployment;
+use dds_lists::Deployment;
 use std::alloc::Global;
 
 /// The word for why an event is refused: the name of the variant.

@@ -1,7 +1,7 @@
 -- The reason of an answer of the checker: the numbers behind a refusal, and how tight what is accepted is.
 use Rattle.std.specs.Prelude.{ℕ, List, []}
-use Rattle.dds_deploy.specs.Lists.{Lists}
-use Rattle.dds_cert.specs.Lists.{Certificate}
+use Rattle.dds_lists.specs.Lists.{Lists}
+use Rattle.dds_weights.specs.Lists.{Certificate}
 use Rattle.dds_check.specs.declared.verdict.No.{No}
 use Rattle.dds_check.specs.declared.verdict.Number.{Number}
 use Rattle.dds_check.specs.declared.verdict.Number.TheVariants.{IntendedNotMatched, UnintendedMatch, WriterKeepsLast, Exclusive, SourceOrder, OrderedOrCoherent, WriterBestEffort, ReaderInstances, NoBound, BoundOverInstanceLimit, BoundOverSamples, WriterInstances, KeepLastFilter, WriterDepth, TakeRaises, RuleRaises, WriteRaises, BoundNotShown}

@@ -3,13 +3,13 @@
 use Rattle.std.specs.Prelude.{codes, ℕ, List, [], ◌++◌, Option, Some, None, if◌then◌else◌}
 use Rattle.std.specs.Fmt.{decimal}
 use Rattle.dds_base.specs.Sums.{total, count_below}
-use Rattle.dds_deploy.specs.Lists.{Lists}
+use Rattle.dds_lists.specs.Lists.{Lists}
 use Rattle.dds_match.specs.Network.{reach, is_written}
 use Rattle.dds_match.specs.Plan.{network_of}
-use Rattle.dds_cert.specs.Lists.{Certificate}
-use Rattle.dds_cert.specs.Naming.{reader_key, writer_key}
-use Rattle.dds_cert.specs.Text.{each_below}
-use Rattle.dds_cert.specs.declared.certificate.Bound.{Bound}
+use Rattle.dds_weights.specs.Lists.{Certificate}
+use Rattle.dds_weights.specs.Naming.{reader_key, writer_key}
+use Rattle.dds_weights.specs.Text.{each_below}
+use Rattle.dds_weights.specs.declared.certificate.Bound.{Bound}
 use Rattle.dds_runs.specs.Accepted.{instance_limit}
 use Rattle.dds_check.specs.Limits.{is_bounded, is_heard, reached_bound}
 use Rattle.dds_check.specs.Tables.{bound_of, total_of}

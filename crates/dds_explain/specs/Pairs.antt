@@ -1,7 +1,7 @@
 -- Why numbers 10 and 11 refuse a pair.
 use Rattle.std.specs.Prelude.{codes, ℕ, List, [], ◌++◌}
 use Rattle.std.specs.Option.{option_map_or}
-use Rattle.dds_deploy.specs.Lists.{Lists}
+use Rattle.dds_lists.specs.Lists.{Lists}
 use Rattle.dds_match.specs.Matching.{why_not}
 use Rattle.dds_show.specs.Reasons.{reason_words}
 use Rattle.dds_events.specs.Naming.{writer_name, reader_name}

@@ -3,12 +3,12 @@ use Rattle.std.specs.Prelude.{codes, ℕ, List, [], ◌++◌, ◌&&◌, flat_map
 use Rattle.std.specs.Fmt.{decimal}
 use Rattle.std.specs.Option.{option_map_or}
 use Rattle.dds_base.specs.declared.portion.Portion.{Portion}
-use Rattle.dds_deploy.specs.Lists.{Lists, Rule}
+use Rattle.dds_lists.specs.Lists.{Lists, Rule}
 use Rattle.dds_match.specs.Network.{weighed}
 use Rattle.dds_match.specs.Plan.{network_of}
-use Rattle.dds_cert.specs.Lists.{Certificate, Row}
-use Rattle.dds_cert.specs.Naming.{reader_key, writer_key}
-use Rattle.dds_cert.specs.Text.{each_below}
+use Rattle.dds_weights.specs.Lists.{Certificate, Row}
+use Rattle.dds_weights.specs.Naming.{reader_key, writer_key}
+use Rattle.dds_weights.specs.Text.{each_below}
 use Rattle.dds_runs.specs.Accepted.{row_of, spread}
 use Rattle.dds_events.specs.Naming.{writer_name, reader_name, rule_text}
 use Rattle.dds_explain.specs.Pieces.{weighed_term}

@@ -2,14 +2,14 @@
 use Rattle.std.specs.Prelude.{codes, ℕ, List, [], ◌++◌, ◌==◌, ◌&&◌, ◌/◌, flat_map, length, slice_get, if◌then◌else◌}
 use Rattle.std.specs.Fmt.{decimal}
 use Rattle.std.specs.Option.{option_map_or}
-use Rattle.dds_deploy.specs.Lists.{Lists}
+use Rattle.dds_lists.specs.Lists.{Lists}
 use Rattle.dds_match.specs.Network.{reach}
 use Rattle.dds_match.specs.Plan.{network_of}
-use Rattle.dds_cert.specs.Lists.{Certificate, Row}
-use Rattle.dds_cert.specs.Naming.{reader_key, writer_key}
-use Rattle.dds_cert.specs.Text.{each_below}
-use Rattle.dds_cert.specs.declared.certificate.Bound.{Bound}
-use Rattle.dds_cert.specs.declared.certificate.Total.{Total}
+use Rattle.dds_weights.specs.Lists.{Certificate, Row}
+use Rattle.dds_weights.specs.Naming.{reader_key, writer_key}
+use Rattle.dds_weights.specs.Text.{each_below}
+use Rattle.dds_weights.specs.declared.certificate.Bound.{Bound}
+use Rattle.dds_weights.specs.declared.certificate.Total.{Total}
 use Rattle.dds_runs.specs.Accepted.{row_of, budget, opening_permits}
 use Rattle.dds_check.specs.Shown.{shows, shows_all}
 use Rattle.dds_events.specs.Naming.{writer_name, reader_name}

@@ -1,6 +1,6 @@
 //! The reason of an answer of the checker: the numbers behind a refusal, and how tight what is accepted is.
 ghost use Rattle.std.specs.Prelude.{◌≡◌, IfOk, string_bytes};
-ghost use Rattle.dds_cert.specs.Views.{certificate_view};
+ghost use Rattle.dds_weights.specs.Views.{certificate_view};
 ghost use Rattle.dds_explain.specs.Explanation.{instance_reason, margins, pair_key_reason, pair_reason, reader_reason};
 ghost use Rattle.dds_explain.specs.Explanation.{reason, reason_of, rule_reason, take_reason, write_reason};
 ghost use Rattle.dds_explain.specs.Explanation.{writer_reason};
@@ -18,10 +18,10 @@ use crate::policies::{
 use crate::rows::{rule_raises_lines, take_raises_line, write_raises_lines};
 use crate::shown::{bound_not_shown_lines, total_not_shown_lines};
 use dds_base::{KeyNo, ReaderNo, RuleNo, WriterNo};
-use dds_cert::Certificate;
 use dds_check::{No, Number, Subject};
 use dds_match::Plan;
 use dds_show::texts::TextResult;
+use dds_weights::Certificate;
 use std::alloc::Global;
 
 /// Why a pair is refused.

@@ -3,9 +3,9 @@
 ghost use Rattle.std.specs.Prelude.{◌≡◌, ◌<◌, ◌^◌, IfOk, string_bytes};
 ghost use Rattle.dds_base.specs.Sums.{total};
 ghost use Rattle.dds_match.specs.Plan.{network_of};
-ghost use Rattle.dds_cert.specs.Naming.{reader_key};
-ghost use Rattle.dds_cert.specs.Text.{each_below};
-ghost use Rattle.dds_cert.specs.Views.{certificate_view};
+ghost use Rattle.dds_weights.specs.Naming.{reader_key};
+ghost use Rattle.dds_weights.specs.Text.{each_below};
+ghost use Rattle.dds_weights.specs.Views.{certificate_view};
 ghost use Rattle.dds_check.specs.Limits.{is_bounded, is_heard, reached_bound};
 ghost use Rattle.dds_check.specs.Tables.{bound_of};
 ghost use Rattle.dds_events.specs.Naming.{reader_name};
@@ -20,11 +20,11 @@ use crate::pieces::{
 };
 use dds_base::grid::KEYS;
 use dds_base::{KeyNo, ReaderNo, WriterNo};
-use dds_cert::naming::{reader_key, writer_key};
-use dds_cert::{Bound, Certificate};
 use dds_check::{find_bound, find_total, instance_limit, reached, written};
 use dds_match::Plan;
 use dds_show::texts::{TextResult, number_or, text_below};
+use dds_weights::naming::{reader_key, writer_key};
+use dds_weights::{Bound, Certificate};
 use std::alloc::Global;
 
 /// A key in a line of its own, if it can reach the reader.

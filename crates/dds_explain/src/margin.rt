@@ -1,7 +1,7 @@
 //! How tight the bounds and totals of a certificate are: each beside the limit that it keeps, and what its row weighs.
 ghost use Rattle.std.specs.Prelude.{◌≡◌, IfNone, IfOk, IfSome, None, Some, slice_get, string_bytes};
 ghost use Rattle.dds_match.specs.Plan.{network_of};
-ghost use Rattle.dds_cert.specs.Views.{certificate_view, row_view};
+ghost use Rattle.dds_weights.specs.Views.{certificate_view, row_view};
 ghost use Rattle.dds_runs.specs.Accepted.{budget, row_of};
 ghost use Rattle.dds_explain.specs.Margin.{bound_line, bound_margin, bound_words, margin_lines, margin_text};
 ghost use Rattle.dds_explain.specs.Margin.{named_instance_limit, named_limit, openings, total_line, total_margin};
@@ -11,11 +11,11 @@ use crate::pieces::{find_row, instance_limit_name, reader_limits, reader_name};
 use crate::shown::shown_text;
 use crate::weights::{budget, sample_weight};
 use dds_base::{NoMemory, ReaderNo};
-use dds_cert::naming::reader_key;
-use dds_cert::{Bound, Certificate, Row, Total};
 use dds_check::instance_limit;
 use dds_match::Plan;
 use dds_show::texts::{TextResult, text_of_each};
+use dds_weights::naming::reader_key;
+use dds_weights::{Bound, Certificate, Row, Total};
 use std::alloc::Global;
 use std::marker::Model;
 
@@ -66,10 +66,10 @@ struct Openings<'a> {
 
 impl<'a> Model for Openings<'a> {
     ghost use Rattle.std.specs.Prelude.{◌≡◌, map};
-    ghost use Rattle.dds_deploy.specs.Lists.{Lists};
+    ghost use Rattle.dds_lists.specs.Lists.{Lists};
     ghost use Rattle.dds_match.specs.Plan.{network_of};
-    ghost use Rattle.dds_cert.specs.Lists.{Certificate};
-    ghost use Rattle.dds_cert.specs.Views.{certificate_view};
+    ghost use Rattle.dds_weights.specs.Lists.{Certificate};
+    ghost use Rattle.dds_weights.specs.Views.{certificate_view};
     ghost use Rattle.dds_explain.specs.Margin.{openings};
 
     ghost Value = { Lists × Certificate };

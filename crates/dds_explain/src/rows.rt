@@ -1,8 +1,8 @@
 //! Why numbers 30 to 32 refuse a row: what weighs more after a take, a firing or a write than before it.
 ghost use Rattle.std.specs.Prelude.{◌≡◌, IfOk, flat_map, length, string_bytes};
-ghost use Rattle.dds_deploy.specs.Views.{rule_view};
-ghost use Rattle.dds_cert.specs.Text.{each_below};
-ghost use Rattle.dds_cert.specs.Views.{certificate_view, row_view};
+ghost use Rattle.dds_lists.specs.Views.{rule_view};
+ghost use Rattle.dds_weights.specs.Text.{each_below};
+ghost use Rattle.dds_weights.specs.Views.{certificate_view, row_view};
 ghost use Rattle.dds_explain.specs.Rows.{permit_text, firing_line, firing_lines, heard_line, rule_lines};
 ghost use Rattle.dds_explain.specs.Rows.{rule_raises_lines, take_line, take_raises_line, take_term, write_line};
 ghost use Rattle.dds_explain.specs.Rows.{write_lines, write_raises_lines, write_term};
@@ -12,12 +12,12 @@ use crate::weights::{
     permit_weight, permits_weighed, sample_weight, spread, take_weight, takes_weighed,
 };
 use dds_base::{KeyNo, Portion, ReaderNo, RuleNo, WriterNo};
-use dds_cert::naming::{reader_key, writer_key};
-use dds_cert::{Certificate, Row};
-use dds_deploy::Rule;
 use dds_events::rule_text;
+use dds_lists::Rule;
 use dds_match::Plan;
 use dds_show::texts::{TextResult, text_below, text_of_each};
+use dds_weights::naming::{reader_key, writer_key};
+use dds_weights::{Certificate, Row};
 use std::alloc::Global;
 
 /// What a take weighs, and a sample.

@@ -2,8 +2,8 @@
 ghost use Rattle.std.specs.Prelude.{◌≡◌, ◌&&◌, ◌||◌, ◌*◌, suc, not, nat_lt, IfOk, string_bytes};
 ghost use Rattle.dds_match.specs.Network.{reach};
 ghost use Rattle.dds_match.specs.Plan.{network_of};
-ghost use Rattle.dds_cert.specs.Text.{each_below};
-ghost use Rattle.dds_cert.specs.Views.{certificate_view, row_view};
+ghost use Rattle.dds_weights.specs.Text.{each_below};
+ghost use Rattle.dds_weights.specs.Views.{certificate_view, row_view};
 ghost use Rattle.dds_runs.specs.Accepted.{budget, row_of};
 ghost use Rattle.dds_check.specs.Shown.{shows, shows_all};
 ghost use Rattle.dds_explain.specs.Shown.{bound_claim, bound_lines, bound_not_shown_lines, permit_line, permit_lines};
@@ -15,10 +15,10 @@ use crate::pieces::{find_row, reader_name, text_of_row, weighed_term, writer_nam
 use crate::weights::{budget, opening_permits, permit_weight, sample_weight};
 use dds_base::grid::KEYS;
 use dds_base::{KeyNo, ReaderNo, WriterNo};
-use dds_cert::naming::{reader_key, writer_key};
-use dds_cert::{Bound, Certificate, Row, Total};
 use dds_match::Plan;
 use dds_show::texts::{TextResult, text_below, text_of_each};
+use dds_weights::naming::{reader_key, writer_key};
+use dds_weights::{Bound, Certificate, Row, Total};
 use std::alloc::Global;
 
 /// The least bound that a row shows, by what the permits at the opening weigh and what a sample weighs.

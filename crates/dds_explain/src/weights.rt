@@ -1,22 +1,22 @@
 //! What a row weighs: samples, takes and permits, and the sums of them that a check compares.
 ghost use Rattle.std.specs.Prelude.{◌≡◌, ◌<◌, ◌≤◌, ◌*◌, ◌^◌, length};
-ghost use Rattle.dds_deploy.specs.Views.{rule_view};
+ghost use Rattle.dds_lists.specs.Views.{rule_view};
 ghost use Rattle.dds_match.specs.Network.{named, weighed};
 ghost use Rattle.dds_match.specs.Plan.{network_of};
-ghost use Rattle.dds_cert.specs.Views.{row_view};
+ghost use Rattle.dds_weights.specs.Views.{row_view};
 ghost use Rattle.dds_runs.specs.Accepted.{budget, opening_permits, row_of, spread};
 ghost use Rattle.dds_check.specs.Spreads.{heard};
-ghost use Rattle.dds_cert.specs.Lists.{weight_of};
-ghost use Rattle.dds_cert.specs.Weighing.{weight_by};
+ghost use Rattle.dds_weights.specs.Lists.{weight_of};
+ghost use Rattle.dds_weights.specs.Weighing.{weight_by};
 ghost use Rattle.dds_check.specs.Tables.{weighed_by};
 
 use dds_base::grid::{ENDPOINTS, KEYS, PLACES};
 use dds_base::{Endpoint, KeyNo, Portion, ReaderNo, RuleNo, WriterNo};
-use dds_cert::weighing::weights_by_place;
-use dds_cert::{Row, Weight};
 use dds_check::rule_at;
-use dds_deploy::Rule;
+use dds_lists::Rule;
 use dds_match::Plan;
+use dds_weights::weighing::weights_by_place;
+use dds_weights::{Row, Weight};
 use std::marker::Model;
 
 /// The weight of a key of an endpoint, 0 where none is named. Of entries for one endpoint and key the first counts.
@@ -61,8 +61,8 @@ pub(crate) struct Table<'a, E: Endpoint> {
 
 impl<'a, E: Endpoint> Model for Table<'a, E> {
     ghost use Rattle.std.specs.Prelude.{List};
-    ghost use Rattle.dds_cert.specs.Weighing.{ShowsWeights};
-    ghost use Rattle.dds_cert.specs.declared.certificate.Weight.{Weight};
+    ghost use Rattle.dds_weights.specs.Weighing.{ShowsWeights};
+    ghost use Rattle.dds_weights.specs.declared.certificate.Weight.{Weight};
 
     ghost Value = { List (Weight E) };
 

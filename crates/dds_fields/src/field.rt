@@ -124,7 +124,7 @@ pub fn number_of(
 }
 
 /// The value at a key, whose path is `at`: MissingKey where the key is absent.
-pub fn required<'a>(
+pub fn require<'a>(
     alloc: Global,
     at: &Place,
     table: &'a Table,
@@ -154,7 +154,7 @@ pub fn new_name_field<'a>(
     ensures new { IfOk result (λ s. names_number names.now s.now ≡ None) }
 {
     let at = Place::Key { parent: path, key };
-    let value = required(alloc, &at, table, key)?;
+    let value = require(alloc, &at, table, key)?;
     new_name_of(alloc, names, &at, value)
 }
 
@@ -172,7 +172,7 @@ pub fn known_name_field(
     ensures within { IfOk result (λ n. n < length names.now) }
 {
     let at = Place::Key { parent: path, key };
-    let value = required(alloc, &at, table, key)?;
+    let value = require(alloc, &at, table, key)?;
     known_name_of(alloc, names, &at, value)
 }
 
@@ -189,7 +189,7 @@ pub fn number_field(
     ensures { Gives (λ n. n) result (field key.now (a_number low high) (place_text path.now) (table_view table.now)) }
 {
     let at = Place::Key { parent: path, key };
-    let value = required(alloc, &at, table, key)?;
+    let value = require(alloc, &at, table, key)?;
     number_of(alloc, low, high, &at, value)
 }
 
@@ -204,7 +204,7 @@ fn shown_char(c: char) -> char
 }
 
 #[tactic(auto, unfolding(crate::specs::Reading::shown))]
-fn shown(alloc: Global, key: &str) -> Result<String, NoMemory>
+fn show_key(alloc: Global, key: &str) -> Result<String, NoMemory>
     ensures { IfOk result (λ s. string_bytes s ≡ shown key.now) }
 {
     let mut text = String::new(alloc);
@@ -231,7 +231,7 @@ pub fn only(alloc: Global, listed: &[&str], path: &Place, table: &Table) -> Resu
 {
     for key in table.keys() {
         if !is_listed(key.as_str(), listed) {
-            let shown = shown(alloc, key.as_str())?;
+            let shown = show_key(alloc, key.as_str())?;
             let at = Place::Key {
                 parent: path,
                 key: shown.as_str(),
@@ -317,7 +317,7 @@ pub fn text_field<'a>(
     ensures { Gives (λ s. s.now) result (field key.now a_text (place_text path.now) (table_view table.now)) }
 {
     let at = Place::Key { parent: path, key };
-    let value = required(alloc, &at, table, key)?;
+    let value = require(alloc, &at, table, key)?;
     text_of(alloc, &at, value)
 }
 
@@ -379,6 +379,6 @@ pub fn short_number_field(
     ensures { Gives (λ n. n) result (field key.now (a_number low high) (place_text path.now) (table_view table.now)) }
 {
     let at = Place::Key { parent: path, key };
-    let value = required(alloc, &at, table, key)?;
+    let value = require(alloc, &at, table, key)?;
     short_number_of(alloc, low, high, &at, value)
 }

@@ -12,7 +12,7 @@ use crate::place::Place;
 use std::alloc::Global;
 use toml::{Table, Value};
 
-fn worded<T: Copy>(words: &[(&str, T)], text: &str) -> Option<T>
+fn find_word<T: Copy>(words: &[(&str, T)], text: &str) -> Option<T>
     ensures { result ≡ worded (words_view words.now) text.now }
 {
     for (word, meaning) in words {
@@ -34,7 +34,7 @@ pub fn word_of<T: Copy>(
     ensures { Gives (λ x. x) result (a_word (words_view words.now) (place_text path.now) (view value.now)) }
 {
     let text = text_of(alloc, path, value)?;
-    match worded(words, text) {
+    match find_word(words, text) {
         Some(meaning) => Ok(meaning),
         None => Err(refuse(alloc, FaultKind::OutOfRange, path)),
     }

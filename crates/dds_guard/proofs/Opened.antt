@@ -5,8 +5,8 @@ use Rattle.std.proofs.lemmas.Bool.{cases_lt}
 use Rattle.std.proofs.lemmas.List.{length-map}
 use Rattle.std.proofs.lemmas.List.FromFn.{get_or-map-range_with_len, length-map-range_with_len}
 use Rattle.std.proofs.lemmas.Option.{slice_get-map, slice_get_past, unwrap_or-slice_get}
-use Rattle.dds_deploy.specs.Lists.{Lists, Rule}
-use Rattle.dds_deploy.specs.WellFormed.{IsConsistent, IsCounted, NamesOnce}
+use Rattle.dds_lists.specs.Lists.{Lists, Rule}
+use Rattle.dds_lists.specs.WellFormed.{IsConsistent, IsCounted, NamesOnce}
 use Rattle.dds_match.specs.Network.{IsNetwork}
 use Rattle.dds_match.specs.Plan.{network_of, no_rule, rule_of}
 use Rattle.dds_rules.specs.Exchange.{IsAlone, IsExchange, exchange_of}

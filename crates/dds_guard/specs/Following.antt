@@ -1,6 +1,6 @@
 -- How a guard follows a world of a run: at the writers of its application and the keys that it takes, its counts are the world's.
 use Rattle.std.specs.Prelude.{◌≡◌, ◌≢◌, ℕ, true, false, List, None}
-use Rattle.dds_deploy.specs.Lists.{Lists, has}
+use Rattle.dds_lists.specs.Lists.{Lists, has}
 use Rattle.dds_match.specs.Network.{Network, IsNetwork, named}
 use Rattle.dds_match.specs.Plan.{network_of}
 use Rattle.dds_runs.specs.World.{World, Sample, opening, permits, spare}

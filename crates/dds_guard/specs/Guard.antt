@@ -4,9 +4,9 @@ use Rattle.std.specs.List.{range_with_len}
 use Rattle.std.specs.Option.{option_map_or}
 use Rattle.dds_base.specs.Names.{number_of}
 use Rattle.dds_base.specs.declared.portion.Portion.{Portion}
-use Rattle.dds_deploy.specs.declared.lists.Origin.{Origin}
-use Rattle.dds_deploy.specs.Lists.{Lists, has, keys_at, readers_at}
-use Rattle.dds_deploy.specs.WellFormed.{filter_at}
+use Rattle.dds_lists.specs.declared.lists.Origin.{Origin}
+use Rattle.dds_lists.specs.Lists.{Lists, has, keys_at, readers_at}
+use Rattle.dds_lists.specs.WellFormed.{filter_at}
 use Rattle.dds_match.specs.Plan.{rule_of}
 use Rattle.dds_rules.specs.Counts.{count_at}
 use Rattle.dds_rules.specs.Exchange.{Exchange, IsAlone}

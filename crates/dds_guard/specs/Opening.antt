@@ -1,8 +1,8 @@
 -- What is opened: a guard of the deployment that the bytes are, for the application of this name.
 use Rattle.std.specs.Prelude.{◌≡◌, ℕ, List, Some, None, Ok, Err}
 use Rattle.dds_base.specs.Names.{number_of}
-use Rattle.dds_deploy.specs.Lists.{Lists, writers_at}
-use Rattle.dds_deploy_file.specs.Document.{read}
+use Rattle.dds_lists.specs.Lists.{Lists, writers_at}
+use Rattle.dds_deploy.specs.Document.{read}
 use Rattle.dds_match.specs.Plan.{network_of}
 use Rattle.dds_runs.specs.World.{opening}
 use Rattle.dds_rules.specs.Standing.{StandsFor}

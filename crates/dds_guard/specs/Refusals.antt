@@ -1,7 +1,7 @@
 -- What a guard answers, and why it refuses.
 use Rattle.std.specs.Prelude.{◌≡◌, ℕ, ◌^◌, ◌-◌, ◌<◌, ◌≤◌, Bool, not, ◌&&◌, if◌then◌else◌, nat_lt, List, Option, Some, None, option_map, Result, Ok, Err, position}
 use Rattle.std.specs.List.{list_any}
-use Rattle.dds_deploy.specs.Lists.{has}
+use Rattle.dds_lists.specs.Lists.{has}
 use Rattle.dds_match.specs.Network.{is_named, named}
 use Rattle.dds_rules.specs.Counts.{IsMoreBy, count_at, only_at}
 use Rattle.dds_rules.specs.Exchange.{lacks_takes, lacks_room}

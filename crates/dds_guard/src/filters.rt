@@ -3,7 +3,7 @@ ghost use Rattle.std.specs.Prelude.{◌≡◌, ◌<◌, length, IfOk};
 ghost use Rattle.dds_guard.specs.Guard.{filters_of, own_filter};
 
 use dds_base::{AppNo, KeyNo, NoMemory, ReaderNo};
-use dds_deploy::Deployment;
+use dds_lists::Deployment;
 use std::alloc::Global;
 use std::marker::Model;
 

@@ -4,7 +4,7 @@ ghost use Rattle.dds_guard.specs.Guard.{all_keys_of, names_of};
 
 use crate::texts::Texts;
 use dds_base::{NoMemory, TopicNo};
-use dds_deploy::Deployment;
+use dds_lists::Deployment;
 use std::alloc::Global;
 use std::marker::Model;
 

@@ -1,7 +1,7 @@
 //! Opens a guard from the bytes of a deployment file and the name of an application.
 ghost use Rattle.std.specs.Prelude.{◌≡◌, ◌<◌, ℕ, List, length, IfOk, IfErr, IfSome, Ok};
 ghost use Rattle.dds_base.specs.Names.{number_of};
-ghost use Rattle.dds_deploy_file.specs.Document.{read};
+ghost use Rattle.dds_deploy.specs.Document.{read};
 ghost use Rattle.dds_guard.specs.Opening.{FailsToOpen, IsOpened, OpensAs, ReadsAs, FailsToRead};
 
 use crate::filters::filters_of;
@@ -11,8 +11,8 @@ use crate::refused::OpenFault;
 use crate::rules::rules_of;
 use crate::texts::Texts;
 use dds_base::{AppNo, NoMemory};
-use dds_deploy::Deployment;
-use dds_deploy_file::{DeployFault, read_deployment};
+use dds_deploy::{DeployFault, read_deployment};
+use dds_lists::Deployment;
 use dds_match::Plan;
 use dds_match::planning::plan;
 use dds_rules::Ledger;
@@ -80,7 +80,7 @@ fn plan_of(alloc: Global, lists: Deployment) -> Result<Plan, NoMemory>
 }
 
 /// The guard of an application of a deployment.
-fn planned(alloc: Global, lists: Deployment, app: AppNo) -> Result<Guard, NoMemory>
+fn open_guard(alloc: Global, lists: Deployment, app: AppNo) -> Result<Guard, NoMemory>
     requires { app < length lists.applications.entries }
     ensures { IfOk result (IsOpened lists app) }
 {
@@ -100,7 +100,7 @@ fn guard_named(alloc: Global, lists: Deployment, name: &[u8]) -> Result<Guard, O
     ensures err { (bytes : List ℕ) → read bytes ≡ Ok lists → IfErr result (FailsToOpen bytes name.now) }
 {
     match application_of(alloc, &lists, name) {
-        Ok(Some(app)) => match planned(alloc, lists, app) {
+        Ok(Some(app)) => match open_guard(alloc, lists, app) {
             Ok(guard) => Ok(guard),
             Err(_) => Err(OpenFault::NoMemory),
         },

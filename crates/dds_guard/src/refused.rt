@@ -2,7 +2,7 @@
 ghost use Rattle.std.specs.Prelude.{◌≡◌};
 ghost use Rattle.dds_guard.specs.Refusals.{firing_refused};
 
-use dds_deploy_file::FaultKind;
+use dds_deploy::FaultKind;
 use dds_rules::FireRefused;
 
 /// Why no guard is opened.

@@ -3,7 +3,7 @@ ghost use Rattle.std.specs.Prelude.{◌≡◌, ◌<◌, length, IfOk};
 ghost use Rattle.dds_guard.specs.Guard.{entry_of, rule_state, rules_of};
 
 use dds_base::{AppNo, NoMemory, Portion, ReaderNo, RuleNo, WriterNo};
-use dds_deploy::Deployment;
+use dds_lists::Deployment;
 use std::alloc::Global;
 use std::marker::Model;
 

@@ -2,12 +2,12 @@
 use Rattle.std.specs.Prelude.{ℕ, Bool, true, false, List, map, codes, Option, Some, None}
 use Rattle.serde_json.specs.Data.{Data, Members, array, member, no_members, number, object, string, unsigned}
 use Rattle.serde_json.specs.View.{items_of}
-use Rattle.dds_deploy.specs.Lists.{Lists}
-use Rattle.dds_cert.specs.Lists.{Certificate}
-use Rattle.dds_cert.specs.Naming.{name_at, reader_key, row_name, writer_key}
-use Rattle.dds_cert.specs.Views.{certificate_view}
-use Rattle.dds_cert.specs.declared.certificate.Bound.{Bound}
-use Rattle.dds_cert.specs.declared.certificate.Total.{Total}
+use Rattle.dds_lists.specs.Lists.{Lists}
+use Rattle.dds_weights.specs.Lists.{Certificate}
+use Rattle.dds_weights.specs.Naming.{name_at, reader_key, row_name, writer_key}
+use Rattle.dds_weights.specs.Views.{certificate_view}
+use Rattle.dds_weights.specs.declared.certificate.Bound.{Bound}
+use Rattle.dds_weights.specs.declared.certificate.Total.{Total}
 use Rattle.dds_check.specs.Verdict.{number_of, name_of}
 use Rattle.dds_check.specs.declared.verdict.No.{No}
 use Rattle.dds_check.specs.declared.verdict.Subject.{Subject}

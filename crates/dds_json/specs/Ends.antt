@@ -1,7 +1,7 @@
 -- How a command ends whose answer is told in JSON.
 use Rattle.std.specs.Prelude.{true, false, Some, None}
 use Rattle.dds_match.specs.Plan.{network_of}
-use Rattle.dds_cert.specs.Text.{certificate_text}
+use Rattle.dds_weights.specs.Text.{certificate_text}
 use Rattle.dds_explain.specs.Explanation.{margins, reason}
 use Rattle.dds_answers.specs.Matches.{is_as_intended}
 use Rattle.dds_answers.specs.Outcome.{Outcome, accepted, refused, accepted_because, refused_because, compared, proposed, unproposed, migrated, shown, drawn, said, bad_deployment, bad_certificate, bad_events, too_large}

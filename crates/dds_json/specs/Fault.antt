@@ -2,7 +2,7 @@
 use Rattle.std.specs.Prelude.{ℕ, List, Option, Some, None, codes, string_bytes}
 use Rattle.serde_json.specs.Data.{Data, member, no_members, number, object, string, unsigned}
 use Rattle.dds_fields.specs.FaultTable as deployment
-use Rattle.dds_cert_file.specs.Faults.{kind_entry}
+use Rattle.dds_cert.specs.Faults.{kind_entry}
 use Rattle.dds_events.specs.Faults as events
 use Rattle.dds_answers.specs.declared.fault.ToolFault.{ToolFault}
 use Rattle.dds_answers.specs.declared.fault.ToolFault.TheVariants as fault

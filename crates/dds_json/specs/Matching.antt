@@ -3,11 +3,11 @@ use Rattle.std.specs.Prelude.{ℕ, Bool, true, false, List, map, flat_map, lengt
 use Rattle.std.specs.List.{range_with_len}
 use Rattle.serde_json.specs.Data.{Data, array, boolean, member, no_members, object, string}
 use Rattle.serde_json.specs.View.{items_of}
-use Rattle.dds_deploy.specs.Lists.{Lists}
+use Rattle.dds_lists.specs.Lists.{Lists}
 use Rattle.dds_match.specs.Matching.{why_not}
 use Rattle.dds_match.specs.Plan.{network_of}
 use Rattle.dds_match.specs.declared.matching.WhyNot.{WhyNot}
-use Rattle.dds_cert.specs.Naming.{name_at}
+use Rattle.dds_weights.specs.Naming.{name_at}
 use Rattle.dds_show.specs.Reasons.{reason_words}
 use Rattle.dds_answers.specs.Matches.{is_as_intended}
 

@@ -3,7 +3,7 @@ ghost use Rattle.std.specs.Prelude.{◌≡◌, IfErr, IfOk, false, map, option_m
 ghost use Rattle.serde_json.specs.Data.{array};
 ghost use Rattle.serde_json.specs.View.{items_of, view};
 ghost use Rattle.serde_json.specs.Written.{has_float};
-ghost use Rattle.dds_cert.specs.Views.{certificate_view};
+ghost use Rattle.dds_weights.specs.Views.{certificate_view};
 ghost use Rattle.dds_answers.specs.Answers.{Gives};
 ghost use Rattle.dds_answers.specs.Fault.{IsAnswerFault};
 ghost use Rattle.dds_answers.specs.Outcome.{outcome, told};
@@ -18,11 +18,11 @@ ghost use Rattle.dds_json.specs.Line.{line_of};
 use crate::line::line_of;
 use dds_answers::{Answer, Detail, Report, ToolFault, answered, because_text, detailed_check};
 use dds_base::{KeyNo, NoMemory, ReaderNo, WriterNo};
-use dds_cert::naming::{name_at, reader_key, row_name, writer_key};
-use dds_cert::{Bound, Certificate, Total};
 use dds_check::{No, Subject};
-use dds_deploy::Deployment;
 use dds_events::rule_text;
+use dds_lists::Deployment;
+use dds_weights::naming::{name_at, reader_key, row_name, writer_key};
+use dds_weights::{Bound, Certificate, Total};
 use serde_json::{Value, json};
 use std::alloc::Global;
 

@@ -13,9 +13,9 @@ ghost use Rattle.dds_json.specs.Matching.{answer_word, match_document, named_pai
 use crate::line::line_of;
 use dds_answers::{Answer, ToolFault, answered, is_as_intended, read_plan};
 use dds_base::{NoMemory, ReaderNo, WriterNo};
-use dds_cert::naming::name_at;
 use dds_match::{Plan, WhyNot};
 use dds_show::reasons::reason_text;
+use dds_weights::naming::name_at;
 use serde_json::{Value, json};
 use std::alloc::Global;
 

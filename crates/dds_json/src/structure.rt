@@ -6,9 +6,9 @@ ghost use Rattle.dds_json.specs.Checking.{refusal_document};
 
 use crate::checking::refusal_document;
 use dds_base::NoMemory;
-use dds_cert::Certificate;
 use dds_check::No;
-use dds_deploy::Deployment;
+use dds_lists::Deployment;
+use dds_weights::Certificate;
 use serde_json::Value;
 use std::alloc::Global;
 

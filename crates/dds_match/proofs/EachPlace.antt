@@ -5,8 +5,8 @@ use Rattle.std.specs.List.{range_with_len}
 use Rattle.std.specs.Option.{option_map_or}
 use Rattle.std.proofs.lemmas.Bool.{and_parts, cases_lt, eqb-true, false_from_ne_true, false≢true, ltb-true}
 use Rattle.std.proofs.lemmas.Option.{slice_get_past}
-use Rattle.dds_deploy.specs.Lists.{Lists, Reader, Writer}
-use Rattle.dds_deploy.specs.WellFormed.{IsReaderOf, IsWellFormed, IsWriterOf}
+use Rattle.dds_lists.specs.Lists.{Lists, Reader, Writer}
+use Rattle.dds_lists.specs.WellFormed.{IsReaderOf, IsWellFormed, IsWriterOf}
 use Rattle.dds_match.specs.Network.{matched_readers, matched_writers}
 use Rattle.dds_match.specs.Neighbours.{ShowsEach, list_at}
 use Rattle.dds_match.specs.Plan.{is_reader_of, is_writer_of, matched, network_of, participant_readers, participant_writers}

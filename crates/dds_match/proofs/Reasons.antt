@@ -1,7 +1,7 @@
 -- The reasons of all pairs, place by place.
 use Rattle.std.proofs.Common.{◌≡◌, ℕ, ◌+◌, ◌*◌, ◌/◌, ◌%◌, ◌<◌, ◌≤◌, List, [], ◌∷◌, ◌++◌, length, get_or, Option, None, ◌∙◌, ap, arith, below_more}
 use Rattle.std.proofs.lemmas.List.{get_or_append_left, get_or_push}
-use Rattle.dds_deploy.specs.Lists.{Lists}
+use Rattle.dds_lists.specs.Lists.{Lists}
 use Rattle.dds_match.specs.Matching.{why_not}
 use Rattle.dds_match.specs.Tables.{reason_at}
 use Rattle.dds_match.specs.declared.matching.WhyNot.{WhyNot}

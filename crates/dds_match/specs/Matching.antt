@@ -1,7 +1,7 @@
 -- Why a writer and a reader do not match (OMG DDS 1.4, clause 2.2.3).
 use Rattle.std.specs.Prelude.{ℕ, not, ◌==◌, Option, Some, None, option_map, option_and_then, unwrap_or, slice_get, if◌then◌else◌}
 use Rattle.dds_qos.specs.Compatibility.{incompatible, is_empty}
-use Rattle.dds_deploy.specs.Lists.{Participant, Writer, Reader, Lists}
+use Rattle.dds_lists.specs.Lists.{Participant, Writer, Reader, Lists}
 use Rattle.dds_match.specs.Partitions.{lists_match}
 use Rattle.dds_match.specs.declared.matching.WhyNot.{WhyNot}
 use Rattle.dds_match.specs.declared.matching.WhyNot.TheVariants.{OtherDomain, OtherTopic, Partitions, Policies}

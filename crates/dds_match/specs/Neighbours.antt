@@ -2,7 +2,7 @@
 use Rattle.std.specs.Prelude.{◌≡◌, ℕ, List, [], slice_get}
 use Rattle.std.specs.Option.{option_map_or}
 use Rattle.std.specs.declared.vec.Vec.{Vec}
-use Rattle.dds_deploy.specs.Lists.{Lists}
+use Rattle.dds_lists.specs.Lists.{Lists}
 use Rattle.dds_match.specs.declared.neighbours.Neighbours.{Neighbours}
 use Rattle.dds_match.specs.Network.{matched_readers, matched_writers}
 use Rattle.dds_match.specs.Plan.{network_of, participant_readers, participant_writers}

@@ -5,7 +5,7 @@ use Rattle.dds_base.specs.Sums.{In, any_below}
 use Rattle.dds_base.specs.declared.portion.Portion.{Portion}
 use Rattle.dds_qos.specs.declared.limits.ReaderLimits.{ReaderLimits}
 use Rattle.dds_qos.specs.declared.limits.WriterLimits.{WriterLimits}
-use Rattle.dds_deploy.specs.Lists.{Rule}
+use Rattle.dds_lists.specs.Lists.{Rule}
 
 -- a function of a writer and a reader has the writer first
 pub record Network : Type 0 where

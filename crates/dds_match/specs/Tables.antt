@@ -1,7 +1,7 @@
 -- What the tables of a plan hold.
 use Rattle.std.specs.Prelude.{◌≡◌, ℕ, ◌+◌, ◌*◌, ◌<◌, Bool, List, Option, None, length}
 use Rattle.std.specs.List.{slice_index_or}
-use Rattle.dds_deploy.specs.Lists.{Lists}
+use Rattle.dds_lists.specs.Lists.{Lists}
 use Rattle.dds_match.specs.declared.matching.WhyNot.{WhyNot}
 use Rattle.dds_match.specs.declared.tables.Tables.{Tables}
 use Rattle.dds_match.specs.Marks.{is_marked}

@@ -1,11 +1,11 @@
 //! Whether a writer and a reader match (OMG DDS 1.4, clause 2.2.3).
 ghost use Rattle.std.specs.Prelude.{◌≡◌, ◌<◌, length};
-ghost use Rattle.dds_deploy.specs.WellFormed.{IsWellFormed};
+ghost use Rattle.dds_lists.specs.WellFormed.{IsWellFormed};
 ghost use Rattle.dds_match.specs.Matching.{reason, why_not};
 
 use crate::partitions::lists_match;
 use dds_base::{ReaderNo, WriterNo};
-use dds_deploy::Deployment;
+use dds_lists::Deployment;
 use dds_qos::{PolicySet, incompatible};
 
 /// Why a writer and a reader do not match, the first reason in this order.

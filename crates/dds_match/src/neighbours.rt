@@ -1,6 +1,6 @@
 //! The endpoints that match each endpoint, and the endpoints of each participant, listed once.
 ghost use Rattle.std.specs.Prelude.{◌≡◌, ◌++◌, ◌∷◌, [], if◌then◌else◌, IfOk};
-ghost use Rattle.dds_deploy.specs.WellFormed.{IsWellFormed};
+ghost use Rattle.dds_lists.specs.WellFormed.{IsWellFormed};
 ghost use Rattle.dds_match.specs.Neighbours.{ShowsEach, ShowsNeighbours, list_at};
 ghost use Rattle.dds_match.specs.Network.{matched_readers, matched_writers};
 ghost use Rattle.dds_match.specs.Plan.{network_of, participant_readers, participant_writers};
@@ -9,7 +9,7 @@ ghost use Rattle.dds_match.specs.Tables.{ShowsReasons};
 use crate::matching::WhyNot;
 use crate::tables::is_matched;
 use dds_base::{NoMemory, ParticipantNo, ReaderNo, WriterNo};
-use dds_deploy::Deployment;
+use dds_lists::Deployment;
 use std::alloc::Global;
 
 /// Lists of endpoints, each in file order.

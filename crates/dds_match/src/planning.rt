@@ -4,7 +4,7 @@ ghost use Rattle.std.specs.Prelude.{◌≡◌, IfOk, IfErr};
 use crate::plan::Plan;
 use crate::tables::Tables;
 use dds_base::NoMemory;
-use dds_deploy::Deployment;
+use dds_lists::Deployment;
 use std::alloc::Global;
 
 /// The plan of a deployment, with its tables filled. Where memory runs out, the deployment comes back as it was.

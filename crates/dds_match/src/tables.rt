@@ -1,8 +1,8 @@
 //! The tables of a plan, filled once, so that each question is answered by one look.
 ghost use Rattle.std.specs.Prelude.{◌≡◌, ◌+◌, ◌*◌, ◌<◌, ◌==◌, ◌&&◌, All, length, IfOk};
 ghost use Rattle.std.specs.List.{list_any};
-ghost use Rattle.dds_deploy.specs.Views.{rule_view};
-ghost use Rattle.dds_deploy.specs.WellFormed.{IsWellFormed};
+ghost use Rattle.dds_lists.specs.Views.{rule_view};
+ghost use Rattle.dds_lists.specs.WellFormed.{IsWellFormed};
 ghost use Rattle.dds_match.specs.Marks.{AddsMarks};
 ghost use Rattle.dds_match.specs.Matching.{why_not};
 ghost use Rattle.dds_match.specs.Network.{is_named, is_written, reach};
@@ -13,7 +13,7 @@ use crate::key_table::KeyTable;
 use crate::matching::{WhyNot, why_not_by_lists};
 use crate::neighbours::Neighbours;
 use dds_base::{KeyNo, NoMemory, Portion, ReaderNo, RuleNo, WriterNo};
-use dds_deploy::{Deployment, Rule};
+use dds_lists::{Deployment, Rule};
 use std::alloc::Global;
 
 /// The most readers that a deployment has: a row of the reasons has a place for each.

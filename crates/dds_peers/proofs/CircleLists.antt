@@ -4,8 +4,8 @@ use Rattle.std.specs.List.{flat_map, list_any, range_with_len}
 use Rattle.std.proofs.lemmas.List.{append-nil, flat_map_more, map_push}
 use Rattle.std.proofs.lemmas.List.Folds.{list_any_at, list_any_more}
 use Rattle.std.proofs.lemmas.Option.{get_or_from_slice_get, slice_get_within}
-use Rattle.dds_deploy.specs.Lists.{Application, Lists, Reader, readers_at, writers_at}
-use Rattle.dds_deploy.specs.WellFormed.{filter_at}
+use Rattle.dds_lists.specs.Lists.{Application, Lists, Reader, readers_at, writers_at}
+use Rattle.dds_lists.specs.WellFormed.{filter_at}
 use Rattle.dds_base.proofs.Lists.{kept_push}
 
 -- the number passes

@@ -3,8 +3,8 @@ use Rattle.std.specs.Prelude.{ℕ, ◌≡◌, ◌-◌, Bool, true, false, nat_lt
 use Rattle.std.specs.List.{filter, list_any, range_with_len}
 use Rattle.std.specs.Int.{to_be_bytes, w64}
 use Rattle.std.specs.Option.{option_map_or}
-use Rattle.dds_deploy.specs.Lists.{Lists, Rule, keys_at, has, reader_topic, readers_at, writer_topic, writers_at}
-use Rattle.dds_deploy.specs.WellFormed.{filter_at}
+use Rattle.dds_lists.specs.Lists.{Lists, Rule, keys_at, has, reader_topic, readers_at, writer_topic, writers_at}
+use Rattle.dds_lists.specs.WellFormed.{filter_at}
 use Rattle.dds_base.specs.declared.events.Event.{Event}
 use Rattle.dds_base.specs.declared.events.Event.TheVariants.{Take as take_event, Fire as fire_event, Write as write_event}
 use Rattle.dds_base.specs.declared.events.Reply.{Reply}

@@ -4,7 +4,7 @@ ghost use Rattle.std.specs.List.{list_any};
 ghost use Rattle.dds_peers.specs.Steady.{all_firings, all_takes, all_writes, is_fired, is_written, takes_of, writes_of};
 
 use dds_base::{AppNo, KeyNo, NoMemory, Portion, ReaderNo, RuleNo, WriterNo};
-use dds_deploy::Deployment;
+use dds_lists::Deployment;
 
 /// One thing that an application may do.
 #[derive(Clone, Copy, Debug, PartialEq, Eq)]

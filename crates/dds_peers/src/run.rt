@@ -87,7 +87,7 @@ fn carriers_of<N: Name>(alloc: Global, seats: Vec<Seat<N>>) -> Result<Vec<Carrie
 }
 
 // The book of a kit, the seats of the applications, and the participants with theirs.
-fn opened<N: Name>(
+fn open_book<N: Name>(
     alloc: Global,
     kit: Kit,
     apps: usize,
@@ -212,7 +212,7 @@ fn perform<A: App + Send, N: Name + Send + Sync, R: Threads + Wait + Clock + Syn
 {
     let fresh = are_fresh(apps.as_slice());
     let number = apps.len();
-    let Ok((book, seats, carriers)) = opened::<N>(alloc, kit, number) else {
+    let Ok((book, seats, carriers)) = open_book::<N>(alloc, kit, number) else {
         return Err(RunFault::NoMemory);
     };
     let Ok(rooms) = rooms_for(alloc, number, carriers.len()) else {

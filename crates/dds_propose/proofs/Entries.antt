@@ -4,7 +4,7 @@ use Rattle.std.specs.List.{range_with_len}
 use Rattle.std.proofs.lemmas.Grind.{flat_map-append}
 use Rattle.std.proofs.lemmas.Bool.{eq-eqb, ne_eqb}
 use Rattle.dds_base.proofs.Ranges.{range_push}
-use Rattle.dds_cert.specs.declared.certificate.Weight.{Weight}
+use Rattle.dds_weights.specs.declared.certificate.Weight.{Weight}
 use Rattle.dds_propose.specs.Listing.{entry}
 
 -- what the numbers below n + 1 give

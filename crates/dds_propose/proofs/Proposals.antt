@@ -2,11 +2,11 @@
 use Rattle.std.proofs.Common.{ℕ, ◌≡◌, ◌+◌, ◌<◌, ◌≤◌, List, [], ◌∷◌, ◌++◌, map, length, get_or, drop, refl, sym, ap, ◌∙◌, subst}
 use Rattle.std.proofs.lemmas.List.{map_push, length-map, drop_more, drop_all}
 use Rattle.dds_match.specs.Network.{Network}
-use Rattle.dds_cert.specs.Lists.{Certificate}
-use Rattle.dds_cert.specs.declared.certificate.Bound.{Bound}
-use Rattle.dds_cert.specs.declared.certificate.Total.{Total}
-use Rattle.dds_cert.specs.declared.certificate.Row.{Row as CodeRow}
-use Rattle.dds_cert.specs.Views.{row_view}
+use Rattle.dds_weights.specs.Lists.{Certificate}
+use Rattle.dds_weights.specs.declared.certificate.Bound.{Bound}
+use Rattle.dds_weights.specs.declared.certificate.Total.{Total}
+use Rattle.dds_weights.specs.declared.certificate.Row.{Row as CodeRow}
+use Rattle.dds_weights.specs.Views.{row_view}
 use Rattle.dds_runs.specs.Accepted.{Row}
 use Rattle.dds_propose.specs.declared.targets.Target.{Target}
 use Rattle.dds_propose.specs.Proposal.{AddsTarget, AddsTargets, bound_entry, no_rows, total_entry, with_target}

@@ -6,8 +6,8 @@ use Rattle.std.proofs.lemmas.Bool.{lt-ltb, le-ltb, or_parts}
 use Rattle.std.proofs.lemmas.Option.{none-some, same_Some}
 use Rattle.dds_base.specs.Sums.{In}
 use Rattle.dds_base.specs.declared.portion.Portion.{Portion}
-use Rattle.dds_deploy.specs.Lists.{Lists}
-use Rattle.dds_deploy.specs.WellFormed.{IsWellFormed}
+use Rattle.dds_lists.specs.Lists.{Lists}
+use Rattle.dds_lists.specs.WellFormed.{IsWellFormed}
 use Rattle.dds_match.specs.Network.{Network, IsNetwork, weighed}
 use Rattle.dds_match.specs.Plan.{network_of}
 use Rattle.dds_propose.specs.declared.weights.Weights.{Weights}

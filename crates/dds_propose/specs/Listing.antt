@@ -3,8 +3,8 @@ use Rattle.std.specs.Prelude.{ℕ, List, [], ◌∷◌, ◌++◌, ◌==◌, code
 use Rattle.std.specs.Fmt.{decimal}
 use Rattle.std.specs.List.{range_with_len}
 use Rattle.dds_match.specs.Network.{Network}
-use Rattle.dds_cert.specs.declared.certificate.Weight.{Weight}
-use Rattle.dds_cert.specs.Lists as lists
+use Rattle.dds_weights.specs.declared.certificate.Weight.{Weight}
+use Rattle.dds_weights.specs.Lists as lists
 use Rattle.dds_runs.specs.Accepted.{Row}
 
 -- the entry of a key, none of weight 0

@@ -1,9 +1,9 @@
 -- The certificate that the rounds give: a row and a bound for each target, in order.
 use Rattle.std.specs.Prelude.{ℕ, ◌≡◌, List, [], ◌∷◌, ◌++◌, length, Some}
 use Rattle.dds_match.specs.Network.{Network}
-use Rattle.dds_cert.specs.Lists.{Certificate}
-use Rattle.dds_cert.specs.declared.certificate.Bound.{Bound}
-use Rattle.dds_cert.specs.declared.certificate.Total.{Total}
+use Rattle.dds_weights.specs.Lists.{Certificate}
+use Rattle.dds_weights.specs.declared.certificate.Bound.{Bound}
+use Rattle.dds_weights.specs.declared.certificate.Total.{Total}
 use Rattle.dds_runs.specs.Accepted.{Row}
 use Rattle.dds_propose.specs.declared.targets.Target.{Target}
 use Rattle.dds_propose.specs.declared.targets.Target.TheVariants.{Instance, Reader}

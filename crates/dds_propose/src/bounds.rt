@@ -1,7 +1,7 @@
 //! The bound that a row shows.
 ghost use Rattle.std.specs.Prelude.{◌≡◌, ◌<◌, ◌≤◌, ◌*◌, ◌^◌, length, min};
 ghost use Rattle.std.specs.Option.{option_map_or};
-ghost use Rattle.dds_deploy.specs.Views.{rule_view};
+ghost use Rattle.dds_lists.specs.Views.{rule_view};
 ghost use Rattle.dds_match.specs.Network.{weighed};
 ghost use Rattle.dds_match.specs.Plan.{network_of};
 ghost use Rattle.dds_runs.specs.Accepted.{budget};
@@ -12,7 +12,7 @@ use crate::targets::Target;
 use crate::weights::Weights;
 use dds_base::grid::KEYS;
 use dds_base::{KeyNo, RuleNo};
-use dds_deploy::Rule;
+use dds_lists::Rule;
 use dds_match::Plan;
 
 /// A rule, which writes at most 16 keys.

@@ -1,15 +1,15 @@
 //! The lists of a certificate from tables.
 ghost use Rattle.std.specs.Prelude.{◌≡◌, ◌++◌, IfOk};
 ghost use Rattle.dds_match.specs.Plan.{network_of};
-ghost use Rattle.dds_cert.specs.Views.{row_view};
+ghost use Rattle.dds_weights.specs.Views.{row_view};
 ghost use Rattle.dds_propose.specs.Listing.{entries, entries_of, listed};
 ghost use Rattle.dds_propose.specs.Tables.{cell, row_of};
 
 use crate::weights::{Table, Weights};
 use dds_base::grid::KEYS;
 use dds_base::{Endpoint, KeyNo, NoMemory, ReaderNo, WriterNo};
-use dds_cert::{Row, Weight};
 use dds_match::Plan;
+use dds_weights::{Row, Weight};
 use std::alloc::Global;
 
 /// Adds the weights of an endpoint's keys, in the order of the topic, without zeros.

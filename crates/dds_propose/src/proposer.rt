@@ -1,8 +1,8 @@
 //! Proposes a certificate of a plan.
 ghost use Rattle.std.specs.Prelude.{◌≡◌, ◌++◌, true, None, IfOk, IfSome};
 ghost use Rattle.dds_match.specs.Plan.{network_of};
-ghost use Rattle.dds_cert.specs.Fits.{fits};
-ghost use Rattle.dds_cert.specs.Views.{certificate_view};
+ghost use Rattle.dds_weights.specs.Fits.{fits};
+ghost use Rattle.dds_weights.specs.Views.{certificate_view};
 ghost use Rattle.dds_runs.specs.Accepted.{Accepted, certificate_of};
 ghost use Rattle.dds_check.specs.Accepts.{first_no};
 ghost use Rattle.dds_runs.specs.Certified.{Safe};
@@ -14,9 +14,9 @@ use crate::listing::listed_row;
 use crate::rounds::row_weights;
 use crate::targets::{Target, targets};
 use dds_base::NoMemory;
-use dds_cert::{Bound, Certificate, Total};
 use dds_check::accepts::accepts;
 use dds_match::Plan;
+use dds_weights::{Bound, Certificate, Total};
 use std::alloc::Global;
 
 /// The most rows that a certificate has.

@@ -1,8 +1,8 @@
 //! The rounds that raise the weights of a row until no event can raise its sum.
 ghost use Rattle.std.specs.Prelude.{◌≡◌, ◌<◌, ◌≤◌, ℕ, true, false, All, List, [], ◌∷◌, IfOk, IfSome};
 ghost use Rattle.dds_base.specs.declared.portion.Portion.{Portion};
-ghost use Rattle.dds_deploy.specs.Views.{rule_view};
-ghost use Rattle.dds_deploy.specs.WellFormed.{IsCounted};
+ghost use Rattle.dds_lists.specs.Views.{rule_view};
+ghost use Rattle.dds_lists.specs.WellFormed.{IsCounted};
 ghost use Rattle.dds_match.specs.Network.{weighed};
 ghost use Rattle.dds_match.specs.Plan.{network_of};
 ghost use Rattle.dds_propose.specs.Following.{IsMade, IsNeed, IsRisenHeard, IsRound, RaisesPermits, Follows};
@@ -15,7 +15,7 @@ use crate::targets::Target;
 use crate::weights::Weights;
 use dds_base::grid::KEYS;
 use dds_base::{KeyNo, NoMemory, ReaderNo, RuleNo, WriterNo};
-use dds_deploy::Rule;
+use dds_lists::Rule;
 use dds_match::Plan;
 use std::alloc::Global;
 

@@ -28,7 +28,10 @@ impl Numbered for WriterProxy {
 }
 
 // The notes of writers of which nothing is heard.
-pub(crate) fn opened(alloc: Global, writers: &[WriterNo]) -> Result<Vec<WriterProxy>, NoMemory>
+pub(crate) fn open_proxies(
+    alloc: Global,
+    writers: &[WriterNo],
+) -> Result<Vec<WriterProxy>, NoMemory>
     ensures { IfOk result (λ v. v.items ≡ opened writers.now) }
 {
     let mut proxies = Vec::with_capacity(alloc, writers.len())?;

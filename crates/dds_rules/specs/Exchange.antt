@@ -1,7 +1,7 @@
 -- What a rule takes and what it writes, and what that asks of counts.
 use Rattle.std.specs.Prelude.{◌≡◌, ℕ, ◌+◌, ◌^◌, ◌<◌, Bool, ◌||◌, nat_lt, nat_le, List, All}
 use Rattle.dds_base.specs.declared.portion.Portion.{Portion}
-use Rattle.dds_deploy.specs.Lists.{Rule}
+use Rattle.dds_lists.specs.Lists.{Rule}
 use Rattle.dds_match.specs.Network.{named}
 use Rattle.dds_runs.specs.Steps.{any_entry, is_empty}
 

@@ -1,14 +1,14 @@
 //! What a rule takes and what it writes, and what it changes in the counts.
 ghost use Rattle.std.specs.Prelude.{◌≡◌, ℕ, ◌+◌, ◌*◌, ◌<◌, ◌≤◌, ◌^◌, All, nat_lt, nat_le, IfOk};
 ghost use Rattle.std.specs.List.{list_any};
-ghost use Rattle.dds_deploy.specs.Views.{rule_view};
+ghost use Rattle.dds_lists.specs.Views.{rule_view};
 ghost use Rattle.dds_match.specs.Network.{named};
 ghost use Rattle.dds_rules.specs.Counts.{IsMoreBy, count_at};
 ghost use Rattle.dds_rules.specs.Exchange.{HasPlace, IsAlone, IsPlaced, exchange_of, lacks_room, lacks_takes};
 
 use crate::counts::Counts;
 use dds_base::{NoMemory, Portion, ReaderNo, WriterNo};
-use dds_deploy::Rule;
+use dds_lists::Rule;
 use std::alloc::Global;
 use std::marker::Model;
 

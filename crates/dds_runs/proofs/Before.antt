@@ -4,7 +4,7 @@ use Rattle.std.specs.Prelude.{slice_get, unwrap_or}
 use Rattle.std.specs.Option.{option_map_or}
 use Rattle.dds_base.specs.Sums.{any_below}
 use Rattle.dds_qos.specs.Profile.{is_best_effort}
-use Rattle.dds_deploy.specs.Lists.{Lists, Reader, Rule}
+use Rattle.dds_lists.specs.Lists.{Lists, Reader, Rule}
 use Rattle.dds_match.specs.Network.{Network, is_named}
 use Rattle.dds_match.specs.Plan.{network_of, rule_of, no_rule, frees}
 use Rattle.dds_match.proofs.Known.{all_at}

@@ -11,7 +11,7 @@ use Rattle.dds_qos.specs.Admission.{is_reached, is_one_too_many}
 use Rattle.dds_qos.specs.Profile.{is_best_effort}
 use Rattle.dds_qos.specs.Samples.{in_instance}
 use Rattle.dds_qos.specs.Writing.{is_awaited, is_last, gap_of}
-use Rattle.dds_deploy.specs.Lists.{Lists, Reader, Rule}
+use Rattle.dds_lists.specs.Lists.{Lists, Reader, Rule}
 use Rattle.dds_match.specs.Network.{Network}
 use Rattle.dds_match.specs.Plan.{network_of}
 use Rattle.dds_runs.specs.World.{World, Sample, given, permits, count_key, history, bases, kept, is_kept, is_written, is_dropped, is_at_hand, is_relevant, written_keys}

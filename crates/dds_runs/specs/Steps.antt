@@ -18,7 +18,7 @@ pub use Rattle.dds_qos.specs.Taking.{available_of, IsLeastOfWriter}
 pub use Rattle.dds_qos.specs.Reading.{lost_or_heard, marks_it, new_by_gap, new_by_heartbeat, gap_arrival, heartbeat_arrival, is_repeat, data_arrival, heard_after, missing_of}
 pub use Rattle.dds_qos.specs.Writing.{write_refusal, gap_of, heartbeat_of, counts_ack, base_after}
 use Rattle.dds_match.specs.Network.{Network, follows, named}
-use Rattle.dds_deploy.specs.Lists.{Rule}
+use Rattle.dds_lists.specs.Lists.{Rule}
 use Rattle.dds_base.specs.declared.portion.Portion.{Portion}
 use Rattle.dds_runs.specs.World.{World, Sample, Packet, entry_at, has_key, permits, spare, kept, is_kept, is_pending, is_at_hand, written_keys, marked, base, stored, known_keys, is_relevant, is_offered}
 

@@ -1,8 +1,8 @@
 //! What a search answers.
 
-use dds_cert::Certificate;
 use dds_check::No;
 use dds_propose::targets::Target;
+use dds_weights::Certificate;
 
 /// What is known of the bounds that weights show for a key of a reader, or for all its samples.
 #[derive(Clone, Copy, Debug, PartialEq, Eq)]

@@ -9,8 +9,8 @@ use crate::places::Place;
 use crate::rows::Entry;
 use crate::weights::{WeighedRow, permit};
 use dds_base::{NoMemory, ReaderNo, WriterNo};
-use dds_cert::{Bound, Certificate, Row, Total, Weight};
 use dds_propose::targets::Target;
+use dds_weights::{Bound, Certificate, Row, Total, Weight};
 use std::alloc::Global;
 
 /// What a place's tokens weigh, listed where that is above 0.

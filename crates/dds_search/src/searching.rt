@@ -1,9 +1,9 @@
 //! Looks for a certificate of a plan.
 ghost use Rattle.std.specs.Prelude.{◌≡◌, ◌≢◌, true, Some, None, IfOk, IfSome};
 ghost use Rattle.dds_match.specs.Plan.{network_of};
-ghost use Rattle.dds_cert.specs.Lists.{Certificate as CertificateLists};
-ghost use Rattle.dds_cert.specs.Fits.{fits};
-ghost use Rattle.dds_cert.specs.Views.{certificate_view};
+ghost use Rattle.dds_weights.specs.Lists.{Certificate as CertificateLists};
+ghost use Rattle.dds_weights.specs.Fits.{fits};
+ghost use Rattle.dds_weights.specs.Views.{certificate_view};
 ghost use Rattle.dds_runs.specs.Accepted.{Accepted, certificate_of};
 ghost use Rattle.dds_check.specs.Accepts.{first_no};
 ghost use Rattle.dds_claims.specs.Claims.{structure_no};
@@ -19,11 +19,11 @@ use crate::net::Net;
 use crate::rows::cover;
 use crate::weights::WeighedRow;
 use dds_base::NoMemory;
-use dds_cert::Certificate;
 use dds_check::accepts::accepts;
 use dds_claims::{shows, structure_no};
 use dds_match::Plan;
 use dds_propose::targets::Target;
+use dds_weights::Certificate;
 use std::alloc::Global;
 
 /// The certificate, where it is accepted.

@@ -1,8 +1,8 @@
 //! The least bounds that weights show: how much room each reader needs.
 ghost use Rattle.std.specs.Prelude.{◌≡◌, true, IfOk, IfSome};
 ghost use Rattle.dds_match.specs.Plan.{network_of};
-ghost use Rattle.dds_cert.specs.Fits.{fits};
-ghost use Rattle.dds_cert.specs.Views.{certificate_view};
+ghost use Rattle.dds_weights.specs.Fits.{fits};
+ghost use Rattle.dds_weights.specs.Views.{certificate_view};
 ghost use Rattle.dds_runs.specs.Accepted.{certificate_of};
 ghost use Rattle.dds_claims.specs.Claims.{IsShown};
 ghost use Rattle.dds_search.specs.Sizes.{AreSizes, IsShownSize, claims, claims_all, claims_bound, has_bound, has_total};
@@ -19,10 +19,10 @@ use crate::searching::least_of;
 use crate::targets::every_target;
 use crate::totals::sum_of;
 use dds_base::{KeyNo, NoMemory, ReaderNo};
-use dds_cert::Certificate;
 use dds_claims::shows;
 use dds_match::Plan;
 use dds_propose::targets::Target;
+use dds_weights::Certificate;
 use std::alloc::Global;
 
 /// A key of a reader, or the samples of a reader together, and the least bound that one row of weights shows for it.

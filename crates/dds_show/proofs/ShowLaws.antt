@@ -4,8 +4,8 @@ use Rattle.std.specs.List.{range_with_len}
 use Rattle.std.specs.Option.{option_map_or}
 use Rattle.std.proofs.lemmas.Grind.{flat_map-append}
 use Rattle.dds_base.proofs.Ranges.{range_push}
-use Rattle.dds_cert.specs.Text.{each_below}
-use Rattle.dds_cert.proofs.TextLaws.{and_next}
+use Rattle.dds_weights.specs.Text.{each_below}
+use Rattle.dds_weights.proofs.TextLaws.{and_next}
 
 those_more : {X : Type 0} (f : ℕ → List X) (n : ℕ) → flat_map f (range_with_len 0 (n + 1)) ≡ flat_map f (range_with_len 0 n) ++ f n
 those_more f n = ap (flat_map f) (range_push n) ∙ (flat_map-append f (range_with_len 0 n) (n ∷ []) ∙ ap (λ xs. flat_map f (range_with_len 0 n) ++ xs) (append-nil (f n)))

@@ -3,9 +3,9 @@ use Rattle.std.specs.Prelude.{codes, ℕ, List, [], ◌∷◌, ◌++◌, flat_ma
 use Rattle.std.specs.List.{range_with_len}
 use Rattle.std.specs.Option.{option_map_or}
 use Rattle.dds_base.specs.Pairs.{stands}
-use Rattle.dds_deploy.specs.Lists.{Lists}
-use Rattle.dds_cert.specs.Naming.{name_at}
-use Rattle.dds_cert.specs.Text.{each_below}
+use Rattle.dds_lists.specs.Lists.{Lists}
+use Rattle.dds_weights.specs.Naming.{name_at}
+use Rattle.dds_weights.specs.Text.{each_below}
 use Rattle.dds_show.specs.Entries.{application_entry, connection_entry, participant_entry, reader_entry, rule_entry, topic_entry, writer_entry}
 use Rattle.dds_show.specs.Pieces.{line_start}
 

@@ -1,8 +1,8 @@
 -- Pieces of a deployment's JSON. Names and partitions have no byte that JSON escapes.
 use Rattle.std.specs.Prelude.{codes, ℕ, List, [], ◌++◌, ◌==◌, Bool, Option, Some, None, length, if◌then◌else◌}
 use Rattle.std.specs.Fmt.{decimal}
-use Rattle.dds_cert.specs.Naming.{name_at}
-use Rattle.dds_cert.specs.Text.{each_below}
+use Rattle.dds_weights.specs.Naming.{name_at}
+use Rattle.dds_weights.specs.Text.{each_below}
 use Rattle.dds_qos.specs.declared.policies.Duration.{Duration}
 use Rattle.dds_qos.specs.declared.policies.Duration.TheVariants.{Nanoseconds, Infinite}
 

@@ -1,13 +1,13 @@
 //! Pieces of a deployment's JSON. Names and partitions have no byte that JSON escapes.
 ghost use Rattle.std.specs.Prelude.{◌≡◌, ◌++◌, ◌<◌, ℕ, List, IfOk, map, string_bytes};
-ghost use Rattle.dds_cert.specs.Text.{each_below};
+ghost use Rattle.dds_weights.specs.Text.{each_below};
 ghost use Rattle.dds_show.specs.Pieces.{comma, duration_text, flag_word, limit_text, line_start, name_items, quoted};
 ghost use Rattle.dds_show.specs.Pieces.{start_of};
 
 use crate::texts::{TextResult, number_or, start_of, text_below};
 use dds_base::Names;
-use dds_cert::naming::name_at;
 use dds_qos::Duration;
+use dds_weights::naming::name_at;
 use std::alloc::Global;
 
 /// The items below `n`, with `first` before the first and `next` before each other.

@@ -19,7 +19,7 @@ pub struct Line {
 }
 
 /// `number * own + added * part`, where it fits.
-fn mixed(number: i128, own: i128, added: i128, part: i128) -> Option<i128>
+fn mix_number(number: i128, own: i128, added: i128, part: i128) -> Option<i128>
     ensures { IfSome result (λ m. m ≡ number *ℤ own +ℤ added *ℤ part) }
 {
     let kept = number.checked_mul(own)?;
@@ -52,7 +52,7 @@ fn mix_numbers(numbers: &mut Vec<i128>, own: i128, other: &[i128], part: i128) -
     for i in 0..numbers.len() {
         let added = number_at(other, i);
         if let Some(number) = numbers.get_mut(i) {
-            *number = mixed(*number, own, added, part)?;
+            *number = mix_number(*number, own, added, part)?;
         }
     }
     Some(())
@@ -153,7 +153,7 @@ impl Line {
         ensures columns { vec_len self.new.numbers ≡ vec_len self.old.numbers }
         ensures mixed { IfSome result (λ _. IsMixed own self.old part other.now den self.new) }
     {
-        self.constant = mixed(self.constant, own, other.constant, part)?;
+        self.constant = mix_number(self.constant, own, other.constant, part)?;
         mix_numbers(&mut self.numbers, own, &other.numbers, part)?;
         self.den = den;
         self.reduce()

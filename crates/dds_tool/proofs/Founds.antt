@@ -1,9 +1,9 @@
 -- What a search ends with that found a certificate.
 use Rattle.std.proofs.Common.{◌≡◌, ◌≤◌, ℕ, false, true, None, Some, Result, Ok, Err, IfOk, IsOk, OnOk, String, Global, List, inr, length, refl, string_bytes, subst}
-use Rattle.dds_deploy.specs.Lists.{Lists}
+use Rattle.dds_lists.specs.Lists.{Lists}
 use Rattle.dds_match.specs.Plan.{network_of}
-use Rattle.dds_cert.specs.Fits.{fits}
-use Rattle.dds_cert.specs.Lists.{Certificate}
+use Rattle.dds_weights.specs.Fits.{fits}
+use Rattle.dds_weights.specs.Lists.{Certificate}
 use Rattle.dds_check.specs.Accepts.{first_no}
 use Rattle.dds_answers.specs.declared.answer.Answer.{Answer}
 use Rattle.dds_answers.specs.declared.fault.ToolFault.{ToolFault}
@@ -11,7 +11,7 @@ use Rattle.dds_answers.specs.declared.fault.ToolFault.TheVariants as fault
 use Rattle.dds_answers.specs.Answers.{IsAnswer}
 use Rattle.dds_answers.specs.Outcome.{Outcome, bad_certificate, bad_deployment, bad_events, proposed, too_large, unproposed}
 use Rattle.dds_answers.specs.Report.{Ends, output_of}
-use Rattle.dds_cert_file.specs.Faults.{kind_of}
+use Rattle.dds_cert.specs.Faults.{kind_of}
 use Rattle.dds_search.specs.declared.answer.Missing.{Missing}
 use Rattle.dds_tool.specs.Missing.{IsMissingText}
 use Rattle.dds_tool.specs.Searches.{MayFind}

@@ -1,11 +1,11 @@
 -- What is given of an answer to which limits are needed.
 use Rattle.std.proofs.Common.{◌≡◌, Bool, true, false, ℕ, List, Option, Some, None, Result, Ok, Err, IfSome, IfOk, IfErr, inl, inr, option_map, refl, subst, sym, string_bytes}
-use Rattle.dds_deploy.specs.Lists.{Lists}
+use Rattle.dds_lists.specs.Lists.{Lists}
 use Rattle.dds_match.specs.Plan.{network_of}
-use Rattle.dds_cert.specs.Fits.{fits}
-use Rattle.dds_cert.specs.Text.{certificate_text}
-use Rattle.dds_cert.specs.Views.{certificate_view}
-use Rattle.dds_cert.specs.declared.certificate.Certificate.{Certificate}
+use Rattle.dds_weights.specs.Fits.{fits}
+use Rattle.dds_weights.specs.Text.{certificate_text}
+use Rattle.dds_weights.specs.Views.{certificate_view}
+use Rattle.dds_weights.specs.declared.certificate.Certificate.{Certificate}
 use Rattle.dds_runs.specs.Accepted.{certificate_of}
 use Rattle.dds_claims.specs.Claims.{IsShown}
 use Rattle.dds_search.specs.Sizes.{AreSizes, claims_all}

@@ -1,16 +1,16 @@
 -- What a refutation gives.
 use Rattle.std.proofs.Common.{false, true, Bool, ◌≡◌, ◌≢◌, Some, None, Ok, Result, IfErr, IfOk, IsOk, OnOk, String, refl, string_bytes, subst}
 use Rattle.std.specs.declared.alloc.Global.{Global}
-use Rattle.dds_deploy.specs.Lists.{Lists}
+use Rattle.dds_lists.specs.Lists.{Lists}
 use Rattle.dds_answers.specs.declared.answer.Answer.{Answer}
 use Rattle.dds_answers.specs.declared.fault.ToolFault.{ToolFault}
 use Rattle.dds_answers.specs.declared.fault.ToolFault.TheVariants as fault
 use Rattle.dds_answers.specs.Answers.{Gives, GivesOneOf}
 use Rattle.dds_answers.specs.Outcome.{said}
 use Rattle.dds_answers.proofs.FileEnds.{one_of}
-use Rattle.dds_cert.specs.Fits.{fits}
-use Rattle.dds_cert.specs.Lists.{Certificate}
-use Rattle.dds_cert.specs.Views.{certificate_view}
+use Rattle.dds_weights.specs.Fits.{fits}
+use Rattle.dds_weights.specs.Lists.{Certificate}
+use Rattle.dds_weights.specs.Views.{certificate_view}
 use Rattle.dds_match.specs.Plan.{network_of}
 use Rattle.dds_runs.specs.Accepted.{certificate_of}
 use Rattle.dds_check.specs.Accepts.{first_no}

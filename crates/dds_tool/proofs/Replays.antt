@@ -3,8 +3,8 @@ use Rattle.std.proofs.Common.{◌≡◌, ◌≤◌, ◌<◌, ◌⊎◌, ◌&&◌
 use Rattle.std.specs.Prelude.{IfErr, IfOk, IsUtf8}
 use Rattle.std.proofs.lemmas.Bool.{le-leb, lt-leb}
 use Rattle.dds_fields.specs.Reading.{Read}
-use Rattle.dds_deploy_file.specs.Document.{read}
-use Rattle.dds_deploy.specs.Lists.{Lists}
+use Rattle.dds_deploy.specs.Document.{read}
+use Rattle.dds_lists.specs.Lists.{Lists}
 use Rattle.dds_match.specs.Plan.{network_of}
 use Rattle.dds_runs.specs.Steps.{Event, Reply}
 use Rattle.dds_runs.specs.Runs.{IsRun}

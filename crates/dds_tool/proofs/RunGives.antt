@@ -4,10 +4,10 @@ use Rattle.std.specs.Result.{IsErrAnd}
 use Rattle.std.proofs.lemmas.List.{length-map}
 use Rattle.std.proofs.lemmas.List.FromFn.{length-map-range_with_len}
 use Rattle.dds_fields.specs.Reading.{Flaw}
-use Rattle.dds_deploy.specs.Lists.{Lists}
-use Rattle.dds_cert_file.specs.Faults.{kind_of}
-use Rattle.dds_cert.specs.Lists.{Certificate}
-use Rattle.dds_cert.specs.Naming.{name_at}
+use Rattle.dds_lists.specs.Lists.{Lists}
+use Rattle.dds_cert.specs.Faults.{kind_of}
+use Rattle.dds_weights.specs.Lists.{Certificate}
+use Rattle.dds_weights.specs.Naming.{name_at}
 use Rattle.dds_check.specs.declared.verdict.No.{No}
 use Rattle.dds_book.specs.declared.entry.Entry.{Entry}
 use Rattle.dds_book.specs.Journal.{IsJournal}

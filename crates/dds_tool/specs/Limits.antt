@@ -1,12 +1,12 @@
 -- What is answered to which limits a deployment needs.
 use Rattle.std.specs.Prelude.{ℕ, ◌≡◌, ◌≤◌, ◌⊎◌, Bool, true, false, List, length, Option, Some, None, IfSome, Ok, Err, codes, string_bytes}
 use Rattle.dds_fields.specs.Reading.{Read}
-use Rattle.dds_deploy.specs.Lists.{Lists}
-use Rattle.dds_deploy_file.specs.Document as deployment
+use Rattle.dds_lists.specs.Lists.{Lists}
+use Rattle.dds_deploy.specs.Document as deployment
 use Rattle.dds_match.specs.Plan.{network_of}
-use Rattle.dds_cert.specs.Fits.{fits}
-use Rattle.dds_cert.specs.Lists as lists
-use Rattle.dds_cert.specs.Text.{certificate_text}
+use Rattle.dds_weights.specs.Fits.{fits}
+use Rattle.dds_weights.specs.Lists as lists
+use Rattle.dds_weights.specs.Text.{certificate_text}
 use Rattle.dds_runs.specs.Accepted.{certificate_of}
 use Rattle.dds_claims.specs.Claims.{IsShown}
 use Rattle.dds_search.specs.Sizes.{AreSizes, claims_all}

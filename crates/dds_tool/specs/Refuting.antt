@@ -2,13 +2,13 @@
 use Rattle.std.specs.Prelude.{ℕ, ◌≡◌, ◌≢◌, Bool, true, false, List, ◌++◌, length, Some, None, Ok, Err, codes}
 use Rattle.std.specs.Fmt.{decimal}
 use Rattle.dds_fields.specs.Reading.{Read}
-use Rattle.dds_deploy.specs.Lists.{Lists}
-use Rattle.dds_deploy_file.specs.Document as deployment
+use Rattle.dds_lists.specs.Lists.{Lists}
+use Rattle.dds_deploy.specs.Document as deployment
 use Rattle.dds_match.specs.Plan.{network_of}
-use Rattle.dds_cert.specs.Fits.{fits}
-use Rattle.dds_cert.specs.Lists.{Certificate}
-use Rattle.dds_cert.specs.Naming.{name_at, reader_key}
-use Rattle.dds_cert.specs.Views.{certificate_view}
+use Rattle.dds_weights.specs.Fits.{fits}
+use Rattle.dds_weights.specs.Lists.{Certificate}
+use Rattle.dds_weights.specs.Naming.{name_at, reader_key}
+use Rattle.dds_weights.specs.Views.{certificate_view}
 use Rattle.dds_runs.specs.Accepted.{certificate_of}
 use Rattle.dds_check.specs.Accepts.{first_no}
 use Rattle.dds_runs.specs.Certified.{Safe}

@@ -1,8 +1,8 @@
 -- What is answered to events that are made again.
 use Rattle.std.specs.Prelude.{codes, ℕ, ◌≡◌, ◌⊎◌, ◌&&◌, nat_le, true, List, length, map, Ok, Err, IsUtf8, string_bytes}
 use Rattle.dds_fields.specs.Reading.{Read}
-use Rattle.dds_deploy.specs.Lists.{Lists}
-use Rattle.dds_deploy_file.specs.Document as deployment
+use Rattle.dds_lists.specs.Lists.{Lists}
+use Rattle.dds_deploy.specs.Document as deployment
 use Rattle.dds_match.specs.Plan.{network_of}
 use Rattle.dds_runs.specs.Steps.{Event, Reply}
 use Rattle.dds_runs.specs.Runs.{IsRun}

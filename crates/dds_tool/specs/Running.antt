@@ -5,9 +5,9 @@ use Rattle.std.specs.List.{count_by, list_all, range_with_len, slice_index_or}
 use Rattle.dds_base.specs.declared.events.Event.{Event}
 use Rattle.dds_base.specs.declared.events.Reply.{Reply}
 use Rattle.dds_base.specs.declared.events.Reply.TheVariants.{Took, Written}
-use Rattle.dds_deploy.specs.Lists.{Lists}
-use Rattle.dds_cert.specs.Naming.{name_at}
-use Rattle.dds_cert.specs.Text.{each_below}
+use Rattle.dds_lists.specs.Lists.{Lists}
+use Rattle.dds_weights.specs.Naming.{name_at}
+use Rattle.dds_weights.specs.Text.{each_below}
 use Rattle.dds_book.specs.declared.entry.Entry.{Entry}
 use Rattle.dds_apps.specs.declared.player.AppEnd.{AppEnd}
 use Rattle.dds_apps.specs.declared.player.AppEnd.TheVariants as end

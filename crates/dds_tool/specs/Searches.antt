@@ -1,12 +1,12 @@
 -- How a thorough search for a certificate may end.
 use Rattle.std.specs.Prelude.{ℕ, List, ◌≡◌, ◌≤◌, None, length, true}
 use Rattle.dds_fields.specs.Reading.{Read}
-use Rattle.dds_deploy.specs.Lists.{Lists}
-use Rattle.dds_deploy_file.specs.Document as deployment
+use Rattle.dds_lists.specs.Lists.{Lists}
+use Rattle.dds_deploy.specs.Document as deployment
 use Rattle.dds_match.specs.Plan.{network_of}
-use Rattle.dds_cert.specs.Fits.{fits}
-use Rattle.dds_cert.specs.Lists.{Certificate}
-use Rattle.dds_cert.specs.Text.{certificate_text}
+use Rattle.dds_weights.specs.Fits.{fits}
+use Rattle.dds_weights.specs.Lists.{Certificate}
+use Rattle.dds_weights.specs.Text.{certificate_text}
 use Rattle.dds_check.specs.Accepts.{first_no}
 use Rattle.dds_answers.specs.Outcome.{MayOfFile, Outcome}
 use Rattle.dds_answers.specs.Proposals.{MaySeek}

@@ -22,6 +22,7 @@ mod thorough;
 mod wishes;
 
 pub use commands::tool;
+pub use dds_answers::{Counted, Report, ToolFault, answer_check, read_all, report_text};
 pub use limits::{Finding, limits_answer};
 pub use needs::{Limit, Need, Policy, Room};
 pub use refuting::refute_answer;

@@ -1,12 +1,12 @@
 //! What `limits` answers.
 ghost use Rattle.std.specs.Prelude.{◌≡◌, ◌∷◌, ℕ, List, [], Ok, Some, IfErr, IfOk, false, option_map, string_bytes};
 ghost use Rattle.dds_match.specs.Plan.{network_of};
-ghost use Rattle.dds_cert.specs.Views.{certificate_view};
+ghost use Rattle.dds_weights.specs.Views.{certificate_view};
 ghost use Rattle.dds_answers.specs.Answers.{GivesOneOf};
 ghost use Rattle.dds_answers.specs.Causes.{IsFileFault};
 ghost use Rattle.dds_answers.specs.Fault.{IsAnswerFault};
 ghost use Rattle.dds_answers.specs.Opened.{OpensAll};
-ghost use Rattle.dds_deploy_file.specs.Document.{read as deployment_read};
+ghost use Rattle.dds_deploy.specs.Document.{read as deployment_read};
 ghost use Rattle.dds_tool.specs.Limits.{IsSaid, MayLimit, MayLimitFor, MayLimitLists, MayTellClaim, MayTellNeeds};
 ghost use Rattle.dds_tool.specs.Limits.{TellsClaim, TellsFound, needs_told, none_told, text_told};
 ghost use Rattle.dds_tool.specs.Needs.{are_bounded, needs_of};
@@ -17,11 +17,11 @@ use crate::needs_text::needs_text;
 use crate::thorough::length_text;
 use dds_answers::{Answer, MAX_FILE, Sources, ToolFault, answered, read_file, read_plan};
 use dds_base::NoMemory;
-use dds_cert::{Certificate, certificate_text};
-use dds_deploy::Deployment;
 use dds_json::Style;
+use dds_lists::Deployment;
 use dds_match::Plan;
 use dds_search::{Size, Sizes, find_limits_certificate, find_sizes};
+use dds_weights::{Certificate, certificate_text};
 use std::alloc::Global;
 
 /// What is asked for.

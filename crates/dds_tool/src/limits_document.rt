@@ -10,10 +10,10 @@ ghost use Rattle.dds_tool.specs.LimitsDocument.{limits_document, need_document, 
 use crate::needs::{Limit, Need, are_bounded, room_of};
 use crate::needs_text::{is_low, policy_word};
 use dds_base::NoMemory;
-use dds_cert::naming::{name_at, reader_key, writer_key};
-use dds_deploy::Deployment;
 use dds_json::{answer_word, line_of};
+use dds_lists::Deployment;
 use dds_search::Least;
+use dds_weights::naming::{name_at, reader_key, writer_key};
 use serde_json::{Value, json};
 use std::alloc::Global;
 

@@ -5,9 +5,9 @@ ghost use Rattle.dds_tool.specs.NeedsText.{needs_lines, policy_word, subject_wor
 
 use crate::needs::{Limit, Need, Policy, room_of};
 use dds_base::NoMemory;
-use dds_cert::naming::{name_at, reader_key, writer_key};
-use dds_deploy::Deployment;
+use dds_lists::Deployment;
 use dds_search::Least;
+use dds_weights::naming::{name_at, reader_key, writer_key};
 use std::alloc::Global;
 
 /// The endpoint whose samples count, and the key, or `total` for all of them.

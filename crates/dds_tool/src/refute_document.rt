@@ -6,12 +6,12 @@ ghost use Rattle.dds_tool.specs.Refuting.{known_document, unsafe_document};
 
 use crate::refuting::{loss_name, unknown_word};
 use dds_base::NoMemory;
-use dds_cert::naming::{name_at, reader_key};
-use dds_deploy::Deployment;
 use dds_events::lines_text;
 use dds_json::{line_of, structure_document};
+use dds_lists::Deployment;
 use dds_match::Plan;
 use dds_search::{Counterexample, Refutation};
+use dds_weights::naming::{name_at, reader_key};
 use serde_json::{Value, json};
 use std::alloc::Global;
 

@@ -2,19 +2,19 @@
 ghost use Rattle.std.specs.Prelude.{◌≡◌, Ok, IfErr, IfOk, string_bytes};
 ghost use Rattle.dds_answers.specs.Answers.{GivesOneOf};
 ghost use Rattle.dds_answers.specs.Fault.{IsAnswerFault};
-ghost use Rattle.dds_deploy_file.specs.Document.{read as deployment_read};
+ghost use Rattle.dds_deploy.specs.Document.{read as deployment_read};
 ghost use Rattle.dds_tool.specs.Refuting.{MayRefute, is_safe, known_text, loss_name, refuted_text, told_known};
 ghost use Rattle.dds_tool.specs.Refuting.{unknown_word, unsafe_line};
 
 use crate::refute_document::known_line;
 use dds_answers::{Answer, ToolFault, answered, read_plan, structure_text};
 use dds_base::NoMemory;
-use dds_cert::naming::{name_at, reader_key};
-use dds_deploy::Deployment;
 use dds_events::{lines_text, rejection_name};
 use dds_json::Style;
+use dds_lists::Deployment;
 use dds_match::Plan;
 use dds_search::{Counterexample, Loss, Refutation, Unknown, refute};
+use dds_weights::naming::{name_at, reader_key};
 use std::alloc::Global;
 
 /// The word for a loss.

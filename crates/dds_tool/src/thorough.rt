@@ -2,15 +2,15 @@
 ghost use Rattle.std.specs.Prelude.{◌≡◌, ◌∷◌, ◌≤◌, ◌<◌, ℕ, List, [], IfErr, IfOk, IfSome, IsOk, None, Ok, OnOk, Some};
 ghost use Rattle.std.specs.Prelude.{string_bytes, true};
 ghost use Rattle.dds_match.specs.Plan.{network_of};
-ghost use Rattle.dds_cert.specs.Fits.{fits};
-ghost use Rattle.dds_cert.specs.Views.{certificate_view};
+ghost use Rattle.dds_weights.specs.Fits.{fits};
+ghost use Rattle.dds_weights.specs.Views.{certificate_view};
 ghost use Rattle.dds_check.specs.Accepts.{first_no};
 ghost use Rattle.dds_answers.specs.Answers.{Gives};
 ghost use Rattle.dds_answers.specs.Causes.{IsFileFault};
 ghost use Rattle.dds_answers.specs.Fault.{IsAnswerFault};
 ghost use Rattle.dds_answers.specs.Opened.{OpensAll};
 ghost use Rattle.dds_answers.specs.Outcome.{Outcome, unproposed};
-ghost use Rattle.dds_deploy_file.specs.Document.{read as deployment_read};
+ghost use Rattle.dds_deploy.specs.Document.{read as deployment_read};
 ghost use Rattle.dds_runs.specs.Accepted.{instance_limit};
 ghost use Rattle.dds_tool.specs.Missing.{IsDepthFor, IsLimitText, IsMissingText, least_line, length_line, own_name};
 ghost use Rattle.dds_tool.specs.Missing.{shower};
@@ -20,13 +20,13 @@ use dds_answers::{
     Answer, MAX_FILE, Sources, ToolFault, certified, read_file, read_plan, structure_text,
 };
 use dds_base::{KeyNo, NoMemory, ReaderNo, WriterNo};
-use dds_cert::Certificate;
-use dds_cert::naming::{name_at, reader_key, writer_key};
 use dds_check::No;
 use dds_match::Plan;
 use dds_propose::propose;
 use dds_propose::targets::Target;
 use dds_search::{Found, Least, Missing, search};
+use dds_weights::Certificate;
+use dds_weights::naming::{name_at, reader_key, writer_key};
 use std::alloc::Global;
 
 /// The limit of a key of a reader by its own policies, with its name: its depth where it keeps the last samples alone.

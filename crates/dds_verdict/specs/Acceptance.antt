@@ -1,11 +1,11 @@
 -- The lines that tell an acceptance.
 use Rattle.std.specs.Prelude.{List, ◌++◌, codes, flat_map, ℕ}
 use Rattle.std.specs.Fmt.{decimal}
-use Rattle.dds_deploy.specs.Lists.{Lists}
-use Rattle.dds_cert.specs.Lists.{Certificate}
-use Rattle.dds_cert.specs.declared.certificate.Bound.{Bound}
-use Rattle.dds_cert.specs.declared.certificate.Total.{Total}
-use Rattle.dds_cert.specs.Naming.{name_at, reader_key}
+use Rattle.dds_lists.specs.Lists.{Lists}
+use Rattle.dds_weights.specs.Lists.{Certificate}
+use Rattle.dds_weights.specs.declared.certificate.Bound.{Bound}
+use Rattle.dds_weights.specs.declared.certificate.Total.{Total}
+use Rattle.dds_weights.specs.Naming.{name_at, reader_key}
 
 -- the line of a bound
 abbrev pub bound_line : Lists → Bound → List ℕ

@@ -1,12 +1,12 @@
 //! The lines of an acceptance.
 ghost use Rattle.std.specs.Prelude.{◌≡◌, ◌++◌, IfOk, flat_map, string_bytes};
-ghost use Rattle.dds_cert.specs.Views.{certificate_view};
+ghost use Rattle.dds_weights.specs.Views.{certificate_view};
 ghost use Rattle.dds_verdict.specs.Acceptance.{acceptance_lines, bound_line, total_line};
 
 use dds_base::NoMemory;
-use dds_cert::naming::{name_at, reader_key};
-use dds_cert::{Bound, Certificate, Total};
-use dds_deploy::Deployment;
+use dds_lists::Deployment;
+use dds_weights::naming::{name_at, reader_key};
+use dds_weights::{Bound, Certificate, Total};
 use std::alloc::Global;
 
 /// The line of a bound.

@@ -1,14 +1,14 @@
 //! The line of a refusal.
 ghost use Rattle.std.specs.Prelude.{◌≡◌, IfOk, string_bytes};
-ghost use Rattle.dds_cert.specs.Views.{certificate_view};
+ghost use Rattle.dds_weights.specs.Views.{certificate_view};
 ghost use Rattle.dds_verdict.specs.Refusal.{refusal_line, subject_text};
 
 use dds_base::NoMemory;
-use dds_cert::Certificate;
-use dds_cert::naming::{name_at, reader_key, row_name, writer_key};
 use dds_check::{No, Subject};
-use dds_deploy::Deployment;
 use dds_events::rule_text;
+use dds_lists::Deployment;
+use dds_weights::Certificate;
+use dds_weights::naming::{name_at, reader_key, row_name, writer_key};
 use std::alloc::Global;
 
 /// The names of what a condition speaks of, with blanks between them.

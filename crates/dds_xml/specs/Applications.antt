@@ -1,9 +1,9 @@
 -- The applications in XML, each with the endpoints that it owns (OMG DDS-XML 1.0, building block Applications).
 use Rattle.std.specs.Prelude.{codes, ℕ, List, [], ◌++◌, flat_map, length, slice_get}
 use Rattle.std.specs.Option.{option_map_or}
-use Rattle.dds_deploy.specs.Lists.{Application, Lists}
-use Rattle.dds_cert.specs.Naming.{name_at}
-use Rattle.dds_cert.specs.Text.{each_below}
+use Rattle.dds_lists.specs.Lists.{Application, Lists}
+use Rattle.dds_weights.specs.Naming.{name_at}
+use Rattle.dds_weights.specs.Text.{each_below}
 use Rattle.dds_xml.specs.Pieces.{library}
 
 -- the publisher or the subscriber of the endpoint with this name

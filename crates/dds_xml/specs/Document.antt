@@ -1,6 +1,6 @@
 -- A deployment in DDS-XML (OMG DDS-XML 1.0).
 use Rattle.std.specs.Prelude.{codes, ℕ, List, ◌++◌}
-use Rattle.dds_deploy.specs.Lists.{Lists}
+use Rattle.dds_lists.specs.Lists.{Lists}
 use Rattle.dds_xml.specs.Applications.{application_library}
 use Rattle.dds_xml.specs.Participants.{participant_library}
 use Rattle.dds_xml.specs.Profiles.{reader_library, writer_library}

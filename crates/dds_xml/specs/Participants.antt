@@ -2,9 +2,9 @@
 use Rattle.std.specs.Prelude.{codes, ℕ, List, [], ◌++◌, ◌==◌, nat_le, length, slice_get, if◌then◌else◌}
 use Rattle.std.specs.Fmt.{decimal}
 use Rattle.std.specs.Option.{option_map_or}
-use Rattle.dds_deploy.specs.Lists.{Lists, Participant, Reader, Writer, keys_at}
-use Rattle.dds_cert.specs.Naming.{name_at}
-use Rattle.dds_cert.specs.Text.{each_below}
+use Rattle.dds_lists.specs.Lists.{Lists, Participant, Reader, Writer, keys_at}
+use Rattle.dds_weights.specs.Naming.{name_at}
+use Rattle.dds_weights.specs.Text.{each_below}
 use Rattle.dds_show.specs.Pieces.{start_of}
 use Rattle.dds_xml.specs.Pieces.{library}
 

@@ -7,9 +7,9 @@ use Rattle.dds_qos.specs.declared.policies.Liveliness.{Liveliness}
 use Rattle.dds_qos.specs.declared.policies.Policies.{Policies}
 use Rattle.dds_qos.specs.declared.policies.Presentation.{Presentation}
 use Rattle.dds_qos.specs.declared.policies.ResourceLimits.{ResourceLimits}
-use Rattle.dds_deploy.specs.Lists.{Lists, Reader, Writer}
-use Rattle.dds_cert.specs.Naming.{name_at}
-use Rattle.dds_cert.specs.Text.{each_below}
+use Rattle.dds_lists.specs.Lists.{Lists, Reader, Writer}
+use Rattle.dds_weights.specs.Naming.{name_at}
+use Rattle.dds_weights.specs.Text.{each_below}
 use Rattle.dds_show.specs.Pieces.{flag_word}
 use Rattle.dds_show.specs.Words.{access_scope_word, destination_order_word, durability_word, history_word, liveliness_word, ownership_word, reliability_word}
 use Rattle.dds_xml.specs.Pieces.{duration_element, library, limit_element}

@@ -1,9 +1,9 @@
 -- The domain library in XML: one domain, with the registered types and the topics (OMG DDS-XML 1.0, building block Domains).
 use Rattle.std.specs.Prelude.{codes, ℕ, List, [], ◌++◌, length, slice_get}
 use Rattle.std.specs.Option.{option_map_or}
-use Rattle.dds_deploy.specs.Lists.{Lists, Topic}
-use Rattle.dds_cert.specs.Naming.{name_at}
-use Rattle.dds_cert.specs.Text.{each_below}
+use Rattle.dds_lists.specs.Lists.{Lists, Topic}
+use Rattle.dds_weights.specs.Naming.{name_at}
+use Rattle.dds_weights.specs.Text.{each_below}
 
 -- the type of a topic, by its module
 abbrev pub type_ref : List ℕ → Topic → List ℕ

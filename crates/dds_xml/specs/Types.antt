@@ -1,9 +1,9 @@
 -- The types of topics in XML. The type of a topic is a struct of a key and 32 bytes, in a module of the topic's name. The enum beside it has the topic's keys.
 use Rattle.std.specs.Prelude.{codes, ℕ, List, [], ◌++◌, length, slice_get}
 use Rattle.std.specs.Option.{option_map_or}
-use Rattle.dds_deploy.specs.Lists.{Lists, Topic}
-use Rattle.dds_cert.specs.Naming.{name_at}
-use Rattle.dds_cert.specs.Text.{each_below}
+use Rattle.dds_lists.specs.Lists.{Lists, Topic}
+use Rattle.dds_weights.specs.Naming.{name_at}
+use Rattle.dds_weights.specs.Text.{each_below}
 
 -- a key of a topic
 abbrev pub enumerator : List ℕ → List ℕ

@@ -1,13 +1,13 @@
 //! The applications in XML, each with the endpoints that it owns (OMG DDS-XML 1.0, building block Applications).
 ghost use Rattle.std.specs.Prelude.{◌≡◌, IfOk, string_bytes};
-ghost use Rattle.dds_deploy.specs.Views.{application_view};
+ghost use Rattle.dds_lists.specs.Views.{application_view};
 ghost use Rattle.dds_xml.specs.Applications.{application_element, application_library, owned_element};
 
 use crate::pieces::library;
 use dds_base::AppNo;
-use dds_cert::naming::name_at;
-use dds_deploy::{Application, Deployment};
+use dds_lists::{Application, Deployment};
 use dds_show::texts::{TextResult, text_of_endpoints};
+use dds_weights::naming::name_at;
 use std::alloc::Global;
 
 /// The publisher or the subscriber of the endpoint with this name.

@@ -7,7 +7,7 @@ use crate::participants::participant_library;
 use crate::profiles::{reader_library, writer_library};
 use crate::topics::domain_library;
 use crate::types::types_section;
-use dds_deploy::Deployment;
+use dds_lists::Deployment;
 use dds_show::texts::TextResult;
 use std::alloc::Global;
 

@@ -1,16 +1,16 @@
 //! The participants in XML, each with its writers and then its readers, in file order (OMG DDS-XML 1.0, building block
 //! DomainParticipants).
 ghost use Rattle.std.specs.Prelude.{◌≡◌, ◌<◌, IfOk, length, string_bytes};
-ghost use Rattle.dds_deploy.specs.Views.{participant_view, reader_view, writer_view};
+ghost use Rattle.dds_lists.specs.Views.{participant_view, reader_view, writer_view};
 ghost use Rattle.dds_xml.specs.Participants.{content_filter, data_reader, filter_expression, filter_term};
 ghost use Rattle.dds_xml.specs.Participants.{participant_element, participant_library, publisher, publisher_at};
 ghost use Rattle.dds_xml.specs.Participants.{publishers, subscriber, subscriber_at, subscribers};
 
 use crate::pieces::library;
 use dds_base::{KeyNo, Names, ParticipantNo, ReaderNo, WriterNo};
-use dds_cert::naming::name_at;
-use dds_deploy::{Deployment, Participant, Reader, Writer};
+use dds_lists::{Deployment, Participant, Reader, Writer};
 use dds_show::texts::{TextResult, start_of, text_below};
+use dds_weights::naming::name_at;
 use std::alloc::Global;
 
 /// A writer, in a publisher of its name.

@@ -1,7 +1,7 @@
 //! The QoS profiles of the endpoints in XML (OMG DDS-XML 1.0, building block QoS). Policies and their kinds have the
 //! names of the IDL (OMG DDS 1.4, clause 2.3.3).
 ghost use Rattle.std.specs.Prelude.{◌≡◌, IfOk, map, string_bytes};
-ghost use Rattle.dds_deploy.specs.Views.{reader_view, writer_view};
+ghost use Rattle.dds_lists.specs.Views.{reader_view, writer_view};
 ghost use Rattle.dds_xml.specs.Profiles.{delivery_elements, endpoint_elements, group_elements, history_element};
 ghost use Rattle.dds_xml.specs.Profiles.{kind_element, limits_element, liveliness_element, partition_element};
 ghost use Rattle.dds_xml.specs.Profiles.{partition_name, presentation_element, profile, qos_element, reader_library};
@@ -9,14 +9,14 @@ ghost use Rattle.dds_xml.specs.Profiles.{reader_profile, timing_elements, writer
 
 use crate::pieces::{duration_element, library, limit_element};
 use dds_base::{ReaderNo, WriterNo};
-use dds_cert::naming::name_at;
-use dds_deploy::{Deployment, Reader, Writer};
+use dds_lists::{Deployment, Reader, Writer};
 use dds_qos::{History, Liveliness, Policies, Presentation, ResourceLimits};
 use dds_show::texts::{TextResult, text_of_each};
 use dds_show::words::{
     access_scope_word, destination_order_word, durability_word, history_word, liveliness_word,
     ownership_word, reliability_word,
 };
+use dds_weights::naming::name_at;
 use std::alloc::Global;
 
 /// A policy that is a kind and nothing else. `suffix` is the policy's word in the name of the kind.

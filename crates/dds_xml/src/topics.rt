@@ -1,14 +1,14 @@
 //! The domain library in XML: one domain, with the registered types and the topics (OMG DDS-XML 1.0, building block
 //! Domains).
 ghost use Rattle.std.specs.Prelude.{◌≡◌, IfOk, string_bytes};
-ghost use Rattle.dds_deploy.specs.Views.{topic_view};
-ghost use Rattle.dds_cert.specs.Naming.{name_at};
+ghost use Rattle.dds_lists.specs.Views.{topic_view};
+ghost use Rattle.dds_weights.specs.Naming.{name_at};
 ghost use Rattle.dds_xml.specs.Topics.{domain_library, register_type, register_types, topic_element, topics, type_ref};
 
 use dds_base::TopicNo;
-use dds_cert::naming::name_at;
-use dds_deploy::{Deployment, Topic};
+use dds_lists::{Deployment, Topic};
 use dds_show::texts::{TextResult, text_below};
+use dds_weights::naming::name_at;
 use std::alloc::Global;
 
 /// The type of a topic, by its module.

@@ -1,13 +1,13 @@
 //! The types of topics in XML. The type of a topic is a struct of a key and 32 bytes, in a module of the topic's name.
 //! The enum beside it has the topic's keys.
 ghost use Rattle.std.specs.Prelude.{◌≡◌, IfOk, string_bytes};
-ghost use Rattle.dds_deploy.specs.Views.{topic_view};
+ghost use Rattle.dds_lists.specs.Views.{topic_view};
 ghost use Rattle.dds_xml.specs.Types.{enumerator, enumerators, module_element, types_section};
 
 use dds_base::{Names, TopicNo};
-use dds_cert::naming::name_at;
-use dds_deploy::{Deployment, Topic};
+use dds_lists::{Deployment, Topic};
 use dds_show::texts::{TextResult, text_below};
+use dds_weights::naming::name_at;
 use std::alloc::Global;
 
 /// A key of a topic.

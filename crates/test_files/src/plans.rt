@@ -1,19 +1,19 @@
 //! Plans and checked deployments of texts, as tests and programs that measure open them. Where a text has a fault or
 //! memory is refused there is none: these callers don't ask why.
 ghost use Rattle.std.specs.Prelude.{◌≡◌, Ok, true, IfSome};
-ghost use Rattle.dds_deploy_file.specs.Document.{read as deployment_read};
+ghost use Rattle.dds_deploy.specs.Document.{read as deployment_read};
 ghost use Rattle.dds_match.specs.Plan.{network_of};
-ghost use Rattle.dds_cert.specs.Fits.{fits};
-ghost use Rattle.dds_cert.specs.Views.{certificate_view};
-ghost use Rattle.dds_cert_file.specs.Document.{read as certificate_read};
+ghost use Rattle.dds_weights.specs.Fits.{fits};
+ghost use Rattle.dds_weights.specs.Views.{certificate_view};
+ghost use Rattle.dds_cert.specs.Document.{read as certificate_read};
 
-use dds_cert::Certificate;
-use dds_cert_file::read_certificate;
+use dds_cert::read_certificate;
 use dds_check::{Checked, check};
-use dds_deploy_file::read_deployment;
+use dds_deploy::read_deployment;
 use dds_match::Plan;
 use dds_match::planning::plan;
 use dds_propose::propose;
+use dds_weights::Certificate;
 use std::alloc::Global;
 
 /// The plan of a deployment's text.

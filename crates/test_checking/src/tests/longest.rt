@@ -3,9 +3,9 @@
 
 use crate::tests::expecting::expect_equal;
 use crate::tests::plans::{NO_MEMORY, certificate_of, plan_of};
-use dds_cert::Certificate;
-use dds_cert_file::{CertFault, read_certificate};
+use dds_cert::{CertFault, read_certificate};
 use dds_match::Plan;
+use dds_weights::Certificate;
 use std::alloc::Global;
 use std::process::Abort;
 

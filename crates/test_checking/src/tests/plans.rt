@@ -1,9 +1,9 @@
 //! Plans of deployment files, and certificates that are read for them. The functions have no clauses: what they give is
 //! compared when the tests run, and nothing of it is to be proved.
 
-use dds_cert::Certificate;
-use dds_cert_file::read_certificate;
+use dds_cert::read_certificate;
 use dds_match::Plan;
+use dds_weights::Certificate;
 use std::alloc::Global;
 use std::process::Abort;
 use test_files::plans::planned;

@@ -5,8 +5,8 @@ use crate::tests::plans::{FILTERS, NO_MEMORY, certificate_of, plan_of};
 use crate::tests::weights::{
     PlainBound, PlainRow, PlainTotal, PlainWeight, plain_bounds, plain_row, plain_totals,
 };
-use dds_cert::{Certificate, Row};
 use dds_match::Plan;
+use dds_weights::{Certificate, Row};
 use std::alloc::Global;
 use std::process::Abort;
 use test_files::texts::{LOOP, LOOP_CERT, PING, PING_CERT, SMALL, SMALL_CERT, TWO, TWO_CERT};

@@ -2,7 +2,7 @@
 
 use crate::tests::plans::NO_MEMORY;
 use dds_base::{Endpoint, ReaderNo, WriterNo};
-use dds_cert::{Bound, Row, Total, Weight};
+use dds_weights::{Bound, Row, Total, Weight};
 use std::alloc::Global;
 use std::process::Abort;
 

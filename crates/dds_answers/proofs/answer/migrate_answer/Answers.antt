@@ -1,5 +1,5 @@
 use Rattle.std.proofs.Common.{refl}
-use Rattle.dds_deploy_file.specs.Document.{read_up_to}
+use Rattle.dds_deploy.specs.Document.{read_up_to}
 use Rattle.dds_answers.specs.Migrations.{MayMigrate}
 use Rattle.dds_answers.proofs.Migrations.{written_gives}
 use Rattle.dds_answers.proofs.Unread.{is_unread, unread_one}

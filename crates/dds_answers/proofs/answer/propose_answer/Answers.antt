@@ -1,4 +1,4 @@
-use Rattle.dds_deploy_file.specs.Document.{read}
+use Rattle.dds_deploy.specs.Document.{read}
 use Rattle.dds_answers.specs.Proposals.{IsProposed}
 use Rattle.dds_answers.proofs.Proposals.{sought_of, unread_seeks}
 use Rattle.dds_answers.proofs.answer.propose_answer.Goals as goal

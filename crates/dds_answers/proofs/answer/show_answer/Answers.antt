@@ -1,5 +1,5 @@
 use Rattle.std.proofs.Common.{ap, refl, subst, sym}
-use Rattle.dds_deploy_file.specs.Document.{read}
+use Rattle.dds_deploy.specs.Document.{read}
 use Rattle.dds_answers.specs.Answers.{Gives}
 use Rattle.dds_answers.specs.Outcome.{show_outcome, showing}
 use Rattle.dds_answers.proofs.Unread.{is_unread, unread_ends}

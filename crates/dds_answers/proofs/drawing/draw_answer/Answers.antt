@@ -1,5 +1,5 @@
 use Rattle.std.proofs.Common.{ap, option_map, refl, subst, sym}
-use Rattle.dds_deploy_file.specs.Document.{read}
+use Rattle.dds_deploy.specs.Document.{read}
 use Rattle.dds_answers.specs.Answers.{Gives}
 use Rattle.dds_answers.specs.Outcome.{draw_outcome, drawing}
 use Rattle.dds_answers.proofs.Unread.{unread_gives}

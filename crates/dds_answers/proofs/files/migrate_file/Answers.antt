@@ -1,5 +1,5 @@
 use Rattle.std.proofs.Common.{◌<◌, ap, Err, length}
-use Rattle.dds_deploy_file.specs.Document.{read_up_to}
+use Rattle.dds_deploy.specs.Document.{read_up_to}
 use Rattle.dds_answers.specs.Migrations.{MayMigrate, MayMigrateFor}
 use Rattle.dds_answers.proofs.FileEnds.{held, large_of_file, unread_one}
 use Rattle.dds_answers.proofs.files.migrate_file.Goals as goal

@@ -1,5 +1,5 @@
 use Rattle.std.proofs.Common.{◌<◌, ap, Err, length}
-use Rattle.dds_deploy_file.specs.Document.{read}
+use Rattle.dds_deploy.specs.Document.{read}
 use Rattle.dds_answers.specs.Proposals.{IsProposed}
 use Rattle.dds_answers.proofs.FileEnds.{held}
 use Rattle.dds_answers.proofs.Proposals.{unread_file_seeks}

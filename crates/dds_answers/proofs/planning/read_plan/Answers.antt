@@ -1,4 +1,4 @@
-use Rattle.dds_deploy_file.specs.Document.{read}
+use Rattle.dds_deploy.specs.Document.{read}
 use Rattle.dds_answers.proofs.Unread.{is_unread, planned_of, unplanned}
 use Rattle.dds_answers.proofs.planning.read_plan.Goals as goal
 

@@ -1,4 +1,4 @@
-use Rattle.dds_deploy_file.specs.Document.{read}
+use Rattle.dds_deploy.specs.Document.{read}
 use Rattle.dds_answers.specs.Outcome.{outcome}
 use Rattle.dds_answers.proofs.Unread.{unread_told}
 use Rattle.dds_answers.proofs.report.answer_check.Goals as goal

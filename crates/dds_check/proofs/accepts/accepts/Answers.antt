@@ -1,5 +1,5 @@
 use Rattle.std.proofs.Common.{sym, ◌∙◌}
-use Rattle.dds_cert.specs.Views.{certificate_view}
+use Rattle.dds_weights.specs.Views.{certificate_view}
 use Rattle.dds_check.proofs.Fitting.{tabled_of}
 use Rattle.dds_check.proofs.Whole.{accepted_where_none}
 use Rattle.dds_runs.proofs.Safety.{safe_law}

@@ -1,5 +1,5 @@
 use Rattle.std.proofs.Common.{◌≤◌, length, subst, sym}
-use Rattle.dds_deploy.specs.Lists.{Rule}
+use Rattle.dds_lists.specs.Lists.{Rule}
 use Rattle.dds_check.proofs.Plans.{writes_few}
 use Rattle.dds_check.proofs.budget.rule_at.Goals as goal
 

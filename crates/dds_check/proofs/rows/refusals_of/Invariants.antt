@@ -1,6 +1,6 @@
 use Rattle.std.proofs.Common.{◌≡◌}
 use Rattle.dds_match.specs.Plan.{network_of}
-use Rattle.dds_cert.specs.Views.{certificate_view}
+use Rattle.dds_weights.specs.Views.{certificate_view}
 use Rattle.dds_runs.specs.First.{first_below, at_item}
 use Rattle.dds_check.specs.Rows.{row_take_raises, row_rule_raises, row_write_raises}
 use Rattle.dds_check.proofs.rows.refusals_of.Given as goal

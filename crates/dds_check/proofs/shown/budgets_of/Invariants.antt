@@ -1,7 +1,7 @@
 use Rattle.std.proofs.Common.{ℕ, ◌≡◌, ◌<◌, Some, length, slice_get, slice_index}
 use Rattle.dds_match.specs.Plan.{network_of}
-use Rattle.dds_cert.specs.Lists.{Row}
-use Rattle.dds_cert.specs.Views.{certificate_view}
+use Rattle.dds_weights.specs.Lists.{Row}
+use Rattle.dds_weights.specs.Views.{certificate_view}
 use Rattle.dds_runs.specs.Accepted.{row_of, budget}
 use Rattle.dds_check.proofs.shown.budgets_of.Given as goal
 

@@ -1,7 +1,7 @@
 use Rattle.std.proofs.Common.{arith}
 use Rattle.std.proofs.lemmas.List.{length-map}
 use Rattle.dds_match.specs.Plan.{network_of}
-use Rattle.dds_cert.specs.Views.{row_view}
+use Rattle.dds_weights.specs.Views.{row_view}
 use Rattle.dds_check.proofs.Unshown.{first_until_start, first_until_more, first_until_all}
 use Rattle.dds_check.proofs.shown.first_unshown.Goals as goal
 

@@ -1,6 +1,6 @@
 use Rattle.std.proofs.Common.{length, map}
 use Rattle.dds_match.specs.Plan.{network_of}
-use Rattle.dds_cert.specs.Views.{row_view}
+use Rattle.dds_weights.specs.Views.{row_view}
 use Rattle.dds_runs.specs.First.{IsFirstBefore}
 use Rattle.dds_check.proofs.Unshown.{is_unshown_until}
 use Rattle.dds_check.proofs.shown.first_unshown.Given as goal

@@ -1,7 +1,7 @@
 use Rattle.std.proofs.Common.{arith}
 use Rattle.std.proofs.lemmas.Bool.Decides.{nat_tests}
 use Rattle.std.proofs.lemmas.List.{length-map}
-use Rattle.dds_cert.specs.Views.{row_view}
+use Rattle.dds_weights.specs.Views.{row_view}
 use Rattle.dds_check.proofs.FirstBefore.{none_at_start, none_more, found_first, none_found}
 use Rattle.dds_check.proofs.shown.first_without_row.Goals as goal
 

@@ -1,5 +1,5 @@
 use Rattle.std.proofs.Common.{map}
-use Rattle.dds_cert.specs.Views.{row_view}
+use Rattle.dds_weights.specs.Views.{row_view}
 use Rattle.dds_runs.specs.First.{NoneBefore}
 use Rattle.dds_check.specs.Shown.{names_no_row}
 use Rattle.dds_check.proofs.shown.first_without_row.Given as goal

@@ -1,6 +1,6 @@
 use Rattle.std.proofs.Common.{Some, map, option_map, ap, sym, ◌∙◌}
 use Rattle.std.proofs.lemmas.Option.{slice_get-map}
-use Rattle.dds_cert.specs.Views.{row_view}
+use Rattle.dds_weights.specs.Views.{row_view}
 use Rattle.dds_check.specs.Tables.{IsRowWithin}
 use Rattle.dds_check.proofs.Mapped.{All_at}
 use Rattle.dds_check.proofs.tables.tables_of.Goals as goal

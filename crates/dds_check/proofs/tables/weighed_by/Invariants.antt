@@ -1,5 +1,5 @@
 use Rattle.std.proofs.Common.{◌≡◌, ◌+◌, ◌≤◌, ◌*◌, ◌^◌, drop}
-use Rattle.dds_cert.specs.Weighing.{weight_by}
+use Rattle.dds_weights.specs.Weighing.{weight_by}
 use Rattle.dds_check.specs.Tables.{weighed_by}
 use Rattle.dds_check.proofs.tables.weighed_by.Given as goal
 

@@ -1,5 +1,5 @@
 use Rattle.std.proofs.Common.{refl, sym, ap, ◌∙◌}
-use Rattle.dds_deploy.specs.Lists.{Rule}
+use Rattle.dds_lists.specs.Lists.{Rule}
 use Rattle.dds_match.specs.Plan.{network_of}
 use Rattle.dds_conform.proofs.Givers.{gives_nothing, gives_something}
 use Rattle.dds_conform.proofs.serving.try_rule.Goals as goal

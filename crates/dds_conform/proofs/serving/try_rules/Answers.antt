@@ -1,5 +1,5 @@
 use Rattle.std.proofs.Common.{◌≡◌, Some, length, sym, ap, ◌∙◌, subst, arith}
-use Rattle.dds_deploy.specs.Lists.{Lists}
+use Rattle.dds_lists.specs.Lists.{Lists}
 use Rattle.dds_match.specs.Plan.{network_of}
 use Rattle.dds_rules.specs.Ledger.{IsLedgerOf, LedgerState, fire_refusal}
 use Rattle.dds_rules.specs.declared.refused.FireRefused.TheVariants.{CountLimit}

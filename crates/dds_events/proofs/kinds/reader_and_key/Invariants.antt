@@ -1,5 +1,5 @@
 use Rattle.std.proofs.Common.{◌≢◌, ◌<◌, ℕ, length}
-use Rattle.dds_cert.specs.Naming.{reader_key, reader_keys}
+use Rattle.dds_weights.specs.Naming.{reader_key, reader_keys}
 use Rattle.dds_events.specs.Naming.{two_words, reader_name}
 use Rattle.dds_events.proofs.kinds.reader_and_key.Given as goal
 

@@ -1,5 +1,5 @@
 use Rattle.std.proofs.Common.{◌≢◌, ◌<◌, ℕ, length}
-use Rattle.dds_cert.specs.Naming.{writer_key, writer_keys}
+use Rattle.dds_weights.specs.Naming.{writer_key, writer_keys}
 use Rattle.dds_events.specs.Naming.{two_words, writer_name}
 use Rattle.dds_events.proofs.kinds.writer_and_key.Given as goal
 

@@ -1,5 +1,5 @@
 use Rattle.std.proofs.Common.{◌≢◌, ◌<◌, ℕ, length}
-use Rattle.dds_cert.specs.Naming.{name_at}
+use Rattle.dds_weights.specs.Naming.{name_at}
 use Rattle.dds_events.specs.Naming.{two_words}
 use Rattle.dds_events.proofs.words.pair_of.Given as goal
 

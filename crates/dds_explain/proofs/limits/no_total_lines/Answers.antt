@@ -1,8 +1,8 @@
 use Rattle.std.proofs.Common.{◌≡◌, ◌∙◌, string_bytes, ap, List}
 use Rattle.dds_qos.specs.declared.limits.ReaderLimits.{ReaderLimits}
 use Rattle.dds_match.specs.Plan.{network_of}
-use Rattle.dds_cert.specs.Text.{each_below}
-use Rattle.dds_cert.specs.declared.certificate.Bound.{Bound}
+use Rattle.dds_weights.specs.Text.{each_below}
+use Rattle.dds_weights.specs.declared.certificate.Bound.{Bound}
 use Rattle.dds_explain.specs.Limits.{unbounded_key}
 use Rattle.dds_explain.specs.Pieces.{limit_text}
 use Rattle.dds_explain.proofs.limits.no_total_lines.Goals as goal

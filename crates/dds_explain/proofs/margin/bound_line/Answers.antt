@@ -1,6 +1,6 @@
 use Rattle.std.proofs.Common.{◌≡◌, ◌∙◌, string_bytes}
 use Rattle.dds_match.specs.Plan.{network_of}
-use Rattle.dds_cert.specs.Views.{row_view}
+use Rattle.dds_weights.specs.Views.{row_view}
 use Rattle.dds_runs.specs.Accepted.{budget, row_of}
 use Rattle.dds_explain.specs.Margin.{bound_words, margin_text, named_instance_limit}
 use Rattle.dds_explain.specs.Shown.{shown_text}

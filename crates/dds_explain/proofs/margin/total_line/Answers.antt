@@ -1,7 +1,7 @@
 use Rattle.std.proofs.Common.{◌≡◌, ◌∙◌, codes, string_bytes, ap}
 use Rattle.dds_qos.specs.declared.limits.ReaderLimits.{ReaderLimits}
 use Rattle.dds_match.specs.Plan.{network_of}
-use Rattle.dds_cert.specs.Views.{row_view}
+use Rattle.dds_weights.specs.Views.{row_view}
 use Rattle.dds_runs.specs.Accepted.{budget, row_of}
 use Rattle.dds_explain.specs.Margin.{margin_text, named_limit, total_words}
 use Rattle.dds_explain.proofs.margin.total_line.Goals as goal

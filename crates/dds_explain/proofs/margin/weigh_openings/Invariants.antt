@@ -1,6 +1,6 @@
 use Rattle.std.proofs.Common.{◌≡◌, map, take}
 use Rattle.dds_match.specs.Plan.{network_of}
-use Rattle.dds_cert.specs.Views.{row_view}
+use Rattle.dds_weights.specs.Views.{row_view}
 use Rattle.dds_explain.specs.Margin.{openings}
 use Rattle.dds_explain.proofs.margin.weigh_openings.Given as goal
 

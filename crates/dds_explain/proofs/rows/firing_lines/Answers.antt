@@ -1,8 +1,8 @@
 use Rattle.std.proofs.Common.{◌≡◌, ◌∙◌, string_bytes, ap, List, ℕ, flat_map}
 use Rattle.dds_base.specs.declared.portion.Portion.{Portion}
-use Rattle.dds_deploy.specs.Lists.{Lists}
-use Rattle.dds_deploy.specs.Views.{rule_view}
-use Rattle.dds_cert.specs.Views.{row_view}
+use Rattle.dds_lists.specs.Lists.{Lists}
+use Rattle.dds_lists.specs.Views.{rule_view}
+use Rattle.dds_weights.specs.Views.{row_view}
 use Rattle.dds_events.specs.Naming.{rule_text}
 use Rattle.dds_explain.specs.Rows.{firing_line, take_term, write_term}
 use Rattle.dds_explain.proofs.rows.firing_lines.Goals as goal

@@ -1,5 +1,5 @@
 use Rattle.std.proofs.Common.{rules}
-use Rattle.dds_cert.specs.Views.{row_view}
+use Rattle.dds_weights.specs.Views.{row_view}
 use Rattle.dds_explain.specs.Rows.{write_term}
 use Rattle.dds_explain.proofs.rows.write_terms.Goals as goal
 

@@ -1,5 +1,5 @@
 use Rattle.std.proofs.Common.{◌≡◌, ◌∙◌, string_bytes, ap, List, ℕ}
-use Rattle.dds_cert.specs.Views.{row_view}
+use Rattle.dds_weights.specs.Views.{row_view}
 use Rattle.dds_explain.specs.Shown.{bound_claim, unshown_line}
 use Rattle.dds_explain.proofs.shown.bound_lines.Goals as goal
 

@@ -1,5 +1,5 @@
 use Rattle.std.proofs.Common.{◌≡◌, ◌∙◌, string_bytes, ap, List, ℕ}
-use Rattle.dds_cert.specs.Views.{row_view}
+use Rattle.dds_weights.specs.Views.{row_view}
 use Rattle.dds_explain.specs.Shown.{total_claim, unshown_line}
 use Rattle.dds_explain.proofs.shown.total_lines.Goals as goal
 

@@ -1,5 +1,5 @@
 use Rattle.std.proofs.Common.{rules, ◌≡◌, IfOk, flat_map, string_bytes}
-use Rattle.dds_cert.specs.Views.{certificate_view}
+use Rattle.dds_weights.specs.Views.{certificate_view}
 use Rattle.dds_explain.specs.Shown.{unshown_total}
 use Rattle.dds_explain.proofs.shown.total_not_shown_lines.Goals as goal
 

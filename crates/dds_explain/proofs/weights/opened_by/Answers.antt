@@ -1,6 +1,6 @@
 use Rattle.std.proofs.Common.{◌∙◌, ◌*◌, ℕ, ap, ap₂, refl}
 use Rattle.dds_match.specs.Network.{weighed}
-use Rattle.dds_cert.specs.Lists.{weight_of}
+use Rattle.dds_weights.specs.Lists.{weight_of}
 use Rattle.dds_check.proofs.Outside.{weighed_as}
 use Rattle.dds_explain.proofs.weights.opened_by.Goals as goal
 

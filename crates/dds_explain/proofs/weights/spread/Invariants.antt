@@ -1,7 +1,7 @@
 use Rattle.std.proofs.Common.{◌≡◌, ◌≤◌, ◌*◌, ◌^◌}
 use Rattle.dds_base.specs.Sums.{total}
 use Rattle.dds_match.specs.Plan.{network_of}
-use Rattle.dds_cert.specs.Views.{row_view}
+use Rattle.dds_weights.specs.Views.{row_view}
 use Rattle.dds_runs.specs.Accepted.{row_of}
 use Rattle.dds_check.specs.Spreads.{heard}
 use Rattle.dds_explain.proofs.weights.spread.Given as goal

@@ -1,5 +1,5 @@
 use Rattle.std.proofs.Common.{◌≡◌, drop}
-use Rattle.dds_cert.specs.Weighing.{weight_by}
+use Rattle.dds_weights.specs.Weighing.{weight_by}
 use Rattle.dds_explain.proofs.weights.weight_of.Given as goal
 
 -- no weight so far is one of the key

@@ -1,5 +1,5 @@
 use Rattle.std.proofs.Common.{ap, ◌∙◌}
-use Rattle.dds_deploy.specs.Lists.{keys_at}
+use Rattle.dds_lists.specs.Lists.{keys_at}
 use Rattle.dds_guard.proofs.Growing.{one_more}
 use Rattle.dds_guard.proofs.names.keys_of.Goals as goal
 

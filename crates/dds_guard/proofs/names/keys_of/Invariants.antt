@@ -1,6 +1,6 @@
 use Rattle.std.proofs.Common.{◌≡◌, map}
 use Rattle.std.specs.List.{range_with_len}
-use Rattle.dds_deploy.specs.Lists.{keys_at}
+use Rattle.dds_lists.specs.Lists.{keys_at}
 use Rattle.dds_guard.proofs.names.keys_of.Given as goal
 
 -- the keys of the topics so far

@@ -1,5 +1,5 @@
 use Rattle.std.proofs.Common.{sym, subst}
-use Rattle.dds_deploy.specs.Lists.{Lists}
+use Rattle.dds_lists.specs.Lists.{Lists}
 use Rattle.dds_match.specs.Network.{IsNetwork}
 use Rattle.dds_match.specs.Plan.{network_of}
 use Rattle.dds_rules.specs.Ledger.{IsLedgerOf}

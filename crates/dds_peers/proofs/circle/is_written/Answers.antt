@@ -2,8 +2,8 @@ use Rattle.std.proofs.Common.{◌≡◌, ℕ, true, false, ap, slice_get, Some, 
 use Rattle.std.specs.Prelude.{◌==◌, ◌&&◌}
 use Rattle.std.specs.List.{list_any}
 use Rattle.dds_base.specs.declared.portion.Portion.{Portion}
-use Rattle.dds_deploy.specs.Lists.{Rule}
-use Rattle.dds_deploy.specs.Views.{rule_view}
+use Rattle.dds_lists.specs.Lists.{Rule}
+use Rattle.dds_lists.specs.Views.{rule_view}
 use Rattle.dds_peers.proofs.CircleLists.{any_at, none_more, both_pass, first_fails, second_fails}
 use Rattle.dds_peers.proofs.circle.is_written.Goals as goal
 use Rattle.dds_peers.proofs.circle.is_written.Goals.{else-eq-via-then-eq+else-has_portion, else-eq-via-else-eq}

@@ -1,7 +1,7 @@
 use Rattle.std.proofs.Common.{◌≡◌, false, take}
 use Rattle.std.specs.Prelude.{◌==◌, ◌&&◌}
 use Rattle.std.specs.List.{list_any}
-use Rattle.dds_deploy.specs.Lists.{Rule}
+use Rattle.dds_lists.specs.Lists.{Rule}
 use Rattle.dds_peers.proofs.circle.is_written.Given as goal
 
 abbrev pub invariant-loop-rule : goal.invariant-loop-rule

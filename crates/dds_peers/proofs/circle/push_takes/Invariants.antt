@@ -1,6 +1,6 @@
 use Rattle.std.proofs.Common.{◌≡◌, ◌++◌, filter}
 use Rattle.std.specs.List.{flat_map, range_with_len}
-use Rattle.dds_deploy.specs.Lists.{has, readers_at}
+use Rattle.dds_lists.specs.Lists.{has, readers_at}
 use Rattle.dds_peers.specs.Steady.{takes_of}
 use Rattle.dds_peers.proofs.circle.push_takes.Given as goal
 

@@ -1,6 +1,6 @@
 use Rattle.std.proofs.Common.{◌≡◌, ap, sym, ◌∙◌}
-use Rattle.dds_deploy.specs.WellFormed.{filter_at}
-use Rattle.dds_deploy.specs.Lists.{has}
+use Rattle.dds_lists.specs.WellFormed.{filter_at}
+use Rattle.dds_lists.specs.Lists.{has}
 use Rattle.dds_peers.specs.declared.circle.Step.TheVariants.{Take}
 use Rattle.dds_peers.proofs.CircleLists.{one_kept, one_left, filter_known}
 use Rattle.dds_peers.proofs.circle.push_takes_of.Goals as goal

@@ -1,7 +1,7 @@
 use Rattle.std.proofs.Common.{◌≡◌, ◌++◌, map, filter}
 use Rattle.std.specs.List.{range_with_len}
-use Rattle.dds_deploy.specs.WellFormed.{filter_at}
-use Rattle.dds_deploy.specs.Lists.{has}
+use Rattle.dds_lists.specs.WellFormed.{filter_at}
+use Rattle.dds_lists.specs.Lists.{has}
 use Rattle.dds_peers.specs.declared.circle.Step.TheVariants.{Take}
 use Rattle.dds_peers.proofs.circle.push_takes_of.Given as goal
 

@@ -1,5 +1,5 @@
 use Rattle.std.proofs.Common.{◌≡◌, ap, sym, ◌∙◌}
-use Rattle.dds_deploy.specs.Lists.{has, writers_at}
+use Rattle.dds_lists.specs.Lists.{has, writers_at}
 use Rattle.dds_peers.specs.Steady.{writes_of}
 use Rattle.dds_peers.proofs.CircleLists.{many_kept, many_left, writers_known}
 use Rattle.dds_peers.proofs.circle.push_writes.Goals as goal

@@ -1,6 +1,6 @@
 use Rattle.std.proofs.Common.{ap, subst}
 use Rattle.std.proofs.lemmas.Result.{IfOk-weaker}
-use Rattle.dds_deploy.specs.Lists.{Lists}
+use Rattle.dds_lists.specs.Lists.{Lists}
 use Rattle.dds_runs.specs.Runs.{as_moves}
 use Rattle.dds_book.specs.Journal.{IsJournal, pairs_of}
 use Rattle.dds_peers.proofs.run.run_all.Goals as goal

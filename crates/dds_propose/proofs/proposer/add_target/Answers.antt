@@ -1,6 +1,6 @@
 use Rattle.std.proofs.Common.{◌≡◌, Vec, Global, length, sym, ap, ◌∙◌, arith}
 use Rattle.dds_match.specs.Plan.{network_of}
-use Rattle.dds_cert.specs.declared.certificate.Row.{Row as CodeRow}
+use Rattle.dds_weights.specs.declared.certificate.Row.{Row as CodeRow}
 use Rattle.dds_propose.specs.Tables.{row_of}
 use Rattle.dds_propose.proofs.Proposals.{with_row}
 use Rattle.dds_propose.proofs.proposer.add_target.Goals as goal

@@ -1,6 +1,6 @@
 use Rattle.std.proofs.Common.{subst, ◌∙◌, arith}
 use Rattle.dds_match.specs.Plan.{network_of}
-use Rattle.dds_cert.specs.Views.{certificate_view}
+use Rattle.dds_weights.specs.Views.{certificate_view}
 use Rattle.dds_propose.specs.Proposal.{AddsTargets, no_rows}
 use Rattle.dds_propose.proofs.Proposals.{leads_first, leads_next, leads_last}
 use Rattle.dds_propose.proofs.Reached.{reached_at}

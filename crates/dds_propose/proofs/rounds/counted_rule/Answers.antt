@@ -1,5 +1,5 @@
 use Rattle.std.proofs.Common.{ap}
-use Rattle.dds_deploy.specs.Lists.{Rule}
+use Rattle.dds_lists.specs.Lists.{Rule}
 use Rattle.dds_propose.proofs.Takes.{known_need}
 use Rattle.dds_propose.proofs.rounds.counted_rule.Goals as goal
 

@@ -1,5 +1,5 @@
 use Rattle.std.proofs.Common.{refl, ap, ◌∙◌}
-use Rattle.dds_deploy.specs.Lists.{Rule}
+use Rattle.dds_lists.specs.Lists.{Rule}
 use Rattle.dds_match.specs.Plan.{network_of}
 use Rattle.dds_propose.proofs.Takes.{takes_none, takes_next}
 use Rattle.dds_propose.proofs.rounds.raise_takes.Goals as goal

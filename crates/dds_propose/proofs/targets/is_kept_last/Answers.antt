@@ -1,5 +1,5 @@
 use Rattle.std.proofs.Common.{ℕ, ◌<◌, Bool, ◌&&◌, is_some, length, sym, ap, subst, ◌∙◌}
-use Rattle.dds_deploy.specs.Lists.{Lists}
+use Rattle.dds_lists.specs.Lists.{Lists}
 use Rattle.dds_match.specs.Network.{is_written}
 use Rattle.dds_match.specs.Plan.{network_of}
 use Rattle.dds_propose.proofs.Flags.{none_below, none_more, any_at}

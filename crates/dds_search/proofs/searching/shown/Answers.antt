@@ -1,5 +1,5 @@
 use Rattle.dds_match.specs.Plan.{network_of}
-use Rattle.dds_cert.specs.Views.{certificate_view}
+use Rattle.dds_weights.specs.Views.{certificate_view}
 use Rattle.dds_search.proofs.Claimed.{claimed_for}
 use Rattle.dds_search.proofs.searching.shown.Goals as goal
 

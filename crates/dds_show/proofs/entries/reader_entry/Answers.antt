@@ -1,5 +1,5 @@
 use Rattle.std.proofs.Common.{◌≡◌, ◌∙◌, ap, map, string_bytes}
-use Rattle.dds_deploy.specs.Lists.{keys_at}
+use Rattle.dds_lists.specs.Lists.{keys_at}
 use Rattle.dds_show.specs.Entries.{may_lose_field, numbered_items, qos_fields}
 use Rattle.dds_show.proofs.entries.reader_entry.Goals as goal
 

@@ -1,5 +1,5 @@
 use Rattle.std.proofs.Common.{◌≡◌, ℕ, List, ◌<◌, IfOk, string_bytes}
-use Rattle.dds_cert.specs.Text.{each_below}
+use Rattle.dds_weights.specs.Text.{each_below}
 use Rattle.dds_show.proofs.texts.text_below.Given as goal
 
 -- the texts so far

@@ -1,5 +1,5 @@
 use Rattle.std.proofs.Common.{◌≡◌, ◌≤◌, ◌<◌, ◌∙◌, ℕ, List, ap, Err, inl, inr, length, subst, sym}
-use Rattle.dds_deploy_file.specs.Document.{read}
+use Rattle.dds_deploy.specs.Document.{read}
 use Rattle.dds_answers.specs.Answers.{GivesOneOf}
 use Rattle.dds_answers.proofs.FileEnds.{held, unread_gives_one}
 use Rattle.dds_tool.specs.Replaying.{MayReplay, MayReplayFor}

@@ -1,6 +1,6 @@
 use Rattle.std.proofs.Common.{refl, subst, sym}
-use Rattle.dds_deploy.specs.Lists.{Lists}
-use Rattle.dds_deploy_file.specs.Document.{read}
+use Rattle.dds_lists.specs.Lists.{Lists}
+use Rattle.dds_deploy.specs.Document.{read}
 use Rattle.dds_fields.specs.Reading.{Read}
 use Rattle.dds_answers.specs.Answers.{GivesOneOf}
 use Rattle.dds_answers.proofs.Unread.{unread_gives_one}

@@ -1,5 +1,5 @@
 use Rattle.std.proofs.Common.{◌≡◌, ◌<◌, ◌≤◌, ◌∙◌, ℕ, List, ap, Err, length, subst}
-use Rattle.dds_deploy_file.specs.Document.{read}
+use Rattle.dds_deploy.specs.Document.{read}
 use Rattle.dds_answers.specs.Answers.{GivesOneOf}
 use Rattle.dds_answers.proofs.FileEnds.{file_gives, held, large_of_file, unread_one}
 use Rattle.dds_tool.specs.Limits.{MayLimit, MayLimitFor}

@@ -1,6 +1,6 @@
 use Rattle.std.proofs.Common.{refl}
-use Rattle.dds_deploy.specs.Lists.{Lists}
-use Rattle.dds_deploy_file.specs.Document.{read}
+use Rattle.dds_lists.specs.Lists.{Lists}
+use Rattle.dds_deploy.specs.Document.{read}
 use Rattle.dds_fields.specs.Reading.{Read}
 use Rattle.dds_answers.proofs.Unread.{is_unread, unread_one}
 use Rattle.dds_tool.specs.Replaying.{MayReplay}

@@ -1,5 +1,5 @@
 use Rattle.std.proofs.Common.{◌≡◌, ◌≤◌, ◌∙◌, inl, length, refl, string_bytes, arith}
-use Rattle.dds_cert.specs.Views.{certificate_view}
+use Rattle.dds_weights.specs.Views.{certificate_view}
 use Rattle.dds_answers.specs.Outcome.{unproposed}
 use Rattle.dds_tool.proofs.Founds.{found_ends, found_fault}
 use Rattle.dds_tool.proofs.thorough.found.Goals as goal

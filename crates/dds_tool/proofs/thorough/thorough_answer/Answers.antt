@@ -1,4 +1,4 @@
-use Rattle.dds_deploy_file.specs.Document.{read}
+use Rattle.dds_deploy.specs.Document.{read}
 use Rattle.dds_tool.specs.Searches.{IsFound}
 use Rattle.dds_answers.proofs.Proposals.{sought_of, unread_seeks}
 use Rattle.dds_tool.proofs.thorough.thorough_answer.Goals as goal

@@ -1,7 +1,7 @@
 use Rattle.std.proofs.Common.{◌∙◌, string_bytes, sym}
 use Rattle.std.proofs.lemmas.Result.{IfOk-weaker}
-use Rattle.dds_deploy.specs.Lists.{Writer}
-use Rattle.dds_deploy.specs.Views.{writer_view}
+use Rattle.dds_lists.specs.Lists.{Writer}
+use Rattle.dds_lists.specs.Views.{writer_view}
 use Rattle.dds_xml.specs.Participants.{publisher}
 use Rattle.dds_xml.proofs.PlaceLaws.{named_at}
 use Rattle.dds_xml.proofs.participants.publisher_at.Goals as goal

@@ -1,7 +1,7 @@
 use Rattle.std.proofs.Common.{◌∙◌, string_bytes, sym}
 use Rattle.std.proofs.lemmas.Result.{IfOk-weaker}
-use Rattle.dds_deploy.specs.Lists.{Reader}
-use Rattle.dds_deploy.specs.Views.{reader_view}
+use Rattle.dds_lists.specs.Lists.{Reader}
+use Rattle.dds_lists.specs.Views.{reader_view}
 use Rattle.dds_xml.specs.Participants.{subscriber}
 use Rattle.dds_xml.proofs.PlaceLaws.{named_at}
 use Rattle.dds_xml.proofs.participants.subscriber_at.Goals as goal

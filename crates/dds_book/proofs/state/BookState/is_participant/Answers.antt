@@ -1,5 +1,5 @@
 use Rattle.std.proofs.Common.{◌≡◌, ◌∙◌, ap, rules}
-use Rattle.dds_deploy.specs.Lists.{Lists}
+use Rattle.dds_lists.specs.Lists.{Lists}
 use Rattle.dds_book.specs.Owning.{is_participant}
 use Rattle.dds_book.specs.Seat.{SeatState}
 use Rattle.dds_book.proofs.state.BookState.is_participant.Goals as goal

@@ -1,6 +1,6 @@
 use Rattle.std.proofs.Common.{All, sym, ap, ◌∙◌, subst}
 use Rattle.dds_match.specs.Plan.{network_of}
-use Rattle.dds_cert.specs.Views.{certificate_view}
+use Rattle.dds_weights.specs.Views.{certificate_view}
 use Rattle.dds_check.specs.Tables.{bound_of, IsBoundWithin}
 use Rattle.dds_check.proofs.Fitting.{tabled_of}
 use Rattle.dds_check.proofs.Least.{least_bound}

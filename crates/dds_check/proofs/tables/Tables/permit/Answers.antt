@@ -1,5 +1,5 @@
 use Rattle.std.proofs.Common.{ap, ◌∙◌}
-use Rattle.dds_cert.specs.Lists.{Row}
+use Rattle.dds_weights.specs.Lists.{Row}
 use Rattle.dds_check.proofs.Outside.{weight_as}
 use Rattle.dds_check.proofs.tables.Tables.permit.Goals as goal
 

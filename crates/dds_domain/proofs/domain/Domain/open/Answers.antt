@@ -1,6 +1,6 @@
 use Rattle.std.proofs.Common.{◌∙◌, subst, sym}
-use Rattle.dds_cert.specs.Lists.{Certificate}
-use Rattle.dds_deploy.specs.Lists.{Lists}
+use Rattle.dds_weights.specs.Lists.{Certificate}
+use Rattle.dds_lists.specs.Lists.{Lists}
 use Rattle.dds_match.specs.Plan.{network_of}
 use Rattle.dds_runs.specs.Accepted.{Accepted, certificate_of}
 use Rattle.dds_runs.specs.World.{opening}

@@ -1,5 +1,5 @@
 use Rattle.std.proofs.Common.{subst}
-use Rattle.dds_deploy.specs.WellFormed.{IsWellFormed}
+use Rattle.dds_lists.specs.WellFormed.{IsWellFormed}
 use Rattle.dds_match.proofs.Known.{network_known}
 use Rattle.dds_match.proofs.plan.Plan.lists.Goals as goal
 

@@ -1,4 +1,0 @@
-pub mod KindLaws
-pub mod KeyLaws
-pub mod ReadLaws
-pub mod WorkedFiles

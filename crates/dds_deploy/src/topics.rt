@@ -1,0 +1,172 @@
+//! The section `topics`: their names, the names of their types, and the keys of each.
+ghost use Rattle.std.specs.Prelude.{◌≡◌, List, ℕ};
+ghost use Rattle.toml.specs.View.{view, table_view};
+ghost use Rattle.dds_fields.specs.Gives.{Gives};
+ghost use Rattle.dds_base.specs.Section.{listed};
+ghost use Rattle.dds_fields.specs.Places.{place_text};
+ghost use Rattle.dds_fields.specs.Reading.{field};
+ghost use Rattle.dds_lists.specs.Lists.{Topic as TopicView};
+ghost use Rattle.std.specs.List.{list_all};
+ghost use Rattle.dds_deploy.specs.Topics.{key, keys, is_type_byte, is_type_name, a_type_name, topic_keys};
+ghost use Rattle.dds_deploy.specs.Topics.{topic_fields, topics};
+ghost use Rattle.dds_lists.specs.Views.{topic_view};
+
+use crate::entries::{Entries, section};
+use dds_base::{Names, Section, is_name, is_name_byte};
+use dds_fields::fault::{FaultKind, ReadFault, refuse};
+use dds_fields::field::{array_of_limit, new_name_of, require, text_of};
+use dds_fields::items::{Items, each};
+use dds_fields::place::Place;
+use dds_lists::Topic;
+use std::alloc::Global;
+use toml::{Table, Value};
+
+// What reads the keys of a topic.
+#[derive(Clone, Copy)]
+struct TopicKeys;
+
+impl Items for TopicKeys {
+    type Read = Names;
+
+    ghost State = { List (List ℕ) };
+
+    ghost state = { λ keys. keys };
+
+    ghost step = { λ _. key };
+
+    #[tactic(auto, unfolding(crate::specs::Topics::key))]
+    fn add(
+        &self,
+        alloc: Global,
+        all: &mut Names,
+        path: &Place,
+        value: &Value,
+    ) -> Result<(), ReadFault> {
+        let name = new_name_of(alloc, all, path, value)?;
+        all.push(String::from_str(alloc, name)?)?;
+        Ok(())
+    }
+}
+
+#[tactic(auto, using(dds_fields::proofs::Each::count_view), unfolding(crate::specs::Topics::keys))]
+fn keys_of(alloc: Global, path: &Place, value: &Value) -> Result<Names, ReadFault>
+    ensures { Gives (λ n. n) result (keys (place_text path.now) (view value.now)) }
+{
+    let values = array_of_limit(alloc, 64, path, value)?;
+    if values.is_empty() {
+        return Err(refuse(alloc, FaultKind::OutOfRange, path));
+    }
+    each(alloc, &TopicKeys, Names::new(alloc), path, values)
+}
+
+#[tactic(auto, unfolding(dds_fields::specs::Reading::field))]
+fn keys_field(alloc: Global, path: &Place, table: &Table, key: &str) -> Result<Names, ReadFault>
+    ensures { Gives (λ n. n) result (field key.now keys (place_text path.now) (table_view table.now)) }
+{
+    let at = Place::Key { parent: path, key };
+    let value = require(alloc, &at, table, key)?;
+    keys_of(alloc, &at, value)
+}
+
+fn is_type_byte(byte: u8) -> bool
+    ensures { result ≡ is_type_byte byte }
+{
+    is_name_byte(byte) || byte == b':'
+}
+
+fn has_type_bytes(text: &str) -> bool
+    ensures { result ≡ list_all is_type_byte text.now }
+{
+    text.as_bytes().iter().all(|b| is_type_byte(*b))
+}
+
+fn is_type_name(text: &str) -> bool
+    ensures { result ≡ is_type_name text.now }
+{
+    1 <= text.len() && text.len() <= 256 && has_type_bytes(text)
+}
+
+#[tactic(auto, unfolding(crate::specs::Topics::a_type_name))]
+fn type_name_of<'a>(
+    alloc: Global,
+    version: u32,
+    path: &Place,
+    value: &'a Value,
+) -> Result<&'a str, ReadFault>
+    ensures { Gives (λ s. s.now) result (a_type_name version (place_text path.now) (view value.now)) }
+{
+    let text = text_of(alloc, path, value)?;
+    let good = if version <= 2 {
+        is_name(text)
+    } else {
+        is_type_name(text)
+    };
+    if good {
+        Ok(text)
+    } else {
+        Err(refuse(alloc, FaultKind::BadName, path))
+    }
+}
+
+#[tactic(auto, unfolding(dds_fields::specs::Reading::field))]
+fn type_name_field<'a>(
+    alloc: Global,
+    version: u32,
+    path: &Place,
+    table: &'a Table,
+    key: &str,
+) -> Result<&'a str, ReadFault>
+    ensures { Gives (λ s. s.now) result
+        (field key.now (a_type_name version) (place_text path.now) (table_view table.now)) }
+{
+    let at = Place::Key { parent: path, key };
+    let value = require(alloc, &at, table, key)?;
+    type_name_of(alloc, version, &at, value)
+}
+
+// What reads the topics of a file of this version.
+#[derive(Clone, Copy)]
+struct TopicEntries {
+    version: u32,
+}
+
+impl Entries for TopicEntries {
+    type Entry = Topic;
+
+    ghost View = { TopicView };
+
+    ghost view = { topic_view };
+
+    ghost keys = { λ _. topic_keys };
+
+    ghost fields = { λ it _. topic_fields it.version };
+
+    fn keys(&self) -> &'static [&'static str] {
+        &["name", "type", "keys"]
+    }
+
+    #[tactic(auto, unfolding(crate::specs::Topics::topic_fields))]
+    fn fields(
+        &self,
+        alloc: Global,
+        _before: &Section<Topic>,
+        path: &Place,
+        table: &Table,
+    ) -> Result<Topic, ReadFault> {
+        let type_name = type_name_field(alloc, self.version, path, table, "type")?;
+        let keys = keys_field(alloc, path, table, "keys")?;
+        let type_name = String::from_str(alloc, type_name)?;
+        Ok(Topic { type_name, keys })
+    }
+}
+
+/// The section `topics`, at most 256 entries, or its first fault. An absent section has none.
+pub(crate) fn topics(
+    alloc: Global,
+    version: u32,
+    table: &Table,
+) -> Result<Section<Topic>, ReadFault>
+    ensures { Gives (listed topic_view) result (topics version (table_view table.now)) }
+{
+    section(alloc, 256, &TopicEntries { version }, table, "topics")
+}

@@ -1,9 +1,0 @@
-use Rattle.std.proofs.Common.{◌≡◌, drop, map}
-use Rattle.std.specs.List.{list_any}
-use Rattle.dds_deploy.specs.Lists.{has}
-use Rattle.dds_deploy.specs.Views.{application_view}
-use Rattle.dds_deploy_file.proofs.applications.is_owned.Given as goal
-
-abbrev pub invariant-loop-application : goal.invariant-loop-application
-invariant-loop-application g l =
-    list_any (λ a. has (g.E.Endpoints.owned_by a) l.number) (map application_view (drop l.application-index l.applications.entries.items)) ≡ list_any (λ a. has (g.E.Endpoints.owned_by a) l.number) (map application_view l.applications.entries.items)

@@ -1,0 +1,68 @@
+-- Texts of numbers in a row, and the lines of an endpoint from the table of weights.
+use Rattle.std.proofs.Common.{ℕ, zero, suc, ◌≡◌, ◌+◌, ◌*◌, ◌<◌, ◌≤◌, ◌==◌, ◌&&◌, List, [], ◌∷◌, ◌++◌, cond, flat_map, map, length, refl, sym, ap, ◌∙◌, arith, append-nil, append_assoc, add-one, get_or, take, slice_index, slice_get, Option, Some, None, unwrap_or, option_map}
+use Rattle.std.specs.List.{range_with_len}
+use Rattle.std.proofs.Math.Seq.{take-suc}
+use Rattle.std.proofs.lemmas.Grind.{flat_map-append}
+use Rattle.std.proofs.lemmas.List.{flat_map_more}
+use Rattle.std.proofs.lemmas.List.Folds.{flat_map-map}
+use Rattle.dds_base.proofs.Ranges.{range_push}
+use Rattle.dds_lists.specs.Lists.{Lists, Reader, Writer, keys_at}
+use Rattle.dds_lists.specs.WellFormed.{IsWellFormed}
+use Rattle.dds_weights.specs.declared.certificate.Weight.{Weight}
+use Rattle.dds_weights.specs.Lists.{weight_of}
+use Rattle.dds_weights.specs.Naming.{name_at, reader_keys, writer_keys}
+use Rattle.dds_weights.specs.Text.{each_below, weight_line, endpoint_lines}
+use Rattle.dds_weights.specs.Weighing.{weight_by, ShowsWeights}
+use Rattle.dds_weights.proofs.FitLaws.{keys_few}
+
+each_below_more : (f : ℕ → List ℕ) (n : ℕ) → each_below (n + 1) f ≡ each_below n f ++ f n
+each_below_more f n = ap (flat_map f) (range_push n) ∙ (flat_map-append f (range_with_len 0 n) (n ∷ []) ∙ ap (λ xs. flat_map f (range_with_len 0 n) ++ xs) (append-nil (f n)))
+
+-- the text of the next number is added
+pub and_next : (f : ℕ → List ℕ) (n : ℕ) (old text new : List ℕ) → text ≡ old ++ each_below n f → new ≡ text ++ f n → new ≡ old ++ each_below (n + 1) f
+and_next f n old text new before after =
+    after ∙ (ap (λ xs. xs ++ f n) before ∙ (append_assoc old (each_below n f) (f n) ∙ ap (λ xs. old ++ xs) (sym (each_below_more f n))))
+
+-- the text of the next element is added
+pub and_element : {X : Type 0} (f : X → List ℕ) (xs : List X) (i : ℕ) (x : X) (old text line new : List ℕ) → i < length xs → x ≡ get_or xs i x →
+    text ≡ old ++ flat_map f (take i xs) → line ≡ f x → new ≡ text ++ line → new ≡ old ++ flat_map f (take (i + 1) xs)
+and_element f xs i x old text line new lt at before is after =
+    after ∙ (rw (before, is) (flat_map_more f old (take i xs) x ∙ rw (add-one, take-suc xs i x lt, ← at) refl))
+
+-- three parts are added, the first over what the elements stand for
+pub and_parts : {X Y : Type 0} (f : Y → List ℕ) (v : X → Y) (xs ys : List X) (head second third t1 t2 t3 t4 : List ℕ) → t1 ≡ head → ys ≡ xs → t2 ≡ t1 ++ flat_map (λ x. f (v x)) ys → t3 ≡ t2 ++ second → t4 ≡ t3 ++ third →
+    t4 ≡ ((head ++ flat_map f (map v xs)) ++ second) ++ third
+and_parts f v xs ys head second third t1 t2 t3 t4 e same e2 e3 e4 =
+    e4 ∙ ap (λ t. t ++ third) (e3 ∙ ap (λ t. t ++ second) (e2 ∙ rw (e, same) (ap (λ t. head ++ t) (sym (flat_map-map f v xs)))))
+
+same_from : (f g : ℕ → List ℕ) (a n : ℕ) → ((i : ℕ) → i < a + n → f i ≡ g i) → flat_map f (range_with_len a n) ≡ flat_map g (range_with_len a n)
+same_from f g a zero same = refl
+same_from f g a (suc n) same =
+    let here : f a ≡ g a = same a (omega arith) in
+    let rest = same_from f g (a + 1) n (λ i l. same i (omega arith)) in
+    rw (here, rest)
+
+weight_same : (xs : List (Weight ℕ)) (e k : ℕ) → weight_by (λ n. n) xs e k ≡ weight_of xs e k
+weight_same [] e k = refl
+weight_same (x ∷ xs) e k = ap (λ n. cond ((x.endpoint == e) && (x.key == k)) x.weight n) (weight_same xs e k)
+
+-- the table has the weights of an endpoint
+pub lines_shown : (side name : List ℕ) (keys : List (List ℕ)) (cells : List ℕ) (xs : List (Weight ℕ)) (e : ℕ) → ShowsWeights (λ n. n) cells xs → e < 256 → length keys ≤ 64 →
+    endpoint_lines side name keys (λ k. slice_index cells (e * 64 + k)) ≡ endpoint_lines side name keys (weight_of xs e)
+lines_shown side name keys cells xs e shows few small =
+    same_from (λ k. weight_line side name (name_at keys k) (slice_index cells (e * 64 + k))) (λ k. weight_line side name (name_at keys k) (weight_of xs e k)) 0 (length keys)
+    (λ k l. ap (weight_line side name (name_at keys k)) (shows.shown e k few (omega arith) ∙ weight_same xs e k))
+
+pub reader_keys_few : (d : Lists) (r : ℕ) → IsWellFormed d → length (reader_keys d r) ≤ 64
+reader_keys_few d r w = by (slice_get d.readers.entries r)
+  where
+    by : (o : Option Reader) → length (unwrap_or (option_map (λ (x : Reader). keys_at d.topics x.topic) o) []) ≤ 64
+    by None = omega arith
+    by (Some x) = keys_few d x.topic w
+
+pub writer_keys_few : (d : Lists) (n : ℕ) → IsWellFormed d → length (writer_keys d n) ≤ 64
+writer_keys_few d n w = by (slice_get d.writers.entries n)
+  where
+    by : (o : Option Writer) → length (unwrap_or (option_map (λ (x : Writer). keys_at d.topics x.topic) o) []) ≤ 64
+    by None = omega arith
+    by (Some x) = keys_few d x.topic w

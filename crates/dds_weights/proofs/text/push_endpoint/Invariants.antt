@@ -1,0 +1,8 @@
+use Rattle.std.proofs.Common.{◌≡◌, ◌+◌, ◌*◌, ◌++◌, slice_index, string_bytes}
+use Rattle.dds_weights.specs.Naming.{name_at}
+use Rattle.dds_weights.specs.Text.{each_below, weight_line}
+use Rattle.dds_weights.proofs.text.push_endpoint.Given as goal
+
+-- the lines of the keys so far are added
+abbrev pub invariant-loop-k : goal.invariant-loop-k
+invariant-loop-k l = string_bytes l.text ≡ string_bytes l.initial.text ++ each_below l.k (λ j. weight_line l.side l.endpoint (name_at l.keys j) (slice_index l.cells (l.number * 64 + j)))

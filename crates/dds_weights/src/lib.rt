@@ -1,0 +1,13 @@
+//! Certificates: weights for the samples, takes and permits of a plan, and the bounds that they show.
+//! `Certificate::fits` tells whether one fits a plan, and `certificate_text` gives its text.
+#![tactic(auto)]
+
+pub mod certificate;
+mod fit;
+pub mod named;
+pub mod naming;
+pub mod text;
+pub mod weighing;
+
+pub use certificate::{Bound, Certificate, Row, Total, Weight};
+pub use text::certificate_text;
