@@ -19,7 +19,7 @@ sys.dont_write_bytecode = True
 from harness import ROOT, Tally, run  # noqa: E402
 
 # what the script needs of the system
-TOOLS = ["awk", "cat", "chmod", "cp", "find", "grep", "head", "install", "ls", "mkdir", "mktemp", "mv", "rm", "readlink", "sed", "sha256sum", "sh", "sleep", "sort", "stat", "tail", "xargs"]
+TOOLS = ["awk", "cat", "chmod", "cp", "find", "grep", "gzip", "head", "install", "ls", "mkdir", "mktemp", "mv", "rm", "readlink", "sed", "sha256sum", "sh", "sleep", "sort", "stat", "tail", "xargs"]
 # `rt ci` makes the program of the sources that it finds; `rt try` answers by the words after `--`. Where the file `slow` is there, both wait, and note their process.
 RT = r"""#!/bin/sh
 here=${0%/*}
@@ -94,6 +94,15 @@ class Tree:
         words = file.read_text().split() if file.exists() else []
         file.unlink(missing_ok=True)
         return words
+
+    def release(self):
+        """Packs the built program as tools/release does, and removes what was built."""
+        self.build()
+        self.write("tools/release", (ROOT / "tools/release").read_text())
+        made = run([shutil.which("sh"), self.top / "tools/release"], cwd=self.top, env=self.environment() | {"PATH": os.environ["PATH"]}, seconds=30)
+        assert made.status == 0, made
+        shutil.rmtree(self.top / "crates/ddscheck/out")
+        self.calls()
 
     def build(self):
         built = self.ask("--build")
@@ -342,9 +351,37 @@ def install(tree, tally):
         tally.check(tree.ask(*words).status == 4, f"{' '.join(words)} is a fault of usage")
 
 
+def answer_by_release(tree, tally):
+    """The program in dist/ answers where it was made of the sources as they stand."""
+    given = run([shutil.which("sh"), ROOT / "tools/release", "a word"], env=tree.environment(), seconds=30)
+    tally.check((given.status, given.out) == (4, ""), "tools/release takes no words", given)
+    tree.release()
+    tally.check(is_answer_of(tree.ask(*CHECK), "d1", "b1"), "the program of dist/ answers")
+    version = tree.ask("--version")
+    tally.check((version.status, version.out) == (0, "built of d1 and b1, --version (from dist/, made of these sources)\n"), "it says where it is from", version)
+    tally.check(tree.calls() == [], "the toolchain isn't asked then")
+    tally.check(tree.ask("--install", str(tree.top / "prefix")).status == 0, "it can be installed")
+    built = tree.ask("--build")
+    version = tree.ask("--version")
+    tally.check((built.status, tree.calls(), version.out) == (0, ["ci"], "built of d1 and b1, --version\n"), "--build builds nonetheless", version)
+    shutil.rmtree(tree.top / "crates/ddscheck/out")
+    tree.write("crates/base/src/lib.rt", "b2")
+    tally.check(tree.ask(*CHECK).out.startswith("interpreted"), "not where the sources are others")
+    tree.write("crates/base/src/lib.rt", "b1")
+    tree.write("crates/ddscheck/out", "a file where the folder belongs")
+    tally.check(is_answer_of(tree.ask(*CHECK), "d1", "b1"), "where nothing can be written beside the sources")
+    tally.check(not list(tree.temporary.iterdir()), "nothing is left in the temporary folder")
+    packed = tree.top / "dist/ddscheck.gz"
+    packed.write_bytes(packed.read_bytes()[:-9])
+    given = tree.ask(*CHECK)
+    tally.check(is_failure(given, "can't be unpacked"), "a program in dist/ that is cut", given)
+    (tree.tools / "gzip").unlink()
+    tally.check(tree.ask(*CHECK).out.startswith("interpreted"), "without gzip")
+
+
 CASES = [
     build_and_answer, follow_sources, edit_during_build, take_over, say_what_needs_a_build, fail_by_devices, write_nothing, follow_links, lack_tools,
-    end_by_signals, install,
+    end_by_signals, install, answer_by_release,
 ]
 
 
