@@ -4,10 +4,11 @@
   tools/blocks.py
 
 Of a fenced block with lines `$ COMMAND` each command is run, and has to write what stands below it, to either output. A block of commands alone is run line by line, and
-so is each command in a line of text that names files; each has to end with the status 0, of `refute` also 1. What another block shows is the output of the last command before it, or of the
-one that stands for it here. A block of TOML has to stand in a file of the examples or of tools/commands, comments apart. A block that is none of these fails, so nothing is printed that
-nothing tests. C is compiled by bridge/guard/test, and what needs Cyclone DDS is run by the tests of bridge/cyclone. Then certificates and pictures of the examples have to
-be what the program, and Graphviz in the version that made them, makes of their deployments. The last line is 'N passed, M failed'; the status is 1 if one failed.
+so is each command in a line of text that names files; each has to end with the status 0, of `refute` also 1. What another block shows is the output of the last command before it. A block of
+TOML has to stand in a file of the examples or of tools/commands, comments apart. A block that is none of these fails, so nothing is printed that
+nothing tests. C is compiled by bridge/guard/test, and what needs Cyclone DDS is run by the tests of bridge/cyclone. Then each pattern has to get a yes with limits that suffice, and
+certificates and pictures of the examples have to be what the program, and Graphviz in the version that made them, makes of their deployments. The last line is 'N passed, M failed'; the
+status is 1 if one failed.
 """
 import os
 import re
@@ -26,12 +27,6 @@ COMMAND = re.compile(r"(?:\./)?ddscheck |tools/")
 NOT_RUN = re.compile(r"\./test$|\./ddscheck --build$|bridge/|make -C bridge/|\(cd crates/dds_guard_c && rt lib\)$|cc -Iinclude ")
 # what stands for a word in capitals
 STANDS_FOR = {"DEPLOYMENT": "examples/ping/ping.toml", "CERTIFICATE": "examples/ping/ping.cert.toml"}
-# blocks whose command is told in words: document, first line, command. limited.toml is PING with a limit of 2 at ping_r
-IN_WORDS = {
-    ("README.md", "no 22 BoundOverInstanceLimit ping_r k"): "./ddscheck check limited.toml examples/ping/ping.cert.toml --explain",
-    ("README.md", "unsafe ping_r k SamplesPerInstanceLimit 9"): "./ddscheck refute limited.toml",
-    ("docs/GUIDE.md", "unsafe ping_r k SamplesPerInstanceLimit 9"): "./ddscheck refute limited.toml",
-}
 # examples whose certificate is what `propose --thorough` prints
 PROPOSED = ["vehicle", "plant", "instrument", "robot"]
 PICTURES = {"docs/ping.svg": "ping"} | {f"examples/{name}/{name}.svg": name for name in PROPOSED}
@@ -81,8 +76,6 @@ class Room:
         shutil.copytree(ROOT / "examples", self.folder / "examples")
         (self.folder / "tools").symlink_to(ROOT / "tools")
         (self.folder / "ddscheck").symlink_to(PROGRAM)
-        limited = (ROOT / "examples/ping/ping.toml").read_text(encoding="utf-8").replace("max_samples_per_instance = 3", "max_samples_per_instance = 2", 1)
-        (self.folder / "limited.toml").write_text(limited, encoding="utf-8")
         self.environment = os.environ | {"DDSCHECK": str(PROGRAM), "PATH": f"{self.folder}:{os.environ['PATH']}"}
 
     def run(self, command, document):
@@ -146,20 +139,17 @@ def read_document(tally, room, document):
             last = command
         if not block.line:
             continue
-        told = IN_WORDS.get((document, block.lines[0]))
         if block.language == "toml":
             tally.judge(str(block), fault_of_toml, block)
         elif block.lines[0].startswith("$ "):
             tally.judge(str(block), fault_of_session, room, block)
         elif block.language == "c":
             continue
-        elif block.lines[0].startswith("let "):
-            tally.skip("the guide's Rust, which no test crate compiles yet")
         elif all(COMMAND.match(line) or NOT_RUN.match(line) for line in block.lines):
             run_commands(tally, room, block)
             last = block.lines[-1]
         elif document != "docs/REAL-DDS.md":
-            tally.judge(str(block), fault_of_output, room, block, told or last)
+            tally.judge(str(block), fault_of_output, room, block, last)
             last = None
 
 
@@ -170,7 +160,18 @@ def run_commands(tally, room, block):
             tally.judge(f"{block}: {command}", fault_of_end, room, command, block.document)
 
 
-# Certificates and pictures
+# Patterns, certificates and pictures
+
+
+def fault_of_pattern(path, folder):
+    """What is wrong with a deployment to copy: a limit isn't enough, a run loses a sample, or what is proposed isn't accepted."""
+    needs, safe, proposed = (ddscheck(*words, path) for words in (["limits"], ["refute"], ["propose", "--thorough"]))
+    if (needs.status, safe.out) != (0, "safe\n") or "too low" in needs.out:
+        return f"{needs} {safe}"
+    certificate = Path(folder) / f"{path.stem}.cert.toml"
+    certificate.write_text(proposed.out, encoding="utf-8")
+    checked = ddscheck("check", path, certificate)
+    return None if checked.out.startswith("yes\n") else str(checked)
 
 
 def fault_of_certificate(name):
@@ -198,6 +199,8 @@ def main():
         room = Room(name)
         for document in DOCUMENTS:
             tally.attempt(document, read_document, tally, room, document)
+        for path in sorted((ROOT / "examples/patterns").glob("*.toml")):
+            tally.judge(f"the pattern {path.stem}", fault_of_pattern, path, name)
     for name in PROPOSED:
         tally.judge(f"the certificate of {name}", fault_of_certificate, name)
     for path, name in PICTURES.items():

@@ -16,7 +16,8 @@ from dataclasses import dataclass
 from pathlib import Path
 
 ROOT = Path(__file__).resolve().parent.parent
-PROGRAM = ROOT / "crates/ddscheck/out/ddscheck"
+# the built program, or another one that the environment names
+PROGRAM = Path(os.environ.get("DDSCHECK", ROOT / "crates/ddscheck/out/ddscheck"))
 # how long a command may take where a script asks for nothing else; the slowest machine and a program without optimization are well within it
 SECONDS = 120
 # how much of an output is kept: more than any command prints on a legal input

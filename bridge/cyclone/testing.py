@@ -116,7 +116,7 @@ def run_parts(document, parts):
     options = parser.parse_args()
     missing = [package for file, package in PACKAGES.items() if not Path(file).exists()]
     if missing or not shutil.which("make") or not shutil.which("cc"):
-        stop(f"wants Debian's {', '.join(PACKAGES.values())}, make and gcc; not here: {', '.join(missing) or 'make or cc'}")
+        stop(f"needs Debian's {', '.join(PACKAGES.values())}, make and gcc; not here: {', '.join(missing) or 'make or cc'}")
     make()
     all_failed = all_skipped = all_passed = 0
     with tempfile.TemporaryDirectory() as name:
