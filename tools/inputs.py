@@ -104,3 +104,21 @@ connections = [{{ writer = "w", reader = "r" }}]
 def gaps_events(count):
     """So many samples of the key that isn't heard, and then as many GAPs past all of them, each of which is lost."""
     return "write w a\n" * count + "gap w r 1\nlose 0\n" * count
+
+
+def exchange_deployment():
+    """An application that may write a sample for each that it takes."""
+    return f"""version = 1
+{HEAD}
+topics = [{{ name = "t", type = "n", keys = ["k"] }}, {{ name = "s", type = "n", keys = ["k"] }}]
+writers = [{{ name = "w", participant = "p", topic = "t", history = "KEEP_ALL" }}]
+readers = [{{ name = "r", participant = "p", topic = "s", reliability = "RELIABLE", history = "KEEP_ALL" }}]
+applications = [{{ name = "a", participant = "p", writers = ["w"], readers = ["r"] }}]
+rules = [{{ name = "u", application = "a", takes = [{{ reader = "r", key = "k", count = 1 }}], writes = [{{ writer = "w", key = "k", count = 1 }}] }}]
+"""
+
+
+def largest_trace():
+    """A trace of that application that fills its file: 4,971,026 lines, which keep the rules."""
+    pair = "0 a take r k\n0 a write w k\n"
+    return pair * ((1 << 26) // len(pair))

@@ -33,14 +33,15 @@ MEMORIES = {resource.RLIMIT_DATA: "heap", resource.RLIMIT_AS: "address space"}
 COMMANDS = {
     "check": "check d c", "check --explain": "check d c --explain", "match": "match d", "propose": "propose d", "propose --thorough": "propose d --thorough",
     "migrate": "migrate d", "show": "show d", "show --format dds-xml": "show d --format dds-xml", "draw": "draw d c", "run": "run d c --writes 2 --takes 2",
-    "refute": "refute d", "replay": "replay d e",
+    "refute": "refute d", "replay": "replay d e", "conform": "conform d t",
 }
-STYLED = ("check", "match", "propose", "run", "refute", "replay")
+STYLED = ("check", "match", "propose", "run", "refute", "replay", "conform")
 # address space that the stack may take, in KiB: with less it may be the stack that can't grow, which ends the program by a signal
 STACK_ROOM = 4096
 # the searches and reasons on the largest inputs take minutes
 NOT_ON_LARGEST = ("check --explain", "propose --thorough", "refute", "run")
 EVENTS = "write ping_w k\nsend ping_w ping_r 1\ndeliver 0\ntake ping_r k\nfire answer\nheartbeat ping_w ping_r\n"
+TRACE = "0 a1 write ping_w k\n1 a2 take ping_r k\n2 a2 write pong_w k\n3 a2 write pong_w k\n"
 
 
 def example(name):
@@ -48,10 +49,10 @@ def example(name):
 
 
 def small_inputs():
-    """Inputs of a few kB: deployment, certificate and events of each name."""
+    """Inputs of a few kB: deployment, certificate, events and trace of each name."""
     ping, certificate = example("ping")
     return {
-        "ping": (ping, certificate, EVENTS),
+        "ping": (ping, certificate, EVENTS, TRACE),
         "ping with less room": (ping.replace("max_samples_per_instance = 3", "max_samples_per_instance = 2"), certificate, EVENTS),
         "plant": (*example("plant"), "deliver 0\n"),
         "robot": (*example("robot"), "deliver 0\n"),
@@ -71,13 +72,13 @@ def large_inputs():
 
 def memory_input(name):
     """The files on which a command's memory is tried: some that need more than the least that an allocator takes at once."""
-    if name in ("run", "replay"):
+    if name in ("run", "replay", "conform"):
         return small_inputs()["ping"]
     return inputs.keyed_deployment(32), inputs.keyed_certificate(32), ""
 
 
 def write(room, files):
-    for name, text in zip(("d", "c", "e"), files):
+    for name, text in zip(("d", "c", "e", "t"), (*files, "")):
         (room / name).write_text(text)
 
 

@@ -118,17 +118,17 @@ def refute(path, room):
     return None if int(first.split()[-1]) == lines.count("\n") and " -> " in last else "the count of the events"
 
 
-def read_events_to_the_limit(room):
-    """`replay` of as many bytes of comments as a file of events may have, and of one more."""
+def read_to_the_limit(room, command, said):
+    """A command on as many bytes of comments as a file of events and a trace may have, where it says this, and on one more."""
     path = ROOT / "examples/ping/ping.toml"
-    events = room / "events"
-    events.write_text("#" * 63 + "\n" + ("#" * 1023 + "\n") * 65535 + "#" * 959 + "\n")
-    given = ask("replay", path, events)
-    if (events.stat().st_size, given.status, given.out, given.err) != (EVENTS_LIMIT, 0, "", ""):
-        return f"{events.stat().st_size} bytes: {given}"
-    with events.open("a") as file:
+    lines = room / "lines"
+    lines.write_text("#" * 63 + "\n" + ("#" * 1023 + "\n") * 65535 + "#" * 959 + "\n")
+    given = ask(command, path, lines)
+    if (lines.stat().st_size, given.status, given.out, given.err) != (EVENTS_LIMIT, 0, said, ""):
+        return f"{lines.stat().st_size} bytes: {given}"
+    with lines.open("a") as file:
         file.write("\n")
-    given = ask("replay", path, events)
+    given = ask(command, path, lines)
     return None if (given.status, given.out, given.err) == (2, "", "ddscheck: 4 TooLarge\n") else f"one byte more: {given}"
 
 
@@ -173,7 +173,8 @@ def main(names):
             for reason, count in one.skipped.items():
                 tally.skip(reason, count)
         if not names:
-            tally.judge("events of 64 MiB", read_events_to_the_limit, Path(room))
+            tally.judge("events of 64 MiB", read_to_the_limit, Path(room), "replay", "")
+            tally.judge("a trace of 64 MiB", read_to_the_limit, Path(room), "conform", "kept\n")
     return tally.finish()
 
 

@@ -29,7 +29,14 @@ def replay_gaps(room):
     return ["replay", "d.toml", "events"], "write w a -> written 1\n", "gap w r 1 -> place 0\nlose 0 -> dropped\n", 0, 2
 
 
-CASES = [explain_all_bounds, replay_gaps]
+def conform_largest_trace(room):
+    """A trace that fills its file with five million lines."""
+    (room / "d.toml").write_text(inputs.exchange_deployment())
+    (room / "trace").write_text(inputs.largest_trace())
+    return ["conform", "d.toml", "trace"], "kept\n", "", 0, 10
+
+
+CASES = [explain_all_bounds, replay_gaps, conform_largest_trace]
 
 
 def fault_of(case):

@@ -26,7 +26,7 @@ def command(name, word):
     return shlex.split(os.environ.get(name, f"{ROOT / 'ddscheck'} {word}"))
 
 
-SHOW, MATCH, CHECK = command("SHOW", "show"), command("MATCH", "match"), command("CHECK", "check")
+SHOW, MATCH, CHECK, CONFORM = command("SHOW", "show"), command("MATCH", "match"), command("CHECK", "check"), command("CONFORM", "conform")
 
 
 def stop(why):

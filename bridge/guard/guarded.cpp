@@ -1,4 +1,4 @@
-// An application of PING on Cyclone DDS, guarded, in C++ without exceptions: guarded-cxx DEPLOYMENT a1|a2 SAMPLES TAG [--bug]
+// An application of PING on Cyclone DDS, guarded, in C++ without exceptions: guarded-cxx DEPLOYMENT a1|a2 SAMPLES TAG TRACE [--bug|--past]
 //
 // It does what guarded-c does, and ends with the same line and status.
 #include "ddscheck.hpp"
@@ -15,28 +15,40 @@ struct Done {
     long refused = 0;
 };
 
-void take_all(const ddscheck_dds_end &reader, Done &done)
+void take_all(const ddscheck_dds_end &reader, const ping_words &words, Done &done)
 {
     ddscheck_Sample sample;
     void *samples[1] = {&sample};
     dds_sample_info_t info;
     while (ddscheck_dds_take(&reader, samples, &info, 1, 1) == 1) {
-        done.taken += info.valid_data ? 1 : 0;
+        if (info.valid_data) {
+            done.taken++;
+            ping_took(&words);
+        }
     }
 }
 
-void write_all(ddscheck::Guard &guard, const ddscheck_dds_end &writer, const ping_words &words, Done &done)
+// What came of a write.
+void note(dds_return_t answer, const ping_words &words, Done &done)
+{
+    if (answer == DDS_RETCODE_OK) {
+        done.written++;
+        ping_wrote(&words);
+    }
+    done.refused += answer == DDS_RETCODE_PRECONDITION_NOT_MET ? 1 : 0;
+}
+
+void write_all(ddscheck::Guard &guard, const ddscheck_dds_end &writer, ping_words &words, Done &done)
 {
     ddscheck_Sample sample{};
     std::memcpy(sample.key, "k", 2);
     while (done.written < words.samples && guard.may_write(writer.number, 0) == DDSCHECK_OK) {
-        done.written += ddscheck_dds_write(&writer, &sample) == DDS_RETCODE_OK ? 1 : 0;
+        note(ddscheck_dds_write(&writer, &sample), words, done);
     }
-    if (words.bug != 0 && done.written < words.samples && done.refused == 0) {
+    if (words.bug != PING_NO_BUG && done.written < words.samples) {
         // the planted bug: one write too many
-        const dds_return_t answer = ddscheck_dds_write(&writer, &sample);
-        done.refused += answer == DDS_RETCODE_PRECONDITION_NOT_MET ? 1 : 0;
-        done.written += answer == DDS_RETCODE_OK ? 1 : 0;
+        note(words.bug == PING_BUG ? ddscheck_dds_write(&writer, &sample) : dds_write(writer.entity, &sample), words, done);
+        words.bug = PING_NO_BUG;
     }
 }
 
@@ -47,7 +59,7 @@ int main(int count, char **words)
     ping_words read;
     Done done;
     if (ping_read_words(count, words, &read) == 0) {
-        std::fprintf(stderr, "guarded-cxx: DEPLOYMENT a1|a2 SAMPLES TAG [--bug]\n");
+        std::fprintf(stderr, "guarded-cxx: DEPLOYMENT a1|a2 SAMPLES TAG TRACE [--bug|--past]\n");
         return 4;
     }
     ping_configure(read.tag);
@@ -64,11 +76,11 @@ int main(int count, char **words)
         return 3;
     }
     for (int at = 0; at < 20000 && (done.written < read.samples || done.taken < read.samples); at++) {
-        take_all(reader, done);
+        take_all(reader, read, done);
         write_all(guard, writer, read, done);
         dds_sleepfor(DDS_MSECS(1));
     }
     dds_wait_for_acks(writer.entity, DDS_SECS(5));
     std::printf("%s written %ld taken %ld refused %ld rejected %u\n", read.side->application, done.written, done.taken, done.refused, ping_rejected(reader.entity));
-    return done.written < read.samples || done.taken < read.samples ? 1 : 0;
+    return std::fclose(read.trace) != 0 || done.written < read.samples || done.taken < read.samples ? 1 : 0;
 }

@@ -19,26 +19,42 @@ static const struct ping_side ping_sides[2] = {
     {"a2", "pong_w", "pong", "ping_r", "ping"},
 };
 
-/* the words of the command line: DEPLOYMENT APPLICATION SAMPLES TAG [--bug] */
+/* the write too many that is planted: none, one that the guard is asked for, one past the guard */
+enum ping_bug { PING_NO_BUG, PING_BUG, PING_PAST };
+
+/* the words of the command line: DEPLOYMENT APPLICATION SAMPLES TAG TRACE [--bug|--past] */
 struct ping_words {
     const char *deployment;
     const struct ping_side *side;
     long samples;
     const char *tag;
-    int bug;
+    FILE *trace;
+    enum ping_bug bug;
 };
 
 static inline int ping_read_words(int count, char **words, struct ping_words *read)
 {
-    if (count < 5 || count > 6 || (count == 6 && strcmp(words[5], "--bug") != 0)) {
+    if (count < 6 || count > 7 || (count == 7 && strcmp(words[6], "--bug") != 0 && strcmp(words[6], "--past") != 0)) {
         return 0;
     }
     read->deployment = words[1];
     read->side = strcmp(words[2], "a1") == 0 ? &ping_sides[0] : strcmp(words[2], "a2") == 0 ? &ping_sides[1] : NULL;
     read->samples = atol(words[3]);
     read->tag = words[4];
-    read->bug = count == 6;
-    return read->side != NULL && read->samples > 0;
+    read->trace = fopen(words[5], "w");
+    read->bug = count < 7 ? PING_NO_BUG : strcmp(words[6], "--bug") == 0 ? PING_BUG : PING_PAST;
+    return read->side != NULL && read->samples > 0 && read->trace != NULL;
+}
+
+/* Notes a sample that was written, or taken, as a line of the trace. */
+static inline void ping_wrote(const struct ping_words *words)
+{
+    (void)fprintf(words->trace, "%lld %s write %s k\n", (long long)dds_time(), words->side->application, words->side->writer);
+}
+
+static inline void ping_took(const struct ping_words *words)
+{
+    (void)fprintf(words->trace, "%lld %s take %s k\n", (long long)dds_time(), words->side->application, words->side->reader);
 }
 
 /* The number of a sample's key: PING has one key, k. */

@@ -10,13 +10,14 @@ _ddscheck() {
     "refute --format") COMPREPLY=($(compgen -W "text json" -- "$word")); return ;;
     "replay --format") COMPREPLY=($(compgen -W "text json" -- "$word")); return ;;
     "limits --format") COMPREPLY=($(compgen -W "text json" -- "$word")); return ;;
+    "conform --format") COMPREPLY=($(compgen -W "text json" -- "$word")); return ;;
     esac
     if [ "$COMP_CWORD" = 1 ]; then
-        COMPREPLY=($(compgen -W "match check propose run migrate show draw refute replay limits help -h --help -V --version" -- "$word"))
+        COMPREPLY=($(compgen -W "match check propose run migrate show draw refute replay limits conform help -h --help -V --version" -- "$word"))
         return
     fi
     case ${COMP_WORDS[1]} in
-    help) COMPREPLY=($(compgen -W "match check propose run migrate show draw refute replay limits help" -- "$word")); return ;;
+    help) COMPREPLY=($(compgen -W "match check propose run migrate show draw refute replay limits conform help" -- "$word")); return ;;
     match) options="--format -h --help" ;;
     check) options="--explain --format -h --help" ;;
     propose) options="--thorough --format -h --help" ;;
@@ -27,6 +28,7 @@ _ddscheck() {
     refute) options="--format -h --help" ;;
     replay) options="--format -h --help" ;;
     limits) options="--certificate --format -h --help" ;;
+    conform) options="--format -h --help" ;;
     esac
     case $word in
     -*) COMPREPLY=($(compgen -W "$options" -- "$word")) ;;

@@ -10,6 +10,7 @@ complete -c ddscheck -n __fish_use_subcommand -a draw -d 'Prints a picture of a 
 complete -c ddscheck -n __fish_use_subcommand -a refute -d 'Looks for a run of a deployment that loses a sample'
 complete -c ddscheck -n __fish_use_subcommand -a replay -d 'Makes the events of a file on a deployment, and prints what comes of each'
 complete -c ddscheck -n __fish_use_subcommand -a limits -d 'Tells how much room each reader and the history of each writer needs'
+complete -c ddscheck -n __fish_use_subcommand -a conform -d 'Tells whether a recorded trace keeps the rules of a deployment'
 complete -c ddscheck -n __fish_use_subcommand -a help -d 'Print this message or the help of the given subcommand(s)'
 complete -c ddscheck -n __fish_use_subcommand -s h -l help -d 'Print help'
 complete -c ddscheck -n __fish_use_subcommand -s V -l version -d 'Print version'
@@ -37,3 +38,5 @@ complete -c ddscheck -n '__fish_seen_subcommand_from replay' -s h -l help -d 'Pr
 complete -c ddscheck -n '__fish_seen_subcommand_from limits' -l certificate -d 'Prints a certificate that shows these bounds, in place of them'
 complete -c ddscheck -n '__fish_seen_subcommand_from limits' -l format -x -a 'text json' -d 'text or json [default: text]'
 complete -c ddscheck -n '__fish_seen_subcommand_from limits' -s h -l help -d 'Print help'
+complete -c ddscheck -n '__fish_seen_subcommand_from conform' -l format -x -a 'text json' -d 'text or json [default: text]'
+complete -c ddscheck -n '__fish_seen_subcommand_from conform' -s h -l help -d 'Print help'

@@ -16,6 +16,7 @@ _ddscheck() {
             'refute:Looks for a run of a deployment that loses a sample'
             'replay:Makes the events of a file on a deployment, and prints what comes of each'
             'limits:Tells how much room each reader and the history of each writer needs'
+            'conform:Tells whether a recorded trace keeps the rules of a deployment'
             'help:Print this message or the help of the given subcommand(s)'
         )
         _describe command commands ;;
@@ -79,6 +80,12 @@ _ddscheck() {
                 '-h[Print help]' \
                 '--help[Print help]' \
                 '1:deployment:_files -g "*.toml"' ;;
+            conform) _arguments \
+                '--format[text or json \[default: text\]]:FORMAT:(text json)' \
+                '-h[Print help]' \
+                '--help[Print help]' \
+                '1:deployment:_files -g "*.toml"' \
+                '2:trace:_files -g "*.toml"' ;;
         esac ;;
     esac
 }

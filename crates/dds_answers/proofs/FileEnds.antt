@@ -23,6 +23,7 @@ any_end (fault.Usage text) end h = absurd h
 any_end (fault.Deployment flaw syntax) end h = absurd h
 any_end (fault.Certificate flaw syntax) end h = absurd h
 any_end (fault.Events kind line) end h = absurd h
+any_end (fault.Trace kind line) end h = absurd h
 any_end fault.TooLarge end h = absurd h
 any_end fault.Run end h = absurd h
 
@@ -35,6 +36,7 @@ reading_fault (fault.Usage text) is = absurd is
 reading_fault (fault.Deployment flaw syntax) is = absurd is
 reading_fault (fault.Certificate flaw syntax) is = absurd is
 reading_fault (fault.Events kind line) is = absurd is
+reading_fault (fault.Trace kind line) is = absurd is
 reading_fault fault.Write is = absurd is
 reading_fault fault.Run is = absurd is
 

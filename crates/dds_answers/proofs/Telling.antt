@@ -42,6 +42,7 @@ reported_ends detail (fault.Certificate flaw syntax) end tells = rw tells (bad_c
 reported_ends detail fault.NoMemory end tells = tt
 reported_ends detail (fault.Usage text) end tells = absurd tells
 reported_ends detail (fault.Events kind line) end tells = absurd tells
+reported_ends detail (fault.Trace kind line) end tells = absurd tells
 reported_ends detail fault.TooLarge end tells = absurd tells
 reported_ends detail fault.Read end tells = absurd tells
 reported_ends detail fault.Write end tells = absurd tells

@@ -28,6 +28,7 @@ by_fault read P flawed memory (fault.Deployment flaw syntax) is = flawed flaw sy
 by_fault read P flawed memory fault.NoMemory is = memory
 by_fault read P flawed memory (fault.Certificate flaw syntax) is = absurd is
 by_fault read P flawed memory (fault.Events kind line) is = absurd is
+by_fault read P flawed memory (fault.Trace kind line) is = absurd is
 by_fault read P flawed memory fault.TooLarge is = absurd is
 by_fault read P flawed memory fault.Read is = absurd is
 by_fault read P flawed memory fault.Write is = absurd is

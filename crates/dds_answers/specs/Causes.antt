@@ -9,6 +9,7 @@ abbrev pub IsFileFault : (file_failed : Bool) → ToolFault → Type 0
 IsFileFault file_failed (fault.Deployment flaw syntax) = Unit {0}
 IsFileFault file_failed (fault.Certificate flaw syntax) = Unit {0}
 IsFileFault file_failed (fault.Events kind line) = Unit {0}
+IsFileFault file_failed (fault.Trace kind line) = Unit {0}
 IsFileFault file_failed fault.TooLarge = Unit {0}
 IsFileFault file_failed fault.Read = file_failed ≡ true
 IsFileFault file_failed fault.NoMemory = Unit {0}

@@ -4,6 +4,7 @@ use Rattle.std.specs.Fmt.{decimal}
 use Rattle.dds_fields.specs.FaultTable as deployment
 use Rattle.dds_cert.specs.Faults.{kind_entry}
 use Rattle.dds_events.specs.Faults as events
+use Rattle.dds_conform.specs.Faults as trace
 use Rattle.dds_answers.specs.Exit.{exit_status}
 use Rattle.dds_answers.specs.declared.exit.Exit.{Exit}
 use Rattle.dds_answers.specs.declared.exit.Exit.TheVariants as exit
@@ -18,12 +19,12 @@ flaw_line file number name path =
     then codes "ddscheck: " ++ (file ++ (codes " " ++ (decimal number ++ (codes " " ++ (name ++ codes "\n")))))
     else codes "ddscheck: " ++ (file ++ (codes " " ++ (decimal number ++ (codes " " ++ (name ++ (codes " " ++ (path ++ codes "\n")))))))
 
--- the number and the word of a flaw of a file of events, and its line; where it has none, that is left out with the words before it
-abbrev pub events_line : ℕ → List ℕ → ℕ → List ℕ
-events_line number name line =
+-- the file, the number and the word of a flaw of a file of lines, and its line; where it has none, that is left out with the words before it
+abbrev pub line_flaw : List ℕ → ℕ → List ℕ → ℕ → List ℕ
+line_flaw file number name line =
     if line == 0
-    then codes "ddscheck: events " ++ (decimal number ++ (codes " " ++ (name ++ codes "\n")))
-    else codes "ddscheck: events " ++ (decimal number ++ (codes " " ++ (name ++ (codes " line " ++ (decimal line ++ codes "\n")))))
+    then codes "ddscheck: " ++ (file ++ (codes " " ++ (decimal number ++ (codes " " ++ (name ++ codes "\n")))))
+    else codes "ddscheck: " ++ (file ++ (codes " " ++ (decimal number ++ (codes " " ++ (name ++ (codes " line " ++ (decimal line ++ codes "\n")))))))
 
 -- what the parser says of a file that is no TOML, where that is told
 abbrev pub syntax_line : Option SyntaxError → List ℕ
@@ -38,7 +39,8 @@ fault_line (fault.Deployment flaw syntax) =
     flaw_line (codes "deployment") (deployment.number_of flaw.kind) (deployment.name_of flaw.kind) (string_bytes flaw.path) ++ syntax_line syntax
 fault_line (fault.Certificate flaw syntax) =
     flaw_line (codes "certificate") (kind_entry flaw.kind).0 (kind_entry flaw.kind).1 (string_bytes flaw.path) ++ syntax_line syntax
-fault_line (fault.Events kind line) = events_line (events.number_of kind) (events.name_of kind) line
+fault_line (fault.Events kind line) = line_flaw (codes "events") (events.number_of kind) (events.name_of kind) line
+fault_line (fault.Trace kind line) = line_flaw (codes "trace") (trace.number_of kind) (trace.name_of kind) line
 fault_line fault.TooLarge = codes "ddscheck: 4 TooLarge\n"
 fault_line fault.Read = codes "ddscheck: 5 Read\n"
 fault_line fault.Write = codes "ddscheck: 6 Write\n"
@@ -51,6 +53,7 @@ exit_of (fault.Usage text) = exit.Usage
 exit_of (fault.Deployment flaw syntax) = exit.BadFile
 exit_of (fault.Certificate flaw syntax) = exit.BadFile
 exit_of (fault.Events kind line) = exit.BadFile
+exit_of (fault.Trace kind line) = exit.BadFile
 exit_of fault.TooLarge = exit.BadFile
 exit_of fault.Read = exit.Device
 exit_of fault.Write = exit.Device
@@ -66,5 +69,6 @@ abbrev pub IsAnswerFault : ToolFault → Type 0
 IsAnswerFault (fault.Deployment flaw syntax) = Unit {0}
 IsAnswerFault (fault.Certificate flaw syntax) = Unit {0}
 IsAnswerFault (fault.Events kind line) = Unit {0}
+IsAnswerFault (fault.Trace kind line) = Unit {0}
 IsAnswerFault fault.NoMemory = Unit {0}
 IsAnswerFault _ = ⊥

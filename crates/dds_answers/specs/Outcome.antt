@@ -11,6 +11,7 @@ use Rattle.dds_cert.specs.Document as certificate
 use Rattle.dds_check.specs.Accepts.{first_no}
 use Rattle.dds_check.specs.declared.verdict.No.{No}
 use Rattle.dds_events.specs.declared.fault.EventsFaultKind.{EventsFaultKind}
+use Rattle.dds_conform.specs.declared.fault.TraceFaultKind.{TraceFaultKind}
 
 -- the certificate is accepted, or a condition fails, and either may be told with its reason, or the endpoints are compared, or a certificate is proposed or
 -- none is found, or a deployment is migrated to this text, or it is shown in a format, or it is drawn, with its certificate if there is one, or these
@@ -30,6 +31,7 @@ pub data Outcome : Type 0 where
   bad_deployment : Flaw → Outcome
   bad_certificate : Flaw → Outcome
   bad_events : EventsFaultKind → (line : ℕ) → Outcome
+  bad_trace : TraceFaultKind → (line : ℕ) → Outcome
   too_large : Outcome
 
 -- the first condition that fails refuses the certificate

@@ -21,7 +21,7 @@ use Rattle.dds_verdict.specs.Acceptance.{acceptance_lines}
 use Rattle.dds_verdict.specs.Refusal.{refusal_line}
 use Rattle.dds_answers.specs.declared.format.Format.{Format}
 use Rattle.dds_answers.specs.declared.format.Format.TheVariants.{Json, DdsXml}
-use Rattle.dds_answers.specs.Outcome.{Outcome, accepted, refused, accepted_because, refused_because, bad_deployment, bad_certificate, too_large, compared, proposed, unproposed, migrated, shown, drawn, said, bad_events}
+use Rattle.dds_answers.specs.Outcome.{Outcome, accepted, refused, accepted_because, refused_because, bad_deployment, bad_certificate, too_large, compared, proposed, unproposed, migrated, shown, drawn, said, bad_events, bad_trace}
 use Rattle.dds_answers.specs.declared.fault.ToolFault.{ToolFault}
 use Rattle.dds_answers.specs.declared.fault.ToolFault.TheVariants as fault
 use Rattle.dds_answers.specs.declared.report.Report.{Report}
@@ -38,6 +38,7 @@ Tells (Ok report) end = end ≡ outcome_of report
 Tells (Err (fault.Deployment flaw syntax)) end = end ≡ bad_deployment (flaw.kind, string_bytes flaw.path)
 Tells (Err (fault.Certificate flaw syntax)) end = end ≡ bad_certificate (kind_of flaw.kind, string_bytes flaw.path)
 Tells (Err (fault.Events kind line)) end = ⊥
+Tells (Err (fault.Trace kind line)) end = ⊥
 Tells (Err fault.NoMemory) end = Unit {0}
 Tells (Err (fault.Usage text)) end = ⊥
 Tells (Err fault.TooLarge) end = ⊥
@@ -66,6 +67,7 @@ output_of (said lines is_yes) = lines
 output_of (bad_deployment flaw) = []
 output_of (bad_certificate flaw) = []
 output_of (bad_events kind line) = []
+output_of (bad_trace kind line) = []
 output_of too_large = []
 
 -- the lines of the reason of a report
@@ -93,6 +95,7 @@ status_of (said lines is_yes) = if is_yes then 0 else 1
 status_of (bad_deployment flaw) = 2
 status_of (bad_certificate flaw) = 2
 status_of (bad_events kind line) = 2
+status_of (bad_trace kind line) = 2
 status_of too_large = 2
 
 -- the fault with which a command ends that ends so, or a fault of memory or of a device
@@ -100,6 +103,7 @@ abbrev pub Ends : ToolFault → Outcome → Type 0
 Ends (fault.Deployment flaw syntax) end = end ≡ bad_deployment (flaw.kind, string_bytes flaw.path)
 Ends (fault.Certificate flaw syntax) end = end ≡ bad_certificate (kind_of flaw.kind, string_bytes flaw.path)
 Ends (fault.Events kind line) end = end ≡ bad_events kind line
+Ends (fault.Trace kind line) end = end ≡ bad_trace kind line
 Ends fault.TooLarge end = end ≡ too_large
 Ends fault.Read end = Unit {0}
 Ends fault.Write end = Unit {0}

@@ -1,11 +1,12 @@
 //! Why a command gave no answer, and what users are told of it.
 ghost use Rattle.std.specs.Prelude.{◌≡◌, ◌++◌, IfOk, string_bytes};
-ghost use Rattle.dds_answers.specs.Fault.{events_line, exit_of, fault_line, flaw_line, syntax_line};
+ghost use Rattle.dds_answers.specs.Fault.{exit_of, fault_line, flaw_line, line_flaw, syntax_line};
 
 use crate::exit::Exit;
 use crate::syntax::SyntaxError;
 use dds_base::NoMemory;
 use dds_cert::CertFlaw;
+use dds_conform::TraceFaultKind;
 use dds_events::EventsFaultKind;
 use dds_fields::fault::Fault;
 use std::alloc::Global;
@@ -29,6 +30,11 @@ pub enum ToolFault {
     /// a command that reads events.
     Events {
         kind: EventsFaultKind,
+        line: usize,
+    },
+    /// 3: the trace has a fault, in the line with this number, as of events.
+    Trace {
+        kind: TraceFaultKind,
         line: usize,
     },
     /// 4: a file has more than 1,048,576 bytes.
@@ -74,15 +80,21 @@ fn file_text(alloc: Global, line: String, syntax: &Option<SyntaxError>) -> Resul
     format!(in alloc; "{line}because line {row}, column {column}: {message}\n")
 }
 
-/// What is told of the flaw of a file of events: the number and the word of its kind, and its line. A line 0 is left
-/// out with the words before it.
-fn events_text(alloc: Global, number: u8, name: &str, line: usize) -> Result<String, NoMemory>
-    ensures { IfOk result (λ text. string_bytes text ≡ events_line number name.now line) }
+/// What is told of the flaw of a file of lines: the number and the word of its kind, and its line. A line 0 is left out
+/// with the words before it.
+fn line_text(
+    alloc: Global,
+    file: &str,
+    number: u8,
+    name: &str,
+    line: usize,
+) -> Result<String, NoMemory>
+    ensures { IfOk result (λ text. string_bytes text ≡ line_flaw file.now number name.now line) }
 {
     if line == 0 {
-        format!(in alloc; "ddscheck: events {number} {name}\n")
+        format!(in alloc; "ddscheck: {file} {number} {name}\n")
     } else {
-        format!(in alloc; "ddscheck: events {number} {name} line {line}\n")
+        format!(in alloc; "ddscheck: {file} {number} {name} line {line}\n")
     }
 }
 
@@ -105,7 +117,12 @@ pub fn fault_text(alloc: Global, fault: &ToolFault) -> Result<String, NoMemory>
             let line = flaw_text(alloc, "certificate", kind.number(), kind.name(), path)?;
             file_text(alloc, line, syntax)
         }
-        ToolFault::Events { kind, line } => events_text(alloc, kind.number(), kind.name(), *line),
+        ToolFault::Events { kind, line } => {
+            line_text(alloc, "events", kind.number(), kind.name(), *line)
+        }
+        ToolFault::Trace { kind, line } => {
+            line_text(alloc, "trace", kind.number(), kind.name(), *line)
+        }
         ToolFault::TooLarge => String::from_str(alloc, "ddscheck: 4 TooLarge\n"),
         ToolFault::Read => String::from_str(alloc, "ddscheck: 5 Read\n"),
         ToolFault::Write => String::from_str(alloc, "ddscheck: 6 Write\n"),
@@ -126,6 +143,7 @@ pub fn exit_of(fault: &ToolFault) -> Exit
         ToolFault::Deployment { .. }
         | ToolFault::Certificate { .. }
         | ToolFault::Events { .. }
+        | ToolFault::Trace { .. }
         | ToolFault::TooLarge => Exit::BadFile,
         ToolFault::Read | ToolFault::Write => Exit::Device,
         ToolFault::NoMemory => Exit::NoMemory,

@@ -104,6 +104,7 @@ fault_plain (fault.Deployment flaw (Some error)) = refl
 fault_plain (fault.Certificate flaw None) = refl
 fault_plain (fault.Certificate flaw (Some error)) = refl
 fault_plain (fault.Events kind line) = refl
+fault_plain (fault.Trace kind line) = refl
 fault_plain fault.TooLarge = refl
 fault_plain fault.Read = refl
 fault_plain fault.Write = refl

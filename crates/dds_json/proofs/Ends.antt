@@ -11,7 +11,7 @@ use Rattle.dds_answers.specs.declared.report.Detail.TheVariants.{Plain, Explaine
 use Rattle.dds_answers.specs.declared.report.Report.{Report}
 use Rattle.dds_answers.specs.declared.report.Report.TheVariants as answer
 use Rattle.dds_answers.specs.Answers.{Gives, IsAnswer, answer_status}
-use Rattle.dds_answers.specs.Outcome.{Outcome, accepted, refused, accepted_because, refused_because, compared, proposed, unproposed, migrated, shown, drawn, said, bad_deployment, bad_certificate, bad_events, too_large, told}
+use Rattle.dds_answers.specs.Outcome.{Outcome, accepted, refused, accepted_because, refused_because, compared, proposed, unproposed, migrated, shown, drawn, said, bad_deployment, bad_certificate, bad_events, bad_trace, too_large, told}
 use Rattle.dds_answers.specs.Matches.{is_as_intended}
 use Rattle.dds_match.specs.Plan.{network_of}
 use Rattle.dds_answers.specs.Report.{Ends, outcome_of, output_of, status_of}
@@ -36,6 +36,7 @@ pub ends_in_json : (e : ToolFault) (end : Outcome) → Ends e end → Ends e (in
 ends_in_json (fault.Deployment flaw syntax) end is = ap in_json is
 ends_in_json (fault.Certificate flaw syntax) end is = ap in_json is
 ends_in_json (fault.Events kind line) end is = ap in_json is
+ends_in_json (fault.Trace kind line) end is = ap in_json is
 ends_in_json fault.TooLarge end is = ap in_json is
 ends_in_json fault.Read end is = tt
 ends_in_json fault.Write end is = tt
@@ -108,6 +109,7 @@ proposal_told old new (drawn d c) ends is text same = absurd ends
 proposal_told old new (said lines is_yes) ends is text same = absurd ends
 proposal_told old new (bad_certificate flaw) ends is text same = absurd ends
 proposal_told old new (bad_events kind line) ends is text same = absurd ends
+proposal_told old new (bad_trace kind line) ends is text same = absurd ends
 
 -- an answer that was told, or that there was no memory for it, is what is given of its end
 pub proposal_gives : (answer : Answer) (r : Result Answer ToolFault) → ((end : Outcome) → EndsProposal end → IsAnswer answer end → IfOk r (λ told. IsAnswer told (in_json end)))

@@ -4,7 +4,7 @@ use Rattle.dds_match.specs.Plan.{network_of}
 use Rattle.dds_weights.specs.Text.{certificate_text}
 use Rattle.dds_explain.specs.Explanation.{margins, reason}
 use Rattle.dds_answers.specs.Matches.{is_as_intended}
-use Rattle.dds_answers.specs.Outcome.{Outcome, accepted, refused, accepted_because, refused_because, compared, proposed, unproposed, migrated, shown, drawn, said, bad_deployment, bad_certificate, bad_events, too_large}
+use Rattle.dds_answers.specs.Outcome.{Outcome, accepted, refused, accepted_because, refused_because, compared, proposed, unproposed, migrated, shown, drawn, said, bad_deployment, bad_certificate, bad_events, bad_trace, too_large}
 use Rattle.dds_json.specs.Checking.{acceptance_document, refusal_document}
 use Rattle.dds_json.specs.Line.{line_of}
 use Rattle.dds_json.specs.Matching.{match_document}
@@ -28,6 +28,7 @@ in_json (said lines is_yes) = said lines is_yes
 in_json (bad_deployment flaw) = bad_deployment flaw
 in_json (bad_certificate flaw) = bad_certificate flaw
 in_json (bad_events kind line) = bad_events kind line
+in_json (bad_trace kind line) = bad_trace kind line
 in_json too_large = too_large
 
 -- this end, told in this style

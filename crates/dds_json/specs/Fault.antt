@@ -4,6 +4,7 @@ use Rattle.serde_json.specs.Data.{Data, member, no_members, number, object, stri
 use Rattle.dds_fields.specs.FaultTable as deployment
 use Rattle.dds_cert.specs.Faults.{kind_entry}
 use Rattle.dds_events.specs.Faults as events
+use Rattle.dds_conform.specs.Faults as trace
 use Rattle.dds_answers.specs.declared.fault.ToolFault.{ToolFault}
 use Rattle.dds_answers.specs.declared.fault.ToolFault.TheVariants as fault
 use Rattle.dds_answers.specs.declared.syntax.SyntaxError.{SyntaxError}
@@ -29,17 +30,18 @@ abbrev pub file_document : List ℕ → ℕ → List ℕ → List ℕ → Option
 file_document file n name path None = flaw_document file n name path
 file_document file n name path (Some e) = syntax_document file n name path e
 
--- the number and the word of a flaw of a file of events, and its line, which is 0 where it has none
-abbrev pub events_document : ℕ → List ℕ → ℕ → Data
-events_document n name line =
-    object (member (codes "answer") (string (codes "fault")) (member (codes "file") (string (codes "events")) (member (codes "line") (number (unsigned line)) (member (codes "name") (string name) (member (codes "number") (number (unsigned n)) no_members)))))
+-- the number and the word of a flaw of a file of lines, and its line, which is 0 where it has none
+abbrev pub line_document : List ℕ → ℕ → List ℕ → ℕ → Data
+line_document file n name line =
+    object (member (codes "answer") (string (codes "fault")) (member (codes "file") (string file) (member (codes "line") (number (unsigned line)) (member (codes "name") (string name) (member (codes "number") (number (unsigned n)) no_members)))))
 
 -- the document of a fault
 abbrev pub fault_document : ToolFault → Data
 fault_document (fault.Usage text) = plain_document 1 (codes "Usage")
 fault_document (fault.Deployment flaw syntax) = file_document (codes "deployment") (deployment.number_of flaw.kind) (deployment.name_of flaw.kind) (string_bytes flaw.path) syntax
 fault_document (fault.Certificate flaw syntax) = file_document (codes "certificate") (kind_entry flaw.kind).0 (kind_entry flaw.kind).1 (string_bytes flaw.path) syntax
-fault_document (fault.Events kind line) = events_document (events.number_of kind) (events.name_of kind) line
+fault_document (fault.Events kind line) = line_document (codes "events") (events.number_of kind) (events.name_of kind) line
+fault_document (fault.Trace kind line) = line_document (codes "trace") (trace.number_of kind) (trace.name_of kind) line
 fault_document fault.TooLarge = plain_document 4 (codes "TooLarge")
 fault_document fault.Read = plain_document 5 (codes "Read")
 fault_document fault.Write = plain_document 6 (codes "Write")

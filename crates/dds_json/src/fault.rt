@@ -2,7 +2,7 @@
 ghost use Rattle.std.specs.Prelude.{◌≡◌, IfOk, string_bytes};
 ghost use Rattle.serde_json.specs.View.{view};
 ghost use Rattle.dds_json.specs.Line.{line_of};
-ghost use Rattle.dds_json.specs.Fault.{events_document, fault_document, file_document, flaw_document, plain_document};
+ghost use Rattle.dds_json.specs.Fault.{fault_document, file_document, flaw_document, line_document, plain_document};
 ghost use Rattle.dds_json.specs.Fault.{syntax_document};
 
 use crate::line::line_of;
@@ -74,11 +74,17 @@ fn file_document(
     }
 }
 
-/// The flaw of a file of events: the number and the word of its kind, and its line.
-fn events_document(alloc: Global, number: u8, name: &str, line: usize) -> Result<Value, NoMemory>
-    ensures { IfOk result (λ v. view v ≡ events_document number name.now line) }
+/// The flaw of a file of lines: the number and the word of its kind, and its line.
+fn line_document(
+    alloc: Global,
+    file: &str,
+    number: u8,
+    name: &str,
+    line: usize,
+) -> Result<Value, NoMemory>
+    ensures { IfOk result (λ v. view v ≡ line_document file.now number name.now line) }
 {
-    json!(in alloc; {"answer": "fault", "file": "events", "number": number, "name": name, "line": line})
+    json!(in alloc; {"answer": "fault", "file": file, "number": number, "name": name, "line": line})
 }
 
 /// The document of a fault.
@@ -100,7 +106,10 @@ fn fault_document(alloc: Global, fault: &ToolFault) -> Result<Value, NoMemory>
             file_document(alloc, "certificate", number, name, path, syntax)
         }
         ToolFault::Events { kind, line } => {
-            events_document(alloc, kind.number(), kind.name(), *line)
+            line_document(alloc, "events", kind.number(), kind.name(), *line)
+        }
+        ToolFault::Trace { kind, line } => {
+            line_document(alloc, "trace", kind.number(), kind.name(), *line)
         }
         ToolFault::TooLarge => plain_document(alloc, 4, "TooLarge"),
         ToolFault::Read => plain_document(alloc, 5, "Read"),

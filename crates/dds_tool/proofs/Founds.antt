@@ -9,7 +9,7 @@ use Rattle.dds_answers.specs.declared.answer.Answer.{Answer}
 use Rattle.dds_answers.specs.declared.fault.ToolFault.{ToolFault}
 use Rattle.dds_answers.specs.declared.fault.ToolFault.TheVariants as fault
 use Rattle.dds_answers.specs.Answers.{IsAnswer}
-use Rattle.dds_answers.specs.Outcome.{Outcome, bad_certificate, bad_deployment, bad_events, proposed, too_large, unproposed}
+use Rattle.dds_answers.specs.Outcome.{Outcome, bad_certificate, bad_deployment, bad_events, bad_trace, proposed, too_large, unproposed}
 use Rattle.dds_answers.specs.Report.{Ends, output_of}
 use Rattle.dds_cert.specs.Faults.{kind_of}
 use Rattle.dds_search.specs.declared.answer.Missing.{Missing}
@@ -27,6 +27,7 @@ pub found_fault : (lists : Lists) (cert : Certificate) (f : ToolFault) → Ends 
 found_fault lists cert (fault.Deployment flaw syntax) is = absurd (let no : proposed lists cert ≡ bad_deployment (flaw.kind, string_bytes flaw.path) = is in cc)
 found_fault lists cert (fault.Certificate flaw syntax) is = absurd (let no : proposed lists cert ≡ bad_certificate (kind_of flaw.kind, string_bytes flaw.path) = is in cc)
 found_fault lists cert (fault.Events kind line) is = absurd (let no : proposed lists cert ≡ bad_events kind line = is in cc)
+found_fault lists cert (fault.Trace kind line) is = absurd (let no : proposed lists cert ≡ bad_trace kind line = is in cc)
 found_fault lists cert fault.TooLarge is = absurd (let no : proposed lists cert ≡ too_large = is in cc)
 found_fault lists cert fault.Read is = tt
 found_fault lists cert fault.Write is = tt

@@ -10,5 +10,6 @@ mod RunGives
 mod Requested
 mod Refutes
 mod Replays
+mod Conforms
 mod NeedsLists
 mod LimitEnds

@@ -49,7 +49,7 @@ pub read_replayed : (style : Style) (read : Read Lists) (lists : Lists) (e : Lis
 read_replayed style read lists e r is gives = rw is gives
 
 -- files that aren't too large give what their bytes give
-few_and_few : (d e : List ℕ) → length d ≤ 1048576 → length e ≤ 67108864 → (nat_le (length d) 1048576 && nat_le (length e) 67108864) ≡ true
+pub few_and_few : (d e : List ℕ) → length d ≤ 1048576 → length e ≤ 67108864 → (nat_le (length d) 1048576 && nat_le (length e) 67108864) ≡ true
 few_and_few d e one other = rw (le-leb (length d) 1048576 one, le-leb (length e) 67108864 other) refl
 
 pub files_replayed : (style : Style) (d e : List ℕ) (r : Result Answer ToolFault) → length d ≤ 1048576 → length e ≤ 67108864 → GivesOneOf (MayReplay style (read d) e) r
@@ -57,7 +57,7 @@ pub files_replayed : (style : Style) (d e : List ℕ) (r : Result Answer ToolFau
 files_replayed style d e r one other gives = few_gives (nat_le (length d) 1048576 && nat_le (length e) 67108864) (MayReplay style (read d) e) r (few_and_few d e one other) gives
 
 -- of a file that is too large that is told
-many : (d e : List ℕ) → (1048576 < length d) ⊎ (67108864 < length e) → (nat_le (length d) 1048576 && nat_le (length e) 67108864) ≡ false
+pub many : (d e : List ℕ) → (1048576 < length d) ⊎ (67108864 < length e) → (nat_le (length d) 1048576 && nat_le (length e) 67108864) ≡ false
 many d e (inl more) = rw (lt-leb (length d) 1048576 more) refl
 many d e (inr more) = rw (lt-leb (length e) 67108864 more) (none (nat_le (length d) 1048576))
   where

@@ -43,6 +43,7 @@ draws_once words rows is (asked.Replay x y style) asks d c first second twice = 
 draws_once words rows is (asked.Show x format) asks d c first second twice = later 115 100 (omega arith) (ap first_byte (sym asks.1 ∙ is))
 draws_once words rows is (asked.Run x y wishes style) asks d c first second twice = later 114 100 (omega arith) (ap first_byte (sym asks.1 ∙ is))
 draws_once words rows is (asked.Check x y detail style) asks d c first second twice = earlier 99 100 (omega arith) (ap first_byte (sym asks.1 ∙ is))
+draws_once words rows is (asked.Conform x y style) asks d c first second twice = earlier 99 100 (omega arith) (ap first_byte (sym asks.1 ∙ is))
 draws_once words rows is (asked.Draw x y) asks d c first second twice =
     let same : rows ≡ asks.0 = ap rows_at (sym is ∙ asks.1) in
     let deployment : d ≡ x.now = ap (λ path. unwrap_or path []) (first ∙ ap (first_of (codes "deployment")) same ∙ asks.2) in
@@ -72,6 +73,7 @@ proposes_one words rows is (asked.Replay x y style) asks none = later 114 112 (o
 proposes_one words rows is (asked.Show x format) asks none = later 115 112 (omega arith) (ap first_byte (sym asks.1 ∙ is))
 proposes_one words rows is (asked.Run x y wishes style) asks none = later 114 112 (omega arith) (ap first_byte (sym asks.1 ∙ is))
 proposes_one words rows is (asked.Check x y detail style) asks none = earlier 99 112 (omega arith) (ap first_byte (sym asks.1 ∙ is))
+proposes_one words rows is (asked.Conform x y style) asks none = earlier 99 112 (omega arith) (ap first_byte (sym asks.1 ∙ is))
 proposes_one words rows is (asked.Draw x y) asks none = earlier 100 112 (omega arith) (ap first_byte (sym asks.1 ∙ is))
 
 -- words that look for a run that loses a sample, and ask for something, name a deployment and a style
@@ -87,6 +89,7 @@ refutes_one words rows is (asked.Replay x y style) asks none = later 112 102 (om
 refutes_one words rows is (asked.Show x format) asks none = later 115 114 (omega arith) (ap first_byte (sym asks.1 ∙ is))
 refutes_one words rows is (asked.Run x y wishes style) asks none = later 110 102 (omega arith) (ap third_byte (sym asks.1 ∙ is))
 refutes_one words rows is (asked.Check x y detail style) asks none = earlier 99 114 (omega arith) (ap first_byte (sym asks.1 ∙ is))
+refutes_one words rows is (asked.Conform x y style) asks none = earlier 99 114 (omega arith) (ap first_byte (sym asks.1 ∙ is))
 refutes_one words rows is (asked.Draw x y) asks none = earlier 100 114 (omega arith) (ap first_byte (sym asks.1 ∙ is))
 
 -- words that ask which limits are needed, and ask for something, name a deployment and a style
@@ -102,6 +105,7 @@ limits_one words rows is (asked.Replay x y style) asks none = later 114 108 (ome
 limits_one words rows is (asked.Show x format) asks none = later 115 108 (omega arith) (ap first_byte (sym asks.1 ∙ is))
 limits_one words rows is (asked.Run x y wishes style) asks none = later 114 108 (omega arith) (ap first_byte (sym asks.1 ∙ is))
 limits_one words rows is (asked.Check x y detail style) asks none = earlier 99 108 (omega arith) (ap first_byte (sym asks.1 ∙ is))
+limits_one words rows is (asked.Conform x y style) asks none = earlier 99 108 (omega arith) (ap first_byte (sym asks.1 ∙ is))
 limits_one words rows is (asked.Draw x y) asks none = earlier 100 108 (omega arith) (ap first_byte (sym asks.1 ∙ is))
 
 -- words that compare endpoints, and ask for something, name a deployment and a style
@@ -117,4 +121,5 @@ matches_one words rows is (asked.Limits x what style) asks none = earlier 108 10
 matches_one words rows is (asked.Show x format) asks none = later 115 109 (omega arith) (ap first_byte (sym asks.1 ∙ is))
 matches_one words rows is (asked.Run x y wishes style) asks none = later 114 109 (omega arith) (ap first_byte (sym asks.1 ∙ is))
 matches_one words rows is (asked.Check x y detail style) asks none = earlier 99 109 (omega arith) (ap first_byte (sym asks.1 ∙ is))
+matches_one words rows is (asked.Conform x y style) asks none = earlier 99 109 (omega arith) (ap first_byte (sym asks.1 ∙ is))
 matches_one words rows is (asked.Draw x y) asks none = earlier 100 109 (omega arith) (ap first_byte (sym asks.1 ∙ is))

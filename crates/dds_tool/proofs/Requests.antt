@@ -18,6 +18,7 @@ use Rattle.dds_answers.proofs.FileEnds.{any_end}
 use Rattle.dds_tool.specs.Limits.{MayLimitFor}
 use Rattle.dds_tool.specs.Refuting.{MayRefuteFor}
 use Rattle.dds_tool.specs.Replaying.{MayReplayFor}
+use Rattle.dds_tool.specs.Conforming.{MayConformFor}
 use Rattle.dds_tool.specs.RunEnds.{GivesRun, MayRun}
 use Rattle.dds_json.specs.Ends.{in_style}
 use Rattle.dds_json.specs.declared.style.Style.{Style}
@@ -46,6 +47,7 @@ unfolding output_of status_of
 fault_said end (fault.Deployment flaw syntax) status old new is nothing told = rw is (bad (fault.Deployment flaw syntax) status old new (λ e. cc) nothing told)
 fault_said end (fault.Certificate flaw syntax) status old new is nothing told = rw is (bad (fault.Certificate flaw syntax) status old new (λ e. cc) nothing told)
 fault_said end (fault.Events kind line) status old new is nothing told = rw is (bad (fault.Events kind line) status old new (λ e. cc) nothing told)
+fault_said end (fault.Trace kind line) status old new is nothing told = rw is (bad (fault.Trace kind line) status old new (λ e. cc) nothing told)
 fault_said end fault.TooLarge status old new is nothing told = rw is (bad fault.TooLarge status old new (λ e. cc) nothing told)
 fault_said end fault.Read status old new is nothing told = inr (three status told)
 fault_said end fault.Write status old new is nothing told = inr (three status told)
@@ -62,6 +64,7 @@ every_end (fault.Usage text) a b = absurd a
 every_end (fault.Deployment flaw syntax) a b = absurd (let x : too_large ≡ unproposed = a ∙ sym b in cc)
 every_end (fault.Certificate flaw syntax) a b = absurd (let x : too_large ≡ unproposed = a ∙ sym b in cc)
 every_end (fault.Events kind line) a b = absurd (let x : too_large ≡ unproposed = a ∙ sym b in cc)
+every_end (fault.Trace kind line) a b = absurd (let x : too_large ≡ unproposed = a ∙ sym b in cc)
 every_end fault.TooLarge a b = absurd (let x : unproposed ≡ too_large = b in cc)
 every_end fault.Run a b = absurd a
 
@@ -131,6 +134,8 @@ answered holds (asked.Refute d style) given (Ok exit) old new gives written pass
 answered holds (asked.Limits d what style) given (Ok exit) old new gives written passed = λ x hx. one_said (MayLimitFor what style x) given (exit_status exit) old new (gives x hx) written
 answered holds (asked.Replay d e style) given (Ok exit) old new gives written passed =
     λ x y hx hy. one_said (MayReplayFor style x y) given (exit_status exit) old new (gives x y hx hy) written
+answered holds (asked.Conform d t style) given (Ok exit) old new gives written passed =
+    λ x y hx hy. one_said (MayConformFor style x y) given (exit_status exit) old new (gives x y hx hy) written
 answered holds (asked.Show d format) given (Ok exit) old new gives written passed = λ x hx. inl (written (show_file_outcome format x) (gives x hx))
 answered holds (asked.Draw d None) given (Ok exit) old new gives written passed = λ x hx. inl (written (draw_file_outcome x None) (gives x hx))
 answered holds (asked.Draw d (Some c)) given (Ok exit) old new gives written passed =
@@ -145,6 +150,7 @@ answered holds (asked.Migrate d) given (Err f) old new gives written passed = tt
 answered holds (asked.Refute d style) given (Err f) old new gives written passed = tt
 answered holds (asked.Limits d what style) given (Err f) old new gives written passed = tt
 answered holds (asked.Replay d e style) given (Err f) old new gives written passed = tt
+answered holds (asked.Conform d t style) given (Err f) old new gives written passed = tt
 answered holds (asked.Show d format) given (Err f) old new gives written passed = tt
 answered holds (asked.Draw d c) given (Err f) old new gives written passed = tt
 answered holds (asked.Run d b wishes style) given (Err f) old new gives written passed = tt
@@ -172,6 +178,8 @@ faulted holds (asked.Limits d what style) given (Err f) old new gives ends nothi
     λ status told x hx. one_faulted (MayLimitFor what style x) given f status old new (gives x hx) ends nothing told
 faulted holds (asked.Replay d e style) given (Err f) old new gives ends nothing passed =
     λ status told x y hx hy. one_faulted (MayReplayFor style x y) given f status old new (gives x y hx hy) ends nothing told
+faulted holds (asked.Conform d t style) given (Err f) old new gives ends nothing passed =
+    λ status told x y hx hy. one_faulted (MayConformFor style x y) given f status old new (gives x y hx hy) ends nothing told
 faulted holds (asked.Show d format) given (Err f) old new gives ends nothing passed =
     λ status told x hx. fault_said (show_file_outcome format x) f status old new (ends (show_file_outcome format x) (gives x hx)) nothing told
 faulted holds (asked.Draw d None) given (Err f) old new gives ends nothing passed =
@@ -188,6 +196,7 @@ faulted holds (asked.Migrate d) given (Ok exit) old new gives ends nothing passe
 faulted holds (asked.Refute d style) given (Ok exit) old new gives ends nothing passed = tt
 faulted holds (asked.Limits d what style) given (Ok exit) old new gives ends nothing passed = tt
 faulted holds (asked.Replay d e style) given (Ok exit) old new gives ends nothing passed = tt
+faulted holds (asked.Conform d t style) given (Ok exit) old new gives ends nothing passed = tt
 faulted holds (asked.Show d format) given (Ok exit) old new gives ends nothing passed = tt
 faulted holds (asked.Draw d c) given (Ok exit) old new gives ends nothing passed = tt
 faulted holds (asked.Run d b wishes style) given (Ok exit) old new gives ends nothing passed = tt

@@ -69,6 +69,7 @@ told_gives style checked (fault.Certificate flaw syntax) tells =
 told_gives style checked fault.NoMemory tells = inr (inl tt)
 told_gives style checked (fault.Usage text) tells = absurd tells
 told_gives style checked (fault.Events kind line) tells = absurd tells
+told_gives style checked (fault.Trace kind line) tells = absurd tells
 told_gives style checked fault.TooLarge tells = absurd tells
 told_gives style checked fault.Read tells = absurd tells
 told_gives style checked fault.Write tells = absurd tells

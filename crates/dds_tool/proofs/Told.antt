@@ -91,6 +91,7 @@ run_fault (fault.Usage text) is = absurd (let no : exit.Usage ≡ exit.Run = is 
 run_fault (fault.Deployment flaw syntax) is = absurd (let no : exit.BadFile ≡ exit.Run = is in cc)
 run_fault (fault.Certificate flaw syntax) is = absurd (let no : exit.BadFile ≡ exit.Run = is in cc)
 run_fault (fault.Events kind line) is = absurd (let no : exit.BadFile ≡ exit.Run = is in cc)
+run_fault (fault.Trace kind line) is = absurd (let no : exit.BadFile ≡ exit.Run = is in cc)
 run_fault fault.TooLarge is = absurd (let no : exit.BadFile ≡ exit.Run = is in cc)
 run_fault fault.Read is = absurd (let no : exit.Device ≡ exit.Run = is in cc)
 run_fault fault.Write is = absurd (let no : exit.Device ≡ exit.Run = is in cc)
@@ -117,6 +118,7 @@ accepted_run holds (asked.Migrate d) run gives = absurd run
 accepted_run holds (asked.Refute d style) run gives = absurd run
 accepted_run holds (asked.Limits d what style) run gives = absurd run
 accepted_run holds (asked.Replay d e style) run gives = absurd run
+accepted_run holds (asked.Conform d t style) run gives = absurd run
 accepted_run holds (asked.Show d format) run gives = absurd run
 accepted_run holds (asked.Draw d c) run gives = absurd run
 accepted_run holds (asked.Check d c detail style) run gives = absurd run

@@ -29,6 +29,7 @@ use Rattle.dds_tool.specs.declared.limits.Finding.{Finding}
 use Rattle.dds_tool.specs.declared.limits.Finding.TheVariants.{Bounds, Certificate}
 use Rattle.dds_tool.specs.Refuting.{MayRefuteFor}
 use Rattle.dds_tool.specs.Replaying.{MayReplayFor}
+use Rattle.dds_tool.specs.Conforming.{MayConformFor}
 use Rattle.dds_tool.specs.RunEnds.{GivesRun, IsAccepted, MayRun}
 use Rattle.dds_tool.specs.Searches.{MayFindFor}
 use Rattle.dds_answers.specs.Syntax.{IsFaultTold}
@@ -78,6 +79,10 @@ NamesBoth second rows deployment file =
 -- the words make the events of the file with that name again, on the deployment with this name, and ask for an answer in this style
 abbrev pub Replays : List Text → Text → Text → Style → Type 0
 Replays words deployment events style = (rows : List Row) × (subcommand_of whole words ≡ Some (codes "replay", rows)) × NamesBoth (codes "events") rows deployment events × IsStyled rows style
+
+-- the words ask whether the trace with that name keeps the rules of the deployment with this name, for an answer in this style
+abbrev pub Conforms : List Text → Text → Text → Style → Type 0
+Conforms words deployment trace style = (rows : List Row) × (subcommand_of whole words ≡ Some (codes "conform", rows)) × NamesBoth (codes "trace") rows deployment trace × IsStyled rows style
 
 -- how much a check is asked to tell
 abbrev pub detail_of : List Row → Detail
@@ -133,6 +138,7 @@ Asks words (asked.Migrate d) = Names words (codes "migrate") (codes "deployment"
 Asks words (asked.Refute d style) = NamesOne words (codes "refute") d.now style
 Asks words (asked.Limits d what style) = Limits words d.now what style
 Asks words (asked.Replay d e style) = Replays words d.now e.now style
+Asks words (asked.Conform d t style) = Conforms words d.now t.now style
 Asks words (asked.Show d format) = Shows words d.now format
 Asks words (asked.Draw d c) = Draws words d.now (option_map (λ path. path.now) c)
 Asks words (asked.Check d c detail style) = Checks words d.now c.now detail style
@@ -155,6 +161,7 @@ paths_of (asked.Migrate d) = d.now ∷ []
 paths_of (asked.Refute d style) = d.now ∷ []
 paths_of (asked.Limits d what style) = d.now ∷ []
 paths_of (asked.Replay d e style) = d.now ∷ e.now ∷ []
+paths_of (asked.Conform d t style) = d.now ∷ t.now ∷ []
 paths_of (asked.Show d format) = d.now ∷ []
 paths_of (asked.Draw d c) = d.now ∷ option_map_or (λ path. path.now ∷ []) c []
 paths_of (asked.Check d c detail style) = d.now ∷ c.now ∷ []
@@ -169,6 +176,7 @@ style_of (asked.Migrate d) = style.Text
 style_of (asked.Refute d style) = style
 style_of (asked.Limits d what style) = style
 style_of (asked.Replay d e style) = style
+style_of (asked.Conform d t style) = style
 style_of (asked.Show d format) = style.Text
 style_of (asked.Draw d c) = style.Text
 style_of (asked.Check d c detail style) = style
@@ -204,6 +212,7 @@ GivesTo holds (asked.Migrate d) result = (x : List ℕ) → holds d.now ≡ Some
 GivesTo holds (asked.Refute d style) result = (x : List ℕ) → holds d.now ≡ Some x → GivesOneOf (MayRefuteFor style x) result
 GivesTo holds (asked.Limits d what style) result = (x : List ℕ) → holds d.now ≡ Some x → GivesOneOf (MayLimitFor what style x) result
 GivesTo holds (asked.Replay d e style) result = (x y : List ℕ) → holds d.now ≡ Some x → holds e.now ≡ Some y → GivesOneOf (MayReplayFor style x y) result
+GivesTo holds (asked.Conform d t style) result = (x y : List ℕ) → holds d.now ≡ Some x → holds t.now ≡ Some y → GivesOneOf (MayConformFor style x y) result
 GivesTo holds (asked.Show d format) result = (x : List ℕ) → holds d.now ≡ Some x → Gives result (show_file_outcome format x)
 GivesTo holds (asked.Draw d None) result = (x : List ℕ) → holds d.now ≡ Some x → Gives result (draw_file_outcome x None)
 GivesTo holds (asked.Draw d (Some c)) result = (x y : List ℕ) → holds d.now ≡ Some x → holds c.now ≡ Some y → Gives result (draw_file_outcome x (Some y))
@@ -228,6 +237,8 @@ Answers holds (asked.Limits d what style) status old new =
     (x : List ℕ) → holds d.now ≡ Some x → (status ≡ 3) ⊎ ((end : Outcome) × MayLimitFor what style x end × Said end status old new)
 Answers holds (asked.Replay d e style) status old new =
     (x y : List ℕ) → holds d.now ≡ Some x → holds e.now ≡ Some y → (status ≡ 3) ⊎ ((end : Outcome) × MayReplayFor style x y end × Said end status old new)
+Answers holds (asked.Conform d t style) status old new =
+    (x y : List ℕ) → holds d.now ≡ Some x → holds t.now ≡ Some y → (status ≡ 3) ⊎ ((end : Outcome) × MayConformFor style x y end × Said end status old new)
 Answers holds (asked.Show d format) status old new = (x : List ℕ) → holds d.now ≡ Some x → Said (show_file_outcome format x) status old new
 Answers holds (asked.Draw d None) status old new = (x : List ℕ) → holds d.now ≡ Some x → Said (draw_file_outcome x None) status old new
 Answers holds (asked.Draw d (Some c)) status old new =

@@ -73,6 +73,10 @@ replaying = styled (with_rule (one_file (codes "replay")) (file_rule (codes "eve
 abbrev pub limiting : App
 limiting = styled (with_rule (one_file (codes "limits")) (flag_rule (codes "certificate")))
 
+-- the command that tells whether a trace keeps the rules
+abbrev pub conforming : App
+conforming = styled (with_rule (one_file (codes "conform")) (file_rule (codes "trace")))
+
 -- the command by itself: it has a version, and wants a subcommand
 abbrev pub top_app : App
 top_app = on_top (λ s. record s { subcommand_required = true; has_version = true }) (new_app (codes "ddscheck"))
@@ -86,10 +90,12 @@ whole =
     (with_subcommand
     (with_subcommand
     (with_subcommand
+    (with_subcommand
     (with_subcommand (with_subcommand (with_subcommand (with_subcommand top_app matching.top) checking.top) searching.top) running.top)
     (one_file (codes "migrate")).top)
     showing.top)
     drawing.top)
     refuting.top)
     replaying.top)
-    limiting.top
+    limiting.top)
+    conforming.top

@@ -7,6 +7,7 @@ pub mod Asking
 pub mod Causes
 pub mod Refuting
 pub mod Replaying
+pub mod Conforming
 pub mod Searches
 pub mod Missing
 pub mod Needs

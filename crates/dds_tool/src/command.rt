@@ -2,8 +2,8 @@
 ghost use Rattle.std.specs.Prelude.{◌≡◌, IfOk, IsOk, OnOk, codes, false};
 ghost use Rattle.clap.specs.Words.{app_of, rule_of, with_subcommand};
 ghost use Rattle.clap.specs.declared.builder.command.Command.TheViews.{out-Command as fields_of};
-ghost use Rattle.dds_tool.specs.Command.{checking, count_rule, drawing, file_rule, flag_rule, limiting, matching};
-ghost use Rattle.dds_tool.specs.Command.{one_file};
+ghost use Rattle.dds_tool.specs.Command.{checking, conforming, count_rule, drawing, file_rule, flag_rule, limiting};
+ghost use Rattle.dds_tool.specs.Command.{matching, one_file};
 ghost use Rattle.dds_tool.specs.Command.{optional_file_rule, refuting, replaying, running, searching, showing, styled};
 ghost use Rattle.dds_tool.specs.Command.{top_app, two_files, whole, wish_rule};
 
@@ -50,6 +50,9 @@ const CLAIM: &str = "Prints a certificate that shows these bounds, in place of t
 
 /// What help says of the argument that names a file of events.
 const EVENTS: &str = "Events, a line each, as refute prints them";
+
+/// What help says of the argument that names a trace.
+const TRACE: &str = "Writes and takes, a line each, as run-on-cyclone --trace records them";
 
 fn file<'a>(alloc: Global, id: &'a str, help: &'a str) -> Arg<'a>
     ensures rule { rule_of result ≡ file_rule id.entry.now }
@@ -231,6 +234,19 @@ fn replay_command<'a>(alloc: Global) -> Result<Command<'a>, NoMemory>
     styled(alloc, command)
 }
 
+fn conform_command<'a>(alloc: Global) -> Result<Command<'a>, NoMemory>
+    ensures app { IfOk result (λ c. app_of c ≡ conforming) }
+    ensures local { IfOk result (λ c. (fields_of c).has_globals ≡ false) }
+{
+    let command = one_file_command(
+        alloc,
+        "conform",
+        "Tells whether a recorded trace keeps the rules of a deployment",
+    )?
+    .arg(file(alloc, "trace", TRACE))?;
+    styled(alloc, command)
+}
+
 fn limits_command<'a>(alloc: Global) -> Result<Command<'a>, NoMemory>
     ensures app { IfOk result (λ c. app_of c ≡ limiting) }
     ensures local { IfOk result (λ c. (fields_of c).has_globals ≡ false) }
@@ -296,5 +312,6 @@ pub(crate) fn whole_command<'a>(alloc: Global) -> Result<Command<'a>, NoMemory>
     let command = with_command(command, draw_command(alloc))?;
     let command = with_command(command, refute_command(alloc))?;
     let command = with_command(command, replay_command(alloc))?;
-    with_command(command, limits_command(alloc))
+    let command = with_command(command, limits_command(alloc))?;
+    with_command(command, conform_command(alloc))
 }

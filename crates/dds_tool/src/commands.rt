@@ -17,8 +17,10 @@ ghost use Rattle.dds_answers.specs.Telling.{TellsFault};
 ghost use Rattle.dds_tool.specs.Causes.{IsCaused, IsRequestFault};
 ghost use Rattle.dds_tool.specs.Refuting.{MayRefuteFor};
 ghost use Rattle.dds_tool.specs.Replaying.{MayReplayFor};
+ghost use Rattle.dds_tool.specs.Conforming.{MayConformFor};
 ghost use Rattle.dds_tool.specs.RunEnds.{GivesRun};
 
+use crate::conforming::conform_answer;
 use crate::limits::limits_file;
 use crate::refuting::refute_answer;
 use crate::replaying::replay_answer;
@@ -109,6 +111,30 @@ fn replay_files<S: Sources>(
     replay_answer(alloc, deployment.as_slice(), events.as_slice(), style)
 }
 
+/// The most bytes that a trace may have: 64 MiB.
+const MAX_TRACE: usize = 67_108_864;
+
+/// The answer of `conform` to two files. Both are read whole, the deployment first, before either is parsed.
+#[tactic(auto, using(dds_answers::proofs::Opened::both_open))]
+fn conform_files<S: Sources>(
+    alloc: Global,
+    deployment: &str,
+    trace: &str,
+    style: Style,
+    files: &mut S,
+) -> Result<Answer, ToolFault>
+    ensures gives { (d t : List ℕ) → S.holds files.old deployment.now ≡ Some d → S.holds files.old trace.now ≡ Some t
+        → GivesOneOf (MayConformFor style d t) result }
+    ensures causes { IfErr result (IsFileFault (S.has_failed files.new)) }
+    ensures opened { Opens (S.opened files.old) (S.opened files.new) (deployment.now ∷ trace.now ∷ []) }
+    ensures all_opened { OnOk result (OpensAll (S.opened files.old) (S.opened files.new)
+        (deployment.now ∷ trace.now ∷ [])) }
+{
+    let deployment = read_file(alloc, files, deployment)?;
+    let trace = read_file_up_to(alloc, files, trace, MAX_TRACE)?;
+    conform_answer(alloc, deployment.as_slice(), trace.as_slice(), style)
+}
+
 /// What words that are no request come to: yes where help was asked for and written, else the fault of which the user
 /// is told.
 fn explain<O: Output, E: Output>(alloc: Global, reason: NoRequest, out: &mut O, err: &mut E) -> Exit
@@ -176,6 +202,11 @@ fn answer_of<R: Threads + Wait + Clock + Sync, S: Sources>(
             events,
             style,
         } => replay_files(alloc, deployment, events, style, files),
+        Request::Conform {
+            deployment,
+            trace,
+            style,
+        } => conform_files(alloc, deployment, trace, style, files),
         Request::Run {
             deployment,
             certificate,

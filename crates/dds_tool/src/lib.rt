@@ -6,6 +6,8 @@
 
 mod command;
 mod commands;
+mod conformance_document;
+mod conforming;
 mod limits;
 mod limits_document;
 mod needs;
@@ -22,6 +24,7 @@ mod thorough;
 mod wishes;
 
 pub use commands::tool;
+pub use conforming::conform_answer;
 pub use dds_answers::{Counted, Report, ToolFault, answer_check, read_all, report_text};
 pub use limits::{Finding, limits_answer};
 pub use needs::{Limit, Need, Policy, Room};

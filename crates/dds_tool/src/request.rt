@@ -76,6 +76,12 @@ pub enum Request<'a> {
         events: &'a str,
         style: Style,
     },
+    /// Whether a recorded trace keeps the rules of a deployment.
+    Conform {
+        deployment: &'a str,
+        trace: &'a str,
+        style: Style,
+    },
     /// A deployment as it was read, in a format.
     Show {
         deployment: &'a str,
@@ -115,7 +121,8 @@ impl<'a> Request<'a> {
             | Request::Run { style, .. }
             | Request::Refute { style, .. }
             | Request::Limits { style, .. }
-            | Request::Replay { style, .. } => *style,
+            | Request::Replay { style, .. }
+            | Request::Conform { style, .. } => *style,
             Request::Migrate { .. } | Request::Show { .. } | Request::Draw { .. } => Style::Text,
         }
     }
@@ -430,6 +437,22 @@ fn replay_request<'a>(alloc: Global, matches: &ArgMatches<'a>) -> Result<Request
     })
 }
 
+fn conform_request<'a>(alloc: Global, matches: &ArgMatches<'a>) -> Result<Request<'a>, NoRequest>
+    ensures asked { Reads (codes "conform") (rows_of (found_of matches.now)) result }
+    ensures fault { IfErr result (λ e. ¬ IsHelp e) }
+    ensures unasked { Misses (codes "conform") (rows_of (found_of matches.now)) result }
+{
+    let Some(style) = style(matches) else {
+        return Err(usage(alloc, WRONG_STYLE));
+    };
+    let (deployment, trace) = both_files(alloc, matches, "trace")?;
+    Ok(Request::Conform {
+        deployment,
+        trace,
+        style,
+    })
+}
+
 /// What is asked for of the limits.
 fn finding(matches: &ArgMatches) -> Finding
     ensures { result ≡ finding_of (rows_of (found_of matches.now)) }
@@ -473,6 +496,7 @@ fn request_of<'a>(alloc: Global, matches: &ArgMatches<'a>) -> Result<Request<'a>
         Some(("refute", inner)) => refute_request(alloc, inner),
         Some(("replay", inner)) => replay_request(alloc, inner),
         Some(("limits", inner)) => limits_request(alloc, inner),
+        Some(("conform", inner)) => conform_request(alloc, inner),
         _ => Err(usage(alloc, "error: no such command\n")),
     }
 }

@@ -1,6 +1,6 @@
 use Rattle.std.proofs.Common.{◌≡◌, ◌∙◌, sym, true≢false, Result, Ok, Err, IfOk, IsOk, OnOk, ap₂, codes}
 use Rattle.clap.specs.Words.{App, app_of, with_subcommand}
-use Rattle.dds_tool.specs.Command.{checking, drawing, limiting, matching, one_file, refuting, replaying, running, searching, showing, top_app}
+use Rattle.dds_tool.specs.Command.{checking, conforming, drawing, limiting, matching, one_file, refuting, replaying, running, searching, showing, top_app}
 use Rattle.dds_tool.proofs.command.whole_command.Goals as goal
 
 abbrev joined : App → App → App
@@ -29,4 +29,5 @@ returns c =
     let seventh = added app_of _ _ _ drawing c.draw_command.result c.in_ok-command-7.ensures.app c.in_ok-command-7.ensures.below c.draw_command.ensures.app sixth in
     let eighth = added app_of _ _ _ refuting c.refute_command.result c.in_ok-command-8.ensures.app c.in_ok-command-8.ensures.below c.refute_command.ensures.app seventh in
     let ninth = added app_of _ _ _ replaying c.replay_command.result c.in_ok-command-9.ensures.app c.in_ok-command-9.ensures.below c.replay_command.ensures.app eighth in
-    added_if app_of c.with_command-10.result _ _ limiting c.limits_command.result c.with_command-10.ensures.app c.with_command-10.ensures.below c.limits_command.ensures.app ninth
+    let tenth = added app_of _ _ _ limiting c.limits_command.result c.in_ok-command-10.ensures.app c.in_ok-command-10.ensures.below c.limits_command.ensures.app ninth in
+    added_if app_of c.with_command-11.result _ _ conforming c.conform_command.result c.with_command-11.ensures.app c.with_command-11.ensures.below c.conform_command.ensures.app tenth

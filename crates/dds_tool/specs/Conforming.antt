@@ -1,0 +1,88 @@
+-- What is answered to whether a trace keeps the rules of a deployment.
+use Rattle.std.specs.Prelude.{codes, ℕ, ◌≡◌, ◌⊎◌, ◌&&◌, nat_le, Bool, true, false, List, length, map, Ok, Err, IsUtf8, string_bytes}
+use Rattle.std.specs.Str.Lines.{lines}
+use Rattle.dds_fields.specs.Reading.{Read}
+use Rattle.dds_lists.specs.Lists.{Lists}
+use Rattle.dds_deploy.specs.Document as deployment
+use Rattle.dds_match.specs.Plan.{network_of}
+use Rattle.dds_weights.specs.Naming.{name_at, reader_key, writer_key}
+use Rattle.dds_events.specs.Naming.{rule_text}
+use Rattle.dds_conform.specs.Answers.{answer_text}
+use Rattle.dds_conform.specs.Judging as judging
+use Rattle.dds_conform.specs.Reading.{AreEntries, IsFaultOf}
+use Rattle.dds_conform.specs.declared.actions.Entry.{Entry}
+use Rattle.dds_conform.specs.declared.conformance.Conformance.{Conformance}
+use Rattle.dds_conform.specs.declared.conformance.Conformance.TheVariants.{Kept, NoPermit, Unknown}
+use Rattle.dds_conform.specs.declared.conformance.Refused.{Refused}
+use Rattle.dds_conform.specs.declared.conformance.Shortage.{Shortage}
+use Rattle.dds_conform.specs.declared.fault.TraceFault.{TraceFault}
+use Rattle.dds_conform.specs.declared.fault.TraceFault.TheVariants.{At, NoMemory}
+use Rattle.dds_conform.specs.declared.fault.TraceFaultKind.{TraceFaultKind}
+use Rattle.serde_json.specs.Data.{Data, array, member, no_members, number, object, string, unsigned}
+use Rattle.serde_json.specs.View.{items_of}
+use Rattle.dds_json.specs.Line.{line_of}
+use Rattle.dds_json.specs.declared.style.Style.{Style}
+use Rattle.dds_json.specs.declared.style.Style.TheVariants.{Text, Json}
+use Rattle.dds_answers.specs.declared.answer.Answer.{Answer}
+use Rattle.dds_answers.specs.declared.fault.ToolFault.{ToolFault}
+use Rattle.dds_answers.specs.declared.fault.ToolFault.TheVariants as fault
+use Rattle.dds_answers.specs.Outcome.{MayIf, Outcome, bad_deployment, bad_trace, said}
+
+-- ── documents
+-- so many takes that a rule lacks
+abbrev pub shortage_document : Lists → Shortage → Data
+shortage_document d s =
+    object (member (codes "key") (string (reader_key d s.reader s.key)) (member (codes "missing") (number (unsigned s.missing)) (member (codes "reader") (string (name_at d.readers.names s.reader)) (member (codes "rule") (string (rule_text d s.rule)) no_members))))
+
+-- a write that has no permit, with its line and what the rules lack
+abbrev pub refused_document : Lists → Refused → Data
+refused_document d x =
+    object (member (codes "answer") (string (codes "no")) (member (codes "key") (string (writer_key d x.writer x.key)) (member (codes "line") (number (unsigned x.line))
+    (member (codes "short") (array (items_of (map (shortage_document d) x.short.items))) (member (codes "writer") (string (name_at d.writers.names x.writer)) no_members)))))
+
+abbrev pub conformance_document : Lists → Conformance → Data
+conformance_document d Kept = object (member (codes "answer") (string (codes "yes")) no_members)
+conformance_document d (NoPermit x) = refused_document d x
+conformance_document d Unknown = object (member (codes "answer") (string (codes "no")) (member (codes "unknown") (string (codes "budget")) no_members))
+
+-- whether a trace keeps the rules, told in this style
+abbrev pub told_conformance : Style → Lists → Conformance → List ℕ
+told_conformance Text d conformance = answer_text d conformance
+told_conformance Json d conformance = line_of (conformance_document d conformance)
+
+-- ── answers
+abbrev pub is_kept : Conformance → Bool
+is_kept Kept = true
+is_kept _ = false
+
+-- the bytes are UTF-8, their lines tell entries, and it is told in this style whether these keep the rules: the answer is so of the deployment's network
+abbrev pub IsConformance : Style → Lists → List ℕ → Outcome → Type 0
+IsConformance style lists bytes end =
+    IsUtf8 bytes × (entries : List Entry) × (conformance : Conformance) × AreEntries lists (lines bytes) entries × judging.IsAnswer (network_of lists) entries conformance
+    × (end ≡ said (told_conformance style lists conformance) (is_kept conformance))
+
+-- of a deployment that can be read: the trace is judged, or a flaw of it is told
+abbrev pub MayConformLists : Style → Lists → List ℕ → Outcome → Type 0
+MayConformLists style lists bytes end =
+    IsConformance style lists bytes end ⊎ ((kind : TraceFaultKind) × (line : ℕ) × IsFaultOf lists bytes (At kind line) × (end ≡ bad_trace kind line))
+
+-- a flaw of the deployment is told
+abbrev pub MayConform : Style → Read Lists → List ℕ → Outcome → Type 0
+MayConform style (Ok lists) bytes end = MayConformLists style lists bytes end
+MayConform style (Err flaw) bytes end = end ≡ bad_deployment flaw
+
+-- the same of two files with these bytes, if neither is too large: a trace may have 64 MiB
+abbrev pub MayConformFor : Style → List ℕ → List ℕ → Outcome → Type 0
+MayConformFor style d t end = MayIf (nat_le (length d) 1048576 && nat_le (length t) 67108864) (MayConform style (deployment.read d) t) end
+
+-- ── for the parts of an answer
+-- the answer tells in this style whether the entries keep the rules, and it is so
+abbrev pub IsJudged : Style → Lists → List Entry → Answer → Type 0
+IsJudged style lists entries answer =
+    (conformance : Conformance) × judging.IsAnswer (network_of lists) entries conformance × (string_bytes answer.text ≡ told_conformance style lists conformance)
+    × (answer.is_yes ≡ is_kept conformance)
+
+-- the fault of a trace that could not be read
+abbrev pub IsTraceFault : TraceFault → ToolFault → Type 0
+IsTraceFault (At kind line) told = told ≡ fault.Trace kind line
+IsTraceFault NoMemory told = told ≡ fault.NoMemory
