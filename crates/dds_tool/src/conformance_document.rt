@@ -15,11 +15,7 @@ use serde_json::{Value, json};
 use std::alloc::Global;
 
 /// So many takes that a rule lacks.
-fn shortage_document(
-    alloc: Global,
-    lists: &Deployment,
-    short: &Shortage,
-) -> Result<Value, NoMemory>
+fn shortage_document(alloc: Global, lists: &Deployment, short: &Shortage) -> Result<Value, NoMemory>
     ensures { IfOk result (λ v. view v ≡ shortage_document lists.now short.now) }
 {
     let rule = rule_text(alloc, lists, short.rule)?;
@@ -41,11 +37,7 @@ fn shortages_array(alloc: Global, lists: &Deployment, short: &[Shortage]) -> Res
 }
 
 /// A write that has no permit, with its line and what the rules lack.
-fn refused_document(
-    alloc: Global,
-    lists: &Deployment,
-    refused: &Refused,
-) -> Result<Value, NoMemory>
+fn refused_document(alloc: Global, lists: &Deployment, refused: &Refused) -> Result<Value, NoMemory>
     ensures { IfOk result (λ v. view v ≡ refused_document lists.now refused.now) }
 {
     let short = shortages_array(alloc, lists, &refused.short)?;
