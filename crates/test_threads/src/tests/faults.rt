@@ -96,14 +96,14 @@ fn fills_the_journal_and_has_an_entry_before_it_starts(rt: HostRuntime) {
 }
 
 /// The fault has this number.
-fn expect_number(rt: &impl Abort, fault: RunFault<Script>, owed: u8) {
+fn expect_number(rt: &impl Abort, fault: &RunFault<Script>, owed: u8) {
     expect_equal(rt, fault.number(), owed, "the number of a fault");
 }
 
 #[test]
 fn faults_have_numbers(rt: HostRuntime) {
-    expect_number(&rt, RunFault::NoMemory, 2);
-    expect_number(&rt, RunFault::JournalFull, 3);
-    expect_number(&rt, RunFault::DiaryMismatch, 4);
-    expect_number(&rt, RunFault::Spawn, 5);
+    expect_number(&rt, &RunFault::NoMemory, 2);
+    expect_number(&rt, &RunFault::JournalFull, 3);
+    expect_number(&rt, &RunFault::DiaryMismatch, 4);
+    expect_number(&rt, &RunFault::Spawn, 5);
 }
