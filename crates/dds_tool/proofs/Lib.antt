@@ -13,3 +13,4 @@ mod Replays
 mod Conforms
 mod NeedsLists
 mod LimitEnds
+mod Openings

@@ -13,22 +13,21 @@ use dds_answers::{Answer, ToolFault, answered, read_plan};
 use dds_base::NoMemory;
 use dds_conform::{Conformance, Entry, TraceFault, answer_text, conform, read_trace};
 use dds_json::Style;
-use dds_lists::Deployment;
 use dds_match::Plan;
 use std::alloc::Global;
 
 /// Whether a trace keeps the rules, told in this style.
 fn tell_conformance(
     alloc: Global,
-    lists: &Deployment,
+    plan: &Plan,
     conformance: &Conformance,
     style: Style,
 ) -> Result<String, NoMemory>
-    ensures { IfOk result (λ text. string_bytes text ≡ told_conformance style lists.now conformance.now) }
+    ensures { IfOk result (λ text. string_bytes text ≡ told_conformance style plan.now conformance.now) }
 {
     match style {
-        Style::Text => answer_text(alloc, lists, conformance),
-        Style::Json => conformance_line(alloc, lists, conformance),
+        Style::Text => answer_text(alloc, plan.lists(), conformance),
+        Style::Json => conformance_line(alloc, plan.lists(), conformance),
     }
 }
 
@@ -49,7 +48,7 @@ fn judge(alloc: Global, plan: &Plan, entries: &[Entry], style: Style) -> Result<
         return Err(ToolFault::NoMemory);
     };
     let answer = answered(
-        tell_conformance(alloc, plan.lists(), &conformance, style),
+        tell_conformance(alloc, plan, &conformance, style),
         is_kept(&conformance),
     );
     drop(conformance);

@@ -8,7 +8,7 @@ use Rattle.dds_tool.specs.Conforming.{MayConform}
 use Rattle.dds_tool.proofs.conforming.conform_answer.Goals as goal
 
 pub returns-clause-gives : goal.returns-clause-gives
-returns-clause-gives c = subst (λ (d : Read Lists). GivesOneOf (MayConform c.args.style d c.args.trace.now) c.judge_trace.result) (sym c.in_ok-plan.ensures.plan) c.judge_trace.ensures.gives
+returns-clause-gives c = subst (λ (d : Read Lists). GivesOneOf (MayConform c.args.style d c.args.trace.now) c.judge_trace-answer.result) (sym c.in_ok-plan.ensures.plan) c.judge_trace-answer.ensures.gives
 
 pub returns-in_err-plan-clause-gives : goal.returns-in_err-plan-clause-gives
 returns-in_err-plan-clause-gives c =
