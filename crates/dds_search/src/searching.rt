@@ -193,8 +193,8 @@ fn search_limits<C: Clock>(alloc: Global, plan: &Plan, budget: Budget<C>) -> Res
 /// accepted, so the deployment is safe. Where it gives none it tells why: a condition that no certificate can change,
 /// or the first limit for which no weights were found, and then a bound that some weights do show, where it knows one.
 ///
-/// That a certificate is found where there is one isn't promised: numbers may pass 128 bits, weights 32 bits, rows be too
-/// many, or the budget may run out. `NoMemory` is answered only where memory ran out.
+/// That a certificate is found where there is one isn't promised: numbers may pass 128 bits, weights 32 bits, rows be
+/// too many, or the budget may run out. `NoMemory` is answered only where memory ran out.
 pub fn search<C: Clock>(alloc: Global, plan: &Plan, budget: Budget<C>) -> Result<Found, NoMemory>
     ensures fits { IfOk result (λ f. IfCertificate f (λ c. fits (network_of plan.now) (certificate_view c) ≡ true)) }
     ensures accepted { IfOk result (λ f. IfCertificate f (λ c. first_no plan.now (certificate_view c) ≡ None)) }

@@ -230,8 +230,8 @@ impl Dictionary {
 
     /// Goes from point to point until the sum has its greatest value, and then says the sum by the variables that are
     /// free there. It takes the pivots that it makes from those that are left, and is cut off only where none is. After
-    /// an `Err` the dictionary is worth nothing: `Overflow` where a number would pass 128 bits, and `Memory` where memory
-    /// ran out.
+    /// an `Err` the dictionary is worth nothing: `Overflow` where a number would pass 128 bits, and `Memory` where
+    /// memory ran out.
     pub fn climb(&mut self, sum: &mut Line, left: &mut usize) -> Result<End, Stop>
         // Values that the lines allow they allow later too, and the sum has the same value there: where it was cut off
         // as well.

@@ -4,8 +4,8 @@ ghost use Rattle.clap.specs.Words.{app_of, rule_of, with_subcommand};
 ghost use Rattle.clap.specs.declared.builder.command.Command.TheViews.{out-Command as fields_of};
 ghost use Rattle.dds_tool.specs.Command.{checking, count_rule, drawing, file_rule, flag_rule, limiting, matching};
 ghost use Rattle.dds_tool.specs.Command.{one_file};
-ghost use Rattle.dds_tool.specs.Command.{optional_file_rule, refuting, replaying, running, searching, seconds_rule, showing, styled};
-ghost use Rattle.dds_tool.specs.Command.{top_app, two_files, whole, wish_rule};
+ghost use Rattle.dds_tool.specs.Command.{optional_file_rule, refuting, replaying, running, searching, showing, styled};
+ghost use Rattle.dds_tool.specs.Command.{seconds_rule, top_app, two_files, whole, wish_rule};
 
 use clap::{Arg, ArgAction, Command, value_parser};
 use dds_base::NoMemory;
