@@ -3,3 +3,5 @@ pub mod Answers
 pub mod Refuted
 pub mod Refutations
 pub mod Sizes
+pub mod Rays
+pub mod Reasons

@@ -50,7 +50,11 @@ struct Measured {
 }
 
 /// The row with the least bound for some places, unless the pivots are spent.
-fn attempt_at(alloc: Global, climber: &mut Climber, places: &[usize]) -> Result<Attempt, NoMemory> {
+pub(crate) fn attempt_at(
+    alloc: Global,
+    climber: &mut Climber,
+    places: &[usize],
+) -> Result<Attempt, NoMemory> {
     if climber.is_spent() {
         return Ok(Attempt::Unknown);
     }

@@ -26,7 +26,7 @@ use Rattle.dds_answers.specs.Migrations.{MayMigrateFor}
 use Rattle.dds_answers.specs.Proposals.{MayProposeFor}
 use Rattle.dds_tool.specs.Limits.{MayLimitFor}
 use Rattle.dds_tool.specs.declared.limits.Finding.{Finding}
-use Rattle.dds_tool.specs.declared.limits.Finding.TheVariants.{Bounds, Certificate}
+use Rattle.dds_tool.specs.declared.limits.Finding.TheVariants.{Bounds, Reasons, Certificate}
 use Rattle.dds_tool.specs.Refuting.{MayRefuteFor}
 use Rattle.dds_tool.specs.Replaying.{MayReplayFor}
 use Rattle.dds_tool.specs.RunEnds.{GivesRun, IsAccepted, MayRun}
@@ -90,9 +90,9 @@ Checks words deployment certificate detail style =
 
 -- what is asked for of the limits
 abbrev pub finding_of : List Row → Finding
-finding_of rows = if is_set rows (codes "certificate") then Certificate else Bounds
+finding_of rows = if is_set rows (codes "certificate") then Certificate else (if is_set rows (codes "explain") then Reasons else Bounds)
 
--- the words ask which limits the deployment with this name needs, by their bounds or their certificate, and ask for an answer in this style
+-- the words ask which limits the deployment with this name needs, by their bounds, with the reasons or by a certificate, and ask for an answer in this style
 abbrev pub Limits : List Text → Text → Finding → Style → Type 0
 Limits words name what style =
     (rows : List Row) × (subcommand_of whole words ≡ Some (codes "limits", rows)) × (finding_of rows ≡ what) × NamesStyled rows name style

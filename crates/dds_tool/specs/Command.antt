@@ -69,9 +69,9 @@ refuting = styled (one_file (codes "refute"))
 abbrev pub replaying : App
 replaying = styled (with_rule (one_file (codes "replay")) (file_rule (codes "events")))
 
--- the command that tells which limits are needed, or the certificate that shows them where its flag is given
+-- the command that tells which limits are needed, with the reasons or by the certificate that shows them where their flags are given
 abbrev pub limiting : App
-limiting = styled (with_rule (one_file (codes "limits")) (flag_rule (codes "certificate")))
+limiting = styled (with_rule (with_rule (one_file (codes "limits")) (flag_rule (codes "certificate"))) (flag_rule (codes "explain")))
 
 -- the command by itself: it has a version, and wants a subcommand
 abbrev pub top_app : App

@@ -37,6 +37,9 @@ const FORMAT: &str = "json or dds-xml";
 /// What help says of the style of an answer.
 const STYLE: &str = "text or json";
 
+/// What help says of the flag of limits with their reasons.
+const REASONS: &str = "Tells by what weights, or by which firings without end, each line is so";
+
 /// What help says of the flag of an explained answer.
 const EXPLAIN: &str =
     "Tells the reason too: the numbers behind a refusal, how near each bound is to its limit, \
@@ -240,7 +243,8 @@ fn limits_command<'a>(alloc: Global) -> Result<Command<'a>, NoMemory>
         "limits",
         "Tells how much room each reader and the history of each writer needs",
     )?
-    .arg(flag(alloc, "certificate", CLAIM))?;
+    .arg(flag(alloc, "certificate", CLAIM))?
+    .arg(flag(alloc, "explain", REASONS))?;
     styled(alloc, command)
 }
 

@@ -64,7 +64,7 @@ pub enum Request<'a> {
         deployment: &'a str,
         style: Style,
     },
-    /// Which limits a deployment needs, or the certificate that shows them.
+    /// Which limits a deployment needs, with the reasons or by the certificate that shows them.
     Limits {
         deployment: &'a str,
         what: Finding,
@@ -436,6 +436,8 @@ fn finding(matches: &ArgMatches) -> Finding
 {
     if is_set(matches, "certificate") {
         Finding::Certificate
+    } else if is_set(matches, "explain") {
+        Finding::Reasons
     } else {
         Finding::Bounds
     }
