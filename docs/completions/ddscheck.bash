@@ -26,7 +26,7 @@ _ddscheck() {
     draw) options="-h --help" ;;
     refute) options="--format -h --help" ;;
     replay) options="--format -h --help" ;;
-    limits) options="--certificate --format -h --help" ;;
+    limits) options="--certificate --explain --format -h --help" ;;
     esac
     case $word in
     -*) COMPREPLY=($(compgen -W "$options" -- "$word")) ;;

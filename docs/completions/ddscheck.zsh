@@ -75,6 +75,7 @@ _ddscheck() {
                 '2:events:_files -g "*.toml"' ;;
             limits) _arguments \
                 '--certificate[Prints a certificate that shows these bounds, in place of them]' \
+                '--explain[Tells by what weights, or by which firings without end, each line is so]' \
                 '--format[text or json \[default: text\]]:FORMAT:(text json)' \
                 '-h[Print help]' \
                 '--help[Print help]' \
