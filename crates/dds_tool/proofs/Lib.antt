@@ -12,3 +12,4 @@ mod Refutes
 mod Replays
 mod NeedsLists
 mod LimitEnds
+mod Explanations
