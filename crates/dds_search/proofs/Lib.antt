@@ -6,4 +6,4 @@ mod Unaccepted
 mod Never
 mod Growing
 mod Summed
-mod Rays
+mod Holding

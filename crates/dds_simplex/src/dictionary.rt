@@ -155,9 +155,9 @@ impl Dictionary {
         }
     }
 
-    /// The column of the least free variable that would raise the sum, `None` where none would. After a climb that found
-    /// no greatest value no line falls with it: while it rises, and the other free variables stay 0, the sum rises
-    /// without end.
+    /// The column of the least free variable that would raise the sum, `None` where none would. After a climb that
+    /// found no greatest value no line falls with it: while it rises, and the other free variables stay 0, the sum
+    /// rises without end.
     pub fn entering(&self, sum: &Line) -> Option<usize>
         ensures greatest { IfNone result (IsGreatest self.now sum.now) }
         ensures raises { IfSome result
