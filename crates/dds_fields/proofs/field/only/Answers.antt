@@ -34,5 +34,5 @@ returns-then-not-is_listed c =
     let inv = rw t at c.loop-key.invariant in
     let h : list_any (bytes_eq (string_bytes c.in-Some.key.now)) (map (λ (t : Bor (List ℕ)). t.now) c.args.listed.now) ≡ false = list_any-map (bytes_eq (string_bytes c.in-Some.key.now)) (λ (t : Bor (List ℕ)). t.now) c.args.listed.now ∙ ap (λ (k : List ℕ). list_any (λ (l : Bor (List ℕ)). bytes_eq k l.now) c.args.listed.now) (sym c.as_str.ensures.value) ∙ sym c.is_listed.ensures ∙ c.if-not-is_listed.true in
     let first = ap least inv.0 ∙ least-first _ c.in-Some.key.now c.next.new.self h inv.1.0 in
-    let e : shown (string_bytes c.in-Some.key.now) ≡ c.as_str-then-not-is_listed-2.result.now = cc (c.in_ok-show_key.ensures) in
+    let e : shown (string_bytes c.in-Some.key.now) ≡ c.as_str-then-not-is_listed-2.result.now = cc (c.in_ok-shown.ensures) in
     fails_at c.refuse.result (UnknownKey, key_path (place_text c.args.path.now) c.as_str-then-not-is_listed-2.result.now) _ (rw (first, e) refl) c.refuse.ensures
