@@ -1,0 +1,2 @@
+mod EveryLaws
+mod FirstOfAll
