@@ -54,8 +54,12 @@ abbrev pub no_start : Network → Option Note
 no_start net = noted (nat_lt 0 net.rules && not (any_below net.rules (opens net))) note.NoStart
 
 -- the rule takes something that can't come; or it takes nothing and doesn't open, and a rule that takes nothing never fires
+abbrev pub is_stuck : Network → (ℕ → Bool) → ℕ → Bool
+is_stuck net live u = if has_takes net u then not (can_take_all net live u) else not (opens net u)
+
+-- the rule is stuck
 abbrev pub stuck_rule : Network → (ℕ → Bool) → ℕ → Option Note
-stuck_rule net live u = noted (if has_takes net u then not (can_take_all net live u) else not (opens net u)) (note.StuckRule u)
+stuck_rule net live u = noted (is_stuck net live u) (note.StuckRule u)
 
 -- the row shows no bound and no total
 abbrev pub unused_row : lists.Certificate → ℕ → Option Note

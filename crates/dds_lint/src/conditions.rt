@@ -30,6 +30,7 @@ fn push_limits(nos: &mut Vec<No>, plan: &Plan, certificate: &Certificate) -> Res
     push_depths(nos, plan, certificate)
 }
 
+#[tactic(auto, unfolding(crate::specs::Conditions::all_nos))]
 fn push_all(nos: &mut Vec<No>, plan: &Plan, certificate: &Certificate) -> Result<(), NoMemory>
     requires { IsTabled (certificate_view certificate.now) }
     ensures { OnOk result (nos.new.items ≡ nos.old.items ++ all_nos plan.now (certificate_view certificate.now)) }
@@ -45,6 +46,7 @@ fn push_all(nos: &mut Vec<No>, plan: &Plan, certificate: &Certificate) -> Result
 /// number, then by row, endpoint and key, each in file order. The first is the one with which the checker refuses the
 /// certificate, and there is none where it accepts it. Of an endpoint that the running profile doesn't have the least
 /// number is told. Only want of memory is an error.
+#[tactic(auto, using(crate::proofs::FirstOfAll::first_of_all))]
 pub fn all_nos(alloc: Global, plan: &Plan, certificate: &Certificate) -> Result<Vec<No>, NoMemory>
     requires { fits (network_of plan.now) (certificate_view certificate.now) ≡ true }
     ensures all { IfOk result (λ nos. nos.items ≡ all_nos plan.now (certificate_view certificate.now)) }
@@ -58,6 +60,7 @@ pub fn all_nos(alloc: Global, plan: &Plan, certificate: &Certificate) -> Result<
     Ok(nos)
 }
 
+#[tactic(auto, unfolding(crate::specs::Conditions::bare_nos))]
 fn push_bare(nos: &mut Vec<No>, plan: &Plan) -> Result<(), NoMemory>
     ensures { OnOk result (nos.new.items ≡ nos.old.items ++ bare_nos plan.now) }
 {

@@ -9,7 +9,7 @@ ghost use Rattle.dds_weights.specs.Views.{certificate_view};
 ghost use Rattle.dds_check.specs.Limits.{all_bounded, is_bounded};
 ghost use Rattle.dds_lint.specs.Every.{every_below, those_below, those_in};
 ghost use Rattle.dds_lint.specs.Live.{IsLive, opens};
-ghost use Rattle.dds_lint.specs.Notes.{all_notes, certificate_notes, grows, held_up, idle_writer, is_key_written};
+ghost use Rattle.dds_lint.specs.Notes.{all_notes, certificate_notes, grows, held_up, idle_writer, is_key_written, is_stuck};
 ghost use Rattle.dds_lint.specs.Notes.{needless_bound, needless_total, no_rules, no_start, noted, pair_notes};
 ghost use Rattle.dds_lint.specs.Notes.{reader_notes, rule_notes, stuck_rule, unused_row, unwritten_key, unwritten_keys};
 ghost use Rattle.dds_lint.specs.Notes.{watcher, writer_notes};
@@ -157,17 +157,23 @@ fn no_start(plan: &Plan) -> Option<Note>
     note_if(0 < rules_of(plan) && !some_opens(plan), Note::NoStart)
 }
 
-/// Whether a rule can never fire and doesn't open.
+/// Whether a rule can never fire and, where it takes nothing, doesn't open.
+fn is_stuck(plan: &Plan, live: &[bool; RULES], rule: RuleNo) -> bool
+    requires { rule < (network_of plan.now).rules }
+    ensures { result ≡ is_stuck (network_of plan.now) (λ u. slice_index_or live.now u false) rule }
+{
+    if has_takes(plan, rule) {
+        !can_take_all(plan, live, rule)
+    } else {
+        !opens(plan, rule)
+    }
+}
+
 fn stuck_rule(plan: &Plan, live: &[bool; RULES], rule: RuleNo) -> Option<Note>
     requires { rule < (network_of plan.now).rules }
     ensures { result ≡ stuck_rule (network_of plan.now) (λ u. slice_index_or live.now u false) rule }
 {
-    let is_stuck = if has_takes(plan, rule) {
-        !can_take_all(plan, live, rule)
-    } else {
-        !opens(plan, rule)
-    };
-    note_if(is_stuck, Note::StuckRule(rule))
+    note_if(is_stuck(plan, live, rule), Note::StuckRule(rule))
 }
 
 fn unused_row(certificate: &Certificate, row: usize) -> Option<Note>
