@@ -31,7 +31,7 @@ invariant_of-self-2 g c =
     book_push plan g.N.Name.tables entries c.push_reserved.new.self.items e c.self.inside.domain c.step.new.self holders c.note.new.holders.items c.self.inside.changes _
     pushed c.self.invariant room own c.in-Ok.ensures.steps c.in-Ok.ensures.plan
     (c.note.ensures.holders ∙ ap (λ l. set holders n (holder_of c.seat.inside.half.table n l)) c.as_slice.ensures.value ∙ ap (λ t. set holders n (holder_of t n c.push_reserved.new.self.items)) c.seat.invariant.1)
-    c.counted-self-inside.ensures
+    c.count_change-self-inside.ensures
 
 pub returns-clause-entered : goal.returns-clause-entered
 returns-clause-entered g c =
