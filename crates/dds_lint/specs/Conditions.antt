@@ -59,11 +59,15 @@ abbrev pub written_nos : Network → List No
 written_nos net = those_below net.writers (writer_instances net) ++ every_pair net (keep_last_filter net)
 
 -- 21 to 23
+abbrev pub bounds_nos_by : Network → List Bound → List Total → List No
+bounds_nos_by net bounds totals =
+    every_below net.readers (if_strict net (no_bounds_nos net bounds totals))
+    ++ every_below net.readers (if_strict net (bounds_over_nos net bounds))
+    ++ those_below net.readers (of_strict net (samples_over net bounds totals))
+
+-- the same by a certificate
 abbrev pub bounds_nos : Network → lists.Certificate → List No
-bounds_nos net cert =
-    every_below net.readers (if_strict net (no_bounds_nos net cert.bounds cert.totals))
-    ++ every_below net.readers (if_strict net (bounds_over_nos net cert.bounds))
-    ++ those_below net.readers (of_strict net (samples_over net cert.bounds cert.totals))
+bounds_nos net cert = bounds_nos_by net cert.bounds cert.totals
 
 -- 26
 abbrev pub depths_nos : Network → lists.Certificate → List No

@@ -94,8 +94,11 @@ reader_notes net cert = those_below net.readers (watcher net) ++ those_below net
 abbrev pub writer_notes : Lists → List Note
 writer_notes d = every_below (length d.topics.entries) (unwritten_keys d) ++ those_below (network_of d).writers (idle_writer (network_of d))
 
+abbrev pub absent_notes : Network → List Note
+absent_notes net = option_to_list (no_rules net) ++ option_to_list (no_start net)
+
 abbrev pub rule_notes : Network → (ℕ → Bool) → List Note
-rule_notes net live = option_to_list (no_rules net) ++ option_to_list (no_start net) ++ those_below net.rules (stuck_rule net live)
+rule_notes net live = absent_notes net ++ those_below net.rules (stuck_rule net live)
 
 -- of the rows, the bounds and the totals of a certificate
 abbrev pub certificate_notes : Network → lists.Certificate → List Note

@@ -1,5 +1,6 @@
 //! Numbers 20 to 26: the endpoints whose limits the instances or the bounds are above.
 ghost use Rattle.std.specs.Prelude.{◌≡◌, ◌++◌, ◌<◌, ◌^◌, unwrap_or, OnOk};
+ghost use Rattle.std.specs.Option.{option_to_list};
 ghost use Rattle.dds_base.specs.Sums.{total, count_below};
 ghost use Rattle.dds_qos.specs.Limits.{is_past};
 ghost use Rattle.dds_match.specs.Network.{reach, is_written};
@@ -12,7 +13,7 @@ ghost use Rattle.dds_check.specs.Limits.{reader_instances, no_bound, is_bounded,
 ghost use Rattle.dds_check.specs.Limits.{is_over, bound_over, reached_bound, bounds_within};
 ghost use Rattle.dds_check.specs.Limits.{is_within, samples_over, writer_instances, is_guarded, is_heard};
 ghost use Rattle.dds_check.specs.Limits.{keep_last_filter, is_deep, writer_depth, of_strict};
-ghost use Rattle.dds_lint.specs.Conditions.{bounds_nos, bounds_over_nos, depth_nos, depths_nos, every_pair, if_strict};
+ghost use Rattle.dds_lint.specs.Conditions.{bounds_nos, bounds_nos_by, bounds_over_nos, depth_nos, depths_nos, every_pair, if_strict};
 ghost use Rattle.dds_lint.specs.Conditions.{instances_nos, no_bounds_nos, written_nos};
 ghost use Rattle.dds_lint.specs.Every.{every_below, those_below};
 
@@ -257,10 +258,46 @@ fn writer_depth(
 pub(crate) fn push_instances(nos: &mut Vec<No>, plan: &Plan) -> Result<(), NoMemory>
     ensures { OnOk result (nos.new.items ≡ nos.old.items ++ instances_nos (network_of plan.now)) }
 {
-    push_below(nos, readers_of(plan), |r| reader_instances(plan, ReaderNo::new(r)))
+    push_below(
+        nos,
+        readers_of(plan),
+        |r|
+            requires { r < (network_of plan.now).readers }
+            ensures { result ≡ of_strict (network_of plan.entry.now) (reader_instances (network_of plan.entry.now)) r }
+        { reader_instances(plan, ReaderNo::new(r)) },
+    )
 }
 
-/// Adds the keys of a reader without a bound, then the reader where it has no total: number 21.
+fn push_no_total(
+    nos: &mut Vec<No>,
+    plan: &Plan,
+    bounds: &Bounds,
+    totals: &Totals,
+    reader: ReaderNo,
+) -> Result<(), NoMemory>
+    requires { reader < (network_of plan.now).readers }
+    ensures { OnOk result (nos.new.items ≡ nos.old.items
+        ++ option_to_list (no_total (network_of plan.now) bounds.now totals.now reader)) }
+{
+    push_some(nos, no_total(plan, bounds, totals, reader))
+}
+
+fn push_lacking(
+    nos: &mut Vec<No>,
+    plan: &Plan,
+    bounds: &Bounds,
+    totals: &Totals,
+    reader: ReaderNo,
+) -> Result<(), NoMemory>
+    requires { reader < (network_of plan.now).readers }
+    ensures { OnOk result (nos.new.items ≡ nos.old.items
+        ++ no_bounds_nos (network_of plan.now) bounds.now totals.now reader) }
+{
+    push_below(nos, KEYS, |k| no_bound(plan, bounds, reader, KeyNo::new(k)))?;
+    push_no_total(nos, plan, bounds, totals, reader)
+}
+
+/// Adds the keys of a strict reader without a bound, then the reader where it has no total: number 21.
 fn push_no_bounds_of(
     nos: &mut Vec<No>,
     plan: &Plan,
@@ -275,8 +312,7 @@ fn push_no_bounds_of(
     if plan.watcher(reader) {
         return Ok(());
     }
-    push_below(nos, KEYS, |k| no_bound(plan, bounds, reader, KeyNo::new(k)))?;
-    push_some(nos, no_total(plan, bounds, totals, reader))
+    push_lacking(nos, plan, bounds, totals, reader)
 }
 
 fn push_no_bounds(
@@ -337,6 +373,20 @@ fn push_samples_over(
     )
 }
 
+fn push_bounds_by(
+    nos: &mut Vec<No>,
+    plan: &Plan,
+    bounds: &Bounds,
+    totals: &Totals,
+) -> Result<(), NoMemory>
+    ensures { OnOk result (nos.new.items ≡ nos.old.items
+        ++ bounds_nos_by (network_of plan.now) bounds.now totals.now) }
+{
+    push_no_bounds(nos, plan, bounds, totals)?;
+    push_bounds_over(nos, plan, bounds)?;
+    push_samples_over(nos, plan, bounds, totals)
+}
+
 /// Adds the strict readers and their keys that lack a bound, or that have one above a limit: numbers 21 to 23.
 pub(crate) fn push_bounds(
     nos: &mut Vec<No>,
@@ -349,16 +399,21 @@ pub(crate) fn push_bounds(
 {
     let bounds = Bounds::new(&certificate.bounds);
     let totals = Totals::new(&certificate.totals);
-    push_no_bounds(nos, plan, &bounds, &totals)?;
-    push_bounds_over(nos, plan, &bounds)?;
-    push_samples_over(nos, plan, &bounds, &totals)
+    push_bounds_by(nos, plan, &bounds, &totals)
 }
 
 fn push_writer_instances(nos: &mut Vec<No>, plan: &Plan) -> Result<(), NoMemory>
     ensures { OnOk result (nos.new.items ≡ nos.old.items
         ++ those_below (network_of plan.now).writers (writer_instances (network_of plan.now))) }
 {
-    push_below(nos, writers_of(plan), |w| writer_instances(plan, WriterNo::new(w)))
+    push_below(
+        nos,
+        writers_of(plan),
+        |w|
+            requires { w < (network_of plan.now).writers }
+            ensures { result ≡ writer_instances (network_of plan.entry.now) w }
+        { writer_instances(plan, WriterNo::new(w)) },
+    )
 }
 
 fn push_filters(nos: &mut Vec<No>, plan: &Plan) -> Result<(), NoMemory>

@@ -1,6 +1,7 @@
 //! What a yes doesn't say: who may miss samples, what can grow, and what never happens.
 ghost use Rattle.std.specs.Prelude.{◌≡◌, ◌++◌, ◌<◌, ◌==◌, ◌&&◌, ◌||◌, ℕ, Bool, IfOk, OnOk, false, length, slice_get};
 ghost use Rattle.std.specs.Prelude.{Some, slice_index_or, vec_len, not};
+ghost use Rattle.std.specs.List.{list_any};
 ghost use Rattle.dds_base.specs.Sums.{any_below};
 ghost use Rattle.dds_match.specs.Network.{is_written};
 ghost use Rattle.dds_match.specs.Plan.{network_of};
@@ -9,7 +10,7 @@ ghost use Rattle.dds_weights.specs.Views.{certificate_view};
 ghost use Rattle.dds_check.specs.Limits.{all_bounded, is_bounded};
 ghost use Rattle.dds_lint.specs.Every.{every_below, those_below, those_in};
 ghost use Rattle.dds_lint.specs.Live.{IsLive, opens};
-ghost use Rattle.dds_lint.specs.Notes.{all_notes, certificate_notes, grows, held_up, idle_writer, is_key_written, is_stuck};
+ghost use Rattle.dds_lint.specs.Notes.{absent_notes, all_notes, certificate_notes, grows, held_up, idle_writer, is_key_written, is_stuck};
 ghost use Rattle.dds_lint.specs.Notes.{needless_bound, needless_total, no_rules, no_start, noted, pair_notes};
 ghost use Rattle.dds_lint.specs.Notes.{reader_notes, rule_notes, stuck_rule, unused_row, unwritten_key, unwritten_keys};
 ghost use Rattle.dds_lint.specs.Notes.{watcher, writer_notes};
@@ -176,11 +177,24 @@ fn stuck_rule(plan: &Plan, live: &[bool; RULES], rule: RuleNo) -> Option<Note>
     note_if(is_stuck(plan, live, rule), Note::StuckRule(rule))
 }
 
+/// Whether a bound names the row.
+fn is_bounding(bounds: &[Bound], row: usize) -> bool
+    ensures { result ≡ list_any (λ b. b.row == row) bounds.now }
+{
+    bounds.iter().any(|b| b.row == row)
+}
+
+/// Whether a total names the row.
+fn is_totalling(totals: &[Total], row: usize) -> bool
+    ensures { result ≡ list_any (λ t. t.row == row) totals.now }
+{
+    totals.iter().any(|t| t.row == row)
+}
+
 fn unused_row(certificate: &Certificate, row: usize) -> Option<Note>
     ensures { result ≡ unused_row (certificate_view certificate.now) row }
 {
-    let is_used = certificate.bounds.iter().any(|b| b.row == row)
-        || certificate.totals.iter().any(|t| t.row == row);
+    let is_used = is_bounding(&certificate.bounds, row) || is_totalling(&certificate.totals, row);
     note_if(!is_used, Note::UnusedRow(row))
 }
 
@@ -248,6 +262,24 @@ fn push_writers(notes: &mut Vec<Note>, plan: &Plan) -> Result<(), NoMemory>
     push_idle(notes, plan)
 }
 
+fn push_absent(notes: &mut Vec<Note>, plan: &Plan) -> Result<(), NoMemory>
+    ensures { OnOk result (notes.new.items ≡ notes.old.items ++ absent_notes (network_of plan.now)) }
+{
+    push_some(notes, no_rules(plan))?;
+    push_some(notes, no_start(plan))
+}
+
+fn push_stuck(
+    notes: &mut Vec<Note>,
+    plan: &Plan,
+    live: &[bool; RULES],
+) -> Result<(), NoMemory>
+    ensures { OnOk result (notes.new.items ≡ notes.old.items ++ those_below (network_of plan.now).rules
+        (stuck_rule (network_of plan.now) (λ u. slice_index_or live.now u false))) }
+{
+    push_below(notes, rules_of(plan), |u| stuck_rule(plan, live, RuleNo::new(u)))
+}
+
 fn push_rules(
     notes: &mut Vec<Note>,
     plan: &Plan,
@@ -256,9 +288,8 @@ fn push_rules(
     ensures { OnOk result (notes.new.items ≡ notes.old.items
         ++ rule_notes (network_of plan.now) (λ u. slice_index_or live.now u false)) }
 {
-    push_some(notes, no_rules(plan))?;
-    push_some(notes, no_start(plan))?;
-    push_below(notes, rules_of(plan), |u| stuck_rule(plan, live, RuleNo::new(u)))
+    push_absent(notes, plan)?;
+    push_stuck(notes, plan, live)
 }
 
 fn bound_at(certificate: &Certificate, i: usize) -> &Bound
