@@ -369,7 +369,11 @@ fn push_samples_over(
     push_below(
         nos,
         readers_of(plan),
-        |r| samples_over(plan, bounds, totals, ReaderNo::new(r)),
+        |r|
+            requires { r < (network_of plan.now).readers }
+            ensures { result ≡ of_strict (network_of plan.entry.now)
+                (samples_over (network_of plan.entry.now) bounds.entry.now totals.entry.now) r }
+        { samples_over(plan, bounds, totals, ReaderNo::new(r)) },
     )
 }
 
