@@ -118,7 +118,14 @@ rules = [{{ name = "u", application = "a", takes = [{{ reader = "r", key = "k", 
 """
 
 
+TAKE_AND_WRITE = "0 a take r k\n0 a write w k\n"
+
+
+def exchange_trace(count):
+    """So many samples that this application takes, each with the write that it permits."""
+    return TAKE_AND_WRITE * count
+
+
 def largest_trace():
-    """A trace of that application that fills its file: 4,971,026 lines, which keep the rules."""
-    pair = "0 a take r k\n0 a write w k\n"
-    return pair * ((1 << 26) // len(pair))
+    """The longest such trace that a file may have: 4,971,026 lines."""
+    return exchange_trace((1 << 26) // len(TAKE_AND_WRITE))

@@ -72,8 +72,10 @@ def large_inputs():
 
 def memory_input(name):
     """The files on which a command's memory is tried: some that need more than the least that an allocator takes at once."""
-    if name in ("run", "replay", "conform"):
+    if name in ("run", "replay"):
         return small_inputs()["ping"]
+    if name == "conform":
+        return inputs.exchange_deployment(), "", "", inputs.exchange_trace(2000)
     return inputs.keyed_deployment(32), inputs.keyed_certificate(32), ""
 
 
