@@ -122,6 +122,12 @@ def plain_lines(text):
     return [line for line in (re.sub(r"\s*#.*", "", line).rstrip() for line in text.splitlines()) if line]
 
 
+def fault_of_c(block):
+    """Lines of C stand in a program of docs/GUARD.md, which bridge/guard/test compiles and runs."""
+    tried = {line.strip() for line in (ROOT / "docs/GUARD.md").read_text(encoding="utf-8").splitlines()}
+    return next((f"docs/GUARD.md has no line {line}" for line in block.lines if line.strip() not in tried), None)
+
+
 def fault_of_toml(block):
     """What is wrong with a block of TOML: it stands in no file that is tested."""
     owed = "\n" + "\n".join(plain_lines("\n".join(block.lines))) + "\n"
@@ -144,7 +150,7 @@ def read_document(tally, room, document):
         elif block.lines[0].startswith("$ "):
             tally.judge(str(block), fault_of_session, room, block)
         elif block.language == "c":
-            continue
+            tally.judge(str(block), fault_of_c, block)
         elif all(COMMAND.match(line) or NOT_RUN.match(line) for line in block.lines):
             run_commands(tally, room, block)
             last = block.lines[-1]
