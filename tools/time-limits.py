@@ -1,18 +1,20 @@
 #!/usr/bin/env python3
-"""Holds the built program to the time that it may take on inputs that once cost it far more.
+"""Holds the built program to the time and the memory that it may take: each command on its largest input, by the table of docs/FORMAT.md, and inputs that once cost it far more.
 
   tools/time-limits.py
 
-Each case is a command on files of legal sizes, how its output begins and ends, its status, and the seconds that it may take. The last line is 'N passed, M failed'; the
-status is 1 if one failed.
+Each case is a command on files of legal sizes, how its output begins and ends, its status, and the seconds that it may take. What the table says is held in seconds of the
+processor, so that other work doesn't count. A search gets 3 seconds, `--seconds 3`. The last line is 'N passed, M failed'; the status is 1 if one failed.
 """
+import os
+import re
 import sys
 import tempfile
 from pathlib import Path
 
 sys.dont_write_bytecode = True
 import inputs  # noqa: E402
-from harness import Tally, ddscheck, need_program  # noqa: E402
+from harness import PROGRAM, ROOT, Tally, ddscheck, need_program  # noqa: E402
 
 
 def explain_all_bounds(room):
@@ -38,6 +40,66 @@ def conform_largest_trace(room):
 
 CASES = [explain_all_bounds, replay_gaps, conform_largest_trace]
 
+# ── each command on its largest inputs, by the table of docs/FORMAT.md
+MIB = 1 << 20
+SEARCH = 3
+INPUTS = {
+    "largest": lambda: (inputs.largest_deployment(), inputs.largest_certificate(), "deliver 0\n" * (64 * MIB // 10)),
+    "keyed": lambda: (inputs.keyed_deployment(), inputs.keyed_certificate(), ""),
+    "limited keys": lambda: (inputs.keyed_deployment(limit=16), "", ""),
+    "ring": lambda: (inputs.limited_ring(255, 64), "", ""),
+    "crowd": lambda: (inputs.crowded_pair(65535), "", ""),
+}
+# words on the files d, c and e of each input
+LARGEST = {
+    "check": ("check d c", ("largest", "keyed")),
+    "check --explain": ("check d c --explain", ("largest", "keyed")),
+    "match": ("match d --format json", ("largest", "keyed")),
+    "propose": ("propose d", ("largest", "keyed", "ring")),
+    "propose --thorough": (f"propose d --thorough --seconds {SEARCH}", ("largest", "limited keys", "ring")),
+    "limits": (f"limits d --seconds {SEARCH}", ("largest", "keyed", "ring")),
+    "refute": (f"refute d --seconds {SEARCH}", ("largest", "limited keys", "ring", "crowd")),
+    "replay": ("replay d e", ("largest",)),
+    "migrate": ("migrate d", ("largest",)),
+    "show": ("show d", ("largest", "keyed")),
+    "draw": ("draw d c", ("largest", "keyed")),
+}
+
+
+def owed():
+    """The seconds and the MiB of each command by docs/FORMAT.md, a search's beside those that it's given."""
+    text = (ROOT / "docs/FORMAT.md").read_text()
+    rows = re.findall(r"(?m)^\| `([^`]+)` \| (?:N \+ )?([\d,]+) s \| ([\d,]+) MiB \|", text)
+    return {name: (int(seconds.replace(",", "")), int(size.replace(",", ""))) for name, seconds, size in rows}
+
+
+def spent(words, room):
+    """The status of the words, the seconds of the processor that they took, and their memory in MiB."""
+    child = os.fork()
+    if child == 0:
+        os.chdir(room)
+        out = os.open("out", os.O_WRONLY | os.O_CREAT | os.O_TRUNC)
+        for stream in (1, 2):
+            os.dup2(out, stream)
+        os.execv(PROGRAM, [str(PROGRAM), *words.split()])
+    _, status, usage = os.wait4(child, 0)
+    return os.waitstatus_to_exitcode(status), usage.ru_utime + usage.ru_stime, usage.ru_maxrss / 1024
+
+
+def excess_of(name, kind, limits):
+    """What is wrong with what a command takes on an input, if anything is."""
+    words, _ = LARGEST[name]
+    seconds, size = limits
+    seconds += SEARCH if "--seconds" in words else 0
+    with tempfile.TemporaryDirectory() as room:
+        for file, text in zip("dce", INPUTS[kind]()):
+            (Path(room) / file).write_text(text)
+        status, took, memory = spent(words, room)
+    print(f"{words} on {kind}: {took:.1f} s, {memory:.0f} MiB")
+    if status not in (0, 1):
+        return f"status {status}"
+    return None if took <= seconds and memory <= size else f"{took:.1f} s and {memory:.0f} MiB, where {seconds} s and {size} MiB are allowed"
+
 
 def fault_of(case):
     """What is wrong with what comes of a case, if anything is."""
@@ -57,6 +119,11 @@ def main():
     tally = Tally()
     for case in CASES:
         tally.judge(case.__name__, fault_of, case)
+    limits = owed()
+    tally.check(set(limits) == {*LARGEST, "run"}, "the table of docs/FORMAT.md has a row for each command", sorted(limits))
+    for name, (_, kinds) in LARGEST.items():
+        for kind in kinds:
+            tally.judge(f"{name} on {kind}", excess_of, name, kind, limits.get(name, (0, 0)))
     return tally.finish()
 
 

@@ -20,14 +20,14 @@ _ddscheck() {
     help) COMPREPLY=($(compgen -W "match check propose run migrate show draw refute replay limits conform help" -- "$word")); return ;;
     match) options="--format -h --help" ;;
     check) options="--explain --format -h --help" ;;
-    propose) options="--thorough --format -h --help" ;;
+    propose) options="--thorough --seconds --format -h --help" ;;
     run) options="--fates --writes --takes --format -h --help" ;;
     migrate) options="-h --help" ;;
     show) options="--format -h --help" ;;
     draw) options="-h --help" ;;
-    refute) options="--format -h --help" ;;
+    refute) options="--seconds --format -h --help" ;;
     replay) options="--format -h --help" ;;
-    limits) options="--certificate --format -h --help" ;;
+    limits) options="--certificate --seconds --format -h --help" ;;
     conform) options="--format -h --help" ;;
     esac
     case $word in

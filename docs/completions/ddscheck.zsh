@@ -36,6 +36,7 @@ _ddscheck() {
                 '2:certificate:_files -g "*.toml"' ;;
             propose) _arguments \
                 '--thorough[Searches by linear programming, for the least bounds, and tells which limit has no certificate]' \
+                '--seconds[How many seconds the thorough search may take \[default: 60\]]:N:()' \
                 '--format[text or json \[default: text\]]:FORMAT:(text json)' \
                 '-h[Print help]' \
                 '--help[Print help]' \
@@ -64,6 +65,7 @@ _ddscheck() {
                 '1:deployment:_files -g "*.toml"' \
                 '2:certificate:_files -g "*.toml"' ;;
             refute) _arguments \
+                '--seconds[How many seconds a search may take \[default: 60\]]:N:()' \
                 '--format[text or json \[default: text\]]:FORMAT:(text json)' \
                 '-h[Print help]' \
                 '--help[Print help]' \
@@ -76,6 +78,7 @@ _ddscheck() {
                 '2:events:_files -g "*.toml"' ;;
             limits) _arguments \
                 '--certificate[Prints a certificate that shows these bounds, in place of them]' \
+                '--seconds[How many seconds a search may take \[default: 60\]]:N:()' \
                 '--format[text or json \[default: text\]]:FORMAT:(text json)' \
                 '-h[Print help]' \
                 '--help[Print help]' \

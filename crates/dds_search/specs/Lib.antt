@@ -3,3 +3,4 @@ pub mod Answers
 pub mod Refuted
 pub mod Refutations
 pub mod Sizes
+pub mod Budgets

@@ -1,5 +1,6 @@
 //! What a search answers.
 
+use crate::budget::Shortage;
 use dds_check::No;
 use dds_propose::targets::Target;
 use dds_weights::Certificate;
@@ -12,7 +13,7 @@ pub enum Least {
     Shown(u32),
     /// The climb found that there is no least bound: firings in fractions bring more and more samples.
     Unbounded,
-    /// The search gave up: numbers passed 128 bits, the pivots were spent, or no weights within 32 bits were found.
+    /// The search gave up: a number passed its bits, or the budget ran out.
     Unknown,
 }
 
@@ -23,6 +24,8 @@ pub enum Missing {
     Structure(No),
     /// No weights were found that show a bound within this limit.
     Limit { target: Target, least: Least },
+    /// No weights were found that show a bound within this limit, since this ran out.
+    Short { target: Target, shortage: Shortage },
     /// Each limit has weights, but they make no certificate: no 64 rows were found that show all limits, neither among
     /// theirs nor among sums of these.
     Rows,

@@ -1,6 +1,7 @@
 //! Collects rows and bounds, limit by limit.
 
 use crate::attempt::{Attempt, Climber};
+use crate::budget::Shortage;
 use crate::limits::Limited;
 use crate::lists::push;
 use crate::rows::{Entry, merged};
@@ -8,6 +9,7 @@ use crate::weights::WeighedRow;
 use dds_base::{KeyNo, NoMemory, ReaderNo};
 use dds_propose::targets::Target;
 use std::alloc::Global;
+use std::time::Clock;
 
 /// The rows and the bounds so far.
 #[derive(Drop)]
@@ -23,8 +25,8 @@ enum Part {
     Within(u32),
     /// No weights show a bound within that.
     Beyond,
-    /// The search gave up.
-    Unknown,
+    /// The search gave up, since this ran out.
+    Unknown(Shortage),
 }
 
 /// A bound as a part of a sum that has so much left.
@@ -32,7 +34,7 @@ fn part_within(bound: Option<u32>, left: u32) -> Part {
     match bound {
         Some(bound) if bound <= left => Part::Within(bound),
         Some(_) => Part::Beyond,
-        None => Part::Unknown,
+        None => Part::Unknown(Shortage::Bits),
     }
 }
 
@@ -86,15 +88,15 @@ impl Collected {
     }
 
     /// Adds a bound within `left` of the key of a place as a part of a sum.
-    fn add_part(
+    fn add_part<C: Clock>(
         &mut self,
         alloc: Global,
-        climber: &mut Climber,
+        climber: &mut Climber<C>,
         place: usize,
         left: u32,
     ) -> Result<Part, NoMemory> {
         let Some(known) = climber.net.places.get(place) else {
-            return Ok(Part::Unknown);
+            return Ok(Part::Unknown(Shortage::Bits));
         };
         let (reader, key) = (known.reader, known.key);
         if let Some(entry) = find(&self.entries, reader, key) {
@@ -112,17 +114,17 @@ impl Collected {
                 self.add(limited, row, bound)?;
                 Ok(Part::Within(bound))
             }
-            Attempt::Unknown => Ok(Part::Unknown),
+            Attempt::Unknown(shortage) => Ok(Part::Unknown(shortage)),
             _ => Ok(Part::Beyond),
         }
     }
 
     /// Bounds of the keys of a reader whose sum is within its limit, which then is the last part. Else the first part
     /// that isn't.
-    fn add_parts(
+    fn add_parts<C: Clock>(
         &mut self,
         alloc: Global,
-        climber: &mut Climber,
+        climber: &mut Climber<C>,
         limited: &Limited,
     ) -> Result<Part, NoMemory> {
         let mut left = limited.limit;
@@ -137,10 +139,10 @@ impl Collected {
 
     /// Adds a row for a limit with the bound that it shows, or for the samples of a reader a bound for each of its
     /// keys. `None` where that was done, and else what was found instead.
-    pub(crate) fn add_limit(
+    pub(crate) fn add_limit<C: Clock>(
         &mut self,
         alloc: Global,
-        climber: &mut Climber,
+        climber: &mut Climber<C>,
         limited: &Limited,
     ) -> Result<Option<Attempt>, NoMemory> {
         let attempt = match climber.attempt(alloc, &limited.places, limited.limit)? {
@@ -156,7 +158,7 @@ impl Collected {
         match self.add_parts(alloc, climber, limited)? {
             Part::Within(_) => Ok(None),
             Part::Beyond => Ok(Some(attempt)),
-            Part::Unknown => Ok(Some(Attempt::Unknown)),
+            Part::Unknown(shortage) => Ok(Some(Attempt::Unknown(shortage))),
         }
     }
 }

@@ -12,6 +12,7 @@ ghost use Rattle.dds_search.specs.Answers.{IsShownFor, IsShownLeast, IfCertifica
 
 use crate::answer::{Found, Least, Missing};
 use crate::attempt::{Attempt, Climber};
+use crate::budget::Budget;
 use crate::collecting::Collected;
 use crate::limits::{Limited, certified_limits};
 use crate::listing::{certificate_of, claim};
@@ -25,6 +26,7 @@ use dds_match::Plan;
 use dds_propose::targets::Target;
 use dds_weights::Certificate;
 use std::alloc::Global;
+use std::time::Clock;
 
 /// The certificate, where it is accepted.
 fn accepted(plan: &Plan, certificate: Certificate) -> Found
@@ -79,42 +81,67 @@ pub(crate) fn least_of(
     match attempt {
         Attempt::Row { row, bound } => shown(alloc, plan, net, target, row, *bound),
         Attempt::Unbounded => Ok(Least::Unbounded),
-        Attempt::Unknown => Ok(Least::Unknown),
+        Attempt::Unknown(_) => Ok(Least::Unknown),
     }
 }
 
-/// Adds what one limit needs. Where that isn't found, what is known of its bounds.
-fn add_limit(
+/// Why a limit has no certificate, by an attempt that gave none.
+fn missing_of(
     alloc: Global,
     plan: &Plan,
-    climber: &mut Climber,
+    net: &Net,
+    target: Target,
+    attempt: &Attempt,
+) -> Result<Missing, NoMemory>
+    ensures least { IfOk result (λ m. IfLimit (Found.Missing m) (IsShownLeast (network_of plan.now))) }
+    ensures structure { IfOk result (λ m. IfStructure (Found.Missing m) (λ no. ⊥)) }
+{
+    if let Attempt::Unknown(shortage) = attempt {
+        return Ok(Missing::Short {
+            target,
+            shortage: *shortage,
+        });
+    }
+    let least = least_of(alloc, plan, net, &target, attempt)?;
+    Ok(Missing::Limit { target, least })
+}
+
+/// Adds what one limit needs. Why it has no certificate where that isn't found.
+fn add_limit<C: Clock>(
+    alloc: Global,
+    plan: &Plan,
+    climber: &mut Climber<C>,
     collected: &mut Collected,
     limited: &Limited,
-) -> Result<Option<Least>, NoMemory>
-    ensures { IfOk result (λ least. IfSome least (IsShownLeast (network_of plan.now) limited.now.target)) }
+) -> Result<Option<Missing>, NoMemory>
+    ensures least { IfOk result
+        (λ missing. IfSome missing (λ m. IfLimit (Found.Missing m) (IsShownLeast (network_of plan.now)))) }
+    ensures structure { IfOk result (λ missing. IfSome missing (λ m. IfStructure (Found.Missing m) (λ no. ⊥))) }
 {
     match collected.add_limit(alloc, climber, limited)? {
         Some(attempt) => {
-            let least = least_of(alloc, plan, &climber.net, &limited.target, &attempt)?;
-            Ok(Some(least))
+            let missing = missing_of(alloc, plan, &climber.net, limited.target, &attempt)?;
+            Ok(Some(missing))
         }
         None => Ok(None),
     }
 }
 
-/// Adds what each limit needs. The first limit for which that isn't found, and what is known of its bounds.
-fn add_limits(
+/// Adds what each limit needs. Why the first one has no certificate for which that isn't found.
+fn add_limits<C: Clock>(
     alloc: Global,
     plan: &Plan,
-    climber: &mut Climber,
+    climber: &mut Climber<C>,
     collected: &mut Collected,
-) -> Result<Option<(Target, Least)>, NoMemory>
-    ensures { IfOk result (λ missing. IfSome missing (λ m. IsShownLeast (network_of plan.now) m.0 m.1)) }
+) -> Result<Option<Missing>, NoMemory>
+    ensures least { IfOk result
+        (λ missing. IfSome missing (λ m. IfLimit (Found.Missing m) (IsShownLeast (network_of plan.now)))) }
+    ensures structure { IfOk result (λ missing. IfSome missing (λ m. IfStructure (Found.Missing m) (λ no. ⊥))) }
 {
     let limits = certified_limits(alloc, plan, &climber.net)?;
     for limited in &limits {
-        if let Some(least) = add_limit(alloc, plan, climber, collected, limited)? {
-            return Ok(Some((limited.target, least)));
+        if let Some(missing) = add_limit(alloc, plan, climber, collected, limited)? {
+            return Ok(Some(missing));
         }
     }
     Ok(None)
@@ -144,7 +171,7 @@ fn concluded(
 }
 
 /// Looks for a certificate of a plan whose structure is as it has to be.
-fn search_limits(alloc: Global, plan: &Plan) -> Result<Found, NoMemory>
+fn search_limits<C: Clock>(alloc: Global, plan: &Plan, budget: Budget<C>) -> Result<Found, NoMemory>
     ensures fits { IfOk result (λ f. IfCertificate f (λ c. fits (network_of plan.now) (certificate_view c) ≡ true)) }
     ensures accepted { IfOk result (λ f. IfCertificate f (λ c. first_no plan.now (certificate_view c) ≡ None)) }
     ensures holds { IfOk result
@@ -154,10 +181,10 @@ fn search_limits(alloc: Global, plan: &Plan) -> Result<Found, NoMemory>
     ensures structure { IfOk result (λ f. IfStructure f (λ no. ⊥)) }
     ensures least { IfOk result (λ f. IfLimit f (IsShownLeast (network_of plan.now))) }
 {
-    let mut climber = Climber::new(alloc, Net::of(alloc, plan)?)?;
+    let mut climber = Climber::new(alloc, Net::of(alloc, plan)?, budget)?;
     let mut collected = Collected::none(alloc);
-    if let Some((target, least)) = add_limits(alloc, plan, &mut climber, &mut collected)? {
-        return Ok(Found::Missing(Missing::Limit { target, least }));
+    if let Some(missing) = add_limits(alloc, plan, &mut climber, &mut collected)? {
+        return Ok(Found::Missing(missing));
     }
     concluded(alloc, plan, &climber.net, &mut collected)
 }
@@ -166,9 +193,9 @@ fn search_limits(alloc: Global, plan: &Plan) -> Result<Found, NoMemory>
 /// accepted, so the deployment is safe. Where it gives none it tells why: a condition that no certificate can change,
 /// or the first limit for which no weights were found, and then a bound that some weights do show, where it knows one.
 ///
-/// That a certificate is found where there is one isn't promised: numbers may pass 128 bits, weights 32 bits, or pivots
-/// and rows be too many. `NoMemory` is answered only where memory ran out.
-pub fn search(alloc: Global, plan: &Plan) -> Result<Found, NoMemory>
+/// That a certificate is found where there is one isn't promised: numbers may pass 128 bits, weights 32 bits, rows be
+/// too many, or the budget may run out. `NoMemory` is answered only where memory ran out.
+pub fn search<C: Clock>(alloc: Global, plan: &Plan, budget: Budget<C>) -> Result<Found, NoMemory>
     ensures fits { IfOk result (λ f. IfCertificate f (λ c. fits (network_of plan.now) (certificate_view c) ≡ true)) }
     ensures accepted { IfOk result (λ f. IfCertificate f (λ c. first_no plan.now (certificate_view c) ≡ None)) }
     ensures holds { IfOk result
@@ -185,5 +212,5 @@ pub fn search(alloc: Global, plan: &Plan) -> Result<Found, NoMemory>
     if let Some(no) = structure_no(plan) {
         return Ok(Found::Missing(Missing::Structure(no)));
     }
-    search_limits(alloc, plan)
+    search_limits(alloc, plan, budget)
 }

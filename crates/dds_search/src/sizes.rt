@@ -10,6 +10,7 @@ ghost use Rattle.dds_search.specs.Sizes.{is_within, sum_of};
 
 use crate::answer::Least;
 use crate::attempt::{Attempt, Climber};
+use crate::budget::Budget;
 use crate::collecting::Collected;
 use crate::limits::{Limited, places_of};
 use crate::listing::certificate_of;
@@ -24,6 +25,7 @@ use dds_match::Plan;
 use dds_propose::targets::Target;
 use dds_weights::Certificate;
 use std::alloc::Global;
+use std::time::Clock;
 
 /// A key of a reader, or the samples of a reader together, and the least bound that one row of weights shows for it.
 #[derive(Clone, Copy, Debug, PartialEq, Eq)]
@@ -49,19 +51,23 @@ struct Measured {
     attempt: Attempt,
 }
 
-/// The row with the least bound for some places, unless the pivots are spent.
-fn attempt_at(alloc: Global, climber: &mut Climber, places: &[usize]) -> Result<Attempt, NoMemory> {
-    if climber.is_spent() {
-        return Ok(Attempt::Unknown);
+/// The row with the least bound for some places, unless something ran out.
+fn attempt_at<C: Clock>(
+    alloc: Global,
+    climber: &mut Climber<C>,
+    places: &[usize],
+) -> Result<Attempt, NoMemory> {
+    if let Some(shortage) = climber.shortage() {
+        return Ok(Attempt::Unknown(shortage));
     }
     climber.attempt(alloc, places, u32::MAX)
 }
 
 /// Looks for the least bound of a target.
-fn measure(
+fn measure<C: Clock>(
     alloc: Global,
     plan: &Plan,
-    climber: &mut Climber,
+    climber: &mut Climber<C>,
     target: Target,
 ) -> Result<Measured, NoMemory>
     ensures target { IfOk result (λ m. m.size.target ≡ target) }
@@ -78,10 +84,10 @@ fn measure(
 }
 
 /// The least bound of a target.
-fn size_of(
+fn size_of<C: Clock>(
     alloc: Global,
     plan: &Plan,
-    climber: &mut Climber,
+    climber: &mut Climber<C>,
     target: Target,
 ) -> Result<Size, NoMemory>
     ensures target { IfOk result (λ size. size.target ≡ target) }
@@ -92,17 +98,25 @@ fn size_of(
 }
 
 /// Before the first climb.
-fn climber_of(alloc: Global, plan: &Plan) -> Result<Climber, NoMemory> {
-    Climber::new(alloc, Net::of(alloc, plan)?)
+fn climber_of<'c, C: Clock>(
+    alloc: Global,
+    plan: &Plan,
+    budget: Budget<'c, C>,
+) -> Result<Climber<'c, C>, NoMemory> {
+    Climber::new(alloc, Net::of(alloc, plan)?, budget)
 }
 
 /// The least bounds that weights show for the keys that can reach strict readers and for the samples of each such
 /// reader together, in file order. That a bound is the least isn't promised: numbers may pass 32 bits, and are rounded
-/// then. `NoMemory` is answered only where memory ran out.
-pub fn find_sizes(alloc: Global, plan: &Plan) -> Result<Vec<Size>, NoMemory>
+/// then; nor that one is found, since the budget may run out. `NoMemory` is answered only where memory ran out.
+pub fn find_sizes<C: Clock>(
+    alloc: Global,
+    plan: &Plan,
+    budget: Budget<C>,
+) -> Result<Vec<Size>, NoMemory>
     ensures { IfOk result (λ sizes. AreSizes (network_of plan.now) sizes.items) }
 {
-    let mut climber = climber_of(alloc, plan)?;
+    let mut climber = climber_of(alloc, plan, budget)?;
     let targets = every_target(alloc, plan)?;
     let mut sizes = Vec::new(alloc);
     for target in &targets {
@@ -160,10 +174,10 @@ fn collect(collected: &mut Collected, sizes: &[Size], measured: Measured) -> Res
 }
 
 /// The size of a target that comes after some sizes. Its row is collected.
-fn collect_size(
+fn collect_size<C: Clock>(
     alloc: Global,
     plan: &Plan,
-    climber: &mut Climber,
+    climber: &mut Climber<C>,
     collected: &mut Collected,
     sizes: &[Size],
     target: Target,
@@ -263,10 +277,10 @@ fn concluded(
 }
 
 /// The sizes of a plan, and their rows.
-fn collect_all(
+fn collect_all<C: Clock>(
     alloc: Global,
     plan: &Plan,
-    climber: &mut Climber,
+    climber: &mut Climber<C>,
     collected: &mut Collected,
 ) -> Result<Vec<Size>, NoMemory>
     ensures { IfOk result (λ sizes. AreSizes (network_of plan.now) sizes.items) }
@@ -283,8 +297,12 @@ fn collect_all(
 /// The sizes of a plan, and a certificate that shows them: it fits the plan, no event raises the weighted sum of any of
 /// its rows, they show its bounds, and it has a bound for each key for which one was found, no greater than that, and
 /// for the samples of a reader together a total or bounds whose sum is no greater. Where each limit is at least what
-/// was found, and nothing but limits is amiss, it is accepted.
-pub fn find_limits_certificate(alloc: Global, plan: &Plan) -> Result<Sizes, NoMemory>
+/// was found, and nothing but limits is amiss, it is accepted. What the budget doesn't suffice for isn't found.
+pub fn find_limits_certificate<C: Clock>(
+    alloc: Global,
+    plan: &Plan,
+    budget: Budget<C>,
+) -> Result<Sizes, NoMemory>
     ensures sizes { IfOk result (λ found. AreSizes (network_of plan.now) found.list.items) }
     ensures fits { IfOk result
         (λ found. IfSome found.certificate (λ c. fits (network_of plan.now) (certificate_view c) ≡ true)) }
@@ -293,7 +311,7 @@ pub fn find_limits_certificate(alloc: Global, plan: &Plan) -> Result<Sizes, NoMe
     ensures all { IfOk result
         (λ found. IfSome found.certificate (λ c. claims_all (certificate_view c) found.list.items ≡ true)) }
 {
-    let mut climber = climber_of(alloc, plan)?;
+    let mut climber = climber_of(alloc, plan, budget)?;
     let mut collected = Collected::none(alloc);
     let list = collect_all(alloc, plan, &mut climber, &mut collected)?;
     let certificate = concluded(alloc, plan, &climber.net, &mut collected, &list)?;

@@ -1,6 +1,6 @@
 //! A dictionary: some variables in terms of the others, which are free. Where the free ones are 0, the others are not
 //! below 0.
-ghost use Rattle.std.specs.Prelude.{◌≡◌, ◌≢◌, ◌<◌, ◌≤◌, ◌<ℤ◌, ◌≤ℤ◌, ◌++◌, ◌∷◌, ℕ, pos, [], Err, None, Ok, Some, IfErr};
+ghost use Rattle.std.specs.Prelude.{◌≡◌, ◌<◌, ◌≤◌, ◌<ℤ◌, ◌≤ℤ◌, ◌++◌, ◌∷◌, ℕ, pos, [], None, Ok, Some, IfErr};
 ghost use Rattle.std.specs.Prelude.{IfNone, IfOk, IfSome, OnErr, OnOk, option_map, position, slice_index_or, true};
 ghost use Rattle.std.specs.Prelude.{vec_len};
 ghost use Rattle.std.specs.List.{All, HoldsAt};
@@ -30,6 +30,8 @@ pub enum End {
     Greatest,
     /// There is no greatest value.
     Unbounded,
+    /// Before that, since no pivot was left. Another climb of the sum goes on from here.
+    CutOff,
 }
 
 /// Why a climb didn't end.
@@ -39,8 +41,6 @@ pub enum Stop {
     Memory,
     /// A number passed 128 bits. The dictionary is worth nothing any more.
     Overflow,
-    /// The pivots are spent.
-    Budget,
 }
 
 impl From<AllocError> for Stop {
@@ -199,7 +199,6 @@ impl Dictionary {
 
     /// The free variable of a column and the one that a line gives change places, in all lines and in the sum.
     fn pivot(&mut self, sum: &mut Line, column: usize, place: usize) -> Result<(), Stop>
-        ensures budget { result ≢ Err Stop.Budget }
         ensures free { OnOk result (vec_len self.new.free ≡ vec_len self.old.free) }
         ensures points { column < vec_len self.old.free → OnOk result (KeepsPoints self.old sum.old self.new sum.new) }
         ensures den { HoldsAt (λ b. number_of b.line column <ℤ pos 0) self.old.basics.items place → pos 0 <ℤ sum.old.den
@@ -217,7 +216,6 @@ impl Dictionary {
 
     /// The variable that a line gives takes a column, and the line gives the one that had it.
     fn exchange(&mut self, column: usize, mut given: Basic) -> Result<(), Stop>
-        ensures budget { result ≢ Err Stop.Budget }
         ensures exchanged { column < vec_len self.old.free → OnOk result (IsExchanged column given self.old self.new) }
         ensures free { vec_len self.new.free ≡ vec_len self.old.free }
     {
@@ -231,11 +229,12 @@ impl Dictionary {
     }
 
     /// Goes from point to point until the sum has its greatest value, and then says the sum by the variables that are
-    /// free there. It takes the pivots that it makes from those that are left. After an `Err` the dictionary is worth
-    /// nothing: `Overflow` where a number would pass 128 bits, `Memory` where memory ran out, and `Budget` only where
-    /// no pivot is left.
+    /// free there. It takes the pivots that it makes from those that are left, and is cut off only where none is. After
+    /// an `Err` the dictionary is worth nothing: `Overflow` where a number would pass 128 bits, and `Memory` where
+    /// memory ran out.
     pub fn climb(&mut self, sum: &mut Line, left: &mut usize) -> Result<End, Stop>
-        // Values that the lines allow they allow later too, and the sum has the same value there.
+        // Values that the lines allow they allow later too, and the sum has the same value there: where it was cut off
+        // as well.
         ensures points { OnOk result (KeepsPoints self.old sum.old self.new sum.new) }
         // At the greatest value no free variable would raise the sum, so that no values of which none is below 0 give
         // it a greater one.
@@ -245,7 +244,7 @@ impl Dictionary {
         ensures unbounded { result ≡ Ok End.Unbounded → IsUnbounded self.new sum.new }
         ensures den { pos 0 <ℤ sum.old.den → OnOk result (pos 0 <ℤ sum.new.den) }
         ensures spent { left.new ≤ left.old }
-        ensures budget { result ≡ Err Stop.Budget → left.new ≡ 0 }
+        ensures cut_off { result ≡ Ok End.CutOff → left.new ≡ 0 }
     {
         while *left > 0 {
             let Some(column) = self.entering(sum) else {
@@ -257,7 +256,7 @@ impl Dictionary {
             self.pivot(sum, column, place)?;
             *left -= 1;
         }
-        Err(Stop::Budget)
+        Ok(End::CutOff)
     }
 }
 

@@ -18,6 +18,7 @@ use Rattle.dds_runs.specs.Certified.{Safe}
 use Rattle.dds_claims.specs.Claims.{structure_no}
 use Rattle.dds_search.specs.declared.refuting.Refutation.{Refutation}
 use Rattle.dds_search.specs.declared.refuting.Refutation.TheVariants as refutation
+use Rattle.dds_search.specs.declared.refuting.Unknown.TheVariants as unknown
 use Rattle.dds_search.specs.Refutations.{IfSafe, IfStructure, IfUnsafe, IsCounterexample}
 use Rattle.dds_tool.specs.Refuting.{IsKnown, MayRefute, is_safe, known_document, told_known}
 use Rattle.dds_json.specs.declared.style.Style.{Style}
@@ -51,4 +52,5 @@ pub known_plain : (lists : Lists) (known : Refutation) → has_float (known_docu
 known_plain lists (refutation.Safe c) = refl
 known_plain lists (refutation.Structure cause) = refusal_plain lists nothing cause None
 known_plain lists (refutation.Unsafe c) = refl
-known_plain lists (refutation.Unknown why) = refl
+known_plain lists (refutation.Unknown unknown.Exhausted) = refl
+known_plain lists (refutation.Unknown (unknown.Budget shortage)) = refl

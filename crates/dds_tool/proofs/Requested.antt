@@ -3,7 +3,7 @@ use Rattle.std.proofs.Common.{◌≡◌, ◌∙◌, ◌<◌, ℕ, Bool, true, fa
 use Rattle.std.specs.Option.{option_map_or}
 use Rattle.clap.specs.Words.{Row, Text, first_of, subcommand_of}
 use Rattle.dds_json.specs.declared.style.Style.{Style}
-use Rattle.dds_tool.specs.Asking.{Asks, NamesStyled, is_input_twice}
+use Rattle.dds_tool.specs.Asking.{Asks, NamesStyled, NamesTimed, is_input_twice, is_set}
 use Rattle.dds_tool.specs.Command.{whole}
 use Rattle.dds_tool.specs.declared.request.Request.{Request}
 use Rattle.dds_tool.specs.declared.request.Request.TheVariants as asked
@@ -35,10 +35,10 @@ pub draws_once : (words : List Text) (rows : List Row) → subcommand_of whole w
     → Some d ≡ first_of (codes "deployment") rows → Some c ≡ first_of (codes "certificate") rows → is_input_twice d c ≡ true → ⊥
 draws_once words rows is (asked.Match x style) asks d c first second twice = later 109 100 (omega arith) (ap first_byte (sym asks.1 ∙ is))
 draws_once words rows is (asked.Propose x style) asks d c first second twice = later 112 100 (omega arith) (ap first_byte (sym asks.1 ∙ is))
-draws_once words rows is (asked.ProposeThoroughly x style) asks d c first second twice = later 112 100 (omega arith) (ap first_byte (sym asks.1 ∙ is))
+draws_once words rows is (asked.ProposeThoroughly x seconds style) asks d c first second twice = later 112 100 (omega arith) (ap first_byte (sym asks.1 ∙ is))
 draws_once words rows is (asked.Migrate x) asks d c first second twice = later 109 100 (omega arith) (ap first_byte (sym asks.1 ∙ is))
-draws_once words rows is (asked.Refute x style) asks d c first second twice = later 114 100 (omega arith) (ap first_byte (sym asks.1 ∙ is))
-draws_once words rows is (asked.Limits x what style) asks d c first second twice = later 108 100 (omega arith) (ap first_byte (sym asks.1 ∙ is))
+draws_once words rows is (asked.Refute x seconds style) asks d c first second twice = later 114 100 (omega arith) (ap first_byte (sym asks.1 ∙ is))
+draws_once words rows is (asked.Limits x what seconds style) asks d c first second twice = later 108 100 (omega arith) (ap first_byte (sym asks.1 ∙ is))
 draws_once words rows is (asked.Replay x y style) asks d c first second twice = later 114 100 (omega arith) (ap first_byte (sym asks.1 ∙ is))
 draws_once words rows is (asked.Show x format) asks d c first second twice = later 115 100 (omega arith) (ap first_byte (sym asks.1 ∙ is))
 draws_once words rows is (asked.Run x y wishes style) asks d c first second twice = later 114 100 (omega arith) (ap first_byte (sym asks.1 ∙ is))
@@ -55,36 +55,59 @@ draws_once words rows is (asked.Draw x y) asks d c first second twice =
 abbrev NamesNone : List Row → Type 0
 NamesNone rows = (d : Text) (style : Style) → NamesStyled rows d style → ⊥
 
+-- no deployment, no seconds and no style are named by these arguments
+abbrev TimesNone : List Row → Type 0
+TimesNone rows = (d : Text) (seconds : ℕ) (style : Style) → NamesTimed rows d seconds style → ⊥
+
 -- the arguments are those of the request
 same_rows : (rows other : List Row) (p : Option (Text × List Row)) (name : Text) → p ≡ Some (name, rows) → p ≡ Some (name, other) → other ≡ rows
 same_rows rows other p name is asked = ap rows_at (sym asked ∙ is)
 
--- words that look for a certificate, and ask for something, name a deployment and a style
-pub proposes_one : (words : List Text) (rows : List Row) → subcommand_of whole words ≡ Some (codes "propose", rows) → (r : Request) → Asks words r → NamesNone rows → ⊥
-proposes_one words rows is (asked.Propose x style) asks none =
+-- words that look for a certificate without the flag, and ask for something, name a deployment and a style
+pub proposes_one : (words : List Text) (rows : List Row) → subcommand_of whole words ≡ Some (codes "propose", rows) → is_set rows (codes "thorough") ≡ false → (r : Request) → Asks words r → NamesNone rows → ⊥
+proposes_one words rows is plain (asked.Propose x style) asks none =
     none x.now style (subst (λ (found : List Row). NamesStyled found x.now style) (same_rows rows asks.0 (subcommand_of whole words) (codes "propose") is asks.1) asks.3)
-proposes_one words rows is (asked.ProposeThoroughly x style) asks none =
-    none x.now style (subst (λ (found : List Row). NamesStyled found x.now style) (same_rows rows asks.0 (subcommand_of whole words) (codes "propose") is asks.1) asks.3)
-proposes_one words rows is (asked.Match x style) asks none = earlier 109 112 (omega arith) (ap first_byte (sym asks.1 ∙ is))
-proposes_one words rows is (asked.Migrate x) asks none = earlier 109 112 (omega arith) (ap first_byte (sym asks.1 ∙ is))
-proposes_one words rows is (asked.Refute x style) asks none = later 114 112 (omega arith) (ap first_byte (sym asks.1 ∙ is))
-proposes_one words rows is (asked.Limits x what style) asks none = earlier 108 112 (omega arith) (ap first_byte (sym asks.1 ∙ is))
-proposes_one words rows is (asked.Replay x y style) asks none = later 114 112 (omega arith) (ap first_byte (sym asks.1 ∙ is))
-proposes_one words rows is (asked.Show x format) asks none = later 115 112 (omega arith) (ap first_byte (sym asks.1 ∙ is))
-proposes_one words rows is (asked.Run x y wishes style) asks none = later 114 112 (omega arith) (ap first_byte (sym asks.1 ∙ is))
-proposes_one words rows is (asked.Check x y detail style) asks none = earlier 99 112 (omega arith) (ap first_byte (sym asks.1 ∙ is))
-proposes_one words rows is (asked.Conform x y style) asks none = earlier 99 112 (omega arith) (ap first_byte (sym asks.1 ∙ is))
-proposes_one words rows is (asked.Draw x y) asks none = earlier 100 112 (omega arith) (ap first_byte (sym asks.1 ∙ is))
+proposes_one words rows is plain (asked.ProposeThoroughly x seconds style) asks none =
+    true_and_false (is_set rows (codes "thorough"))
+    (subst (λ (found : List Row). is_set found (codes "thorough") ≡ true) (same_rows rows asks.0 (subcommand_of whole words) (codes "propose") is asks.1) asks.2) plain
+proposes_one words rows is plain (asked.Match x style) asks none = earlier 109 112 (omega arith) (ap first_byte (sym asks.1 ∙ is))
+proposes_one words rows is plain (asked.Migrate x) asks none = earlier 109 112 (omega arith) (ap first_byte (sym asks.1 ∙ is))
+proposes_one words rows is plain (asked.Refute x seconds style) asks none = later 114 112 (omega arith) (ap first_byte (sym asks.1 ∙ is))
+proposes_one words rows is plain (asked.Limits x what seconds style) asks none = earlier 108 112 (omega arith) (ap first_byte (sym asks.1 ∙ is))
+proposes_one words rows is plain (asked.Replay x y style) asks none = later 114 112 (omega arith) (ap first_byte (sym asks.1 ∙ is))
+proposes_one words rows is plain (asked.Show x format) asks none = later 115 112 (omega arith) (ap first_byte (sym asks.1 ∙ is))
+proposes_one words rows is plain (asked.Run x y wishes style) asks none = later 114 112 (omega arith) (ap first_byte (sym asks.1 ∙ is))
+proposes_one words rows is plain (asked.Check x y detail style) asks none = earlier 99 112 (omega arith) (ap first_byte (sym asks.1 ∙ is))
+proposes_one words rows is plain (asked.Conform x y style) asks none = earlier 99 112 (omega arith) (ap first_byte (sym asks.1 ∙ is))
+proposes_one words rows is plain (asked.Draw x y) asks none = earlier 100 112 (omega arith) (ap first_byte (sym asks.1 ∙ is))
 
--- words that look for a run that loses a sample, and ask for something, name a deployment and a style
-pub refutes_one : (words : List Text) (rows : List Row) → subcommand_of whole words ≡ Some (codes "refute", rows) → (r : Request) → Asks words r → NamesNone rows → ⊥
-refutes_one words rows is (asked.Refute x style) asks none =
-    none x.now style (subst (λ (found : List Row). NamesStyled found x.now style) (same_rows rows asks.0 (subcommand_of whole words) (codes "refute") is asks.1) asks.2)
+-- words that look for a certificate with the flag, and ask for something, name a deployment, seconds and a style
+pub searches_one : (words : List Text) (rows : List Row) → subcommand_of whole words ≡ Some (codes "propose", rows) → is_set rows (codes "thorough") ≡ true → (r : Request) → Asks words r → TimesNone rows → ⊥
+searches_one words rows is flag (asked.Propose x style) asks none =
+    true_and_false (is_set rows (codes "thorough")) flag
+    (subst (λ (found : List Row). is_set found (codes "thorough") ≡ false) (same_rows rows asks.0 (subcommand_of whole words) (codes "propose") is asks.1) asks.2)
+searches_one words rows is flag (asked.ProposeThoroughly x seconds style) asks none =
+    none x.now seconds style (subst (λ (found : List Row). NamesTimed found x.now seconds style) (same_rows rows asks.0 (subcommand_of whole words) (codes "propose") is asks.1) asks.3)
+searches_one words rows is flag (asked.Match x style) asks none = earlier 109 112 (omega arith) (ap first_byte (sym asks.1 ∙ is))
+searches_one words rows is flag (asked.Migrate x) asks none = earlier 109 112 (omega arith) (ap first_byte (sym asks.1 ∙ is))
+searches_one words rows is flag (asked.Refute x seconds style) asks none = later 114 112 (omega arith) (ap first_byte (sym asks.1 ∙ is))
+searches_one words rows is flag (asked.Limits x what seconds style) asks none = earlier 108 112 (omega arith) (ap first_byte (sym asks.1 ∙ is))
+searches_one words rows is flag (asked.Replay x y style) asks none = later 114 112 (omega arith) (ap first_byte (sym asks.1 ∙ is))
+searches_one words rows is flag (asked.Show x format) asks none = later 115 112 (omega arith) (ap first_byte (sym asks.1 ∙ is))
+searches_one words rows is flag (asked.Run x y wishes style) asks none = later 114 112 (omega arith) (ap first_byte (sym asks.1 ∙ is))
+searches_one words rows is flag (asked.Check x y detail style) asks none = earlier 99 112 (omega arith) (ap first_byte (sym asks.1 ∙ is))
+searches_one words rows is flag (asked.Conform x y style) asks none = earlier 99 112 (omega arith) (ap first_byte (sym asks.1 ∙ is))
+searches_one words rows is flag (asked.Draw x y) asks none = earlier 100 112 (omega arith) (ap first_byte (sym asks.1 ∙ is))
+
+-- words that look for a run that loses a sample, and ask for something, name a deployment, seconds and a style
+pub refutes_one : (words : List Text) (rows : List Row) → subcommand_of whole words ≡ Some (codes "refute", rows) → (r : Request) → Asks words r → TimesNone rows → ⊥
+refutes_one words rows is (asked.Refute x seconds style) asks none =
+    none x.now seconds style (subst (λ (found : List Row). NamesTimed found x.now seconds style) (same_rows rows asks.0 (subcommand_of whole words) (codes "refute") is asks.1) asks.2)
 refutes_one words rows is (asked.Match x style) asks none = earlier 109 114 (omega arith) (ap first_byte (sym asks.1 ∙ is))
 refutes_one words rows is (asked.Propose x style) asks none = earlier 112 114 (omega arith) (ap first_byte (sym asks.1 ∙ is))
-refutes_one words rows is (asked.ProposeThoroughly x style) asks none = earlier 112 114 (omega arith) (ap first_byte (sym asks.1 ∙ is))
+refutes_one words rows is (asked.ProposeThoroughly x seconds style) asks none = earlier 112 114 (omega arith) (ap first_byte (sym asks.1 ∙ is))
 refutes_one words rows is (asked.Migrate x) asks none = earlier 109 114 (omega arith) (ap first_byte (sym asks.1 ∙ is))
-refutes_one words rows is (asked.Limits x what style) asks none = earlier 108 114 (omega arith) (ap first_byte (sym asks.1 ∙ is))
+refutes_one words rows is (asked.Limits x what seconds style) asks none = earlier 108 114 (omega arith) (ap first_byte (sym asks.1 ∙ is))
 refutes_one words rows is (asked.Replay x y style) asks none = later 112 102 (omega arith) (ap third_byte (sym asks.1 ∙ is))
 refutes_one words rows is (asked.Show x format) asks none = later 115 114 (omega arith) (ap first_byte (sym asks.1 ∙ is))
 refutes_one words rows is (asked.Run x y wishes style) asks none = later 110 102 (omega arith) (ap third_byte (sym asks.1 ∙ is))
@@ -92,15 +115,15 @@ refutes_one words rows is (asked.Check x y detail style) asks none = earlier 99 
 refutes_one words rows is (asked.Conform x y style) asks none = earlier 99 114 (omega arith) (ap first_byte (sym asks.1 ∙ is))
 refutes_one words rows is (asked.Draw x y) asks none = earlier 100 114 (omega arith) (ap first_byte (sym asks.1 ∙ is))
 
--- words that ask which limits are needed, and ask for something, name a deployment and a style
-pub limits_one : (words : List Text) (rows : List Row) → subcommand_of whole words ≡ Some (codes "limits", rows) → (r : Request) → Asks words r → NamesNone rows → ⊥
-limits_one words rows is (asked.Limits x what style) asks none =
-    none x.now style (subst (λ (found : List Row). NamesStyled found x.now style) (same_rows rows asks.0 (subcommand_of whole words) (codes "limits") is asks.1) asks.3)
+-- words that ask which limits are needed, and ask for something, name a deployment, seconds and a style
+pub limits_one : (words : List Text) (rows : List Row) → subcommand_of whole words ≡ Some (codes "limits", rows) → (r : Request) → Asks words r → TimesNone rows → ⊥
+limits_one words rows is (asked.Limits x what seconds style) asks none =
+    none x.now seconds style (subst (λ (found : List Row). NamesTimed found x.now seconds style) (same_rows rows asks.0 (subcommand_of whole words) (codes "limits") is asks.1) asks.3)
 limits_one words rows is (asked.Match x style) asks none = later 109 108 (omega arith) (ap first_byte (sym asks.1 ∙ is))
 limits_one words rows is (asked.Propose x style) asks none = later 112 108 (omega arith) (ap first_byte (sym asks.1 ∙ is))
-limits_one words rows is (asked.ProposeThoroughly x style) asks none = later 112 108 (omega arith) (ap first_byte (sym asks.1 ∙ is))
+limits_one words rows is (asked.ProposeThoroughly x seconds style) asks none = later 112 108 (omega arith) (ap first_byte (sym asks.1 ∙ is))
 limits_one words rows is (asked.Migrate x) asks none = later 109 108 (omega arith) (ap first_byte (sym asks.1 ∙ is))
-limits_one words rows is (asked.Refute x style) asks none = later 114 108 (omega arith) (ap first_byte (sym asks.1 ∙ is))
+limits_one words rows is (asked.Refute x seconds style) asks none = later 114 108 (omega arith) (ap first_byte (sym asks.1 ∙ is))
 limits_one words rows is (asked.Replay x y style) asks none = later 114 108 (omega arith) (ap first_byte (sym asks.1 ∙ is))
 limits_one words rows is (asked.Show x format) asks none = later 115 108 (omega arith) (ap first_byte (sym asks.1 ∙ is))
 limits_one words rows is (asked.Run x y wishes style) asks none = later 114 108 (omega arith) (ap first_byte (sym asks.1 ∙ is))
@@ -113,11 +136,11 @@ pub matches_one : (words : List Text) (rows : List Row) → subcommand_of whole 
 matches_one words rows is (asked.Match x style) asks none =
     none x.now style (subst (λ (found : List Row). NamesStyled found x.now style) (same_rows rows asks.0 (subcommand_of whole words) (codes "match") is asks.1) asks.2)
 matches_one words rows is (asked.Propose x style) asks none = later 112 109 (omega arith) (ap first_byte (sym asks.1 ∙ is))
-matches_one words rows is (asked.ProposeThoroughly x style) asks none = later 112 109 (omega arith) (ap first_byte (sym asks.1 ∙ is))
+matches_one words rows is (asked.ProposeThoroughly x seconds style) asks none = later 112 109 (omega arith) (ap first_byte (sym asks.1 ∙ is))
 matches_one words rows is (asked.Migrate x) asks none = earlier 103 116 (omega arith) (ap third_byte (sym asks.1 ∙ is))
-matches_one words rows is (asked.Refute x style) asks none = later 114 109 (omega arith) (ap first_byte (sym asks.1 ∙ is))
+matches_one words rows is (asked.Refute x seconds style) asks none = later 114 109 (omega arith) (ap first_byte (sym asks.1 ∙ is))
 matches_one words rows is (asked.Replay x y style) asks none = later 114 109 (omega arith) (ap first_byte (sym asks.1 ∙ is))
-matches_one words rows is (asked.Limits x what style) asks none = earlier 108 109 (omega arith) (ap first_byte (sym asks.1 ∙ is))
+matches_one words rows is (asked.Limits x what seconds style) asks none = earlier 108 109 (omega arith) (ap first_byte (sym asks.1 ∙ is))
 matches_one words rows is (asked.Show x format) asks none = later 115 109 (omega arith) (ap first_byte (sym asks.1 ∙ is))
 matches_one words rows is (asked.Run x y wishes style) asks none = later 114 109 (omega arith) (ap first_byte (sym asks.1 ∙ is))
 matches_one words rows is (asked.Check x y detail style) asks none = earlier 99 109 (omega arith) (ap first_byte (sym asks.1 ∙ is))

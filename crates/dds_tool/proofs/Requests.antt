@@ -128,10 +128,10 @@ answered holds (asked.Check d b detail style) given (Ok exit) old new gives writ
     λ x y hx hy. inl (written (in_style style (check_file_outcome detail x y)) (gives x y hx hy).0)
 answered holds (asked.Match d style) given (Ok exit) old new gives written passed = λ x hx. inl (written (in_style style (match_file_outcome x)) (gives x hx))
 answered holds (asked.Propose d style) given (Ok exit) old new gives written passed = λ x hx. let g = gives x hx in (g.0, g.1, inl (written (in_style style g.0) g.2))
-answered holds (asked.ProposeThoroughly d style) given (Ok exit) old new gives written passed = λ x hx. let g = gives x hx in (g.0, g.1, inl (written (in_style style g.0) g.2))
+answered holds (asked.ProposeThoroughly d seconds style) given (Ok exit) old new gives written passed = λ x hx. let g = gives x hx in (g.0, g.1, inl (written (in_style style g.0) g.2))
 answered holds (asked.Migrate d) given (Ok exit) old new gives written passed = λ x hx. one_said (MayMigrateFor x) given (exit_status exit) old new (gives x hx) written
-answered holds (asked.Refute d style) given (Ok exit) old new gives written passed = λ x hx. one_said (MayRefuteFor style x) given (exit_status exit) old new (gives x hx) written
-answered holds (asked.Limits d what style) given (Ok exit) old new gives written passed = λ x hx. one_said (MayLimitFor what style x) given (exit_status exit) old new (gives x hx) written
+answered holds (asked.Refute d seconds style) given (Ok exit) old new gives written passed = λ x hx. one_said (MayRefuteFor style x) given (exit_status exit) old new (gives x hx) written
+answered holds (asked.Limits d what seconds style) given (Ok exit) old new gives written passed = λ x hx. one_said (MayLimitFor what style x) given (exit_status exit) old new (gives x hx) written
 answered holds (asked.Replay d e style) given (Ok exit) old new gives written passed =
     λ x y hx hy. one_said (MayReplayFor style x y) given (exit_status exit) old new (gives x y hx hy) written
 answered holds (asked.Conform d t style) given (Ok exit) old new gives written passed =
@@ -145,10 +145,10 @@ answered holds (asked.Run d b wishes style) given (Ok exit) old new gives writte
 answered holds (asked.Check d b detail style) given (Err f) old new gives written passed = tt
 answered holds (asked.Match d style) given (Err f) old new gives written passed = tt
 answered holds (asked.Propose d style) given (Err f) old new gives written passed = tt
-answered holds (asked.ProposeThoroughly d style) given (Err f) old new gives written passed = tt
+answered holds (asked.ProposeThoroughly d seconds style) given (Err f) old new gives written passed = tt
 answered holds (asked.Migrate d) given (Err f) old new gives written passed = tt
-answered holds (asked.Refute d style) given (Err f) old new gives written passed = tt
-answered holds (asked.Limits d what style) given (Err f) old new gives written passed = tt
+answered holds (asked.Refute d seconds style) given (Err f) old new gives written passed = tt
+answered holds (asked.Limits d what seconds style) given (Err f) old new gives written passed = tt
 answered holds (asked.Replay d e style) given (Err f) old new gives written passed = tt
 answered holds (asked.Conform d t style) given (Err f) old new gives written passed = tt
 answered holds (asked.Show d format) given (Err f) old new gives written passed = tt
@@ -168,13 +168,13 @@ faulted holds (asked.Match d style) given (Err f) old new gives ends nothing pas
     λ status told x hx. fault_said (in_style style (match_file_outcome x)) f status old new (ends (in_style style (match_file_outcome x)) (gives x hx)) nothing told
 faulted holds (asked.Propose d style) given (Err f) old new gives ends nothing passed =
     λ status told x hx. let g = gives x hx in (g.0, g.1, fault_said (in_style style g.0) f status old new (ends (in_style style g.0) g.2) nothing told)
-faulted holds (asked.ProposeThoroughly d style) given (Err f) old new gives ends nothing passed =
+faulted holds (asked.ProposeThoroughly d seconds style) given (Err f) old new gives ends nothing passed =
     λ status told x hx. let g = gives x hx in (g.0, g.1, fault_said (in_style style g.0) f status old new (ends (in_style style g.0) g.2) nothing told)
 faulted holds (asked.Migrate d) given (Err f) old new gives ends nothing passed =
     λ status told x hx. one_faulted (MayMigrateFor x) given f status old new (gives x hx) ends nothing told
-faulted holds (asked.Refute d style) given (Err f) old new gives ends nothing passed =
+faulted holds (asked.Refute d seconds style) given (Err f) old new gives ends nothing passed =
     λ status told x hx. one_faulted (MayRefuteFor style x) given f status old new (gives x hx) ends nothing told
-faulted holds (asked.Limits d what style) given (Err f) old new gives ends nothing passed =
+faulted holds (asked.Limits d what seconds style) given (Err f) old new gives ends nothing passed =
     λ status told x hx. one_faulted (MayLimitFor what style x) given f status old new (gives x hx) ends nothing told
 faulted holds (asked.Replay d e style) given (Err f) old new gives ends nothing passed =
     λ status told x y hx hy. one_faulted (MayReplayFor style x y) given f status old new (gives x y hx hy) ends nothing told
@@ -191,10 +191,10 @@ faulted holds (asked.Run d b wishes style) given (Err f) old new gives ends noth
 faulted holds (asked.Check d b detail style) given (Ok exit) old new gives ends nothing passed = tt
 faulted holds (asked.Match d style) given (Ok exit) old new gives ends nothing passed = tt
 faulted holds (asked.Propose d style) given (Ok exit) old new gives ends nothing passed = tt
-faulted holds (asked.ProposeThoroughly d style) given (Ok exit) old new gives ends nothing passed = tt
+faulted holds (asked.ProposeThoroughly d seconds style) given (Ok exit) old new gives ends nothing passed = tt
 faulted holds (asked.Migrate d) given (Ok exit) old new gives ends nothing passed = tt
-faulted holds (asked.Refute d style) given (Ok exit) old new gives ends nothing passed = tt
-faulted holds (asked.Limits d what style) given (Ok exit) old new gives ends nothing passed = tt
+faulted holds (asked.Refute d seconds style) given (Ok exit) old new gives ends nothing passed = tt
+faulted holds (asked.Limits d what seconds style) given (Ok exit) old new gives ends nothing passed = tt
 faulted holds (asked.Replay d e style) given (Ok exit) old new gives ends nothing passed = tt
 faulted holds (asked.Conform d t style) given (Ok exit) old new gives ends nothing passed = tt
 faulted holds (asked.Show d format) given (Ok exit) old new gives ends nothing passed = tt

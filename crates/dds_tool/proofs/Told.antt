@@ -113,10 +113,10 @@ accepted_run : (holds : List ℕ → Option (List ℕ)) (request : Request) → 
 accepted_run holds (asked.Run d c wishes style) run gives = λ x y hx hy. given_run style (file_outcome x y) (gives x y hx hy)
 accepted_run holds (asked.Match d style) run gives = absurd run
 accepted_run holds (asked.Propose d style) run gives = absurd run
-accepted_run holds (asked.ProposeThoroughly d style) run gives = absurd run
+accepted_run holds (asked.ProposeThoroughly d seconds style) run gives = absurd run
 accepted_run holds (asked.Migrate d) run gives = absurd run
-accepted_run holds (asked.Refute d style) run gives = absurd run
-accepted_run holds (asked.Limits d what style) run gives = absurd run
+accepted_run holds (asked.Refute d seconds style) run gives = absurd run
+accepted_run holds (asked.Limits d what seconds style) run gives = absurd run
 accepted_run holds (asked.Replay d e style) run gives = absurd run
 accepted_run holds (asked.Conform d t style) run gives = absurd run
 accepted_run holds (asked.Show d format) run gives = absurd run

@@ -62,10 +62,10 @@ NamesStyled rows name style = (first_of (codes "deployment") rows ≡ Some name)
 abbrev pub NamesOne : List Text → Text → Text → Style → Type 0
 NamesOne words command name style = (rows : List Row) × (subcommand_of whole words ≡ Some (command, rows)) × NamesStyled rows name style
 
--- the words look for a certificate of the deployment with this name, thoroughly or not, and ask for an answer in this style
-abbrev pub Looks : List Text → Text → Bool → Style → Type 0
-Looks words name thorough style =
-    (rows : List Row) × (subcommand_of whole words ≡ Some (codes "propose", rows)) × (is_set rows (codes "thorough") ≡ thorough) × NamesStyled rows name style
+-- the words look for a certificate of the deployment with this name, and ask for an answer in this style
+abbrev pub Looks : List Text → Text → Style → Type 0
+Looks words name style =
+    (rows : List Row) × (subcommand_of whole words ≡ Some (codes "propose", rows)) × (is_set rows (codes "thorough") ≡ false) × NamesStyled rows name style
 
 -- both names are `-`, which stands for standard input: it can be read only once
 abbrev pub is_input_twice : Text → Text → Bool
@@ -97,11 +97,6 @@ Checks words deployment certificate detail style =
 abbrev pub finding_of : List Row → Finding
 finding_of rows = if is_set rows (codes "certificate") then Certificate else Bounds
 
--- the words ask which limits the deployment with this name needs, by their bounds or their certificate, and ask for an answer in this style
-abbrev pub Limits : List Text → Text → Finding → Style → Type 0
-Limits words name what style =
-    (rows : List Row) × (subcommand_of whole words ≡ Some (codes "limits", rows)) × (finding_of rows ≡ what) × NamesStyled rows name style
-
 -- the words show the deployment with this name in this format
 abbrev pub Shows : List Text → Text → Format → Type 0
 Shows words deployment format =
@@ -119,6 +114,24 @@ abbrev pub Counts : List Row → Text → ℕ → Type 0
 Counts rows id count =
     (text : Text) × (one_of id rows ≡ Some text) × IsNumeral 10 (without_leading_plus text) × (digits_value 10 (without_leading_plus text) ≡ count) × (count < 2 ^ 16)
 
+-- the arguments name a deployment, and ask for a search of at most so many seconds and for an answer in this style
+abbrev pub NamesTimed : List Row → Text → ℕ → Style → Type 0
+NamesTimed rows name seconds style = NamesStyled rows name style × Counts rows (codes "seconds") seconds
+
+-- the words look thoroughly for a certificate of the deployment with this name, so long, and ask for an answer in this style
+abbrev pub LooksThoroughly : List Text → Text → ℕ → Style → Type 0
+LooksThoroughly words name seconds style =
+    (rows : List Row) × (subcommand_of whole words ≡ Some (codes "propose", rows)) × (is_set rows (codes "thorough") ≡ true) × NamesTimed rows name seconds style
+
+-- the words look for a run of the deployment with this name that loses a sample, so long, and ask for an answer in this style
+abbrev pub Refutes : List Text → Text → ℕ → Style → Type 0
+Refutes words name seconds style = (rows : List Row) × (subcommand_of whole words ≡ Some (codes "refute", rows)) × NamesTimed rows name seconds style
+
+-- the words ask which limits the deployment with this name needs, by their bounds or their certificate, so long, and ask for an answer in this style
+abbrev pub Limits : List Text → Text → Finding → ℕ → Style → Type 0
+Limits words name what seconds style =
+    (rows : List Row) × (subcommand_of whole words ≡ Some (codes "limits", rows)) × (finding_of rows ≡ what) × NamesTimed rows name seconds style
+
 -- the arguments have the texts of these wishes
 abbrev pub Wants : List Row → Wishes → Type 0
 Wants rows wishes =
@@ -132,11 +145,11 @@ Runs words deployment certificate wishes style =
 -- the words ask for this, by clap's own account of the command
 abbrev pub Asks : List Text → Request → Type 0
 Asks words (asked.Match d style) = NamesOne words (codes "match") d.now style
-Asks words (asked.Propose d style) = Looks words d.now false style
-Asks words (asked.ProposeThoroughly d style) = Looks words d.now true style
+Asks words (asked.Propose d style) = Looks words d.now style
+Asks words (asked.ProposeThoroughly d seconds style) = LooksThoroughly words d.now seconds style
 Asks words (asked.Migrate d) = Names words (codes "migrate") (codes "deployment") d.now
-Asks words (asked.Refute d style) = NamesOne words (codes "refute") d.now style
-Asks words (asked.Limits d what style) = Limits words d.now what style
+Asks words (asked.Refute d seconds style) = Refutes words d.now seconds style
+Asks words (asked.Limits d what seconds style) = Limits words d.now what seconds style
 Asks words (asked.Replay d e style) = Replays words d.now e.now style
 Asks words (asked.Conform d t style) = Conforms words d.now t.now style
 Asks words (asked.Show d format) = Shows words d.now format
@@ -156,10 +169,10 @@ Misses command rows result = (words : List Text) → subcommand_of whole words �
 abbrev pub paths_of : Request → List Text
 paths_of (asked.Match d style) = d.now ∷ []
 paths_of (asked.Propose d style) = d.now ∷ []
-paths_of (asked.ProposeThoroughly d style) = d.now ∷ []
+paths_of (asked.ProposeThoroughly d seconds style) = d.now ∷ []
 paths_of (asked.Migrate d) = d.now ∷ []
-paths_of (asked.Refute d style) = d.now ∷ []
-paths_of (asked.Limits d what style) = d.now ∷ []
+paths_of (asked.Refute d seconds style) = d.now ∷ []
+paths_of (asked.Limits d what seconds style) = d.now ∷ []
 paths_of (asked.Replay d e style) = d.now ∷ e.now ∷ []
 paths_of (asked.Conform d t style) = d.now ∷ t.now ∷ []
 paths_of (asked.Show d format) = d.now ∷ []
@@ -171,10 +184,10 @@ paths_of (asked.Run d c wishes style) = d.now ∷ c.now ∷ []
 abbrev pub style_of : Request → Style
 style_of (asked.Match d style) = style
 style_of (asked.Propose d style) = style
-style_of (asked.ProposeThoroughly d style) = style
+style_of (asked.ProposeThoroughly d seconds style) = style
 style_of (asked.Migrate d) = style.Text
-style_of (asked.Refute d style) = style
-style_of (asked.Limits d what style) = style
+style_of (asked.Refute d seconds style) = style
+style_of (asked.Limits d what seconds style) = style
 style_of (asked.Replay d e style) = style
 style_of (asked.Conform d t style) = style
 style_of (asked.Show d format) = style.Text
@@ -207,10 +220,10 @@ GivesTo holds (asked.Check d c detail style) result =
     (x y : List ℕ) → holds d.now ≡ Some x → holds c.now ≡ Some y → Gives result (in_style style (check_file_outcome detail x y)) × IfErr result (IsFaultTold detail x y)
 GivesTo holds (asked.Match d style) result = (x : List ℕ) → holds d.now ≡ Some x → Gives result (in_style style (match_file_outcome x))
 GivesTo holds (asked.Propose d style) result = (x : List ℕ) → holds d.now ≡ Some x → (end : Outcome) × MayProposeFor x end × Gives result (in_style style end)
-GivesTo holds (asked.ProposeThoroughly d style) result = (x : List ℕ) → holds d.now ≡ Some x → (end : Outcome) × MayFindFor x end × Gives result (in_style style end)
+GivesTo holds (asked.ProposeThoroughly d seconds style) result = (x : List ℕ) → holds d.now ≡ Some x → (end : Outcome) × MayFindFor x end × Gives result (in_style style end)
 GivesTo holds (asked.Migrate d) result = (x : List ℕ) → holds d.now ≡ Some x → GivesOneOf (MayMigrateFor x) result
-GivesTo holds (asked.Refute d style) result = (x : List ℕ) → holds d.now ≡ Some x → GivesOneOf (MayRefuteFor style x) result
-GivesTo holds (asked.Limits d what style) result = (x : List ℕ) → holds d.now ≡ Some x → GivesOneOf (MayLimitFor what style x) result
+GivesTo holds (asked.Refute d seconds style) result = (x : List ℕ) → holds d.now ≡ Some x → GivesOneOf (MayRefuteFor style x) result
+GivesTo holds (asked.Limits d what seconds style) result = (x : List ℕ) → holds d.now ≡ Some x → GivesOneOf (MayLimitFor what style x) result
 GivesTo holds (asked.Replay d e style) result = (x y : List ℕ) → holds d.now ≡ Some x → holds e.now ≡ Some y → GivesOneOf (MayReplayFor style x y) result
 GivesTo holds (asked.Conform d t style) result = (x y : List ℕ) → holds d.now ≡ Some x → holds t.now ≡ Some y → GivesOneOf (MayConformFor style x y) result
 GivesTo holds (asked.Show d format) result = (x : List ℕ) → holds d.now ≡ Some x → Gives result (show_file_outcome format x)
@@ -228,12 +241,12 @@ Answers holds (asked.Check d c detail style) status old new =
     (x y : List ℕ) → holds d.now ≡ Some x → holds c.now ≡ Some y → Said (in_style style (check_file_outcome detail x y)) status old new
 Answers holds (asked.Match d style) status old new = (x : List ℕ) → holds d.now ≡ Some x → Said (in_style style (match_file_outcome x)) status old new
 Answers holds (asked.Propose d style) status old new = (x : List ℕ) → holds d.now ≡ Some x → (end : Outcome) × MayProposeFor x end × Said (in_style style end) status old new
-Answers holds (asked.ProposeThoroughly d style) status old new =
+Answers holds (asked.ProposeThoroughly d seconds style) status old new =
     (x : List ℕ) → holds d.now ≡ Some x → (end : Outcome) × MayFindFor x end × Said (in_style style end) status old new
 Answers holds (asked.Migrate d) status old new = (x : List ℕ) → holds d.now ≡ Some x → (status ≡ 3) ⊎ ((end : Outcome) × MayMigrateFor x end × Said end status old new)
-Answers holds (asked.Refute d style) status old new =
+Answers holds (asked.Refute d seconds style) status old new =
     (x : List ℕ) → holds d.now ≡ Some x → (status ≡ 3) ⊎ ((end : Outcome) × MayRefuteFor style x end × Said end status old new)
-Answers holds (asked.Limits d what style) status old new =
+Answers holds (asked.Limits d what seconds style) status old new =
     (x : List ℕ) → holds d.now ≡ Some x → (status ≡ 3) ⊎ ((end : Outcome) × MayLimitFor what style x end × Said end status old new)
 Answers holds (asked.Replay d e style) status old new =
     (x y : List ℕ) → holds d.now ≡ Some x → holds e.now ≡ Some y → (status ≡ 3) ⊎ ((end : Outcome) × MayReplayFor style x y end × Said end status old new)

@@ -25,6 +25,10 @@ flag_rule id = record (new_rule id) { long = Some id; action = Some SetTrue }
 abbrev pub wish_rule : Text → Text → Rule
 wish_rule id default = record (new_rule id) { long = Some id; value_names = 1; defaults = default ∷ []; action = Some Set }
 
+-- a wish for the seconds of a search, a number up to 65,535, which is 60 where it isn't given
+abbrev pub seconds_rule : Rule
+seconds_rule = record (wish_rule (codes "seconds") (codes "60")) { parser = Some (Signed (pos 0) (pos 65535)) }
+
 -- a command that is told in lines where it isn't asked for a document
 abbrev pub styled : App → App
 styled command = with_rule command (wish_rule (codes "format") (codes "text"))
@@ -35,7 +39,7 @@ matching = styled (one_file (codes "match"))
 
 -- the command that looks for a certificate, thoroughly where its flag is given
 abbrev pub searching : App
-searching = styled (with_rule (one_file (codes "propose")) (flag_rule (codes "thorough")))
+searching = styled (with_rule (with_rule (one_file (codes "propose")) (flag_rule (codes "thorough"))) seconds_rule)
 
 -- a command with a deployment and a certificate
 abbrev pub two_files : Text → App
@@ -63,7 +67,7 @@ drawing = with_rule (one_file (codes "draw")) (optional_file_rule (codes "certif
 
 -- the command that looks for a run that loses a sample
 abbrev pub refuting : App
-refuting = styled (one_file (codes "refute"))
+refuting = styled (with_rule (one_file (codes "refute")) seconds_rule)
 
 -- the command that makes the events of a file again
 abbrev pub replaying : App
@@ -71,7 +75,7 @@ replaying = styled (with_rule (one_file (codes "replay")) (file_rule (codes "eve
 
 -- the command that tells which limits are needed, or the certificate that shows them where its flag is given
 abbrev pub limiting : App
-limiting = styled (with_rule (one_file (codes "limits")) (flag_rule (codes "certificate")))
+limiting = styled (with_rule (with_rule (one_file (codes "limits")) (flag_rule (codes "certificate"))) seconds_rule)
 
 -- the command that tells whether a trace keeps the rules
 abbrev pub conforming : App

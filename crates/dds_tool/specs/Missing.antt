@@ -13,7 +13,9 @@ use Rattle.dds_propose.specs.declared.targets.Target.TheVariants.{Instance, Read
 use Rattle.dds_search.specs.declared.answer.Least.{Least}
 use Rattle.dds_search.specs.declared.answer.Least.TheVariants.{Shown, Unbounded, Unknown}
 use Rattle.dds_search.specs.declared.answer.Missing.{Missing}
-use Rattle.dds_search.specs.declared.answer.Missing.TheVariants.{Structure, Limit, Rows, Refused}
+use Rattle.dds_search.specs.declared.answer.Missing.TheVariants.{Structure, Limit, Short, Rows, Refused}
+use Rattle.dds_search.specs.declared.budget.Shortage.{Shortage}
+use Rattle.dds_tool.specs.Refuting.{shortage_word}
 
 -- the name of the limit that a reader sets itself for a key: its depth by KEEP_LAST, else max_samples_per_instance (DDS 1.4, clause 2.2.3.18)
 abbrev pub own_name : Network → ℕ → List ℕ
@@ -46,10 +48,16 @@ least_line limit shower Unbounded = codes "ddscheck: no weights show " ++ (limit
 least_line limit shower Unknown =
     codes "ddscheck: no weights were found that show " ++ (limit ++ codes ": the numbers became too large or the search too long\n")
 
+-- what ran out where no weights were found for a limit
+abbrev pub short_line : (limit : List ℕ) → Shortage → List ℕ
+short_line limit shortage =
+    codes "ddscheck: no weights were found that show " ++ (limit ++ (codes ": the search ran out of " ++ (shortage_word shortage ++ codes "\n")))
+
 -- why no certificate was found
 abbrev pub IsMissingText : Lists → Missing → List ℕ → Type 0
 IsMissingText d (Structure cause) text = text ≡ codes "ddscheck: whatever the certificate, " ++ refusal_line d nothing cause
 IsMissingText d (Limit target least) text = (limit : List ℕ) × IsLimitText d target limit × (text ≡ least_line limit (shower target) least)
+IsMissingText d (Short target shortage) text = (limit : List ℕ) × IsLimitText d target limit × (text ≡ short_line limit shortage)
 IsMissingText d Rows text = text ≡ codes "ddscheck: each limit has weights that show it, but no 64 rows were found that show all of them\n"
 IsMissingText d (Refused cause) text = text ≡ codes "ddscheck: what was found isn't accepted: " ++ refusal_line d nothing cause
 

@@ -20,6 +20,8 @@ use Rattle.dds_search.specs.declared.loss.Loss.{Loss}
 use Rattle.dds_search.specs.declared.loss.Loss.TheVariants as lost
 use Rattle.dds_search.specs.declared.refuting.Refutation.{Refutation}
 use Rattle.dds_search.specs.declared.refuting.Refutation.TheVariants as refutation
+use Rattle.dds_search.specs.declared.budget.Shortage.{Shortage}
+use Rattle.dds_search.specs.declared.budget.Shortage.TheVariants as short
 use Rattle.dds_search.specs.declared.refuting.Unknown.{Unknown}
 use Rattle.dds_search.specs.declared.refuting.Unknown.TheVariants as unknown
 use Rattle.dds_search.specs.Refutations.{IsCounterexample}
@@ -48,14 +50,26 @@ unsafe_line d c =
 abbrev pub refuted_text : Lists → Counterexample → List ℕ
 refuted_text d c = unsafe_line d c ++ lines_of d c.events.items c.replies.items
 
--- the word for why nothing was found
-abbrev pub unknown_word : Unknown → List ℕ
-unknown_word unknown.Exhausted = codes "exhausted"
-unknown_word unknown.Budget = codes "budget"
+-- the word for what a search ran out of
+abbrev pub shortage_word : Shortage → List ℕ
+shortage_word short.Seconds = codes "seconds"
+shortage_word short.Pivots = codes "pivots"
+shortage_word short.Markings = codes "markings"
+shortage_word short.Events = codes "events"
+shortage_word short.Bits = codes "bits"
+shortage_word short.Rows = codes "rows"
+shortage_word short.Ways = codes "ways"
 
 -- the line where neither a certificate nor such a run was found
 abbrev pub unknown_line : Unknown → List ℕ
-unknown_line why = codes "unknown " ++ (unknown_word why ++ codes "\n")
+unknown_line unknown.Exhausted = codes "unknown exhausted\n"
+unknown_line (unknown.Budget shortage) = codes "unknown budget " ++ (shortage_word shortage ++ codes "\n")
+
+-- the document for it
+abbrev pub unknown_document : Unknown → Data
+unknown_document unknown.Exhausted = object (member (codes "answer") (string (codes "no")) (member (codes "unknown") (string (codes "exhausted")) no_members))
+unknown_document (unknown.Budget shortage) =
+    object (member (codes "answer") (string (codes "no")) (member (codes "spent") (string (shortage_word shortage)) (member (codes "unknown") (string (codes "budget")) no_members)))
 
 -- the document of a counterexample: the reader, the key, the loss, and the lines of its events with their replies
 abbrev pub unsafe_document : Lists → Counterexample → Data
@@ -67,7 +81,7 @@ abbrev pub known_document : Lists → Refutation → Data
 known_document lists (refutation.Safe c) = object (member (codes "answer") (string (codes "yes")) no_members)
 known_document lists (refutation.Structure cause) = refusal_document lists nothing cause None
 known_document lists (refutation.Unsafe c) = unsafe_document lists c
-known_document lists (refutation.Unknown why) = object (member (codes "answer") (string (codes "no")) (member (codes "unknown") (string (unknown_word why)) no_members))
+known_document lists (refutation.Unknown why) = unknown_document why
 
 -- the text for what is known
 abbrev pub known_text : Lists → Refutation → List ℕ

@@ -5,7 +5,7 @@ ghost use Rattle.clap.specs.declared.builder.command.Command.TheViews.{out-Comma
 ghost use Rattle.dds_tool.specs.Command.{checking, conforming, count_rule, drawing, file_rule, flag_rule, limiting};
 ghost use Rattle.dds_tool.specs.Command.{matching, one_file};
 ghost use Rattle.dds_tool.specs.Command.{optional_file_rule, refuting, replaying, running, searching, showing, styled};
-ghost use Rattle.dds_tool.specs.Command.{top_app, two_files, whole, wish_rule};
+ghost use Rattle.dds_tool.specs.Command.{seconds_rule, top_app, two_files, whole, wish_rule};
 
 use clap::{Arg, ArgAction, Command, value_parser};
 use dds_base::NoMemory;
@@ -33,6 +33,12 @@ const TAKES: &str = "How many samples each application takes";
 
 /// What help says of the format.
 const FORMAT: &str = "json or dds-xml";
+
+/// What help says of the seconds of a search.
+const SECONDS: &str = "How many seconds a search may take";
+
+/// What help says of the seconds of a search that is made with a flag.
+const THOROUGH_SECONDS: &str = "How many seconds the thorough search may take";
 
 /// What help says of the style of an answer.
 const STYLE: &str = "text or json";
@@ -118,11 +124,9 @@ fn propose_command<'a>(alloc: Global) -> Result<Command<'a>, NoMemory>
     ensures app { IfOk result (λ c. app_of c ≡ searching) }
     ensures local { IfOk result (λ c. (fields_of c).has_globals ≡ false) }
 {
-    let command = one_file_command(
-        alloc,
-        "propose",
-        "Looks for a certificate of a deployment",
-    )?.arg(flag(alloc, "thorough", THOROUGH))?;
+    let command = one_file_command(alloc, "propose", "Looks for a certificate of a deployment")?
+        .arg(flag(alloc, "thorough", THOROUGH))?
+        .arg(seconds(alloc, THOROUGH_SECONDS))?;
     styled(alloc, command)
 }
 
@@ -168,6 +172,13 @@ fn count<'a>(alloc: Global, id: &'a str, help: &'a str) -> Arg<'a>
     ensures local { result.global ≡ false }
 {
     wish(alloc, id, "N", "10", help).value_parser(value_parser!(u16))
+}
+
+fn seconds<'a>(alloc: Global, help: &'a str) -> Arg<'a>
+    ensures rule { rule_of result ≡ seconds_rule }
+    ensures local { result.global ≡ false }
+{
+    wish(alloc, "seconds", "N", "60", help).value_parser(value_parser!(u16))
 }
 
 fn run_command<'a>(alloc: Global) -> Result<Command<'a>, NoMemory>
@@ -217,7 +228,8 @@ fn refute_command<'a>(alloc: Global) -> Result<Command<'a>, NoMemory>
         alloc,
         "refute",
         "Looks for a run of a deployment that loses a sample",
-    )?;
+    )?
+    .arg(seconds(alloc, SECONDS))?;
     styled(alloc, command)
 }
 
@@ -256,7 +268,8 @@ fn limits_command<'a>(alloc: Global) -> Result<Command<'a>, NoMemory>
         "limits",
         "Tells how much room each reader and the history of each writer needs",
     )?
-    .arg(flag(alloc, "certificate", CLAIM))?;
+    .arg(flag(alloc, "certificate", CLAIM))?
+    .arg(seconds(alloc, SECONDS))?;
     styled(alloc, command)
 }
 

@@ -34,6 +34,7 @@ use dds_answers::{
     read_file, read_file_up_to, read_files, show_file, tell_fault,
 };
 use dds_json::Style;
+use dds_search::Budget;
 use std::alloc::Global;
 use std::convert::AsStr;
 use std::sync::Wait;
@@ -70,10 +71,11 @@ fn run_files<R: Threads + Wait + Clock + Sync, S: Sources>(
 }
 
 /// The answer of `refute` to a file, which is read whole before it is parsed.
-fn refute_file<S: Sources>(
+fn refute_file<C: Clock, S: Sources>(
     alloc: Global,
     deployment: &str,
     style: Style,
+    budget: Budget<C>,
     files: &mut S,
 ) -> Result<Answer, ToolFault>
     ensures gives { (d : List ℕ) → S.holds files.old deployment.now ≡ Some d
@@ -82,7 +84,7 @@ fn refute_file<S: Sources>(
     ensures opened { OpensAll (S.opened files.old) (S.opened files.new) (deployment.now ∷ []) }
 {
     match read_file(alloc, files, deployment) {
-        Ok(bytes) => refute_answer(alloc, bytes.as_slice(), style),
+        Ok(bytes) => refute_answer(alloc, bytes.as_slice(), style, budget),
         Err(fault) => Err(fault),
     }
 }
@@ -179,9 +181,11 @@ fn answer_of<R: Threads + Wait + Clock + Sync, S: Sources>(
         } => check_in_style(alloc, deployment, certificate, detail, style, files),
         Request::Match { deployment, style } => match_in_style(alloc, deployment, style, files),
         Request::Propose { deployment, style } => propose_in_style(alloc, deployment, style, files),
-        Request::ProposeThoroughly { deployment, style } => {
-            search_in_style(alloc, deployment, style, files)
-        }
+        Request::ProposeThoroughly {
+            deployment,
+            seconds,
+            style,
+        } => search_in_style(alloc, deployment, style, Budget::new(rt, seconds), files),
         Request::Migrate { deployment } => migrate_file(alloc, deployment, files),
         Request::Show { deployment, format } => show_file(alloc, deployment, format, files),
         Request::Draw {
@@ -191,12 +195,20 @@ fn answer_of<R: Threads + Wait + Clock + Sync, S: Sources>(
             None => draw_file(alloc, deployment, files),
             Some(certificate) => draw_files(alloc, deployment, certificate, files),
         },
-        Request::Refute { deployment, style } => refute_file(alloc, deployment, style, files),
+        Request::Refute {
+            deployment,
+            seconds,
+            style,
+        } => refute_file(alloc, deployment, style, Budget::new(rt, seconds), files),
         Request::Limits {
             deployment,
             what,
+            seconds,
             style,
-        } => limits_file(alloc, deployment, what, style, files),
+        } => {
+            let budget = Budget::new(rt, seconds);
+            limits_file(alloc, deployment, what, style, budget, files)
+        }
         Request::Replay {
             deployment,
             events,

@@ -20,9 +20,10 @@ use dds_base::NoMemory;
 use dds_json::Style;
 use dds_lists::Deployment;
 use dds_match::Plan;
-use dds_search::{Size, Sizes, find_limits_certificate, find_sizes};
+use dds_search::{Budget, Size, Sizes, find_limits_certificate, find_sizes};
 use dds_weights::{Certificate, certificate_text};
 use std::alloc::Global;
+use std::time::Clock;
 
 /// What is asked for.
 #[derive(Clone, Copy, Debug, PartialEq, Eq)]
@@ -68,11 +69,16 @@ fn tell_needs(alloc: Global, plan: &Plan, sizes: &[Size], style: Style) -> Resul
 }
 
 /// The answer with the least bounds of a plan.
-fn tell_bounds(alloc: Global, plan: &Plan, style: Style) -> Result<Answer, ToolFault>
+fn tell_bounds<C: Clock>(
+    alloc: Global,
+    plan: &Plan,
+    style: Style,
+    budget: Budget<C>,
+) -> Result<Answer, ToolFault>
     ensures gives { GivesOneOf (MayTellNeeds style plan.now) result }
     ensures fault { IfErr result IsAnswerFault }
 {
-    let Ok(sizes) = find_sizes(alloc, plan) else {
+    let Ok(sizes) = find_sizes(alloc, plan, budget) else {
         return Err(ToolFault::NoMemory);
     };
     tell_needs(alloc, plan, sizes.as_slice(), style)
@@ -188,11 +194,16 @@ fn tell_sizes(
 }
 
 /// The answer with a certificate that shows the least bounds of a plan.
-fn tell_certificate(alloc: Global, plan: &Plan, style: Style) -> Result<Answer, ToolFault>
+fn tell_certificate<C: Clock>(
+    alloc: Global,
+    plan: &Plan,
+    style: Style,
+    budget: Budget<C>,
+) -> Result<Answer, ToolFault>
     ensures gives { GivesOneOf (MayTellClaim style plan.now) result }
     ensures fault { IfErr result IsAnswerFault }
 {
-    let Ok(found) = find_limits_certificate(alloc, plan) else {
+    let Ok(found) = find_limits_certificate(alloc, plan, budget) else {
         return Err(ToolFault::NoMemory);
     };
     let Sizes { list, certificate } = found;
@@ -202,40 +213,48 @@ fn tell_certificate(alloc: Global, plan: &Plan, style: Style) -> Result<Answer, 
 }
 
 /// The answer to a plan.
-fn tell_limits(alloc: Global, plan: &Plan, what: Finding, style: Style) -> Result<Answer, ToolFault>
+fn tell_limits<C: Clock>(
+    alloc: Global,
+    plan: &Plan,
+    what: Finding,
+    style: Style,
+    budget: Budget<C>,
+) -> Result<Answer, ToolFault>
     ensures gives { GivesOneOf (MayLimitLists what style plan.now) result }
     ensures fault { IfErr result IsAnswerFault }
 {
     match what {
-        Finding::Bounds => tell_bounds(alloc, plan, style),
-        Finding::Certificate => tell_certificate(alloc, plan, style),
+        Finding::Bounds => tell_bounds(alloc, plan, style, budget),
+        Finding::Certificate => tell_certificate(alloc, plan, style, budget),
     }
 }
 
 /// The answer of `limits` to the bytes of a deployment, told in this style: how much room each strict reader and each
 /// writer with KEEP_LAST needs, beside its limits, or a certificate that shows as much, of at most 1,048,576 bytes. It
 /// is yes where a bound is known of each need.
-pub fn limits_answer(
+pub fn limits_answer<C: Clock>(
     alloc: Global,
     deployment: &[u8],
     what: Finding,
     style: Style,
+    budget: Budget<C>,
 ) -> Result<Answer, ToolFault>
     ensures gives { GivesOneOf (MayLimit what style (deployment_read deployment.now)) result }
     ensures fault { IfErr result IsAnswerFault }
 {
     let plan = read_plan(alloc, deployment)?;
-    let answer = tell_limits(alloc, &plan, what, style);
+    let answer = tell_limits(alloc, &plan, what, style, budget);
     drop(plan);
     answer
 }
 
 /// The answer of `limits` to a file, which is read whole before it is parsed.
-pub(crate) fn limits_file<S: Sources>(
+pub(crate) fn limits_file<C: Clock, S: Sources>(
     alloc: Global,
     deployment: &str,
     what: Finding,
     style: Style,
+    budget: Budget<C>,
     files: &mut S,
 ) -> Result<Answer, ToolFault>
     ensures gives { (d : List ℕ) → S.holds files.old deployment.now ≡ Some d
@@ -244,7 +263,7 @@ pub(crate) fn limits_file<S: Sources>(
     ensures opened { OpensAll (S.opened files.old) (S.opened files.new) (deployment.now ∷ []) }
 {
     match read_file(alloc, files, deployment) {
-        Ok(bytes) => limits_answer(alloc, bytes.as_slice(), what, style),
+        Ok(bytes) => limits_answer(alloc, bytes.as_slice(), what, style, budget),
         Err(fault) => Err(fault),
     }
 }

@@ -2,15 +2,15 @@
 ghost use Rattle.std.specs.Prelude.{◌≡◌, IfOk, string_bytes};
 ghost use Rattle.serde_json.specs.View.{view};
 ghost use Rattle.dds_json.specs.Line.{line_of};
-ghost use Rattle.dds_tool.specs.Refuting.{known_document, unsafe_document};
+ghost use Rattle.dds_tool.specs.Refuting.{known_document, unknown_document, unsafe_document};
 
-use crate::refuting::{loss_name, unknown_word};
+use crate::refuting::{loss_name, shortage_word};
 use dds_base::NoMemory;
 use dds_events::lines_text;
 use dds_json::{line_of, structure_document};
 use dds_lists::Deployment;
 use dds_match::Plan;
-use dds_search::{Counterexample, Refutation};
+use dds_search::{Counterexample, Refutation, Unknown};
 use dds_weights::naming::{name_at, reader_key};
 use serde_json::{Value, json};
 use std::alloc::Global;
@@ -30,6 +30,19 @@ fn unsafe_document(
     json!(in alloc; {"answer": "no", "reader": reader, "key": key, "loss": loss, "events": events})
 }
 
+/// The document where neither a certificate nor a run that loses a sample was found.
+fn unknown_document(alloc: Global, why: Unknown) -> Result<Value, NoMemory>
+    ensures { IfOk result (λ v. view v ≡ unknown_document why) }
+{
+    match why {
+        Unknown::Exhausted => json!(in alloc; {"answer": "no", "unknown": "exhausted"}),
+        Unknown::Budget(shortage) => {
+            let word = shortage_word(shortage);
+            json!(in alloc; {"answer": "no", "spent": word, "unknown": "budget"})
+        }
+    }
+}
+
 /// The document for what is known.
 fn known_document(alloc: Global, plan: &Plan, refutation: &Refutation) -> Result<Value, NoMemory>
     ensures { IfOk result (λ v. view v ≡ known_document plan.now refutation.now) }
@@ -38,10 +51,7 @@ fn known_document(alloc: Global, plan: &Plan, refutation: &Refutation) -> Result
         Refutation::Safe(_) => json!(in alloc; {"answer": "yes"}),
         Refutation::Structure(no) => structure_document(alloc, plan.lists(), *no),
         Refutation::Unsafe(found) => unsafe_document(alloc, plan.lists(), found),
-        Refutation::Unknown(why) => {
-            let word = unknown_word(*why);
-            json!(in alloc; {"answer": "no", "unknown": word})
-        }
+        Refutation::Unknown(why) => unknown_document(alloc, *why),
     }
 }
 

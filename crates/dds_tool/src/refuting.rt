@@ -4,7 +4,7 @@ ghost use Rattle.dds_answers.specs.Answers.{GivesOneOf};
 ghost use Rattle.dds_answers.specs.Fault.{IsAnswerFault};
 ghost use Rattle.dds_deploy.specs.Document.{read as deployment_read};
 ghost use Rattle.dds_tool.specs.Refuting.{MayRefute, is_safe, known_text, loss_name, refuted_text, told_known};
-ghost use Rattle.dds_tool.specs.Refuting.{unknown_word, unsafe_line};
+ghost use Rattle.dds_tool.specs.Refuting.{shortage_word, unknown_line, unsafe_line};
 
 use crate::refute_document::known_line;
 use dds_answers::{Answer, ToolFault, answered, read_plan, structure_text};
@@ -13,9 +13,10 @@ use dds_events::{lines_text, rejection_name};
 use dds_json::Style;
 use dds_lists::Deployment;
 use dds_match::Plan;
-use dds_search::{Counterexample, Loss, Refutation, Unknown, refute};
+use dds_search::{Budget, Counterexample, Loss, Refutation, Shortage, Unknown, refute};
 use dds_weights::naming::{name_at, reader_key};
 use std::alloc::Global;
+use std::time::Clock;
 
 /// The word for a loss.
 pub(crate) fn loss_name(loss: Loss) -> &'static str
@@ -56,13 +57,31 @@ fn refuted_text(
     format!(in alloc; "{line}{lines}")
 }
 
-/// The word for why neither a certificate nor a run that loses a sample was found.
-pub(crate) fn unknown_word(why: Unknown) -> &'static str
-    ensures { result.now ≡ unknown_word why }
+/// The word for what a search ran out of.
+pub(crate) fn shortage_word(shortage: Shortage) -> &'static str
+    ensures { result.now ≡ shortage_word shortage }
+{
+    match shortage {
+        Shortage::Seconds => "seconds",
+        Shortage::Pivots => "pivots",
+        Shortage::Markings => "markings",
+        Shortage::Events => "events",
+        Shortage::Bits => "bits",
+        Shortage::Rows => "rows",
+        Shortage::Ways => "ways",
+    }
+}
+
+/// The line where neither a certificate nor a run that loses a sample was found.
+fn unknown_line(alloc: Global, why: Unknown) -> Result<String, NoMemory>
+    ensures { IfOk result (λ text. string_bytes text ≡ unknown_line why) }
 {
     match why {
-        Unknown::Exhausted => "exhausted",
-        Unknown::Budget => "budget",
+        Unknown::Exhausted => String::from_str(alloc, "unknown exhausted\n"),
+        Unknown::Budget(shortage) => {
+            let word = shortage_word(shortage);
+            format!(in alloc; "unknown budget {word}\n")
+        }
     }
 }
 
@@ -81,10 +100,7 @@ fn known_text(alloc: Global, plan: &Plan, refutation: &Refutation) -> Result<Str
         Refutation::Safe(_) => String::from_str(alloc, "safe\n"),
         Refutation::Structure(no) => structure_text(alloc, plan.lists(), *no),
         Refutation::Unsafe(found) => refuted_text(alloc, plan.lists(), found),
-        Refutation::Unknown(why) => {
-            let word = unknown_word(*why);
-            format!(in alloc; "unknown {word}\n")
-        }
+        Refutation::Unknown(why) => unknown_line(alloc, *why),
     }
 }
 
@@ -104,11 +120,16 @@ fn told_known(
 }
 
 /// The answer to a plan, which is needed no longer.
-fn refuted(alloc: Global, plan: Plan, style: Style) -> Result<Answer, ToolFault>
+fn refuted<C: Clock>(
+    alloc: Global,
+    plan: Plan,
+    style: Style,
+    budget: Budget<C>,
+) -> Result<Answer, ToolFault>
     ensures gives { GivesOneOf (MayRefute style (Ok plan)) result }
     ensures fault { IfErr result IsAnswerFault }
 {
-    let Ok((refutation, plan)) = refute(alloc, plan) else {
+    let Ok((refutation, plan)) = refute(alloc, plan, budget) else {
         return Err(ToolFault::NoMemory);
     };
     let answer = answered(
@@ -122,11 +143,16 @@ fn refuted(alloc: Global, plan: Plan, style: Style) -> Result<Answer, ToolFault>
 
 /// The answer of `refute` to the bytes of a deployment, told in this style: yes with `safe` where a certificate is
 /// accepted, or no with a run that loses a sample, with a condition that fails whatever the certificate, or with
-/// `unknown`.
-pub fn refute_answer(alloc: Global, deployment: &[u8], style: Style) -> Result<Answer, ToolFault>
+/// `unknown`, which names what ran out where the searches were ended.
+pub fn refute_answer<C: Clock>(
+    alloc: Global,
+    deployment: &[u8],
+    style: Style,
+    budget: Budget<C>,
+) -> Result<Answer, ToolFault>
     ensures gives { GivesOneOf (MayRefute style (deployment_read deployment.now)) result }
     ensures fault { IfErr result IsAnswerFault }
 {
     let plan = read_plan(alloc, deployment)?;
-    refuted(alloc, plan, style)
+    refuted(alloc, plan, style, budget)
 }

@@ -6,7 +6,8 @@ ghost use Rattle.clap.specs.Words.{takes};
 ghost use Rattle.dds_answers.specs.declared.format.Format.{Format};
 ghost use Rattle.dds_json.specs.declared.style.Style.{Style};
 ghost use Rattle.dds_tool.specs.Asking.{AreRefused, AskForHelp, Asks, Counts, IsHelp, IsHelpKind, IsStyled, Misses};
-ghost use Rattle.dds_tool.specs.Asking.{NamesBoth, NamesStyled, Reads, Wants, detail_of, finding_of, is_input_twice};
+ghost use Rattle.dds_tool.specs.Asking.{NamesBoth, NamesStyled, NamesTimed, Reads, Wants, detail_of, finding_of};
+ghost use Rattle.dds_tool.specs.Asking.{is_input_twice};
 ghost use Rattle.dds_tool.specs.Asking.{is_set, style_of};
 ghost use Rattle.dds_tool.specs.Command.{whole};
 ghost use Rattle.dds_tool.specs.Wishes.{format_word};
@@ -33,6 +34,9 @@ const WRONG_FORMAT: &str = "error: the format is json or dds-xml\n";
 /// What is told of a word that is no style.
 const WRONG_STYLE: &str = "error: the format is text or json\n";
 
+/// What is told of seconds that are no number.
+const WRONG_SECONDS: &str = "error: the seconds are a number\n";
+
 /// What is told of fates that are no list.
 const WRONG_FATES: &str =
     "error: the fates are 1 to 64 of the words pass, keep, last and lose, with commas between them\n";
@@ -53,6 +57,7 @@ pub enum Request<'a> {
     /// A certificate with the least bounds that weights show, or which limit has none.
     ProposeThoroughly {
         deployment: &'a str,
+        seconds: u16,
         style: Style,
     },
     /// A deployment of version 1 as one of version 2.
@@ -62,12 +67,14 @@ pub enum Request<'a> {
     /// A run of a deployment that loses a sample, or why there is none.
     Refute {
         deployment: &'a str,
+        seconds: u16,
         style: Style,
     },
     /// Which limits a deployment needs, or the certificate that shows them.
     Limits {
         deployment: &'a str,
         what: Finding,
+        seconds: u16,
         style: Style,
     },
     /// What comes of events that are made on a deployment.
@@ -285,6 +292,32 @@ fn styled_deployment<'a>(
     Ok((deployment, style))
 }
 
+/// The number of an argument, if it was given or stands for itself.
+fn number(matches: &ArgMatches, id: &str) -> Option<u16>
+    ensures some { IfSome result (Counts (rows_of (found_of matches.now)) id.now) }
+    ensures none { IfNone result ((count : ℕ) → Counts (rows_of (found_of matches.now)) id.now count → ⊥) }
+{
+    matches.get_one::<u16>(id)
+}
+
+/// The name of a deployment, if it is given, the seconds of the search, and the style in which an answer is asked for.
+fn timed_deployment<'a>(
+    alloc: Global,
+    matches: &ArgMatches<'a>,
+) -> Result<(&'a str, u16, Style), NoRequest>
+    ensures named { IfOk result (λ asked. NamesTimed (rows_of (found_of matches.now)) asked.0.now asked.1 asked.2) }
+    ensures fault { IfErr result (λ e. ¬ IsHelp e) }
+    ensures none { IfErr result
+        (λ _. (d : Text) (seconds : ℕ) (style : Style)
+        → NamesTimed (rows_of (found_of matches.now)) d seconds style → ⊥) }
+{
+    let Some(seconds) = number(matches, "seconds") else {
+        return Err(usage(alloc, WRONG_SECONDS));
+    };
+    let (deployment, style) = styled_deployment(alloc, matches)?;
+    Ok((deployment, seconds, style))
+}
+
 fn match_request<'a>(alloc: Global, matches: &ArgMatches<'a>) -> Result<Request<'a>, NoRequest>
     ensures asked { Reads (codes "match") (rows_of (found_of matches.now)) result }
     ensures fault { IfErr result (λ e. ¬ IsHelp e) }
@@ -316,20 +349,17 @@ fn propose_request<'a>(alloc: Global, matches: &ArgMatches<'a>) -> Result<Reques
     ensures fault { IfErr result (λ e. ¬ IsHelp e) }
     ensures unasked { Misses (codes "propose") (rows_of (found_of matches.now)) result }
 {
-    let (deployment, style) = styled_deployment(alloc, matches)?;
     if is_set(matches, "thorough") {
-        Ok(Request::ProposeThoroughly { deployment, style })
+        let (deployment, seconds, style) = timed_deployment(alloc, matches)?;
+        Ok(Request::ProposeThoroughly {
+            deployment,
+            seconds,
+            style,
+        })
     } else {
+        let (deployment, style) = styled_deployment(alloc, matches)?;
         Ok(Request::Propose { deployment, style })
     }
-}
-
-/// The number of an argument, if it was given or stands for itself.
-fn number(matches: &ArgMatches, id: &str) -> Option<u16>
-    ensures some { IfSome result (Counts (rows_of (found_of matches.now)) id.now) }
-    ensures none { IfNone result ((count : ℕ) → Counts (rows_of (found_of matches.now)) id.now count → ⊥) }
-{
-    matches.get_one::<u16>(id)
 }
 
 /// How a deployment is to run, or `None` where the fates aren't a list of them.
@@ -417,8 +447,12 @@ fn refute_request<'a>(alloc: Global, matches: &ArgMatches<'a>) -> Result<Request
     ensures fault { IfErr result (λ e. ¬ IsHelp e) }
     ensures unasked { Misses (codes "refute") (rows_of (found_of matches.now)) result }
 {
-    let (deployment, style) = styled_deployment(alloc, matches)?;
-    Ok(Request::Refute { deployment, style })
+    let (deployment, seconds, style) = timed_deployment(alloc, matches)?;
+    Ok(Request::Refute {
+        deployment,
+        seconds,
+        style,
+    })
 }
 
 fn replay_request<'a>(alloc: Global, matches: &ArgMatches<'a>) -> Result<Request<'a>, NoRequest>
@@ -469,10 +503,11 @@ fn limits_request<'a>(alloc: Global, matches: &ArgMatches<'a>) -> Result<Request
     ensures fault { IfErr result (λ e. ¬ IsHelp e) }
     ensures unasked { Misses (codes "limits") (rows_of (found_of matches.now)) result }
 {
-    let (deployment, style) = styled_deployment(alloc, matches)?;
+    let (deployment, seconds, style) = timed_deployment(alloc, matches)?;
     Ok(Request::Limits {
         deployment,
         what: finding(matches),
+        seconds,
         style,
     })
 }

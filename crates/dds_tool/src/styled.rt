@@ -12,7 +12,9 @@ ghost use Rattle.dds_tool.specs.Searches.{MayFindFor};
 use crate::thorough::thorough_file;
 use dds_answers::{Answer, Detail, Sources, ToolFault, check_files, match_file, propose_file};
 use dds_json::{Style, check_files_in_json, match_file_in_json, proposed_in_json};
+use dds_search::Budget;
 use std::alloc::Global;
+use std::time::Clock;
 
 /// The answer of `check` to two files, told in this style.
 pub(crate) fn check_in_style<S: Sources>(
@@ -89,10 +91,11 @@ pub(crate) fn propose_in_style<S: Sources>(
 }
 
 /// The answer of `propose --thorough` to a file, told in this style.
-pub(crate) fn search_in_style<S: Sources>(
+pub(crate) fn search_in_style<C: Clock, S: Sources>(
     alloc: Global,
     deployment: &str,
     style: Style,
+    budget: Budget<C>,
     files: &mut S,
 ) -> Result<Answer, ToolFault>
     ensures gives { (d : List ℕ) → S.holds files.old deployment.now ≡ Some d
@@ -100,5 +103,9 @@ pub(crate) fn search_in_style<S: Sources>(
     ensures causes { IfErr result (IsFileFault (S.has_failed files.new)) }
     ensures opened { OpensAll (S.opened files.old) (S.opened files.new) (deployment.now ∷ []) }
 {
-    proposed_in_style(alloc, thorough_file(alloc, deployment, files), style)
+    proposed_in_style(
+        alloc,
+        thorough_file(alloc, deployment, budget, files),
+        style,
+    )
 }

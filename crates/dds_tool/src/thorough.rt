@@ -13,9 +13,10 @@ ghost use Rattle.dds_answers.specs.Outcome.{Outcome, unproposed};
 ghost use Rattle.dds_deploy.specs.Document.{read as deployment_read};
 ghost use Rattle.dds_runs.specs.Accepted.{instance_limit};
 ghost use Rattle.dds_tool.specs.Missing.{IsDepthFor, IsLimitText, IsMissingText, least_line, length_line, own_name};
-ghost use Rattle.dds_tool.specs.Missing.{shower};
+ghost use Rattle.dds_tool.specs.Missing.{short_line, shower};
 ghost use Rattle.dds_tool.specs.Searches.{MayFind, MayFindFor};
 
+use crate::refuting::shortage_word;
 use dds_answers::{
     Answer, MAX_FILE, Sources, ToolFault, certified, read_file, read_plan, structure_text,
 };
@@ -24,10 +25,11 @@ use dds_check::No;
 use dds_match::Plan;
 use dds_propose::propose;
 use dds_propose::targets::Target;
-use dds_search::{Found, Least, Missing, search};
+use dds_search::{Budget, Found, Least, Missing, Shortage, search};
 use dds_weights::Certificate;
 use dds_weights::naming::{name_at, reader_key, writer_key};
 use std::alloc::Global;
+use std::time::Clock;
 
 /// The limit of a key of a reader by its own policies, with its name: its depth where it keeps the last samples alone.
 fn own_limit(plan: &Plan, reader: ReaderNo) -> (&'static str, Option<u32>)
@@ -149,6 +151,16 @@ fn least_text(alloc: Global, limit: &str, shower: &str, least: Least) -> Result<
     }
 }
 
+/// What ran out where no weights were found for a limit.
+fn short_text(alloc: Global, limit: &str, shortage: Shortage) -> Result<String, NoMemory>
+    ensures { IfOk result (λ text. string_bytes text ≡ short_line limit.now shortage) }
+{
+    let word = shortage_word(shortage);
+    format!(in alloc;
+        "ddscheck: no weights were found that show {limit}: the search ran out of {word}\n"
+    )
+}
+
 /// Why no certificate was found.
 fn missing_text(alloc: Global, plan: &Plan, missing: Missing) -> Result<String, NoMemory>
     ensures { IfOk result (λ text. IsMissingText plan.now missing (string_bytes text)) }
@@ -161,6 +173,10 @@ fn missing_text(alloc: Global, plan: &Plan, missing: Missing) -> Result<String, 
         Missing::Limit { target, least } => {
             let limit = limit_text(alloc, plan, &target)?;
             least_text(alloc, limit.as_str(), shown_by(&target), least)
+        }
+        Missing::Short { target, shortage } => {
+            let limit = limit_text(alloc, plan, &target)?;
+            short_text(alloc, limit.as_str(), shortage)
         }
         Missing::Rows => String::from_str(
             alloc,
@@ -247,11 +263,11 @@ fn by_rounds(alloc: Global, plan: &Plan, missing: Missing) -> Result<Answer, Too
 }
 
 /// The answer to what is found for a plan.
-fn sought(alloc: Global, plan: &Plan) -> Result<Answer, ToolFault>
+fn sought<C: Clock>(alloc: Global, plan: &Plan, budget: Budget<C>) -> Result<Answer, ToolFault>
     ensures gives { (end : Outcome) × MayFind (Ok plan.now) end × Gives result end }
     ensures fault { IfErr result IsAnswerFault }
 {
-    match search(alloc, plan) {
+    match search(alloc, plan, budget) {
         Ok(Found::Certificate(certificate)) => found(alloc, plan, &certificate),
         Ok(Found::Missing(missing)) => by_rounds(alloc, plan, missing),
         Err(_) => Err(ToolFault::NoMemory),
@@ -260,20 +276,25 @@ fn sought(alloc: Global, plan: &Plan) -> Result<Answer, ToolFault>
 
 /// The answer of `propose --thorough` to the bytes of a deployment: yes with the text of a certificate that is
 /// accepted, of at most 1,048,576 bytes, or no where none was found, and then with a note that says why.
-pub fn thorough_answer(alloc: Global, deployment: &[u8]) -> Result<Answer, ToolFault>
+pub fn thorough_answer<C: Clock>(
+    alloc: Global,
+    deployment: &[u8],
+    budget: Budget<C>,
+) -> Result<Answer, ToolFault>
     ensures gives { (end : Outcome) × MayFind (deployment_read deployment.now) end × Gives result end }
     ensures fault { IfErr result IsAnswerFault }
 {
     let plan = read_plan(alloc, deployment)?;
-    let answer = sought(alloc, &plan);
+    let answer = sought(alloc, &plan, budget);
     drop(plan);
     answer
 }
 
 /// The answer of `propose --thorough` to a file, which is read whole before it is parsed.
-pub fn thorough_file<S: Sources>(
+pub fn thorough_file<C: Clock, S: Sources>(
     alloc: Global,
     deployment: &str,
+    budget: Budget<C>,
     files: &mut S,
 ) -> Result<Answer, ToolFault>
     ensures gives { (d : List ℕ) → S.holds files.old deployment.now ≡ Some d
@@ -282,7 +303,7 @@ pub fn thorough_file<S: Sources>(
     ensures opened { OpensAll (S.opened files.old) (S.opened files.new) (deployment.now ∷ []) }
 {
     match read_file(alloc, files, deployment) {
-        Ok(bytes) => thorough_answer(alloc, bytes.as_slice()),
+        Ok(bytes) => thorough_answer(alloc, bytes.as_slice(), budget),
         Err(fault) => Err(fault),
     }
 }

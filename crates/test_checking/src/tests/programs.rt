@@ -78,7 +78,7 @@ const RUNS: [Run; 3] = [
         conditions: &CORNER,
         sum: [0, 1, 1],
         pivots: 1,
-        end: Err(Stop::Budget),
+        end: Ok(End::CutOff),
     },
     Run {
         about: "numbers that pass 128 bits are given up, and not rounded",

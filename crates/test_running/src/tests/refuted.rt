@@ -5,11 +5,15 @@ use crate::tests::plans::{NO_MEMORY, plan_of, world_of};
 use crate::tests::texts::{CLOCK, FIELD};
 use dds_base::{Arrival, Event, KeyNo, ReaderNo, Reply, WriterNo};
 use dds_match::Plan;
-use dds_search::{Counterexample, Loss, Refutation, refute};
+use dds_search::{Budget, Counterexample, Loss, Refutation, refute};
 use std::alloc::Global;
 use std::process::Abort;
+use std::time::Clock;
 use test_files::drawn::deployment;
 use test_files::texts::LOOP;
+
+/// How many seconds a search may take.
+const SECONDS: u16 = 600;
 
 /// How many deployments are drawn.
 const DRAWN: u32 = 200;
@@ -24,8 +28,9 @@ fn expect_same_run(rt: &impl Abort, alloc: Global, plan: &Plan, run: &Counterexa
 }
 
 /// Looks for a run of a deployment that loses a sample, and compares the one that is found. Tells whether there is one.
-fn expect_refuted(rt: &impl Abort, alloc: Global, text: &str) -> bool {
-    let Ok((refutation, plan)) = refute(alloc, plan_of(rt, alloc, text)) else {
+fn expect_refuted<R: Abort + Clock>(rt: &R, alloc: Global, text: &str) -> bool {
+    let budget = Budget::new(rt, SECONDS);
+    let Ok((refutation, plan)) = refute(alloc, plan_of(rt, alloc, text), budget) else {
         panic!(rt; "no memory for the search");
     };
     let is_unsafe = match &refutation {
@@ -93,7 +98,8 @@ fn a_sample_that_a_writer_drops_is_given_up(rt: HostRuntime) {
         "topic = \"t\", depth = 2",
     );
     let text = text.expect(&rt, NO_MEMORY);
-    let Ok((refutation, plan)) = refute(alloc, plan_of(&rt, alloc, text.as_str())) else {
+    let budget = Budget::new(&rt, SECONDS);
+    let Ok((refutation, plan)) = refute(alloc, plan_of(&rt, alloc, text.as_str()), budget) else {
         panic!(&rt; "no memory for the search");
     };
     let Refutation::Unsafe(run) = &refutation else {
