@@ -27,7 +27,7 @@ _ddscheck() {
     draw) options="-h --help" ;;
     refute) options="--seconds --format -h --help" ;;
     replay) options="--format -h --help" ;;
-    limits) options="--certificate --seconds --format -h --help" ;;
+    limits) options="--certificate --explain --seconds --format -h --help" ;;
     conform) options="--format -h --help" ;;
     esac
     case $word in

@@ -38,6 +38,7 @@ complete -c ddscheck -n '__fish_seen_subcommand_from refute' -s h -l help -d 'Pr
 complete -c ddscheck -n '__fish_seen_subcommand_from replay' -l format -x -a 'text json' -d 'text or json [default: text]'
 complete -c ddscheck -n '__fish_seen_subcommand_from replay' -s h -l help -d 'Print help'
 complete -c ddscheck -n '__fish_seen_subcommand_from limits' -l certificate -d 'Prints a certificate that shows these bounds, in place of them'
+complete -c ddscheck -n '__fish_seen_subcommand_from limits' -l explain -d 'Tells by what weights, or by which firings without end, each line is so'
 complete -c ddscheck -n '__fish_seen_subcommand_from limits' -l seconds -x -d 'How many seconds a search may take [default: 60]'
 complete -c ddscheck -n '__fish_seen_subcommand_from limits' -l format -x -a 'text json' -d 'text or json [default: text]'
 complete -c ddscheck -n '__fish_seen_subcommand_from limits' -s h -l help -d 'Print help'

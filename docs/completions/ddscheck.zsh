@@ -78,6 +78,7 @@ _ddscheck() {
                 '2:events:_files -g "*.toml"' ;;
             limits) _arguments \
                 '--certificate[Prints a certificate that shows these bounds, in place of them]' \
+                '--explain[Tells by what weights, or by which firings without end, each line is so]' \
                 '--seconds[How many seconds a search may take \[default: 60\]]:N:()' \
                 '--format[text or json \[default: text\]]:FORMAT:(text json)' \
                 '-h[Print help]' \

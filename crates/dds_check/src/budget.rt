@@ -41,7 +41,7 @@ fn opened_by_rule(plan: &Plan, weights: &Tables, u: RuleNo) -> u128
 }
 
 /// The sum of weight times opening permits over the keys of all writers, in one pass over the rules. It is below 2^77.
-pub(crate) fn budget(plan: &Plan, weights: &Tables) -> u128
+pub fn budget(plan: &Plan, weights: &Tables) -> u128
     ensures { result ≡ budget (network_of plan.now) (row_of weights.now) }
 {
     let mut total: u128 = 0;

@@ -10,7 +10,8 @@ use dds_base::{ReaderNo, WriterNo};
 use dds_conditions::{readers_of, writers_of};
 use dds_match::Plan;
 
-fn not_matched(plan: &Plan, writer: WriterNo, reader: ReaderNo) -> Option<No>
+/// Number 10: the pair is intended and doesn't match.
+pub fn not_matched(plan: &Plan, writer: WriterNo, reader: ReaderNo) -> Option<No>
     ensures { result ≡ not_matched (network_of plan.now) writer reader }
 {
     let lacks = plan.intended(writer, reader) && !plan.matched(writer, reader);
@@ -39,7 +40,8 @@ fn first_not_matched(plan: &Plan) -> Option<No>
     )
 }
 
-fn not_intended(plan: &Plan, writer: WriterNo, reader: ReaderNo) -> Option<No>
+/// Number 11: the pair matches and isn't intended.
+pub fn not_intended(plan: &Plan, writer: WriterNo, reader: ReaderNo) -> Option<No>
     ensures { result ≡ not_intended (network_of plan.now) writer reader }
 {
     let surplus = plan.matched(writer, reader) && !plan.intended(writer, reader);

@@ -20,10 +20,11 @@ use dds_conditions::is_enough;
 use dds_match::Plan;
 use dds_weights::{Bound, Certificate, Row, Total};
 
-/// No certificate has more rows.
-const ROWS: usize = 64;
+/// The most rows that a certificate has.
+pub const ROWS: usize = 64;
 
-fn budgets_of(plan: &Plan, certificate: &Certificate) -> [u128; ROWS]
+/// By the number of the row, what the permits at the opening weigh by it.
+pub fn budgets_of(plan: &Plan, certificate: &Certificate) -> [u128; ROWS]
     requires { IsTabled (certificate_view certificate.now) }
     ensures { HasBudgets (network_of plan.now) (certificate_view certificate.now).rows result }
 {
@@ -35,7 +36,9 @@ fn budgets_of(plan: &Plan, certificate: &Certificate) -> [u128; ROWS]
     budgets
 }
 
-fn shows(
+/// Whether a row shows a bound: a sample weighs something, and one sample more than the bound weighs more than the
+/// permits at the opening.
+pub fn shows(
     plan: &Plan,
     weights: &Tables,
     opening: u128,
@@ -70,20 +73,23 @@ fn shows_all(plan: &Plan, weights: &Tables, opening: u128, total: &Total) -> boo
     all
 }
 
-fn find_row(certificate: &Certificate, n: usize) -> Option<&Row>
+/// Row n of a certificate, from 0, if there is one.
+pub fn find_row(certificate: &Certificate, n: usize) -> Option<&Row>
     ensures { option_map (λ row. row_view row.now) result ≡ slice_get (certificate_view certificate.now).rows n }
 {
     certificate.rows.get(n)
 }
 
-fn bound_at(certificate: &Certificate, i: usize) -> &Bound
+/// Bound i of a certificate, from 0.
+pub fn bound_at(certificate: &Certificate, i: usize) -> &Bound
     requires { i < vec_len certificate.now.bounds }
     ensures { slice_get (certificate_view certificate.now).bounds i ≡ Some result.now }
 {
     &certificate.bounds[i]
 }
 
-fn total_at(certificate: &Certificate, i: usize) -> &Total
+/// Total i of a certificate, from 0.
+pub fn total_at(certificate: &Certificate, i: usize) -> &Total
     requires { i < vec_len certificate.now.totals }
     ensures { slice_get (certificate_view certificate.now).totals i ≡ Some result.now }
 {
@@ -193,7 +199,8 @@ fn is_total_shown(
     }
 }
 
-fn total_not_shown(
+/// Number 33 of a total, the certificate's i-th from 0: no row shows it for each key that reaches the reader.
+pub fn total_not_shown(
     plan: &Plan,
     certificate: &Certificate,
     budgets: &[u128; ROWS],

@@ -28,7 +28,7 @@ fn add_reader(plan: &Plan, weights: &Tables, cells: &mut [u64; PLACES], reader: 
 }
 
 /// For each writer and key what a write puts in flight, weighed by the row.
-pub(crate) fn spreads_of(plan: &Plan, weights: &Tables) -> [u64; PLACES]
+pub fn spreads_of(plan: &Plan, weights: &Tables) -> [u64; PLACES]
     ensures { ShowsSpreads (network_of plan.now) (row_of weights.now) result }
 {
     let mut cells = [0; PLACES];

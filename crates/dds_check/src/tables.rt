@@ -157,8 +157,8 @@ fn row_at(certificate: &Certificate, n: usize) -> &Row
     &certificate.rows[n]
 }
 
-/// The tables of row n of a certificate.
-pub(crate) fn tables_of<'a>(certificate: &'a Certificate, n: usize) -> Tables<'a>
+/// The tables of row n of a certificate, from 0.
+pub fn tables_of<'a>(certificate: &'a Certificate, n: usize) -> Tables<'a>
     requires tabled { IsTabled (certificate_view certificate.now) }
     requires there { n < length (certificate_view certificate.now).rows }
     ensures { slice_get (certificate_view certificate.now).rows n ≡ Some result }

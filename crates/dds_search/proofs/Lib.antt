@@ -6,3 +6,4 @@ mod Unaccepted
 mod Never
 mod Growing
 mod Summed
+mod Holding

@@ -4,3 +4,5 @@ pub mod Refuted
 pub mod Refutations
 pub mod Sizes
 pub mod Budgets
+pub mod Rays
+pub mod Reasons

@@ -76,17 +76,17 @@ fn permits(alloc: Global, net: &Net, row: &WeighedRow) -> Result<Vec<Weight<Writ
     Ok(list)
 }
 
-/// A row as a certificate lists it, by its place in the certificate, from 0.
-fn listed(alloc: Global, net: &Net, place: usize, row: &WeighedRow) -> Result<Row, NoMemory> {
+/// A row as a certificate lists it, under this name.
+fn listed(alloc: Global, net: &Net, name: String, row: &WeighedRow) -> Result<Row, NoMemory> {
     Ok(Row {
-        name: format!(in alloc; "w{place}")?,
+        name,
         samples: samples(alloc, net, row)?,
         takes: takes(alloc, net, row)?,
         permits: permits(alloc, net, row)?,
     })
 }
 
-/// The rows of a choice, in its order.
+/// The rows of a choice, in its order, with their places from 0 in their names.
 fn rows_of(
     alloc: Global,
     net: &Net,
@@ -96,7 +96,8 @@ fn rows_of(
     let mut list = Vec::new(alloc);
     for place in 0..chosen.len() {
         if let Some(row) = rows.get(chosen[place]) {
-            push(&mut list, listed(alloc, net, place, row)?)?;
+            let name = format!(in alloc; "w{place}")?;
+            push(&mut list, listed(alloc, net, name, row)?)?;
         }
     }
     Ok(list)
@@ -148,7 +149,8 @@ pub(crate) fn certificate_of(
     })
 }
 
-/// A certificate with one row, which claims a bound for a target.
+/// A certificate with one row, which claims a bound for a target. The row is named as one speaks of it, since nobody is
+/// given this certificate.
 pub(crate) fn claim(
     alloc: Global,
     net: &Net,
@@ -162,7 +164,8 @@ pub(crate) fn claim(
     let mut rows = Vec::new(alloc);
     let mut bounds = Vec::new(alloc);
     let mut totals = Vec::new(alloc);
-    push(&mut rows, listed(alloc, net, 0, row)?)?;
+    let name = String::from_str(alloc, "its row")?;
+    push(&mut rows, listed(alloc, net, name, row)?)?;
     match target {
         Target::Instance { reader, key } => bounds.push(Bound {
             reader: *reader,

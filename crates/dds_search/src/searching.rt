@@ -9,6 +9,7 @@ ghost use Rattle.dds_check.specs.Accepts.{first_no};
 ghost use Rattle.dds_claims.specs.Claims.{structure_no};
 ghost use Rattle.dds_runs.specs.Certified.{Safe};
 ghost use Rattle.dds_search.specs.Answers.{IsShownFor, IsShownLeast, IfCertificate, IfStructure, IfLimit};
+ghost use Rattle.dds_search.specs.Reasons.{IsClaimFor};
 
 use crate::answer::{Found, Least, Missing};
 use crate::attempt::{Attempt, Climber};
@@ -17,6 +18,7 @@ use crate::collecting::Collected;
 use crate::limits::{Limited, certified_limits};
 use crate::listing::{certificate_of, claim};
 use crate::net::Net;
+use crate::rays::{Ray, is_ray};
 use crate::rows::cover;
 use crate::weights::WeighedRow;
 use dds_base::NoMemory;
@@ -46,6 +48,29 @@ fn accepted(plan: &Plan, certificate: Certificate) -> Found
     }
 }
 
+/// The certificate that claims a bound for a target alone, where its row holds and shows it.
+pub(crate) fn claimed(
+    alloc: Global,
+    plan: &Plan,
+    net: &Net,
+    target: &Target,
+    row: &WeighedRow,
+    bound: u32,
+) -> Result<Option<Certificate>, NoMemory>
+    ensures { IfOk result
+        (λ found. IfSome found (λ c. IsClaimFor (network_of plan.now) target.now bound (certificate_view c))) }
+{
+    let certificate = claim(alloc, net, target, row, bound)?;
+    if !certificate.fits(plan) {
+        return Ok(None);
+    }
+    if shows(plan, &certificate) {
+        Ok(Some(certificate))
+    } else {
+        Ok(None)
+    }
+}
+
 /// What is told of a bound above a limit: it is told only where its row holds and shows it.
 fn shown(
     alloc: Global,
@@ -57,14 +82,23 @@ fn shown(
 ) -> Result<Least, NoMemory>
     ensures { IfOk result (IsShownLeast (network_of plan.now) target.now) }
 {
-    let claimed = claim(alloc, net, target, row, bound)?;
-    if !claimed.fits(plan) {
-        return Ok(Least::Unknown);
+    match claimed(alloc, plan, net, target, row, bound)? {
+        Some(certificate) => {
+            drop(certificate);
+            Ok(Least::Shown(bound))
+        }
+        None => Ok(Least::Unknown),
     }
-    if shows(plan, &claimed) {
-        Ok(Least::Shown(bound))
+}
+
+/// What is told of a ray: that no weights show a bound only where it is one.
+fn raised(plan: &Plan, target: &Target, ray: &Ray) -> Least
+    ensures { IsShownLeast (network_of plan.now) target.now result }
+{
+    if is_ray(plan, target, ray) {
+        Least::Unbounded
     } else {
-        Ok(Least::Unknown)
+        Least::Unknown
     }
 }
 
@@ -80,7 +114,7 @@ pub(crate) fn least_of(
 {
     match attempt {
         Attempt::Row { row, bound } => shown(alloc, plan, net, target, row, *bound),
-        Attempt::Unbounded => Ok(Least::Unbounded),
+        Attempt::Unbounded(ray) => Ok(raised(plan, target, ray)),
         Attempt::Unknown(_) => Ok(Least::Unknown),
     }
 }

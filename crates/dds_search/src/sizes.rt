@@ -52,7 +52,7 @@ struct Measured {
 }
 
 /// The row with the least bound for some places, unless something ran out.
-fn attempt_at<C: Clock>(
+pub(crate) fn attempt_at<C: Clock>(
     alloc: Global,
     climber: &mut Climber<C>,
     places: &[usize],
@@ -98,7 +98,7 @@ fn size_of<C: Clock>(
 }
 
 /// Before the first climb.
-fn climber_of<'c, C: Clock>(
+pub(crate) fn climber_of<'c, C: Clock>(
     alloc: Global,
     plan: &Plan,
     budget: Budget<'c, C>,

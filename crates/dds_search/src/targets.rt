@@ -47,8 +47,9 @@ fn reader_targets(alloc: Global, plan: &Plan, reader: ReaderNo) -> Result<Vec<Ta
     }
 }
 
-/// The keys of all strict readers and the readers, in file order.
-pub(crate) fn every_target(alloc: Global, plan: &Plan) -> Result<Vec<Target>, NoMemory>
+/// The keys that can reach strict readers, and behind its keys each such reader, in file order: all that a certificate
+/// can bound. Only want of memory is an error.
+pub fn every_target(alloc: Global, plan: &Plan) -> Result<Vec<Target>, NoMemory>
     ensures { IfOk result (λ list. list.items ≡ every_target (network_of plan.now)) }
 {
     let mut targets = Vec::new(alloc);

@@ -19,7 +19,7 @@ pub(crate) struct WeighedRow {
 }
 
 /// The greatest number that divides all of the values; it stops looking once that is 1.
-fn divisor_of(values: &[i128]) -> u128 {
+pub(crate) fn divisor_of(values: &[i128]) -> u128 {
     let mut found = 0;
     for value in values {
         if found == 1 {

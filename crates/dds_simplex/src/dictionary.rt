@@ -155,8 +155,10 @@ impl Dictionary {
         }
     }
 
-    /// The column of the least free variable that would raise the sum.
-    fn entering(&self, sum: &Line) -> Option<usize>
+    /// The column of the least free variable that would raise the sum, `None` where none would. After a climb that
+    /// found no greatest value no line falls with it: while it rises, and the other free variables stay 0, the sum
+    /// rises without end.
+    pub fn entering(&self, sum: &Line) -> Option<usize>
         ensures greatest { IfNone result (IsGreatest self.now sum.now) }
         ensures raises { IfSome result
             (λ column. (column < vec_len self.now.free) × (pos 0 <ℤ number_of sum.now column)) }

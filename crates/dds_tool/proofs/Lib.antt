@@ -14,3 +14,4 @@ mod Conforms
 mod NeedsLists
 mod LimitEnds
 mod Openings
+mod Explanations

@@ -62,12 +62,12 @@ claim_gives style d sizes found (Some c) (Ok answer) same are fit shown all (inl
     (sizes, Some cert, subst (AreSizes (network_of d)) (sym same) are, (fit, shown, claims, is.1), refl) is.0
 
 -- ── documents without fractions
-least_plain : (least : Least) → has_float (least_document least) ≡ false
+pub least_plain : (least : Least) → has_float (least_document least) ≡ false
 least_plain (Shown n) = refl
 least_plain Unbounded = refl
 least_plain Unknown = refl
 
-subject_plain : (d : Lists) (one : Need) → has_float (subject_document d one) ≡ false
+pub subject_plain : (d : Lists) (one : Need) → has_float (subject_document d one) ≡ false
 subject_plain d (need.Key r k room) = refl
 subject_plain d (need.Reader r room) = refl
 subject_plain d (need.Writer w k room) = refl

@@ -26,7 +26,7 @@ use Rattle.dds_answers.specs.Migrations.{MayMigrateFor}
 use Rattle.dds_answers.specs.Proposals.{MayProposeFor}
 use Rattle.dds_tool.specs.Limits.{MayLimitFor}
 use Rattle.dds_tool.specs.declared.limits.Finding.{Finding}
-use Rattle.dds_tool.specs.declared.limits.Finding.TheVariants.{Bounds, Certificate}
+use Rattle.dds_tool.specs.declared.limits.Finding.TheVariants.{Bounds, Reasons, Certificate}
 use Rattle.dds_tool.specs.Refuting.{MayRefuteFor}
 use Rattle.dds_tool.specs.Replaying.{MayReplayFor}
 use Rattle.dds_tool.specs.Conforming.{MayConformFor}
@@ -95,7 +95,7 @@ Checks words deployment certificate detail style =
 
 -- what is asked for of the limits
 abbrev pub finding_of : List Row → Finding
-finding_of rows = if is_set rows (codes "certificate") then Certificate else Bounds
+finding_of rows = if is_set rows (codes "certificate") then Certificate else (if is_set rows (codes "explain") then Reasons else Bounds)
 
 -- the words show the deployment with this name in this format
 abbrev pub Shows : List Text → Text → Format → Type 0

@@ -73,9 +73,10 @@ refuting = styled (with_rule (one_file (codes "refute")) seconds_rule)
 abbrev pub replaying : App
 replaying = styled (with_rule (one_file (codes "replay")) (file_rule (codes "events")))
 
--- the command that tells which limits are needed, or the certificate that shows them where its flag is given
+-- the command that tells which limits are needed, with the reasons or by the certificate that shows them where their flags are given
 abbrev pub limiting : App
-limiting = styled (with_rule (with_rule (one_file (codes "limits")) (flag_rule (codes "certificate"))) seconds_rule)
+limiting =
+    styled (with_rule (with_rule (with_rule (one_file (codes "limits")) (flag_rule (codes "certificate"))) (flag_rule (codes "explain"))) seconds_rule)
 
 -- the command that tells whether a trace keeps the rules
 abbrev pub conforming : App

@@ -13,4 +13,6 @@ pub mod Missing
 pub mod Needs
 pub mod NeedsText
 pub mod LimitsDocument
+pub mod Reasons
+pub mod ReasonsDocument
 pub mod Limits

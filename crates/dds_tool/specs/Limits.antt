@@ -1,5 +1,5 @@
 -- What is answered to which limits a deployment needs.
-use Rattle.std.specs.Prelude.{ℕ, ◌≡◌, ◌≤◌, ◌⊎◌, Bool, true, false, List, length, Option, Some, None, IfSome, Ok, Err, codes, string_bytes}
+use Rattle.std.specs.Prelude.{ℕ, ◌≡◌, ◌≤◌, ◌⊎◌, Bool, true, false, List, ◌++◌, flat_map, length, Option, Some, None, IfSome, Ok, Err, codes, string_bytes}
 use Rattle.dds_fields.specs.Reading.{Read}
 use Rattle.dds_lists.specs.Lists.{Lists}
 use Rattle.dds_deploy.specs.Document as deployment
@@ -20,15 +20,23 @@ use Rattle.dds_json.specs.declared.style.Style.TheVariants.{Text, Json}
 use Rattle.dds_tool.specs.LimitsDocument.{claim_document, limits_document}
 use Rattle.dds_tool.specs.Needs.{are_bounded, needs_of}
 use Rattle.dds_tool.specs.NeedsText.{needs_lines}
+use Rattle.dds_tool.specs.Reasons.{AreExplained, because_of, sizes_of}
+use Rattle.dds_tool.specs.ReasonsDocument.{reasons_document}
 use Rattle.dds_tool.specs.declared.limits.Finding.{Finding}
-use Rattle.dds_tool.specs.declared.limits.Finding.TheVariants.{Bounds, Certificate}
+use Rattle.dds_tool.specs.declared.limits.Finding.TheVariants.{Bounds, Reasons, Certificate}
 use Rattle.dds_tool.specs.declared.needs.Need.{Need}
+use Rattle.dds_tool.specs.declared.reasons.Explained.{Explained}
 
 -- ── what is told
 -- what is needed, told in this style
 abbrev pub needs_told : Style → Lists → List Need → List ℕ
 needs_told Text d needs = needs_lines d needs
 needs_told Json d needs = line_of (limits_document d needs)
+
+-- the same with a line for each need that tells why
+abbrev pub reasons_told : Style → Lists → List Explained → List Need → List ℕ
+reasons_told Text d es needs = needs_lines d needs ++ flat_map (because_of d es) needs
+reasons_told Json d es needs = line_of (reasons_document d es needs)
 
 -- the text of a certificate, told in this style
 abbrev pub text_told : Style → List ℕ → Bool → List ℕ
@@ -57,6 +65,12 @@ MayTellNeeds style d end =
     (sizes : List Size) × AreSizes (network_of d) sizes
     × (end ≡ said (needs_told style d (needs_of (network_of d) sizes)) (are_bounded (needs_of (network_of d) sizes)))
 
+-- the same where each size is explained
+abbrev pub MayTellReasons : Style → Lists → Outcome → Type 0
+MayTellReasons style d end =
+    (es : List Explained) × AreExplained d es
+    × (end ≡ said (reasons_told style d es (needs_of (network_of d) (sizes_of es))) (are_bounded (needs_of (network_of d) (sizes_of es))))
+
 -- the certificate fits the deployment, no event raises the weighted sum of any of its rows, they show its bounds, it has all bounds of the sizes, and its text is
 -- no longer than a file may be
 abbrev pub IsClaim : Lists → List Size → lists.Certificate → Type 0
@@ -69,9 +83,10 @@ MayTellClaim style d end =
     (sizes : List Size) × (cert : Option lists.Certificate) × AreSizes (network_of d) sizes × IfSome cert (IsClaim d sizes)
     × (end ≡ said (claim_told style d (are_bounded (needs_of (network_of d) sizes)) cert) (is_claimed (are_bounded (needs_of (network_of d) sizes)) cert))
 
--- of a deployment that can be read: the one or the other, as it is asked for
+-- of a deployment that can be read, as it is asked for
 abbrev pub MayLimitLists : Finding → Style → Lists → Outcome → Type 0
 MayLimitLists Bounds style d end = MayTellNeeds style d end
+MayLimitLists Reasons style d end = MayTellReasons style d end
 MayLimitLists Certificate style d end = MayTellClaim style d end
 
 -- a flaw of the deployment is told

@@ -43,6 +43,9 @@ const THOROUGH_SECONDS: &str = "How many seconds the thorough search may take";
 /// What help says of the style of an answer.
 const STYLE: &str = "text or json";
 
+/// What help says of the flag of limits with their reasons.
+const REASONS: &str = "Tells by what weights, or by which firings without end, each line is so";
+
 /// What help says of the flag of an explained answer.
 const EXPLAIN: &str =
     "Tells the reason too: the numbers behind a refusal, how near each bound is to its limit, \
@@ -269,6 +272,7 @@ fn limits_command<'a>(alloc: Global) -> Result<Command<'a>, NoMemory>
         "Tells how much room each reader and the history of each writer needs",
     )?
     .arg(flag(alloc, "certificate", CLAIM))?
+    .arg(flag(alloc, "explain", REASONS))?
     .arg(seconds(alloc, SECONDS))?;
     styled(alloc, command)
 }

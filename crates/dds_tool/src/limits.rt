@@ -8,12 +8,16 @@ ghost use Rattle.dds_answers.specs.Fault.{IsAnswerFault};
 ghost use Rattle.dds_answers.specs.Opened.{OpensAll};
 ghost use Rattle.dds_deploy.specs.Document.{read as deployment_read};
 ghost use Rattle.dds_tool.specs.Limits.{IsSaid, MayLimit, MayLimitFor, MayLimitLists, MayTellClaim, MayTellNeeds};
-ghost use Rattle.dds_tool.specs.Limits.{TellsClaim, TellsFound, needs_told, none_told, text_told};
+ghost use Rattle.dds_tool.specs.Limits.{MayTellReasons, TellsClaim, TellsFound, needs_told, none_told, reasons_told};
+ghost use Rattle.dds_tool.specs.Limits.{text_told};
 ghost use Rattle.dds_tool.specs.Needs.{are_bounded, needs_of};
+ghost use Rattle.dds_tool.specs.Reasons.{sizes_of};
 
 use crate::limits_document::{claim_line, limits_line, none_line};
 use crate::needs::{Need, are_bounded, needs_of};
 use crate::needs_text::needs_text;
+use crate::reasons::{Explained, explain_sizes, reasons_text, sizes_of};
+use crate::reasons_document::reasons_line;
 use crate::thorough::length_text;
 use dds_answers::{Answer, MAX_FILE, Sources, ToolFault, answered, read_file, read_plan};
 use dds_base::NoMemory;
@@ -30,6 +34,8 @@ use std::time::Clock;
 pub enum Finding {
     /// The least bounds that weights show.
     Bounds,
+    /// The same, and why.
+    Reasons,
     /// A certificate that shows them.
     Certificate,
 }
@@ -82,6 +88,88 @@ fn tell_bounds<C: Clock>(
         return Err(ToolFault::NoMemory);
     };
     tell_needs(alloc, plan, sizes.as_slice(), style)
+}
+
+/// What is needed and why, in lines.
+fn explained_text(
+    alloc: Global,
+    plan: &Plan,
+    explained: &[Explained],
+    needs: &[Need],
+) -> Result<String, NoMemory>
+    ensures { IfOk result
+        (λ text. string_bytes text ≡ reasons_told Style.Text plan.now explained.now needs.now) }
+{
+    let lines = needs_text(alloc, plan.lists(), needs)?;
+    let reasons = reasons_text(alloc, plan, explained, needs)?;
+    format!(in alloc; "{lines}{reasons}")
+}
+
+/// What is needed and why, told in this style.
+fn told_reasons(
+    alloc: Global,
+    plan: &Plan,
+    explained: &[Explained],
+    needs: &[Need],
+    style: Style,
+) -> Result<String, NoMemory>
+    ensures { IfOk result (λ text. string_bytes text ≡ reasons_told style plan.now explained.now needs.now) }
+{
+    match style {
+        Style::Text => explained_text(alloc, plan, explained, needs),
+        Style::Json => reasons_line(alloc, plan, explained, needs),
+    }
+}
+
+/// What is needed by sizes that are explained. Only want of memory is an error.
+fn explained_needs(
+    alloc: Global,
+    plan: &Plan,
+    explained: &[Explained],
+) -> Result<Vec<Need>, NoMemory>
+    ensures { IfOk result
+        (λ needs. needs.items ≡ needs_of (network_of plan.now) (sizes_of explained.now)) }
+{
+    let sizes = sizes_of(alloc, explained)?;
+    needs_of(alloc, plan, &sizes)
+}
+
+/// The answer that tells what is needed and why, by sizes of a plan that are explained: yes where a bound is known of
+/// each need.
+fn tell_explained(
+    alloc: Global,
+    plan: &Plan,
+    explained: &[Explained],
+    style: Style,
+) -> Result<Answer, ToolFault>
+    ensures said { IfOk result
+        (IsSaid (reasons_told style plan.now explained.now (needs_of (network_of plan.now) (sizes_of explained.now)))
+        (are_bounded (needs_of (network_of plan.now) (sizes_of explained.now)))) }
+    ensures memory { IfErr result (λ e. e ≡ ToolFault.NoMemory) }
+{
+    let Ok(needs) = explained_needs(alloc, plan, explained) else {
+        return Err(ToolFault::NoMemory);
+    };
+    answered(
+        told_reasons(alloc, plan, explained, needs.as_slice(), style),
+        are_bounded(needs.as_slice()),
+    )
+}
+
+/// The answer with the least bounds of a plan, and why they are what they are.
+fn tell_reasons<C: Clock>(
+    alloc: Global,
+    plan: &Plan,
+    style: Style,
+    budget: Budget<C>,
+) -> Result<Answer, ToolFault>
+    ensures gives { GivesOneOf (MayTellReasons style plan.now) result }
+    ensures fault { IfErr result IsAnswerFault }
+{
+    let Ok(explained) = explain_sizes(alloc, plan, budget) else {
+        return Err(ToolFault::NoMemory);
+    };
+    tell_explained(alloc, plan, explained.as_slice(), style)
 }
 
 /// That there is no certificate, told in this style.
@@ -225,13 +313,14 @@ fn tell_limits<C: Clock>(
 {
     match what {
         Finding::Bounds => tell_bounds(alloc, plan, style, budget),
+        Finding::Reasons => tell_reasons(alloc, plan, style, budget),
         Finding::Certificate => tell_certificate(alloc, plan, style, budget),
     }
 }
 
 /// The answer of `limits` to the bytes of a deployment, told in this style: how much room each strict reader and each
-/// writer with KEEP_LAST needs, beside its limits, or a certificate that shows as much, of at most 1,048,576 bytes. It
-/// is yes where a bound is known of each need.
+/// writer with KEEP_LAST needs, beside its limits, with the reasons where they are asked for, or a certificate that
+/// shows as much, of at most 1,048,576 bytes. It is yes where a bound is known of each need.
 pub fn limits_answer<C: Clock>(
     alloc: Global,
     deployment: &[u8],

@@ -18,7 +18,11 @@ use serde_json::{Value, json};
 use std::alloc::Global;
 
 /// The endpoint whose samples count, and the key, if only those of one do.
-fn subject_document(alloc: Global, lists: &Deployment, need: &Need) -> Result<Value, NoMemory>
+pub(crate) fn subject_document(
+    alloc: Global,
+    lists: &Deployment,
+    need: &Need,
+) -> Result<Value, NoMemory>
     ensures { IfOk result (λ v. view v ≡ subject_document lists.now need.now) }
 {
     match need {
@@ -40,7 +44,7 @@ fn subject_document(alloc: Global, lists: &Deployment, need: &Need) -> Result<Va
 }
 
 /// The number of samples for which room is needed, or the word for why there is none.
-fn least_document(alloc: Global, least: Least) -> Result<Value, NoMemory>
+pub(crate) fn least_document(alloc: Global, least: Least) -> Result<Value, NoMemory>
     ensures { IfOk result (λ v. view v ≡ least_document least) }
 {
     match least {
@@ -51,7 +55,7 @@ fn least_document(alloc: Global, least: Least) -> Result<Value, NoMemory>
 }
 
 /// A limit, and whether it is too low.
-fn limit_document(alloc: Global, least: Least, limit: &Limit) -> Result<Value, NoMemory>
+pub(crate) fn limit_document(alloc: Global, least: Least, limit: &Limit) -> Result<Value, NoMemory>
     ensures { IfOk result (λ v. view v ≡ limit_document least limit.now) }
 {
     let name = policy_word(limit.policy);

@@ -94,7 +94,7 @@ fn key_limit(limits: &ReaderLimits) -> Option<Limit>
 }
 
 /// What limits a key of the reader with this number.
-fn limit_of_key(plan: &Plan, reader: ReaderNo) -> Option<Limit>
+pub(crate) fn limit_of_key(plan: &Plan, reader: ReaderNo) -> Option<Limit>
     ensures { result ≡ limit_of_key (network_of plan.now) reader }
 {
     if reader.number() >= plan.lists().readers() {
@@ -104,7 +104,7 @@ fn limit_of_key(plan: &Plan, reader: ReaderNo) -> Option<Limit>
 }
 
 /// What limits all samples of the reader with this number together.
-fn limit_of_total(plan: &Plan, reader: ReaderNo) -> Option<Limit>
+pub(crate) fn limit_of_total(plan: &Plan, reader: ReaderNo) -> Option<Limit>
     ensures { result ≡ limit_of_total (network_of plan.now) reader }
 {
     if reader.number() >= plan.lists().readers() {
@@ -170,7 +170,7 @@ fn with_least(greatest: Option<Least>, least: Least) -> Least
 }
 
 /// Whether a target is of the key at a reader that the writer matches.
-fn is_for(plan: &Plan, writer: WriterNo, key: KeyNo, target: &Target) -> bool
+pub(crate) fn is_for(plan: &Plan, writer: WriterNo, key: KeyNo, target: &Target) -> bool
     ensures { result ≡ is_for (network_of plan.now) writer key target.now }
 {
     match target {

@@ -33,7 +33,7 @@ fn subject_text(alloc: Global, lists: &Deployment, need: &Need) -> Result<String
 }
 
 /// The number of samples for which room is needed, or the word for why there is none.
-fn least_text(alloc: Global, least: Least) -> Result<String, NoMemory>
+pub(crate) fn least_text(alloc: Global, least: Least) -> Result<String, NoMemory>
     ensures { IfOk result (λ text. string_bytes text ≡ least_word least) }
 {
     match least {

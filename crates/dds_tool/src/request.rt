@@ -70,7 +70,7 @@ pub enum Request<'a> {
         seconds: u16,
         style: Style,
     },
-    /// Which limits a deployment needs, or the certificate that shows them.
+    /// Which limits a deployment needs, with the reasons or by the certificate that shows them.
     Limits {
         deployment: &'a str,
         what: Finding,
@@ -493,6 +493,8 @@ fn finding(matches: &ArgMatches) -> Finding
 {
     if is_set(matches, "certificate") {
         Finding::Certificate
+    } else if is_set(matches, "explain") {
+        Finding::Reasons
     } else {
         Finding::Bounds
     }
