@@ -1,0 +1,3 @@
+mod EveryLaws
+mod FirstOfAll
+mod LiveLaws

@@ -1,0 +1,4 @@
+pub mod Every
+pub mod Conditions
+pub mod Live
+pub mod Notes

@@ -1,0 +1,115 @@
+-- What a yes doesn't say.
+use Rattle.std.specs.Prelude.{ℕ, Bool, true, false, ◌&&◌, ◌||◌, ◌==◌, not, nat_lt, List, ◌++◌, length, Option, Some, None, is_some, is_none, if◌then◌else◌}
+use Rattle.std.specs.List.{list_any}
+use Rattle.std.specs.Option.{option_to_list}
+use Rattle.dds_base.specs.Sums.{any_below, count_below}
+use Rattle.dds_lists.specs.Lists.{Lists, keys_at, writer_topic}
+use Rattle.dds_match.specs.Network.{Network, reach, is_written}
+use Rattle.dds_match.specs.Plan.{network_of}
+use Rattle.dds_weights.specs.Lists as lists
+use Rattle.dds_weights.specs.declared.certificate.Bound.{Bound}
+use Rattle.dds_weights.specs.declared.certificate.Total.{Total}
+use Rattle.dds_runs.specs.Accepted.{instance_limit}
+use Rattle.dds_check.specs.Limits.{all_bounded}
+use Rattle.dds_check.specs.Tables.{total_of}
+use Rattle.dds_lint.specs.declared.notes.Note.{Note}
+use Rattle.dds_lint.specs.declared.notes.Note.TheVariants as note
+use Rattle.dds_lint.specs.Every.{every_below, those_below, those_in}
+use Rattle.dds_lint.specs.Live.{can_take_all, has_takes, opens}
+
+-- the note, where the test holds
+abbrev pub noted : Bool → Note → Option Note
+noted test what = if test then Some what else None
+
+-- the reader takes a part of what is written
+abbrev pub watcher : Network → ℕ → Option Note
+watcher net r = noted (net.watcher r) (note.Watcher r)
+
+-- the reader has no limit of samples, no total, and not for each key that can reach it a bound
+abbrev pub grows : Network → lists.Certificate → ℕ → Option Note
+grows net cert r =
+    noted
+    ((is_none (net.reader_limits r).max_samples && is_none (instance_limit (net.reader_limits r)))
+    && (is_none (total_of cert.totals r) && not (all_bounded net cert.bounds r)))
+    (note.Unlimited r)
+
+-- a rule writes the key at a writer of the topic
+abbrev pub is_key_written : Lists → ℕ → ℕ → Bool
+is_key_written d t k = any_below (network_of d).writers (λ w. (writer_topic d.writers w == t) && is_written (network_of d) w k)
+
+-- no rule writes the key
+abbrev pub unwritten_key : Lists → ℕ → ℕ → Option Note
+unwritten_key d t k = noted (not (is_key_written d t k)) (note.UnwrittenKey t k)
+
+-- no rule writes at the writer
+abbrev pub idle_writer : Network → ℕ → Option Note
+idle_writer net w = noted (count_below net.keys (is_written net w) == 0) (note.IdleWriter w)
+
+-- there is no rule
+abbrev pub no_rules : Network → Option Note
+no_rules net = noted (net.rules == 0) note.NoRules
+
+-- there are rules, and none opens
+abbrev pub no_start : Network → Option Note
+no_start net = noted (nat_lt 0 net.rules && not (any_below net.rules (opens net))) note.NoStart
+
+-- the rule takes something that can't come; or it takes nothing and doesn't open, and a rule that takes nothing never fires
+abbrev pub is_stuck : Network → (ℕ → Bool) → ℕ → Bool
+is_stuck net live u = if has_takes net u then not (can_take_all net live u) else not (opens net u)
+
+-- the rule is stuck
+abbrev pub stuck_rule : Network → (ℕ → Bool) → ℕ → Option Note
+stuck_rule net live u = noted (is_stuck net live u) (note.StuckRule u)
+
+-- the row shows no bound and no total
+abbrev pub unused_row : lists.Certificate → ℕ → Option Note
+unused_row cert n =
+    noted (not (list_any (λ (b : Bound). b.row == n) cert.bounds || list_any (λ (t : Total). t.row == n) cert.totals)) (note.UnusedRow n)
+
+-- the bound is that of a watcher, or of a key that can't reach the reader: no condition asks it
+abbrev pub needless_bound : Network → Bound → ℕ → Option Note
+needless_bound net b i = noted (net.watcher b.reader || not (reach net b.reader b.key)) (note.NeedlessBound i)
+
+-- the total is that of a watcher, or of a reader that no key can reach
+abbrev pub needless_total : Network → Total → ℕ → Option Note
+needless_total net t i = noted (net.watcher t.reader || (count_below net.keys (reach net t.reader) == 0)) (note.NeedlessTotal i)
+
+-- the writer keeps all, with a limit of samples, and waits for the reader
+abbrev pub held_up : Network → ℕ → ℕ → Option Note
+held_up net w r =
+    noted
+    (net.matched w r
+    && (not (net.watcher r)
+    && (is_none (net.writer_limits w).keep_last && (is_some (net.writer_limits w).max_samples || is_some (net.writer_limits w).max_samples_per_instance))))
+    (note.HeldUp w r)
+
+-- the keys of a topic that no rule writes
+abbrev pub unwritten_keys : Lists → ℕ → List Note
+unwritten_keys d t = those_below (length (keys_at d.topics t)) (unwritten_key d t)
+
+-- of readers, of keys and writers, and of rules
+abbrev pub reader_notes : Network → lists.Certificate → List Note
+reader_notes net cert = those_below net.readers (watcher net) ++ those_below net.readers (grows net cert)
+
+abbrev pub writer_notes : Lists → List Note
+writer_notes d = every_below (length d.topics.entries) (unwritten_keys d) ++ those_below (network_of d).writers (idle_writer (network_of d))
+
+abbrev pub absent_notes : Network → List Note
+absent_notes net = option_to_list (no_rules net) ++ option_to_list (no_start net)
+
+abbrev pub rule_notes : Network → (ℕ → Bool) → List Note
+rule_notes net live = absent_notes net ++ those_below net.rules (stuck_rule net live)
+
+-- of the rows, the bounds and the totals of a certificate
+abbrev pub certificate_notes : Network → lists.Certificate → List Note
+certificate_notes net cert =
+    those_below (length cert.rows) (unused_row cert) ++ those_in cert.bounds (needless_bound net) ++ those_in cert.totals (needless_total net)
+
+-- of pairs
+abbrev pub pair_notes : Network → List Note
+pair_notes net = every_below net.writers (λ w. those_below net.readers (held_up net w))
+
+-- all notes, by the rules that can permit a write
+unfoldable pub all_notes : Lists → (ℕ → Bool) → lists.Certificate → List Note
+all_notes d live cert =
+    reader_notes (network_of d) cert ++ writer_notes d ++ rule_notes (network_of d) live ++ certificate_notes (network_of d) cert ++ pair_notes (network_of d)

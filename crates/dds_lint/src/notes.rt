@@ -1,0 +1,404 @@
+//! What a yes doesn't say: who may miss samples, what can grow, and what never happens.
+ghost use Rattle.std.specs.Prelude.{◌≡◌, ◌++◌, ◌<◌, ◌==◌, ◌&&◌, ◌||◌, ℕ, Bool, IfOk, OnOk, false, length, slice_get};
+ghost use Rattle.std.specs.Prelude.{Some, slice_index_or, vec_len, not};
+ghost use Rattle.std.specs.List.{list_any};
+ghost use Rattle.dds_base.specs.Sums.{any_below};
+ghost use Rattle.dds_match.specs.Network.{is_written};
+ghost use Rattle.dds_match.specs.Plan.{network_of};
+ghost use Rattle.dds_lists.specs.Lists.{writer_topic};
+ghost use Rattle.dds_weights.specs.Views.{certificate_view};
+ghost use Rattle.dds_check.specs.Limits.{all_bounded, is_bounded};
+ghost use Rattle.dds_lint.specs.Every.{every_below, those_below, those_in};
+ghost use Rattle.dds_lint.specs.Live.{IsLive, opens};
+ghost use Rattle.dds_lint.specs.Notes.{absent_notes, all_notes, certificate_notes, grows, held_up, idle_writer, is_key_written, is_stuck};
+ghost use Rattle.dds_lint.specs.Notes.{needless_bound, needless_total, no_rules, no_start, noted, pair_notes};
+ghost use Rattle.dds_lint.specs.Notes.{reader_notes, rule_notes, stuck_rule, unused_row, unwritten_key, unwritten_keys};
+ghost use Rattle.dds_lint.specs.Notes.{watcher, writer_notes};
+
+use crate::every::{push_below, push_some};
+use crate::live::{RULES, can_take_all, has_takes, live_rules, opens};
+use dds_base::grid::KEYS;
+use dds_base::{KeyNo, NoMemory, ReaderNo, RuleNo, TopicNo, WriterNo};
+use dds_check::{find_bound, find_total, instance_limit, reached, written};
+use dds_conditions::{readers_of, rules_of, writers_of};
+use dds_match::Plan;
+use dds_weights::{Bound, Certificate, Total};
+use std::alloc::Global;
+
+/// What a yes doesn't say of something.
+#[derive(Clone, Copy, Debug, PartialEq, Eq)]
+pub enum Note {
+    /// The reader is a watcher: it may miss samples.
+    Watcher(ReaderNo),
+    /// The reader has no limit of samples, and no bound or total says how many it may have unread.
+    Unlimited(ReaderNo),
+    /// No rule writes the key at a writer of its topic.
+    UnwrittenKey {
+        topic: TopicNo,
+        key: KeyNo,
+    },
+    /// No rule writes at the writer.
+    IdleWriter(WriterNo),
+    /// There is no rule, so that nothing is written.
+    NoRules,
+    /// No rule starts and none is free, so that nothing is ever written.
+    NoStart,
+    /// The rule can never fire.
+    StuckRule(RuleNo),
+    /// No bound and no total is shown by the row with this place in the certificate, from 0.
+    UnusedRow(usize),
+    /// No condition asks for the bound with this place, from 0: its reader is a watcher, or no sample of its key can
+    /// come.
+    NeedlessBound(usize),
+    /// No condition asks for the total with this place, from 0: its reader is a watcher, or no sample can come.
+    NeedlessTotal(usize),
+    /// The writer keeps all within a limit, and waits for the reader where that is slow.
+    HeldUp {
+        writer: WriterNo,
+        reader: ReaderNo,
+    },
+}
+
+/// The note where the test is true.
+fn note_if(test: bool, note: Note) -> Option<Note>
+    ensures { result ≡ noted test note }
+{
+    if test { Some(note) } else { None }
+}
+
+fn watcher(plan: &Plan, reader: ReaderNo) -> Option<Note>
+    ensures { result ≡ watcher (network_of plan.now) reader }
+{
+    note_if(plan.watcher(reader), Note::Watcher(reader))
+}
+
+fn is_bounded(plan: &Plan, bounds: &[Bound], reader: ReaderNo, key: KeyNo) -> bool
+    ensures { result ≡ is_bounded (network_of plan.now) bounds.now reader key }
+{
+    !plan.reaches(reader, key) || find_bound(bounds, reader, key).is_some()
+}
+
+/// Whether each key that can reach a reader has a bound.
+fn all_bounded(plan: &Plan, bounds: &[Bound], reader: ReaderNo) -> bool
+    ensures { result ≡ all_bounded (network_of plan.now) bounds.now reader }
+{
+    let mut all = true;
+    for k in 0..KEYS {
+        let bounded = is_bounded(plan, bounds, reader, KeyNo::new(k));
+        all = all && bounded;
+    }
+    all
+}
+
+fn grows(plan: &Plan, certificate: &Certificate, reader: ReaderNo) -> Option<Note>
+    requires { reader < (network_of plan.now).readers }
+    ensures { result ≡ grows (network_of plan.now) (certificate_view certificate.now) reader }
+{
+    let limits = plan.reader_limits(reader);
+    let is_unlimited = limits.max_samples.is_none() && instance_limit(&limits).is_none();
+    let is_open = is_unlimited
+        && find_total(&certificate.totals, reader).is_none()
+        && !all_bounded(plan, &certificate.bounds, reader);
+    note_if(is_open, Note::Unlimited(reader))
+}
+
+/// Whether a writer is one of the topic, and a rule writes the key there.
+fn is_written_by(plan: &Plan, writer: WriterNo, topic: TopicNo, key: KeyNo) -> bool
+    requires { writer < (network_of plan.now).writers }
+    ensures { result ≡ ((writer_topic plan.now.writers writer == topic)
+        && is_written (network_of plan.now) writer key) }
+{
+    plan.lists().writer(writer).topic == topic && plan.is_written(writer, key)
+}
+
+fn is_key_written(plan: &Plan, topic: TopicNo, key: KeyNo) -> bool
+    ensures { result ≡ is_key_written plan.now topic key }
+{
+    let mut any = false;
+    for w in 0..writers_of(plan) {
+        let here = is_written_by(plan, WriterNo::new(w), topic, key);
+        any = here || any;
+    }
+    any
+}
+
+fn unwritten_key(plan: &Plan, topic: TopicNo, key: KeyNo) -> Option<Note>
+    ensures { result ≡ unwritten_key plan.now topic key }
+{
+    note_if(!is_key_written(plan, topic, key), Note::UnwrittenKey { topic, key })
+}
+
+fn idle_writer(plan: &Plan, writer: WriterNo) -> Option<Note>
+    ensures { result ≡ idle_writer (network_of plan.now) writer }
+{
+    note_if(written(plan, writer) == 0, Note::IdleWriter(writer))
+}
+
+fn no_rules(plan: &Plan) -> Option<Note>
+    ensures { result ≡ no_rules (network_of plan.now) }
+{
+    note_if(rules_of(plan) == 0, Note::NoRules)
+}
+
+/// Whether some rule opens.
+fn some_opens(plan: &Plan) -> bool
+    ensures { result ≡ any_below (network_of plan.now).rules (opens (network_of plan.now)) }
+{
+    let mut any = false;
+    for u in 0..rules_of(plan) {
+        let here = opens(plan, RuleNo::new(u));
+        any = here || any;
+    }
+    any
+}
+
+fn no_start(plan: &Plan) -> Option<Note>
+    ensures { result ≡ no_start (network_of plan.now) }
+{
+    note_if(0 < rules_of(plan) && !some_opens(plan), Note::NoStart)
+}
+
+/// Whether a rule can never fire and, where it takes nothing, doesn't open.
+fn is_stuck(plan: &Plan, live: &[bool; RULES], rule: RuleNo) -> bool
+    requires { rule < (network_of plan.now).rules }
+    ensures { result ≡ is_stuck (network_of plan.now) (λ u. slice_index_or live.now u false) rule }
+{
+    if has_takes(plan, rule) {
+        !can_take_all(plan, live, rule)
+    } else {
+        !opens(plan, rule)
+    }
+}
+
+fn stuck_rule(plan: &Plan, live: &[bool; RULES], rule: RuleNo) -> Option<Note>
+    requires { rule < (network_of plan.now).rules }
+    ensures { result ≡ stuck_rule (network_of plan.now) (λ u. slice_index_or live.now u false) rule }
+{
+    note_if(is_stuck(plan, live, rule), Note::StuckRule(rule))
+}
+
+/// Whether a bound names the row.
+fn is_bounding(bounds: &[Bound], row: usize) -> bool
+    ensures { result ≡ list_any (λ b. b.row == row) bounds.now }
+{
+    bounds.iter().any(|b| b.row == row)
+}
+
+/// Whether a total names the row.
+fn is_totalling(totals: &[Total], row: usize) -> bool
+    ensures { result ≡ list_any (λ t. t.row == row) totals.now }
+{
+    totals.iter().any(|t| t.row == row)
+}
+
+fn unused_row(certificate: &Certificate, row: usize) -> Option<Note>
+    ensures { result ≡ unused_row (certificate_view certificate.now) row }
+{
+    let is_used = is_bounding(&certificate.bounds, row) || is_totalling(&certificate.totals, row);
+    note_if(!is_used, Note::UnusedRow(row))
+}
+
+fn needless_bound(plan: &Plan, bound: &Bound, place: usize) -> Option<Note>
+    ensures { result ≡ needless_bound (network_of plan.now) bound.now place }
+{
+    let is_needless = plan.watcher(bound.reader) || !plan.reaches(bound.reader, bound.key);
+    note_if(is_needless, Note::NeedlessBound(place))
+}
+
+fn needless_total(plan: &Plan, total: &Total, place: usize) -> Option<Note>
+    ensures { result ≡ needless_total (network_of plan.now) total.now place }
+{
+    let is_needless = plan.watcher(total.reader) || reached(plan, total.reader) == 0;
+    note_if(is_needless, Note::NeedlessTotal(place))
+}
+
+fn held_up(plan: &Plan, writer: WriterNo, reader: ReaderNo) -> Option<Note>
+    requires { writer < (network_of plan.now).writers }
+    ensures { result ≡ held_up (network_of plan.now) writer reader }
+{
+    let limits = plan.writer_limits(writer);
+    let is_held_up = plan.matched(writer, reader)
+        && !plan.watcher(reader)
+        && limits.keep_last.is_none()
+        && (limits.max_samples.is_some() || limits.max_samples_per_instance.is_some());
+    note_if(is_held_up, Note::HeldUp { writer, reader })
+}
+
+fn push_readers(
+    notes: &mut Vec<Note>,
+    plan: &Plan,
+    certificate: &Certificate,
+) -> Result<(), NoMemory>
+    ensures { OnOk result (notes.new.items ≡ notes.old.items
+        ++ reader_notes (network_of plan.now) (certificate_view certificate.now)) }
+{
+    push_below(notes, readers_of(plan), |r| watcher(plan, ReaderNo::new(r)))?;
+    push_below(notes, readers_of(plan), |r| grows(plan, certificate, ReaderNo::new(r)))
+}
+
+fn push_keys(notes: &mut Vec<Note>, plan: &Plan) -> Result<(), NoMemory>
+    ensures { OnOk result (notes.new.items ≡ notes.old.items
+        ++ every_below (length plan.now.topics.entries) (unwritten_keys plan.now)) }
+{
+    for t in 0..plan.lists().topics() {
+        let topic = TopicNo::new(t);
+        let keys = plan.lists().keys(topic).len();
+        push_below(notes, keys, |k| unwritten_key(plan, topic, KeyNo::new(k)))?;
+    }
+    Ok(())
+}
+
+fn push_idle(notes: &mut Vec<Note>, plan: &Plan) -> Result<(), NoMemory>
+    ensures { OnOk result (notes.new.items ≡ notes.old.items
+        ++ those_below (network_of plan.now).writers (idle_writer (network_of plan.now))) }
+{
+    push_below(notes, writers_of(plan), |w| idle_writer(plan, WriterNo::new(w)))
+}
+
+fn push_writers(notes: &mut Vec<Note>, plan: &Plan) -> Result<(), NoMemory>
+    ensures { OnOk result (notes.new.items ≡ notes.old.items ++ writer_notes plan.now) }
+{
+    push_keys(notes, plan)?;
+    push_idle(notes, plan)
+}
+
+fn push_absent(notes: &mut Vec<Note>, plan: &Plan) -> Result<(), NoMemory>
+    ensures { OnOk result (notes.new.items ≡ notes.old.items ++ absent_notes (network_of plan.now)) }
+{
+    push_some(notes, no_rules(plan))?;
+    push_some(notes, no_start(plan))
+}
+
+fn push_stuck(
+    notes: &mut Vec<Note>,
+    plan: &Plan,
+    live: &[bool; RULES],
+) -> Result<(), NoMemory>
+    ensures { OnOk result (notes.new.items ≡ notes.old.items ++ those_below (network_of plan.now).rules
+        (stuck_rule (network_of plan.now) (λ u. slice_index_or live.now u false))) }
+{
+    push_below(notes, rules_of(plan), |u| stuck_rule(plan, live, RuleNo::new(u)))
+}
+
+fn push_rules(
+    notes: &mut Vec<Note>,
+    plan: &Plan,
+    live: &[bool; RULES],
+) -> Result<(), NoMemory>
+    ensures { OnOk result (notes.new.items ≡ notes.old.items
+        ++ rule_notes (network_of plan.now) (λ u. slice_index_or live.now u false)) }
+{
+    push_absent(notes, plan)?;
+    push_stuck(notes, plan, live)
+}
+
+fn bound_at(certificate: &Certificate, i: usize) -> &Bound
+    requires { i < vec_len certificate.now.bounds }
+    ensures { slice_get (certificate_view certificate.now).bounds i ≡ Some result.now }
+{
+    &certificate.bounds[i]
+}
+
+fn total_at(certificate: &Certificate, i: usize) -> &Total
+    requires { i < vec_len certificate.now.totals }
+    ensures { slice_get (certificate_view certificate.now).totals i ≡ Some result.now }
+{
+    &certificate.totals[i]
+}
+
+fn push_unused_rows(notes: &mut Vec<Note>, certificate: &Certificate) -> Result<(), NoMemory>
+    ensures { OnOk result (notes.new.items ≡ notes.old.items
+        ++ those_below (length (certificate_view certificate.now).rows)
+        (unused_row (certificate_view certificate.now))) }
+{
+    push_below(notes, certificate.rows.len(), |n| unused_row(certificate, n))
+}
+
+fn push_needless_bounds(
+    notes: &mut Vec<Note>,
+    plan: &Plan,
+    certificate: &Certificate,
+) -> Result<(), NoMemory>
+    ensures { OnOk result (notes.new.items ≡ notes.old.items
+        ++ those_in (certificate_view certificate.now).bounds (needless_bound (network_of plan.now))) }
+{
+    push_below(
+        notes,
+        certificate.bounds.len(),
+        |i| needless_bound(plan, bound_at(certificate, i), i),
+    )
+}
+
+fn push_needless_totals(
+    notes: &mut Vec<Note>,
+    plan: &Plan,
+    certificate: &Certificate,
+) -> Result<(), NoMemory>
+    ensures { OnOk result (notes.new.items ≡ notes.old.items
+        ++ those_in (certificate_view certificate.now).totals (needless_total (network_of plan.now))) }
+{
+    push_below(
+        notes,
+        certificate.totals.len(),
+        |i| needless_total(plan, total_at(certificate, i), i),
+    )
+}
+
+fn push_certificate(
+    notes: &mut Vec<Note>,
+    plan: &Plan,
+    certificate: &Certificate,
+) -> Result<(), NoMemory>
+    ensures { OnOk result (notes.new.items ≡ notes.old.items
+        ++ certificate_notes (network_of plan.now) (certificate_view certificate.now)) }
+{
+    push_unused_rows(notes, certificate)?;
+    push_needless_bounds(notes, plan, certificate)?;
+    push_needless_totals(notes, plan, certificate)
+}
+
+fn push_pairs(notes: &mut Vec<Note>, plan: &Plan) -> Result<(), NoMemory>
+    ensures { OnOk result (notes.new.items ≡ notes.old.items ++ pair_notes (network_of plan.now)) }
+{
+    for w in 0..writers_of(plan) {
+        let writer = WriterNo::new(w);
+        push_below(notes, readers_of(plan), |r| held_up(plan, writer, ReaderNo::new(r)))?;
+    }
+    Ok(())
+}
+
+#[tactic(auto, unfolding(crate::specs::Notes::all_notes))]
+fn push_all(
+    notes: &mut Vec<Note>,
+    plan: &Plan,
+    certificate: &Certificate,
+    live: &[bool; RULES],
+) -> Result<(), NoMemory>
+    ensures { OnOk result (notes.new.items ≡ notes.old.items
+        ++ all_notes plan.now (λ u. slice_index_or live.now u false) (certificate_view certificate.now)) }
+{
+    push_readers(notes, plan, certificate)?;
+    push_writers(notes, plan)?;
+    push_rules(notes, plan, live)?;
+    push_certificate(notes, plan, certificate)?;
+    push_pairs(notes, plan)
+}
+
+/// What a yes doesn't say of a plan and a certificate, which may be empty: readers that may miss samples or grow without
+/// end, keys and writers that no rule writes, rules that never fire, what of the certificate nothing needs, and readers
+/// for which a writer waits. Which rules can fire goes by counts without amounts: what can come once is taken to come as
+/// often as a rule needs it. Only want of memory is an error.
+pub fn all_notes(
+    alloc: Global,
+    plan: &Plan,
+    certificate: &Certificate,
+) -> Result<Vec<Note>, NoMemory>
+    ensures { IfOk result
+        (λ notes. (live : ℕ → Bool) × IsLive (network_of plan.now) live
+        × (notes.items ≡ all_notes plan.now live (certificate_view certificate.now))) }
+{
+    let live = live_rules(plan);
+    let mut notes = Vec::new(alloc);
+    push_all(&mut notes, plan, certificate, &live)?;
+    Ok(notes)
+}
