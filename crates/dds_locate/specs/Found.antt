@@ -1,6 +1,6 @@
 -- What is found of a path in a text.
 use Rattle.std.specs.Prelude.{ℕ}
-use Rattle.dds_locate.specs.declared.locating.Found.{Found}
+use Rattle.dds_locate.specs.declared.places.Found.{Found}
 use Rattle.dds_locate.specs.Spans.{IsWithin}
 
 -- its stretches are of a text of this length

@@ -1,5 +1,5 @@
 -- Places of a text, and the lines and columns of them.
-use Rattle.std.specs.Prelude.{ℕ, ◌≤◌, ◌+◌, ◌==◌, ◌&&◌, not, nat_le, Bool, List, length, filter, take, take_while, reverse, count_by}
+use Rattle.std.specs.Prelude.{ℕ, ◌≤◌, ◌+◌, ◌==◌, ◌&&◌, not, nat_le, Bool, List, length, filter, take_while, reverse, count_by}
 use Rattle.dds_locate.specs.declared.span.Span.{Span}
 
 -- a stretch of a text of this length

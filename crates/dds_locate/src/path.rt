@@ -51,15 +51,10 @@ impl Path {
         self.text.as_slice()
     }
 
-    /// Whether the other path is this one, or begins with it and goes on below.
-    pub(crate) fn leads_to(&self, other: &[u8]) -> bool {
-        let length = self.text.len();
-        if !other.starts_with(self.text.as_slice()) {
-            return false;
-        }
-        match other.get(length) {
-            None => true,
-            Some(next) => length == 0 || *next == b'.' || *next == b'[',
-        }
+    /// The path's bytes, kept apart from it.
+    pub(crate) fn copy(&self) -> Result<Vec<u8>, NoMemory> {
+        let mut text = Vec::new(self.alloc);
+        text.extend_from_slice(self.text.as_slice())?;
+        Ok(text)
     }
 }

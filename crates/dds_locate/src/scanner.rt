@@ -1,5 +1,4 @@
 //! The pieces of a TOML text, one after another. What is no TOML is passed over somehow.
-ghost use Rattle.std.specs.Prelude.{◌≡◌};
 
 use crate::span::Span;
 
@@ -27,16 +26,22 @@ fn ends_word(byte: u8) -> bool {
 }
 
 impl<'a> Scanner<'a> {
-    /// The beginning of a text.
-    pub(crate) fn new(bytes: &'a [u8]) -> Scanner<'a>
-        ensures { result.bytes ≡ bytes }
-    {
-        Scanner { bytes, at: 0 }
+    /// The beginning of a text, after its byte order mark.
+    pub(crate) fn new(bytes: &'a [u8]) -> Scanner<'a> {
+        let at = if bytes.starts_with(b"\xef\xbb\xbf") {
+            3
+        } else {
+            0
+        };
+        Scanner { bytes, at }
     }
 
     /// The byte that is so many further on, 0 past the end.
     pub(crate) fn peek(&self, further: usize) -> u8 {
-        self.bytes.get(self.at.saturating_add(further)).copied().unwrap_or(0)
+        self.bytes
+            .get(self.at.saturating_add(further))
+            .copied()
+            .unwrap_or(0)
     }
 
     /// Whether the text is at its end.
@@ -54,42 +59,38 @@ impl<'a> Scanner<'a> {
     }
 
     /// Goes on by so many bytes.
-    pub(crate) fn skip(&mut self, count: usize)
-        ensures { self.new.bytes ≡ self.old.bytes }
-    {
+    pub(crate) fn skip(&mut self, count: usize) {
         self.at = self.at.saturating_add(count);
     }
 
     /// Passes spaces and tabs.
-    pub(crate) fn skip_spaces(&mut self)
-        ensures { self.new.bytes ≡ self.old.bytes }
-    {
+    pub(crate) fn skip_spaces(&mut self) {
         let rest = self.rest();
-        let count = rest.iter().position(|b| !is_space(*b)).unwrap_or(rest.len());
+        let count = rest
+            .iter()
+            .position(|b| !is_space(*b))
+            .unwrap_or(rest.len());
         self.skip(count);
     }
 
     /// Goes to the end of the line.
-    pub(crate) fn skip_line(&mut self)
-        ensures { self.new.bytes ≡ self.old.bytes }
-    {
+    pub(crate) fn skip_line(&mut self) {
         let rest = self.rest();
         let count = rest.iter().position(|b| *b == b'\n').unwrap_or(rest.len());
         self.skip(count);
     }
 
-    fn skip_white(&mut self)
-        ensures { self.new.bytes ≡ self.old.bytes }
-    {
+    fn skip_white(&mut self) {
         let rest = self.rest();
-        let count = rest.iter().position(|b| !is_blank(*b)).unwrap_or(rest.len());
+        let count = rest
+            .iter()
+            .position(|b| !is_blank(*b))
+            .unwrap_or(rest.len());
         self.skip(count);
     }
 
     /// Passes white space, line ends and comments.
-    pub(crate) fn skip_blank(&mut self)
-        ensures { self.new.bytes ≡ self.old.bytes }
-    {
+    pub(crate) fn skip_blank(&mut self) {
         for _ in 0..self.bytes.len() {
             self.skip_white();
             if self.peek(0) != b'#' {
@@ -105,42 +106,38 @@ impl<'a> Scanner<'a> {
     }
 
     /// Goes to the next byte that is a quote or a backslash of a text in quotes.
-    fn skip_plain(&mut self, quote: u8)
-        ensures { self.new.bytes ≡ self.old.bytes }
-    {
+    fn skip_plain(&mut self, quote: u8) {
         let rest = self.rest();
-        let count = rest.iter().position(|b| *b == quote || *b == b'\\').unwrap_or(rest.len());
+        let count = rest
+            .iter()
+            .position(|b| *b == quote || *b == b'\\')
+            .unwrap_or(rest.len());
         self.skip(count);
     }
 
     /// Passes what comes after three quotes, up to three of them; and up to two more, which are part of the text.
-    fn skip_long(&mut self, quote: u8)
-        ensures { self.new.bytes ≡ self.old.bytes }
-    {
+    fn skip_long(&mut self, quote: u8) {
         for _ in 0..self.bytes.len() {
             self.skip_plain(quote);
             if self.is_three(quote) {
                 self.skip(3);
-                self.skip_quote(quote);
-                self.skip_quote(quote);
+                self.skip_byte(quote);
+                self.skip_byte(quote);
                 return;
             }
             self.skip_escaped(quote);
         }
     }
 
-    fn skip_quote(&mut self, quote: u8)
-        ensures { self.new.bytes ≡ self.old.bytes }
-    {
-        if self.peek(0) == quote {
+    /// Passes this byte, where it comes next.
+    pub(crate) fn skip_byte(&mut self, byte: u8) {
+        if self.peek(0) == byte {
             self.skip(1);
         }
     }
 
     /// Passes a byte, or two where the first is a backslash that escapes the second.
-    fn skip_escaped(&mut self, quote: u8)
-        ensures { self.new.bytes ≡ self.old.bytes }
-    {
+    fn skip_escaped(&mut self, quote: u8) {
         if self.peek(0) == b'\\' && quote == b'"' {
             self.skip(2);
         } else {
@@ -149,9 +146,7 @@ impl<'a> Scanner<'a> {
     }
 
     /// Passes what comes after a quote, up to the next one.
-    fn skip_short(&mut self, quote: u8)
-        ensures { self.new.bytes ≡ self.old.bytes }
-    {
+    fn skip_short(&mut self, quote: u8) {
         for _ in 0..self.bytes.len() {
             self.skip_plain(quote);
             if self.peek(0) == quote {
@@ -168,9 +163,7 @@ impl<'a> Scanner<'a> {
     }
 
     /// Passes a text in quotes.
-    pub(crate) fn skip_string(&mut self)
-        ensures { self.new.bytes ≡ self.old.bytes }
-    {
+    pub(crate) fn skip_string(&mut self) {
         let quote = self.peek(0);
         if self.is_three(quote) {
             self.skip(3);
@@ -182,18 +175,17 @@ impl<'a> Scanner<'a> {
     }
 
     /// Passes a number, a truth value or a date.
-    pub(crate) fn skip_word(&mut self)
-        ensures { self.new.bytes ≡ self.old.bytes }
-    {
+    pub(crate) fn skip_word(&mut self) {
         let rest = self.rest();
-        let count = rest.iter().position(|b| ends_word(*b)).unwrap_or(rest.len());
+        let count = rest
+            .iter()
+            .position(|b| ends_word(*b))
+            .unwrap_or(rest.len());
         self.skip(count);
     }
 
     /// Passes a part of a key, and gives the stretch in which it stands.
-    pub(crate) fn skip_name(&mut self) -> Span
-        ensures { self.new.bytes ≡ self.old.bytes }
-    {
+    pub(crate) fn skip_name(&mut self) -> Span {
         let start = self.at;
         if self.is_quote() {
             self.skip_string();
