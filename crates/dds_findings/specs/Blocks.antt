@@ -1,0 +1,54 @@
+-- Findings as people read them.
+use Rattle.std.specs.Prelude.{ℕ, Bool, not, ◌==◌, List, [], ◌++◌, codes, flat_map, count_by, string_bytes, if◌then◌else◌}
+use Rattle.std.specs.Fmt.{decimal}
+use Rattle.dds_findings.specs.Findings.{is_error, level_of, level_word}
+use Rattle.dds_findings.specs.declared.finding.Finding.{Finding}
+use Rattle.dds_findings.specs.declared.finding.Role.{Role}
+use Rattle.dds_findings.specs.declared.finding.Role.TheVariants as role
+
+-- what the deployment and the certificate are called
+abbrev pub FileNames : Type 0
+FileNames = List ℕ × List ℕ
+
+-- what the file of a role is called
+abbrev pub file_name : FileNames → Role → List ℕ
+file_name names role.Deployment = names.0
+file_name names role.Certificate = names.1
+
+-- what would be right, after a blank
+abbrev pub help_words : List ℕ → List ℕ
+help_words [] = []
+help_words help = codes " " ++ help
+
+-- a term of a number
+abbrev pub detail_line : (margin detail : List ℕ) → List ℕ
+detail_line margin detail = margin ++ (codes " = " ++ (detail ++ codes "\n"))
+
+-- what a finding is and where, the line with its place underlined, what would be right, the terms of its numbers, and an empty line
+abbrev pub block : FileNames → Finding → List ℕ
+block names f =
+    level_word (level_of f.about) ++ (codes "[" ++ (f.name.now ++ (codes "]: " ++ (string_bytes f.message ++ (codes "\n"
+    ++ (string_bytes f.spot.margin ++ (codes "--> " ++ (file_name names f.role ++ (codes ":" ++ (decimal f.spot.line ++ (codes ":" ++ (decimal f.spot.column ++ (codes "\n"
+    ++ (string_bytes f.spot.margin ++ (codes " |\n"
+    ++ (decimal f.spot.line ++ (codes " | " ++ (string_bytes f.spot.text ++ (codes "\n"
+    ++ (string_bytes f.spot.margin ++ (codes " | " ++ (string_bytes f.spot.marker ++ (help_words (string_bytes f.help) ++ (codes "\n"
+    ++ (flat_map (λ detail. detail_line (string_bytes f.spot.margin) (string_bytes detail)) f.details.items ++ codes "\n")))))))))))))))))))))))))
+
+-- how many findings are errors, and how many aren't
+abbrev pub errors_of : List Finding → ℕ
+errors_of findings = count_by (λ f. is_error f.about) findings
+
+abbrev pub notes_of : List Finding → ℕ
+notes_of findings = count_by (λ f. not (is_error f.about)) findings
+
+-- the end of a word for so many things
+abbrev pub plural : ℕ → List ℕ
+plural n = if n == 1 then [] else codes "s"
+
+abbrev pub sum_line : List Finding → List ℕ
+sum_line findings =
+    decimal (errors_of findings) ++ (codes " error" ++ (plural (errors_of findings) ++ (codes ", " ++ (decimal (notes_of findings) ++ (codes " note" ++ (plural (notes_of findings) ++ codes "\n"))))))
+
+-- the blocks, and how many errors and notes there are
+abbrev pub blocks : FileNames → List Finding → List ℕ
+blocks names findings = flat_map (block names) findings ++ sum_line findings

@@ -1,0 +1,59 @@
+-- Findings as documents.
+use Rattle.std.specs.Prelude.{ℕ, Bool, List, [], ◌∷◌, ◌++◌, codes, map, string_bytes}
+use Rattle.serde_json.specs.Data.{Data, array, member, no_members, number, object, string, unsigned}
+use Rattle.serde_json.specs.View.{items_of}
+use Rattle.dds_json.specs.Matching.{answer_word}
+use Rattle.dds_findings.specs.Blocks.{FileNames, errors_of, file_name, notes_of}
+use Rattle.dds_findings.specs.Findings.{level_of, level_word}
+use Rattle.dds_findings.specs.declared.finding.Finding.{Finding}
+
+-- ── JSON
+-- a finding
+abbrev pub finding_document : FileNames → Finding → Data
+finding_document names f =
+    object (member (codes "column") (number (unsigned f.spot.column)) (member (codes "details") (array (items_of (map (λ detail. string (string_bytes detail)) f.details.items)))
+    (member (codes "end_column") (number (unsigned f.spot.end)) (member (codes "file") (string (file_name names f.role)) (member (codes "help") (string (string_bytes f.help))
+    (member (codes "level") (string (level_word (level_of f.about))) (member (codes "line") (number (unsigned f.spot.line)) (member (codes "message") (string (string_bytes f.message))
+    (member (codes "name") (string f.name.now) (member (codes "path") (string (string_bytes f.path)) no_members))))))))))
+
+-- all of them, and how many there are
+abbrev pub findings_document : FileNames → List Finding → (is_yes : Bool) → Data
+findings_document names findings is_yes =
+    object (member (codes "answer") (string (answer_word is_yes)) (member (codes "errors") (number (unsigned (errors_of findings)))
+    (member (codes "findings") (array (items_of (map (finding_document names) findings))) (member (codes "notes") (number (unsigned (notes_of findings))) no_members))))
+
+-- ── SARIF 2.1.0: `result` is clause 3.27, `location` 3.28, `region` 3.30, `run` 3.14
+-- where a finding is
+abbrev pub location_document : FileNames → Finding → Data
+location_document names f =
+    object (member (codes "physicalLocation") (object (member (codes "artifactLocation") (object (member (codes "uri") (string (file_name names f.role)) no_members))
+    (member (codes "region") (object (member (codes "endColumn") (number (unsigned f.spot.end)) (member (codes "startColumn") (number (unsigned f.spot.column))
+    (member (codes "startLine") (number (unsigned f.spot.line)) no_members)))) no_members))) no_members)
+
+-- what a finding says, and what would be right
+abbrev pub result_words : (message help : List ℕ) → List ℕ
+result_words message [] = message
+result_words message help = message ++ (codes ": " ++ help)
+
+-- a finding as a result
+abbrev pub result_document : FileNames → Finding → Data
+result_document names f =
+    object (member (codes "level") (string (level_word (level_of f.about))) (member (codes "locations") (array (items_of (location_document names f ∷ [])))
+    (member (codes "message") (object (member (codes "text") (string (result_words (string_bytes f.message) (string_bytes f.help))) no_members))
+    (member (codes "ruleId") (string f.name.now) no_members))))
+
+-- the tool that found them
+abbrev pub tool_document : Data
+tool_document =
+    object (member (codes "driver") (object (member (codes "name") (string (codes "ddscheck")) (member (codes "version") (string (codes "0.1.0")) no_members))) no_members)
+
+-- all of them
+abbrev pub run_document : FileNames → List Finding → Data
+run_document names findings =
+    object (member (codes "columnKind") (string (codes "unicodeCodePoints")) (member (codes "results") (array (items_of (map (result_document names) findings)))
+    (member (codes "tool") tool_document no_members)))
+
+abbrev pub sarif_document : FileNames → List Finding → Data
+sarif_document names findings =
+    object (member (codes "$schema") (string (codes "https://json.schemastore.org/sarif-2.1.0.json")) (member (codes "runs") (array (items_of (run_document names findings ∷ [])))
+    (member (codes "version") (string (codes "2.1.0")) no_members)))

@@ -1,0 +1,79 @@
+-- What lint finds, by what each finding is about.
+use Rattle.std.specs.Prelude.{ℕ, ◌≡◌, ◌<◌, Bool, true, false, List, [], ◌++◌, codes, length, map, Option, Some, None, Ok, Err}
+use Rattle.std.specs.List.{list_all}
+use Rattle.dds_fields.specs.Reading.{Read}
+use Rattle.dds_lists.specs.Lists.{Lists}
+use Rattle.dds_deploy.specs.Document as deployment
+use Rattle.dds_match.specs.Plan.{network_of}
+use Rattle.dds_weights.specs.Lists.{Certificate}
+use Rattle.dds_cert.specs.Document as certificate
+use Rattle.dds_check.specs.declared.verdict.No.{No}
+use Rattle.dds_lint.specs.Conditions.{all_nos, bare_nos}
+use Rattle.dds_lint.specs.Live.{IsLive}
+use Rattle.dds_lint.specs.Notes.{all_notes}
+use Rattle.dds_lint.specs.declared.notes.Note.{Note}
+use Rattle.dds_findings.specs.declared.finding.About.{About}
+use Rattle.dds_findings.specs.declared.finding.About.TheVariants as about
+use Rattle.dds_findings.specs.declared.finding.Finding.{Finding}
+use Rattle.dds_findings.specs.declared.finding.Level.{Level}
+use Rattle.dds_findings.specs.declared.finding.Level.TheVariants as level
+
+-- a fault and a condition that fails are errors, a note isn't
+abbrev pub level_of : About → Level
+level_of about.Fault = level.Error
+level_of (about.Condition no) = level.Error
+level_of (about.Note note) = level.Note
+
+abbrev pub level_word : Level → List ℕ
+level_word level.Error = codes "error"
+level_word level.Note = codes "note"
+
+abbrev pub is_error : About → Bool
+is_error about.Fault = true
+is_error (about.Condition no) = true
+is_error (about.Note note) = false
+
+-- what findings are about, in their order
+abbrev pub abouts : List Finding → List About
+abouts findings = map (λ f. f.about) findings
+
+-- a certificate that claims nothing
+abbrev pub no_certificate : Certificate
+no_certificate = record { rows = []; bounds = []; totals = [] }
+
+-- conditions that fail, and then notes
+abbrev pub of_lists : List No → List Note → List About
+of_lists nos notes = map about.Condition nos ++ map about.Note notes
+
+-- the notes on a deployment and a certificate, by the rules that can permit a write
+abbrev pub AreNotes : Lists → Certificate → List Note → Type 0
+AreNotes d cert notes = (live : ℕ → Bool) × IsLive (network_of d) live × (notes ≡ all_notes d live cert)
+
+-- what is found of a deployment without a certificate: the conditions that ask for none, and notes
+abbrev pub IsBare : Lists → List About → Type 0
+IsBare d found = (notes : List Note) × AreNotes d no_certificate notes × (found ≡ of_lists (bare_nos d) notes)
+
+abbrev pub is_fault : About → Bool
+is_fault about.Fault = true
+is_fault (about.Condition no) = false
+is_fault (about.Note note) = false
+
+-- nothing but faults, and one at least
+abbrev pub AreFaults : List About → Type 0
+AreFaults found = (0 < length found) × (list_all is_fault found ≡ true)
+
+-- what is found of a deployment and of bytes that were read as its certificate: all conditions and notes, or the certificate's faults, and then what is
+-- found without it
+abbrev pub IsJudged : Lists → Read Certificate → List About → Type 0
+IsJudged d (Ok cert) found = (notes : List Note) × AreNotes d cert notes × (found ≡ of_lists (all_nos d cert) notes)
+IsJudged d (Err flaw) found = (faults rest : List About) × AreFaults faults × IsBare d rest × (found ≡ faults ++ rest)
+
+-- what is found of bytes that were read as a deployment, and of those of a certificate, if there are some
+abbrev pub IsFound : Read Lists → Option (List ℕ) → List About → Type 0
+IsFound (Err flaw) c found = AreFaults found
+IsFound (Ok d) None found = IsBare d found
+IsFound (Ok d) (Some bytes) found = IsJudged d (certificate.read d bytes) found
+
+-- what lint finds of the bytes of a deployment, and of those of a certificate, if there are some
+unfoldable pub IsLint : List ℕ → Option (List ℕ) → List About → Type 0
+IsLint d c found = IsFound (deployment.read d) c found

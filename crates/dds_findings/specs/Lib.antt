@@ -1,0 +1,4 @@
+pub mod Findings
+pub mod Blocks
+pub mod Documents
+pub mod Answers

@@ -1,0 +1,142 @@
+//! Findings as people read them: a block each, with the line of the file.
+ghost use Rattle.std.specs.Prelude.{◌≡◌, IfOk, flat_map, string_bytes};
+ghost use Rattle.dds_findings.specs.Blocks.{block, blocks, detail_line, errors_of, file_name, help_words, notes_of};
+ghost use Rattle.dds_findings.specs.Blocks.{plural, sum_line};
+
+use crate::finding::{Finding, Level, Role};
+use dds_base::NoMemory;
+use std::alloc::Global;
+use std::marker::Model;
+
+/// What the two files are called.
+#[derive(Clone, Copy)]
+pub struct FileNames<'a> {
+    pub(crate) deployment: &'a str,
+    pub(crate) certificate: &'a str,
+}
+
+impl<'a> Model for FileNames<'a> {
+    ghost use Rattle.std.specs.Prelude.{ℕ, List};
+
+    ghost Value = { List ℕ × List ℕ };
+
+    ghost view = { λ names. (names.deployment.now, names.certificate.now) };
+}
+
+/// What the file of this role is called.
+pub(crate) fn file_name<'a>(names: &FileNames<'a>, role: Role) -> &'a str
+    ensures { result.now ≡ file_name names.now role }
+{
+    match role {
+        Role::Deployment => names.deployment,
+        Role::Certificate => names.certificate,
+    }
+}
+
+/// What would be right, after a blank; nothing where that isn't known.
+fn help_text(alloc: Global, help: &str) -> Result<String, NoMemory>
+    ensures { IfOk result (λ text. string_bytes text ≡ help_words help.now) }
+{
+    if help.is_empty() {
+        String::from_str(alloc, "")
+    } else {
+        format!(in alloc; " {help}")
+    }
+}
+
+/// The line of a term of a number.
+fn detail_text(alloc: Global, margin: &str, detail: &str) -> Result<String, NoMemory>
+    ensures { IfOk result (λ text. string_bytes text ≡ detail_line margin.now detail.now) }
+{
+    format!(in alloc; "{margin} = {detail}\n")
+}
+
+/// The lines of the terms of a number.
+fn details_text(alloc: Global, margin: &str, details: &[String]) -> Result<String, NoMemory>
+    ensures { IfOk result
+        (λ text. string_bytes text ≡ flat_map (λ detail. detail_line margin.now (string_bytes detail)) details.now) }
+{
+    let mut text = String::new(alloc);
+    for detail in details {
+        let line = detail_text(alloc, margin, detail.as_str())?;
+        text.push_str(line.as_str())?;
+    }
+    Ok(text)
+}
+
+/// The block of a finding: what it is, where it is, the line with the place underlined, what would be right, the terms of
+/// its numbers, and an empty line.
+fn block(alloc: Global, names: &FileNames, finding: &Finding) -> Result<String, NoMemory>
+    ensures { IfOk result (λ text. string_bytes text ≡ block names.now finding.now) }
+{
+    let level = finding.about.level().word();
+    let name = finding.name;
+    let message = finding.message.as_str();
+    let margin = finding.spot.margin.as_str();
+    let file = file_name(names, finding.role);
+    let line = finding.spot.line;
+    let column = finding.spot.column;
+    let text = finding.spot.text.as_str();
+    let marker = finding.spot.marker.as_str();
+    let help = help_text(alloc, finding.help.as_str())?;
+    let details = details_text(alloc, margin, &finding.details)?;
+    format!(in alloc;
+        "{level}[{name}]: {message}\n{margin}--> {file}:{line}:{column}\n{margin} |\n{line} | {text}\n{margin} | {marker}{help}\n{details}\n"
+    )
+}
+
+/// How many findings are errors.
+pub(crate) fn errors_of(findings: &[Finding]) -> usize
+    ensures { result ≡ errors_of findings.now }
+{
+    findings
+        .iter()
+        .filter(|finding| matches!(finding.about.level(), Level::Error))
+        .count()
+}
+
+/// How many findings are notes.
+pub(crate) fn notes_of(findings: &[Finding]) -> usize
+    ensures { result ≡ notes_of findings.now }
+{
+    findings
+        .iter()
+        .filter(|finding| matches!(finding.about.level(), Level::Note))
+        .count()
+}
+
+/// The end of a word for so many things.
+fn plural(count: usize) -> &'static str
+    ensures { result.now ≡ plural count }
+{
+    if count == 1 { "" } else { "s" }
+}
+
+/// How many errors and notes there are.
+fn sum_text(alloc: Global, findings: &[Finding]) -> Result<String, NoMemory>
+    ensures { IfOk result (λ text. string_bytes text ≡ sum_line findings.now) }
+{
+    let errors = errors_of(findings);
+    let notes = notes_of(findings);
+    let of_errors = plural(errors);
+    let of_notes = plural(notes);
+    format!(in alloc; "{errors} error{of_errors}, {notes} note{of_notes}\n")
+}
+
+/// The blocks of findings, in their order, and how many there are. Only want of memory is an error.
+pub(crate) fn blocks_text(
+    alloc: Global,
+    names: &FileNames,
+    findings: &[Finding],
+) -> Result<String, NoMemory>
+    ensures { IfOk result (λ text. string_bytes text ≡ blocks names.now findings.now) }
+{
+    let mut text = String::new(alloc);
+    for finding in findings {
+        let next = block(alloc, names, finding)?;
+        text.push_str(next.as_str())?;
+    }
+    let sum = sum_text(alloc, findings)?;
+    text.push_str(sum.as_str())?;
+    Ok(text)
+}

@@ -1,0 +1,209 @@
+//! The findings of conditions that fail.
+ghost use Rattle.std.specs.Prelude.{◌≡◌, IfOk};
+ghost use Rattle.dds_findings.specs.declared.finding.About.TheVariants as about;
+
+use crate::bounds::{bound_place, total_place};
+use crate::finding::{About, Finding, Role};
+use crate::linting::{Files, Judged};
+use crate::spot::Spot;
+use crate::words::{first_line, later_lines};
+use dds_base::{KeyNo, NoMemory, ReaderNo, RuleNo, WriterNo};
+use dds_check::{No, Number, Subject};
+use dds_explain::reason;
+use std::alloc::Global;
+
+/// Where a condition fails: an entry of a file, and the field of it that says so.
+#[derive(Drop)]
+pub(crate) struct Spotted {
+    pub(crate) role: Role,
+    pub(crate) path: String,
+    pub(crate) spot: Spot,
+}
+
+/// What would be right where a condition fails.
+fn cure(number: Number) -> &'static str {
+    match number {
+        Number::IntendedNotMatched => "make the policies agree, or take the connection out",
+        Number::UnintendedMatch => "add it to `connections`, or keep the two apart by their partitions",
+        Number::WriterKeepsLast => "set `history = \"KEEP_ALL\"`, or `version = 3`",
+        Number::Exclusive => "set `ownership = \"SHARED\"`",
+        Number::SourceOrder => "set `destination_order = \"BY_RECEPTION_TIMESTAMP\"`",
+        Number::OrderedOrCoherent => "leave `ordered` and `coherent` out",
+        Number::WriterBestEffort => "set `reliability = \"RELIABLE\"`, or `version = 3`",
+        Number::ReaderInstances | Number::WriterInstances => "raise `max_instances`, or let fewer keys come",
+        Number::NoBound => "`ddscheck propose --thorough` looks for bounds, and says which limit has none",
+        Number::BoundOverInstanceLimit | Number::BoundOverSamples => {
+            "`ddscheck limits` prints how much room each reader needs"
+        }
+        Number::KeepLastFilter => "let the reader take these keys, or let it lose samples with `may_lose = true`",
+        Number::WriterDepth => "`ddscheck limits` prints how deep the writer has to be",
+        Number::TakeRaises | Number::RuleRaises | Number::WriteRaises | Number::BoundNotShown => {
+            "`ddscheck propose --thorough` finds weights where there are some"
+        }
+    }
+}
+
+/// The field that a condition reads of an endpoint.
+fn field(number: Number) -> &'static str {
+    match number {
+        Number::WriterKeepsLast => "history",
+        Number::Exclusive => "ownership",
+        Number::SourceOrder => "destination_order",
+        Number::OrderedOrCoherent => "ordered",
+        Number::WriterBestEffort => "reliability",
+        Number::ReaderInstances | Number::WriterInstances => "max_instances",
+        Number::BoundOverSamples => "max_samples",
+        Number::KeepLastFilter => "filter",
+        Number::WriterDepth => "depth",
+        Number::BoundOverInstanceLimit => "max_samples_per_instance",
+        _ => "name",
+    }
+}
+
+/// The place of an endpoint or a rule in the deployment.
+fn in_deployment(
+    alloc: Global,
+    files: &Files,
+    section: &str,
+    place: usize,
+    number: Number,
+) -> Result<Spotted, NoMemory> {
+    let path = format!(in alloc; "{section}[{place}]")?;
+    let spot = files.deployment.field_spot(alloc, path.as_str(), field(number))?;
+    Ok(Spotted {
+        role: Role::Deployment,
+        path,
+        spot,
+    })
+}
+
+/// The place of an entry in the certificate, if there is one.
+fn in_certificate(
+    alloc: Global,
+    files: &Files,
+    section: &str,
+    place: usize,
+) -> Result<Spotted, NoMemory> {
+    let path = format!(in alloc; "{section}[{place}]")?;
+    let file = match &files.certificate {
+        Some(certificate) => certificate,
+        None => &files.deployment,
+    };
+    let spot = file.field_spot(alloc, path.as_str(), "bound")?;
+    Ok(Spotted {
+        role: Role::Certificate,
+        path,
+        spot,
+    })
+}
+
+/// The place of a pair: of 25 its reader, else its writer.
+fn pair_place(
+    alloc: Global,
+    files: &Files,
+    number: Number,
+    writer: WriterNo,
+    reader: ReaderNo,
+) -> Result<Spotted, NoMemory> {
+    match number {
+        Number::KeepLastFilter => {
+            in_deployment(alloc, files, "readers", reader.number(), number)
+        }
+        _ => in_deployment(alloc, files, "writers", writer.number(), number),
+    }
+}
+
+/// The place of a key of a reader: of 33 that of its bound.
+fn instance_place(
+    alloc: Global,
+    files: &Files,
+    judged: &Judged,
+    number: Number,
+    reader: ReaderNo,
+    key: KeyNo,
+) -> Result<Spotted, NoMemory> {
+    match number {
+        Number::BoundNotShown => {
+            let place = bound_place(judged.certificate, reader, key);
+            let entry = judged.entries.get(place).copied().unwrap_or(place);
+            in_certificate(alloc, files, "bounds", entry)
+        }
+        _ => in_deployment(alloc, files, "readers", reader.number(), number),
+    }
+}
+
+/// The place of a reader: of 33 that of its total.
+fn reader_place(
+    alloc: Global,
+    files: &Files,
+    judged: &Judged,
+    number: Number,
+    reader: ReaderNo,
+) -> Result<Spotted, NoMemory> {
+    match number {
+        Number::BoundNotShown => {
+            in_certificate(alloc, files, "totals", total_place(judged.certificate, reader))
+        }
+        _ => in_deployment(alloc, files, "readers", reader.number(), number),
+    }
+}
+
+/// The place in the file of the entry that a rule comes from.
+pub(crate) fn rule_entry(judged: &Judged, rule: RuleNo) -> usize {
+    match judged.plan.lists().rule_origin(rule) {
+        Some(origin) => origin.name,
+        None => rule.number(),
+    }
+}
+
+/// Where a condition fails.
+fn place_of(
+    alloc: Global,
+    files: &Files,
+    judged: &Judged,
+    number: Number,
+    subject: Subject,
+) -> Result<Spotted, NoMemory> {
+    match subject {
+        Subject::Pair { writer, reader } => pair_place(alloc, files, number, writer, reader),
+        Subject::PairKey { writer, .. } => {
+            in_deployment(alloc, files, "writers", writer.number(), number)
+        }
+        Subject::Instance { reader, key } => {
+            instance_place(alloc, files, judged, number, reader, key)
+        }
+        Subject::Reader(reader) => reader_place(alloc, files, judged, number, reader),
+        Subject::Writer(writer) => {
+            in_deployment(alloc, files, "writers", writer.number(), number)
+        }
+        Subject::RowInstance { row, .. }
+        | Subject::RowRule { row, .. }
+        | Subject::RowWriterKey { row, .. } => in_certificate(alloc, files, "rows", row),
+    }
+}
+
+/// The finding of a condition that fails. Only want of memory is an error.
+pub(crate) fn condition(
+    alloc: Global,
+    files: &Files,
+    judged: &Judged,
+    no: No,
+) -> Result<Finding, NoMemory>
+    ensures { IfOk result (λ finding. finding.about ≡ about.Condition no) }
+{
+    let because = reason(alloc, judged.plan, judged.certificate, no)?;
+    let message = first_line(alloc, because.as_str())?;
+    let details = later_lines(alloc, because.as_str())?;
+    let help = String::from_str(alloc, cure(no.number))?;
+    let Spotted { role, path, spot } = place_of(alloc, files, judged, no.number, no.subject)?;
+    Ok(Finding {
+        about: About::Condition(no),
+        name: no.number.name(),
+        role,
+        path,
+        message,
+        help,
+        details,
+        spot,
+    })
+}

@@ -1,0 +1,80 @@
+//! Findings as a JSON document.
+ghost use Rattle.std.specs.Prelude.{◌≡◌, IfOk, map, string_bytes};
+ghost use Rattle.serde_json.specs.Data.{array, string};
+ghost use Rattle.serde_json.specs.View.{items_of, view};
+ghost use Rattle.dds_json.specs.Line.{line_of};
+ghost use Rattle.dds_findings.specs.Documents.{finding_document, findings_document};
+
+use crate::block::{FileNames, errors_of, file_name, notes_of};
+use crate::finding::Finding;
+use dds_base::NoMemory;
+use dds_json::{answer_word, line_of};
+use serde_json::{Value, json};
+use std::alloc::Global;
+
+/// The terms of a number.
+fn details_array(alloc: Global, details: &[String]) -> Result<Value, NoMemory>
+    ensures { IfOk result (λ v. view v ≡ array (items_of (map (λ detail. string (string_bytes detail)) details.now))) }
+{
+    let mut texts = Vec::new(alloc);
+    for detail in details {
+        let detail = detail.as_str();
+        texts.push(json!(in alloc; detail)?)?;
+    }
+    Ok(Value::Array(texts))
+}
+
+/// A finding.
+fn finding_document(alloc: Global, names: &FileNames, finding: &Finding) -> Result<Value, NoMemory>
+    ensures { IfOk result (λ v. view v ≡ finding_document names.now finding.now) }
+{
+    let details = details_array(alloc, &finding.details)?;
+    let level = finding.about.level().word();
+    let name = finding.name;
+    let file = file_name(names, finding.role);
+    let path = finding.path.as_str();
+    let message = finding.message.as_str();
+    let help = finding.help.as_str();
+    let line = finding.spot.line;
+    let column = finding.spot.column;
+    let end = finding.spot.end;
+    json!(in alloc; {
+        "level": level, "name": name, "file": file, "path": path, "line": line, "column": column,
+        "end_column": end, "message": message, "help": help, "details": details
+    })
+}
+
+/// The findings, in their order.
+fn findings_array(
+    alloc: Global,
+    names: &FileNames,
+    findings: &[Finding],
+) -> Result<Value, NoMemory>
+    ensures { IfOk result (λ v. view v ≡ array (items_of (map (finding_document names.now) findings.now))) }
+{
+    let mut documents = Vec::new(alloc);
+    for finding in findings {
+        documents.push(finding_document(alloc, names, finding)?)?;
+    }
+    Ok(Value::Array(documents))
+}
+
+/// The line of the document of findings. Only want of memory is an error.
+pub(crate) fn findings_line(
+    alloc: Global,
+    names: &FileNames,
+    findings: &[Finding],
+    is_yes: bool,
+) -> Result<String, NoMemory>
+    ensures { IfOk result
+        (λ text. string_bytes text ≡ line_of (findings_document names.now findings.now is_yes)) }
+{
+    let documents = findings_array(alloc, names, findings)?;
+    let answer = answer_word(is_yes);
+    let errors = errors_of(findings);
+    let notes = notes_of(findings);
+    let document = json!(in alloc;
+        {"answer": answer, "errors": errors, "notes": notes, "findings": documents}
+    )?;
+    line_of(alloc, &document)
+}

@@ -1,0 +1,115 @@
+//! The findings of faults of files.
+ghost use Rattle.std.specs.Prelude.{◌≡◌, ◌<◌, IfOk, length, map};
+ghost use Rattle.dds_findings.specs.Findings.{AreFaults, abouts};
+ghost use Rattle.dds_findings.specs.declared.finding.About.TheVariants as about;
+
+use crate::finding::{About, Finding, Role};
+use crate::located::Located;
+use crate::spot::Spot;
+use dds_base::NoMemory;
+use dds_faults::FileFault;
+use std::alloc::Global;
+
+/// Where a fault is: the name of what is too much or lacks something, else the value that is wrong.
+fn spot_of(alloc: Global, file: &Located, fault: &FileFault) -> Result<Spot, NoMemory> {
+    let path = fault.path.as_str();
+    match fault.name {
+        "UnknownKey" | "MissingKey" => file.name_spot(alloc, path),
+        "Qos" => file.field_spot(alloc, path, "depth"),
+        "EndpointOwner" => file.field_spot(alloc, path, "name"),
+        _ => file.value_spot(alloc, path),
+    }
+}
+
+/// What a fault would be right with; nothing where that isn't known.
+fn help_of(alloc: Global, fault: &FileFault) -> Result<String, NoMemory> {
+    let help = match &fault.help {
+        Some(help) => help.as_str(),
+        None => "",
+    };
+    let text = String::from_str(alloc, help)?;
+    Ok(text)
+}
+
+/// The finding of a fault of a document.
+fn document_fault(
+    alloc: Global,
+    file: &Located,
+    role: Role,
+    fault: &FileFault,
+) -> Result<Finding, NoMemory>
+    ensures { IfOk result (λ finding. finding.about ≡ about.Fault) }
+{
+    Ok(Finding {
+        about: About::Fault,
+        name: fault.name,
+        role,
+        path: String::from_str(alloc, fault.path.as_str())?,
+        message: String::from_str(alloc, fault.message.as_str())?,
+        help: help_of(alloc, fault)?,
+        details: Vec::new(alloc),
+        spot: spot_of(alloc, file, fault)?,
+    })
+}
+
+/// The finding of a text that is no TOML: where the parser stopped, and what it says.
+fn syntax_fault(alloc: Global, file: &Located, role: Role) -> Result<Finding, NoMemory>
+    ensures { IfOk result (λ finding. finding.about ≡ about.Fault) }
+{
+    let (at, message) = file.syntax(alloc)?;
+    Ok(Finding {
+        about: About::Fault,
+        name: "NotToml",
+        role,
+        path: String::new(alloc),
+        message,
+        help: String::new(alloc),
+        details: Vec::new(alloc),
+        spot: file.spot(alloc, at)?,
+    })
+}
+
+/// The finding of a fault.
+fn fault_finding(
+    alloc: Global,
+    file: &Located,
+    role: Role,
+    fault: &FileFault,
+) -> Result<Finding, NoMemory>
+    ensures { IfOk result (λ finding. finding.about ≡ about.Fault) }
+{
+    match fault.name {
+        "NotToml" => syntax_fault(alloc, file, role),
+        _ => document_fault(alloc, file, role, fault),
+    }
+}
+
+/// The findings of these faults, in their order.
+fn each_finding(
+    alloc: Global,
+    file: &Located,
+    role: Role,
+    faults: &[FileFault],
+) -> Result<Vec<Finding>, NoMemory>
+    ensures { IfOk result (λ found. abouts found.items ≡ map (λ _. about.Fault) faults.now) }
+{
+    let mut found = Vec::new(alloc);
+    for one in faults {
+        found.push(fault_finding(alloc, file, role, one)?)?;
+    }
+    Ok(found)
+}
+
+/// The findings of faults of a file, of which there is one at least. Only want of memory is an error.
+#[tactic(auto, using(crate::proofs::Faults::are_faults))]
+pub(crate) fn fault_findings(
+    alloc: Global,
+    file: &Located,
+    role: Role,
+    faults: &[FileFault],
+) -> Result<Vec<Finding>, NoMemory>
+    requires { 0 < length faults.now }
+    ensures { IfOk result (λ found. AreFaults (abouts found.items)) }
+{
+    each_finding(alloc, file, role, faults)
+}

@@ -1,0 +1,23 @@
+//! What `lint` finds in the files of a deployment and prints of it: each fault of a file, each condition of the checker
+//! that fails, and what a yes doesn't say, each with its place in the file and what would be right.
+#![tactic(auto)]
+
+mod answer;
+mod block;
+mod bounds;
+mod conditions;
+mod document;
+mod faults;
+mod finding;
+mod linting;
+mod located;
+mod notes;
+mod sarif;
+mod spot;
+mod words;
+
+pub use answer::{Deny, LintStyle, Named, lint_answer};
+pub use block::FileNames;
+pub use finding::{About, Finding, Level, Role};
+pub use linting::lint;
+pub use spot::Spot;

@@ -1,0 +1,342 @@
+//! Everything that is found in the files.
+ghost use Rattle.std.specs.Prelude.{◌≡◌, ◌++◌, true, Ok, Err, IfOk, OnOk, map, option_map};
+ghost use Rattle.dds_match.specs.Plan.{network_of};
+ghost use Rattle.dds_weights.specs.Fits.{fits};
+ghost use Rattle.dds_weights.specs.Views.{certificate_view};
+ghost use Rattle.dds_cert.specs.Document.{read as certificate_read};
+ghost use Rattle.dds_findings.specs.Findings.{AreFaults, IsBare, IsFound, IsJudged, IsLint, abouts};
+ghost use Rattle.dds_findings.specs.Findings.{no_certificate, of_lists};
+ghost use Rattle.dds_findings.specs.declared.finding.About.TheVariants as about;
+
+use crate::bounds::bound_entries;
+use crate::conditions::condition;
+use crate::faults::fault_findings;
+use crate::finding::{Finding, Role};
+use crate::located::Located;
+use crate::notes::note;
+use dds_base::NoMemory;
+use dds_cert::{CertFault, CertFlaw, read_certificate};
+use dds_check::No;
+use dds_deploy::{DeployFault, Fault, read_deployment};
+use dds_faults::{Known, certificate_faults, deployment_faults};
+use dds_lint::{Note, all_nos, all_notes, bare_nos};
+use dds_lists::Deployment;
+use dds_match::Plan;
+use dds_match::planning::plan;
+use dds_weights::Certificate;
+use std::alloc::Global;
+
+/// The files, with the places of what stands in them.
+#[derive(Drop)]
+pub(crate) struct Files<'a> {
+    pub(crate) deployment: Located<'a>,
+    pub(crate) certificate: Option<Located<'a>>,
+}
+
+impl<'a> Files<'a> {
+    /// The places of these bytes.
+    fn new(
+        alloc: Global,
+        deployment: &'a [u8],
+        certificate: Option<&'a [u8]>,
+    ) -> Result<Files<'a>, NoMemory> {
+        let deployment = Located::new(alloc, deployment)?;
+        let certificate = match certificate {
+            Some(bytes) => Some(Located::new(alloc, bytes)?),
+            None => None,
+        };
+        Ok(Files {
+            deployment,
+            certificate,
+        })
+    }
+
+    /// The file of this role; the deployment where there is no certificate.
+    pub(crate) fn file(&self, role: Role) -> &Located<'a> {
+        match (role, &self.certificate) {
+            (Role::Certificate, Some(certificate)) => certificate,
+            _ => &self.deployment,
+        }
+    }
+}
+
+/// A plan and a certificate, which is empty where there is none.
+#[derive(Clone, Copy)]
+pub(crate) struct Judged<'a> {
+    pub(crate) plan: &'a Plan,
+    pub(crate) certificate: &'a Certificate,
+    /// For each bound of the certificate the place of its entry in the file.
+    pub(crate) entries: &'a [usize],
+}
+
+/// Adds the findings of conditions that fail.
+fn push_conditions(
+    alloc: Global,
+    files: &Files,
+    judged: &Judged,
+    nos: &[No],
+    found: &mut Vec<Finding>,
+) -> Result<(), NoMemory>
+    ensures { OnOk result (abouts found.new.items ≡ abouts found.old.items ++ map about.Condition nos.now) }
+{
+    for no in nos {
+        found.push(condition(alloc, files, judged, *no)?)?;
+    }
+    Ok(())
+}
+
+/// Adds the findings of notes.
+fn push_notes(
+    alloc: Global,
+    files: &Files,
+    judged: &Judged,
+    notes: &[Note],
+    found: &mut Vec<Finding>,
+) -> Result<(), NoMemory>
+    ensures { OnOk result (abouts found.new.items ≡ abouts found.old.items ++ map about.Note notes.now) }
+{
+    for one in notes {
+        found.push(note(alloc, files, judged, *one)?)?;
+    }
+    Ok(())
+}
+
+/// The findings of conditions that fail, and then of notes.
+fn findings_of(
+    alloc: Global,
+    files: &Files,
+    judged: &Judged,
+    nos: &[No],
+    notes: &[Note],
+) -> Result<Vec<Finding>, NoMemory>
+    ensures { IfOk result (λ found. abouts found.items ≡ of_lists nos.now notes.now) }
+{
+    let mut found = Vec::new(alloc);
+    push_conditions(alloc, files, judged, nos, &mut found)?;
+    push_notes(alloc, files, judged, notes, &mut found)?;
+    Ok(found)
+}
+
+/// A certificate that claims nothing.
+fn no_certificate(alloc: Global) -> Certificate
+    ensures { certificate_view result ≡ no_certificate }
+{
+    Certificate {
+        rows: Vec::new(alloc),
+        bounds: Vec::new(alloc),
+        totals: Vec::new(alloc),
+    }
+}
+
+/// What is found of a plan by a certificate that claims nothing.
+fn findings_by_none(
+    alloc: Global,
+    files: &Files,
+    plan: &Plan,
+    certificate: &Certificate,
+) -> Result<Vec<Finding>, NoMemory>
+    requires { certificate_view certificate.now ≡ no_certificate }
+    ensures { IfOk result (λ found. IsBare plan.now (abouts found.items)) }
+{
+    let nos = bare_nos(alloc, plan)?;
+    let notes = all_notes(alloc, plan, certificate)?;
+    let judged = Judged {
+        plan,
+        certificate,
+        entries: &[],
+    };
+    findings_of(alloc, files, &judged, &nos, &notes)
+}
+
+/// What is found of a plan without a certificate.
+fn bare_findings(alloc: Global, files: &Files, plan: &Plan) -> Result<Vec<Finding>, NoMemory>
+    ensures { IfOk result (λ found. IsBare plan.now (abouts found.items)) }
+{
+    let certificate = no_certificate(alloc);
+    let found = findings_by_none(alloc, files, plan, &certificate);
+    drop(certificate);
+    found
+}
+
+/// What is found of a plan and a certificate that fits it.
+fn judged_findings(
+    alloc: Global,
+    files: &Files,
+    plan: &Plan,
+    certificate: &Certificate,
+) -> Result<Vec<Finding>, NoMemory>
+    requires { fits (network_of plan.now) (certificate_view certificate.now) ≡ true }
+    ensures { IfOk result (λ found. IsJudged plan.now (Ok (certificate_view certificate.now)) (abouts found.items)) }
+{
+    let nos = all_nos(alloc, plan, certificate)?;
+    let notes = all_notes(alloc, plan, certificate)?;
+    let file = files.file(Role::Certificate);
+    let entries = bound_entries(alloc, plan.lists(), certificate, file)?;
+    let judged = Judged {
+        plan,
+        certificate,
+        entries: &entries,
+    };
+    findings_of(alloc, files, &judged, &nos, &notes)
+}
+
+/// The findings of the faults of a certificate.
+fn certificate_findings(
+    alloc: Global,
+    files: &Files,
+    plan: &Plan,
+    bytes: &[u8],
+    first: &CertFlaw,
+) -> Result<Vec<Finding>, NoMemory>
+    ensures { IfOk result (λ found. AreFaults (abouts found.items)) }
+{
+    let known = Known {
+        number: first.kind.number(),
+        name: first.kind.name(),
+        path: first.path.as_str(),
+    };
+    let faults = certificate_faults(alloc, plan.lists(), bytes, &known)?;
+    fault_findings(alloc, files.file(Role::Certificate), Role::Certificate, &faults)
+}
+
+/// What is found of a plan and of a certificate that has a fault: its faults, and then what is found without it.
+fn flawed_findings(
+    alloc: Global,
+    files: &Files,
+    plan: &Plan,
+    bytes: &[u8],
+    first: &CertFlaw,
+) -> Result<Vec<Finding>, NoMemory>
+    ensures { (flaw : _) → IfOk result (λ found. IsJudged plan.now (Err flaw) (abouts found.items)) }
+{
+    let mut found = certificate_findings(alloc, files, plan, bytes, first)?;
+    let mut rest = bare_findings(alloc, files, plan)?;
+    found.append(&mut rest)?;
+    Ok(found)
+}
+
+/// What is found of a plan and of the bytes of a certificate.
+fn certified_findings(
+    alloc: Global,
+    files: &Files,
+    plan: &Plan,
+    bytes: &[u8],
+) -> Result<Vec<Finding>, NoMemory>
+    ensures { IfOk result (λ found. IsJudged plan.now (certificate_read plan.now bytes.now) (abouts found.items)) }
+{
+    match read_certificate(alloc, plan, bytes) {
+        Ok(certificate) => {
+            let found = judged_findings(alloc, files, plan, &certificate);
+            drop(certificate);
+            found
+        }
+        Err(CertFault::At(first)) => {
+            let found = flawed_findings(alloc, files, plan, bytes, &first);
+            drop(first);
+            found
+        }
+        Err(CertFault::NoMemory) => Err(NoMemory),
+    }
+}
+
+/// What is found of a plan, and of the bytes of a certificate, if there are some.
+fn plan_findings(
+    alloc: Global,
+    files: &Files,
+    plan: &Plan,
+    certificate: Option<&[u8]>,
+) -> Result<Vec<Finding>, NoMemory>
+    ensures { IfOk result
+        (λ found. IsFound (Ok plan.now) (option_map (λ c. c.now) certificate) (abouts found.items)) }
+{
+    match certificate {
+        None => bare_findings(alloc, files, plan),
+        Some(bytes) => certified_findings(alloc, files, plan, bytes),
+    }
+}
+
+/// What is found of the lists of a deployment, which are needed no longer.
+fn lists_findings(
+    alloc: Global,
+    files: &Files,
+    lists: Deployment,
+    certificate: Option<&[u8]>,
+) -> Result<Vec<Finding>, NoMemory>
+    ensures { IfOk result (λ found. IsFound (Ok lists) (option_map (λ c. c.now) certificate) (abouts found.items)) }
+{
+    match plan(alloc, lists) {
+        Ok(plan) => {
+            let found = plan_findings(alloc, files, &plan, certificate);
+            drop(plan);
+            found
+        }
+        Err((_, lists)) => {
+            drop(lists);
+            Err(NoMemory)
+        }
+    }
+}
+
+/// The findings of the faults of a deployment.
+fn deployment_findings(
+    alloc: Global,
+    files: &Files,
+    bytes: &[u8],
+    first: &Fault,
+) -> Result<Vec<Finding>, NoMemory>
+    ensures { IfOk result (λ found. AreFaults (abouts found.items)) }
+{
+    let known = Known {
+        number: first.kind.number(),
+        name: first.kind.name(),
+        path: first.path.as_str(),
+    };
+    let faults = deployment_faults(alloc, bytes, &known)?;
+    fault_findings(alloc, &files.deployment, Role::Deployment, &faults)
+}
+
+/// What is found in files with these places.
+#[tactic(auto, unfolding(crate::specs::Findings::IsLint))]
+fn file_findings(
+    alloc: Global,
+    files: &Files,
+    deployment: &[u8],
+    certificate: Option<&[u8]>,
+) -> Result<Vec<Finding>, NoMemory>
+    ensures { IfOk result
+        (λ found. IsLint deployment.now (option_map (λ c. c.now) certificate) (abouts found.items)) }
+{
+    match read_deployment(alloc, deployment) {
+        Ok(lists) => lists_findings(alloc, files, lists, certificate),
+        Err(DeployFault::At(first)) => {
+            let found = deployment_findings(alloc, files, deployment, &first);
+            drop(first);
+            found
+        }
+        Err(DeployFault::NoMemory) => Err(NoMemory),
+    }
+}
+
+/// Everything that is found in the bytes of a deployment and of a certificate, if there is one.
+///
+/// Of a deployment that has a fault, its faults: the first that `read_deployment` gives is among them. Of another one
+/// the faults of the certificate, the same way, then each condition of the checker that fails and at last the notes;
+/// without a certificate, or where it has a fault, the conditions that ask for none. So an error is found of two files
+/// exactly where the checker doesn't say yes to them. Only want of memory is an error.
+pub fn lint(
+    alloc: Global,
+    deployment: &[u8],
+    certificate: Option<&[u8]>,
+) -> Result<Vec<Finding>, NoMemory>
+    ensures { IfOk result
+        (λ found. IsLint deployment.now (option_map (λ c. c.now) certificate) (abouts found.items)) }
+{
+    match Files::new(alloc, deployment, certificate) {
+        Ok(files) => {
+            let found = file_findings(alloc, &files, deployment, certificate);
+            drop(files);
+            found
+        }
+        Err(_) => Err(NoMemory),
+    }
+}

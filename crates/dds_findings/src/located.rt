@@ -1,0 +1,132 @@
+//! A file with the places of what stands in it.
+
+use crate::spot::{Line, Spot, spot_in};
+use dds_base::NoMemory;
+use dds_locate::{Found, Places, Span, read_places};
+use std::alloc::Global;
+
+/// How many bytes of a line are shown on either side of a place, at most.
+const SHOWN: usize = 200;
+
+/// Whether a byte begins a character, and doesn't continue one (RFC 3629, section 3).
+pub(crate) fn begins_character(byte: u8) -> bool {
+    byte < 128 || 191 < byte
+}
+
+/// The bytes from one place up to another, as far as they are there.
+pub(crate) fn cut(bytes: &[u8], from: usize, to: usize) -> &[u8] {
+    let Span { start, end } = Span::within(bytes.len(), from, to);
+    &bytes[start..end]
+}
+
+/// The first place from here on at which a character begins, or the end.
+fn next_character(bytes: &[u8], at: usize) -> usize {
+    let rest = cut(bytes, at, bytes.len());
+    let count = rest.iter().position(|byte| begins_character(*byte)).unwrap_or(rest.len());
+    at.saturating_add(count)
+}
+
+/// The bytes of a file, where its lines begin, and where its paths lead.
+#[derive(Drop)]
+pub(crate) struct Located<'a> {
+    bytes: &'a [u8],
+    /// Of each line but the first.
+    starts: Vec<usize>,
+    places: Places,
+}
+
+/// Where each line but the first begins.
+fn line_starts(alloc: Global, bytes: &[u8]) -> Result<Vec<usize>, NoMemory> {
+    let mut starts = Vec::new(alloc);
+    for (i, byte) in bytes.iter().enumerate() {
+        if *byte == b'\n' {
+            starts.push(i.saturating_add(1))?;
+        }
+    }
+    Ok(starts)
+}
+
+impl<'a> Located<'a> {
+    /// The places of these bytes.
+    pub(crate) fn new(alloc: Global, bytes: &'a [u8]) -> Result<Located<'a>, NoMemory> {
+        let places = read_places(alloc, bytes)?;
+        Ok(Located {
+            bytes,
+            starts: line_starts(alloc, bytes)?,
+            places,
+        })
+    }
+
+    /// The line in which a place stands.
+    fn line_of(&self, at: usize) -> Line {
+        let before = match self.starts.binary_search(&at) {
+            Ok(place) => place.saturating_add(1),
+            Err(place) => place,
+        };
+        let start = match before.checked_sub(1) {
+            Some(last) => self.starts.get(last).copied().unwrap_or(0),
+            None => 0,
+        };
+        let near = at.saturating_add(SHOWN);
+        let rest = cut(self.bytes, at, near);
+        let length = rest.iter().position(|byte| *byte == b'\n').unwrap_or(rest.len());
+        let far = next_character(self.bytes, at.saturating_add(length));
+        Line {
+            number: before.saturating_add(1),
+            start,
+            shown_from: next_character(self.bytes, start.max(at.saturating_sub(SHOWN))),
+            shown_to: far,
+        }
+    }
+
+    /// The spot of a stretch.
+    pub(crate) fn spot(&self, alloc: Global, span: Span) -> Result<Spot, NoMemory> {
+        spot_in(alloc, self.bytes, self.line_of(span.start), span.start, span.end)
+    }
+
+    /// Whether something stands where the path leads.
+    pub(crate) fn has(&self, path: &str) -> bool {
+        self.places.find(path).is_exact
+    }
+
+    /// The spot of the name or the header of what a path leads to.
+    pub(crate) fn name_spot(&self, alloc: Global, path: &str) -> Result<Spot, NoMemory> {
+        self.spot(alloc, self.places.find(path).name)
+    }
+
+    /// The spot of the value that a path leads to.
+    pub(crate) fn value_spot(&self, alloc: Global, path: &str) -> Result<Spot, NoMemory> {
+        self.spot(alloc, self.places.find(path).value)
+    }
+
+    /// The spot of a field of an entry, or where it has no such field of its name.
+    pub(crate) fn field_spot(&self, alloc: Global, entry: &str, field: &str) -> Result<Spot, NoMemory> {
+        let path = format!(in alloc; "{entry}.{field}")?;
+        if self.has(path.as_str()) {
+            return self.value_spot(alloc, path.as_str());
+        }
+        let path = format!(in alloc; "{entry}.name")?;
+        self.value_spot(alloc, path.as_str())
+    }
+
+    /// Where the parser of TOML stopped, and what it says, of a text that is none.
+    pub(crate) fn syntax(&self, alloc: Global) -> Result<(Span, String), NoMemory> {
+        match toml::table_from_slice(alloc, self.bytes) {
+            Ok(table) => {
+                drop(table);
+                Ok((Span { start: 0, end: 0 }, String::new(alloc)))
+            }
+            Err(error) => {
+                let at = match error.span() {
+                    Some(span) => Span {
+                        start: span.start,
+                        end: span.end,
+                    },
+                    None => return Err(NoMemory),
+                };
+                let message = String::from_str(alloc, error.message())?;
+                Ok((at, message))
+            }
+        }
+    }
+}
