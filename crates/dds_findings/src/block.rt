@@ -9,7 +9,7 @@ use std::alloc::Global;
 use std::marker::Model;
 
 /// What the two files are called.
-#[derive(Clone, Copy)]
+#[derive(Drop)]
 pub struct FileNames<'a> {
     pub(crate) deployment: &'a str,
     pub(crate) certificate: &'a str,

@@ -13,5 +13,6 @@ mod Replays
 mod Conforms
 mod NeedsLists
 mod LimitEnds
+mod Lints
 mod Openings
 mod Explanations

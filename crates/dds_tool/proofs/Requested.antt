@@ -1,4 +1,4 @@
--- What words ask for that draw a deployment, or look for its certificate or its limits.
+-- What words ask for that draw a deployment, or look for its certificate, its limits or what is wrong with it.
 use Rattle.std.proofs.Common.{◌≡◌, ◌∙◌, ◌<◌, ℕ, Bool, true, false, List, [], Option, Some, None, codes, option_map, slice_index, sym, ap, arith, subst, unwrap_or}
 use Rattle.std.specs.Option.{option_map_or}
 use Rattle.clap.specs.Words.{Row, Text, first_of, subcommand_of}
@@ -44,7 +44,30 @@ draws_once words rows is (asked.Show x format) asks d c first second twice = lat
 draws_once words rows is (asked.Run x y wishes style) asks d c first second twice = later 114 100 (omega arith) (ap first_byte (sym asks.1 ∙ is))
 draws_once words rows is (asked.Check x y detail style) asks d c first second twice = earlier 99 100 (omega arith) (ap first_byte (sym asks.1 ∙ is))
 draws_once words rows is (asked.Conform x y style) asks d c first second twice = earlier 99 100 (omega arith) (ap first_byte (sym asks.1 ∙ is))
+draws_once words rows is (asked.Lint x y form denied) asks d c first second twice = later 108 100 (omega arith) (ap first_byte (sym asks.1 ∙ is))
 draws_once words rows is (asked.Draw x y) asks d c first second twice =
+    let same : rows ≡ asks.0 = ap rows_at (sym is ∙ asks.1) in
+    let deployment : d ≡ x.now = ap (λ path. unwrap_or path []) (first ∙ ap (first_of (codes "deployment")) same ∙ asks.2) in
+    let certificate : Some c ≡ option_map (λ path. path.now) y = second ∙ ap (first_of (codes "certificate")) same ∙ asks.3 in
+    let once : is_input_twice x.now c ≡ false = ap (λ path. option_map_or (is_input_twice x.now) path false) certificate ∙ asks.4 in
+    true_and_false (is_input_twice x.now c) (ap (λ path. is_input_twice path c) (sym deployment) ∙ twice) once
+
+-- words that look for what is wrong, and ask for something, name standard input once at most
+pub lints_once : (words : List Text) (rows : List Row) → subcommand_of whole words ≡ Some (codes "lint", rows) → (r : Request) → Asks words r → (d c : Text)
+    → Some d ≡ first_of (codes "deployment") rows → Some c ≡ first_of (codes "certificate") rows → is_input_twice d c ≡ true → ⊥
+lints_once words rows is (asked.Match x style) asks d c first second twice = later 109 108 (omega arith) (ap first_byte (sym asks.1 ∙ is))
+lints_once words rows is (asked.Propose x style) asks d c first second twice = later 112 108 (omega arith) (ap first_byte (sym asks.1 ∙ is))
+lints_once words rows is (asked.ProposeThoroughly x seconds style) asks d c first second twice = later 112 108 (omega arith) (ap first_byte (sym asks.1 ∙ is))
+lints_once words rows is (asked.Migrate x) asks d c first second twice = later 109 108 (omega arith) (ap first_byte (sym asks.1 ∙ is))
+lints_once words rows is (asked.Refute x seconds style) asks d c first second twice = later 114 108 (omega arith) (ap first_byte (sym asks.1 ∙ is))
+lints_once words rows is (asked.Replay x y style) asks d c first second twice = later 114 108 (omega arith) (ap first_byte (sym asks.1 ∙ is))
+lints_once words rows is (asked.Show x format) asks d c first second twice = later 115 108 (omega arith) (ap first_byte (sym asks.1 ∙ is))
+lints_once words rows is (asked.Run x y wishes style) asks d c first second twice = later 114 108 (omega arith) (ap first_byte (sym asks.1 ∙ is))
+lints_once words rows is (asked.Check x y detail style) asks d c first second twice = earlier 99 108 (omega arith) (ap first_byte (sym asks.1 ∙ is))
+lints_once words rows is (asked.Conform x y style) asks d c first second twice = earlier 99 108 (omega arith) (ap first_byte (sym asks.1 ∙ is))
+lints_once words rows is (asked.Draw x y) asks d c first second twice = earlier 100 108 (omega arith) (ap first_byte (sym asks.1 ∙ is))
+lints_once words rows is (asked.Limits x what seconds style) asks d c first second twice = earlier 109 110 (omega arith) (ap third_byte (sym asks.1 ∙ is))
+lints_once words rows is (asked.Lint x y form denied) asks d c first second twice =
     let same : rows ≡ asks.0 = ap rows_at (sym is ∙ asks.1) in
     let deployment : d ≡ x.now = ap (λ path. unwrap_or path []) (first ∙ ap (first_of (codes "deployment")) same ∙ asks.2) in
     let certificate : Some c ≡ option_map (λ path. path.now) y = second ∙ ap (first_of (codes "certificate")) same ∙ asks.3 in
@@ -80,6 +103,7 @@ proposes_one words rows is plain (asked.Run x y wishes style) asks none = later 
 proposes_one words rows is plain (asked.Check x y detail style) asks none = earlier 99 112 (omega arith) (ap first_byte (sym asks.1 ∙ is))
 proposes_one words rows is plain (asked.Conform x y style) asks none = earlier 99 112 (omega arith) (ap first_byte (sym asks.1 ∙ is))
 proposes_one words rows is plain (asked.Draw x y) asks none = earlier 100 112 (omega arith) (ap first_byte (sym asks.1 ∙ is))
+proposes_one words rows is plain (asked.Lint x y form denied) asks none = earlier 108 112 (omega arith) (ap first_byte (sym asks.1 ∙ is))
 
 -- words that look for a certificate with the flag, and ask for something, name a deployment, seconds and a style
 pub searches_one : (words : List Text) (rows : List Row) → subcommand_of whole words ≡ Some (codes "propose", rows) → is_set rows (codes "thorough") ≡ true → (r : Request) → Asks words r → TimesNone rows → ⊥
@@ -98,6 +122,7 @@ searches_one words rows is flag (asked.Run x y wishes style) asks none = later 1
 searches_one words rows is flag (asked.Check x y detail style) asks none = earlier 99 112 (omega arith) (ap first_byte (sym asks.1 ∙ is))
 searches_one words rows is flag (asked.Conform x y style) asks none = earlier 99 112 (omega arith) (ap first_byte (sym asks.1 ∙ is))
 searches_one words rows is flag (asked.Draw x y) asks none = earlier 100 112 (omega arith) (ap first_byte (sym asks.1 ∙ is))
+searches_one words rows is flag (asked.Lint x y form denied) asks none = earlier 108 112 (omega arith) (ap first_byte (sym asks.1 ∙ is))
 
 -- words that look for a run that loses a sample, and ask for something, name a deployment, seconds and a style
 pub refutes_one : (words : List Text) (rows : List Row) → subcommand_of whole words ≡ Some (codes "refute", rows) → (r : Request) → Asks words r → TimesNone rows → ⊥
@@ -114,6 +139,7 @@ refutes_one words rows is (asked.Run x y wishes style) asks none = later 110 102
 refutes_one words rows is (asked.Check x y detail style) asks none = earlier 99 114 (omega arith) (ap first_byte (sym asks.1 ∙ is))
 refutes_one words rows is (asked.Conform x y style) asks none = earlier 99 114 (omega arith) (ap first_byte (sym asks.1 ∙ is))
 refutes_one words rows is (asked.Draw x y) asks none = earlier 100 114 (omega arith) (ap first_byte (sym asks.1 ∙ is))
+refutes_one words rows is (asked.Lint x y form denied) asks none = earlier 108 114 (omega arith) (ap first_byte (sym asks.1 ∙ is))
 
 -- words that ask which limits are needed, and ask for something, name a deployment, seconds and a style
 pub limits_one : (words : List Text) (rows : List Row) → subcommand_of whole words ≡ Some (codes "limits", rows) → (r : Request) → Asks words r → TimesNone rows → ⊥
@@ -130,6 +156,7 @@ limits_one words rows is (asked.Run x y wishes style) asks none = later 114 108 
 limits_one words rows is (asked.Check x y detail style) asks none = earlier 99 108 (omega arith) (ap first_byte (sym asks.1 ∙ is))
 limits_one words rows is (asked.Conform x y style) asks none = earlier 99 108 (omega arith) (ap first_byte (sym asks.1 ∙ is))
 limits_one words rows is (asked.Draw x y) asks none = earlier 100 108 (omega arith) (ap first_byte (sym asks.1 ∙ is))
+limits_one words rows is (asked.Lint x y form denied) asks none = later 110 109 (omega arith) (ap third_byte (sym asks.1 ∙ is))
 
 -- words that compare endpoints, and ask for something, name a deployment and a style
 pub matches_one : (words : List Text) (rows : List Row) → subcommand_of whole words ≡ Some (codes "match", rows) → (r : Request) → Asks words r → NamesNone rows → ⊥
@@ -146,3 +173,4 @@ matches_one words rows is (asked.Run x y wishes style) asks none = later 114 109
 matches_one words rows is (asked.Check x y detail style) asks none = earlier 99 109 (omega arith) (ap first_byte (sym asks.1 ∙ is))
 matches_one words rows is (asked.Conform x y style) asks none = earlier 99 109 (omega arith) (ap first_byte (sym asks.1 ∙ is))
 matches_one words rows is (asked.Draw x y) asks none = earlier 100 109 (omega arith) (ap first_byte (sym asks.1 ∙ is))
+matches_one words rows is (asked.Lint x y form denied) asks none = earlier 108 109 (omega arith) (ap first_byte (sym asks.1 ∙ is))

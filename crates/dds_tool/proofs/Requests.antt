@@ -16,6 +16,7 @@ use Rattle.dds_answers.specs.Outcome.{Outcome, check_file_outcome, draw_file_out
 use Rattle.dds_answers.specs.Report.{Ends, output_of, status_of}
 use Rattle.dds_answers.proofs.FileEnds.{any_end}
 use Rattle.dds_tool.specs.Limits.{MayLimitFor}
+use Rattle.dds_tool.specs.Linting.{MayLintFile, MayLintFiles}
 use Rattle.dds_tool.specs.Refuting.{MayRefuteFor}
 use Rattle.dds_tool.specs.Replaying.{MayReplayFor}
 use Rattle.dds_tool.specs.Conforming.{MayConformFor}
@@ -140,6 +141,10 @@ answered holds (asked.Show d format) given (Ok exit) old new gives written passe
 answered holds (asked.Draw d None) given (Ok exit) old new gives written passed = λ x hx. inl (written (draw_file_outcome x None) (gives x hx))
 answered holds (asked.Draw d (Some c)) given (Ok exit) old new gives written passed =
     λ x y hx hy. inl (written (draw_file_outcome x (Some y)) (gives x y hx hy))
+answered holds (asked.Lint d None form denied) given (Ok exit) old new gives written passed =
+    λ x hx. one_said (MayLintFile form denied d.now x) given (exit_status exit) old new (gives x hx) written
+answered holds (asked.Lint d (Some c) form denied) given (Ok exit) old new gives written passed =
+    λ x y hx hy. one_said (MayLintFiles form denied d.now c.now x y) given (exit_status exit) old new (gives x y hx hy) written
 answered holds (asked.Run d b wishes style) given (Ok exit) old new gives written passed =
     λ x y hx hy. run_said style (file_outcome x y) given exit old new (gives x y hx hy) written passed
 answered holds (asked.Check d b detail style) given (Err f) old new gives written passed = tt
@@ -153,6 +158,7 @@ answered holds (asked.Replay d e style) given (Err f) old new gives written pass
 answered holds (asked.Conform d t style) given (Err f) old new gives written passed = tt
 answered holds (asked.Show d format) given (Err f) old new gives written passed = tt
 answered holds (asked.Draw d c) given (Err f) old new gives written passed = tt
+answered holds (asked.Lint d c form denied) given (Err f) old new gives written passed = tt
 answered holds (asked.Run d b wishes style) given (Err f) old new gives written passed = tt
 
 -- a fault is said of the request by its status, or by 3
@@ -186,6 +192,10 @@ faulted holds (asked.Draw d None) given (Err f) old new gives ends nothing passe
     λ status told x hx. fault_said (draw_file_outcome x None) f status old new (ends (draw_file_outcome x None) (gives x hx)) nothing told
 faulted holds (asked.Draw d (Some c)) given (Err f) old new gives ends nothing passed =
     λ status told x y hx hy. fault_said (draw_file_outcome x (Some y)) f status old new (ends (draw_file_outcome x (Some y)) (gives x y hx hy)) nothing told
+faulted holds (asked.Lint d None form denied) given (Err f) old new gives ends nothing passed =
+    λ status told x hx. one_faulted (MayLintFile form denied d.now x) given f status old new (gives x hx) ends nothing told
+faulted holds (asked.Lint d (Some c) form denied) given (Err f) old new gives ends nothing passed =
+    λ status told x y hx hy. one_faulted (MayLintFiles form denied d.now c.now x y) given f status old new (gives x y hx hy) ends nothing told
 faulted holds (asked.Run d b wishes style) given (Err f) old new gives ends nothing passed =
     λ status told x y hx hy. run_faulted style (file_outcome x y) given f status old new (gives x y hx hy) ends nothing (same_fault given f passed) told
 faulted holds (asked.Check d b detail style) given (Ok exit) old new gives ends nothing passed = tt
@@ -199,6 +209,7 @@ faulted holds (asked.Replay d e style) given (Ok exit) old new gives ends nothin
 faulted holds (asked.Conform d t style) given (Ok exit) old new gives ends nothing passed = tt
 faulted holds (asked.Show d format) given (Ok exit) old new gives ends nothing passed = tt
 faulted holds (asked.Draw d c) given (Ok exit) old new gives ends nothing passed = tt
+faulted holds (asked.Lint d c form denied) given (Ok exit) old new gives ends nothing passed = tt
 faulted holds (asked.Run d b wishes style) given (Ok exit) old new gives ends nothing passed = tt
 
 -- a fault that is passed on is one with which the request may end

@@ -121,6 +121,7 @@ accepted_run holds (asked.Replay d e style) run gives = absurd run
 accepted_run holds (asked.Conform d t style) run gives = absurd run
 accepted_run holds (asked.Show d format) run gives = absurd run
 accepted_run holds (asked.Draw d c) run gives = absurd run
+accepted_run holds (asked.Lint d c form denied) run gives = absurd run
 accepted_run holds (asked.Check d c detail style) run gives = absurd run
 
 asked_run : (file_failed output_failed : Bool) (request : Request) → IsCaused file_failed output_failed request fault.Run → IsRun request

@@ -24,7 +24,11 @@ use Rattle.dds_answers.specs.declared.report.Detail.{Detail}
 use Rattle.dds_answers.specs.declared.report.Detail.TheVariants.{Plain, Explained}
 use Rattle.dds_answers.specs.Migrations.{MayMigrateFor}
 use Rattle.dds_answers.specs.Proposals.{MayProposeFor}
+use Rattle.dds_findings.specs.declared.answer.Deny.{Deny}
+use Rattle.dds_findings.specs.declared.answer.LintStyle.{LintStyle}
+use Rattle.dds_findings.specs.declared.answer.LintStyle.TheVariants as form
 use Rattle.dds_tool.specs.Limits.{MayLimitFor}
+use Rattle.dds_tool.specs.Linting.{MayLintFile, MayLintFiles, deny_word, form_word}
 use Rattle.dds_tool.specs.declared.limits.Finding.{Finding}
 use Rattle.dds_tool.specs.declared.limits.Finding.TheVariants.{Bounds, Reasons, Certificate}
 use Rattle.dds_tool.specs.Refuting.{MayRefuteFor}
@@ -109,6 +113,14 @@ Draws words deployment certificate =
     (rows : List Row) × (subcommand_of whole words ≡ Some (codes "draw", rows)) × (first_of (codes "deployment") rows ≡ Some deployment)
     × (first_of (codes "certificate") rows ≡ certificate) × (option_map_or (is_input_twice deployment) certificate false ≡ false)
 
+-- the words look for what is wrong with the deployment with this name, and with the certificate with that name, if there is one; not both on standard input. They
+-- ask for it in this form, and deny so much
+abbrev pub Lints : List Text → Text → Option Text → LintStyle → Deny → Type 0
+Lints words deployment certificate form denied =
+    (rows : List Row) × (subcommand_of whole words ≡ Some (codes "lint", rows)) × (first_of (codes "deployment") rows ≡ Some deployment)
+    × (first_of (codes "certificate") rows ≡ certificate) × (option_map_or (is_input_twice deployment) certificate false ≡ false)
+    × (first_of (codes "format") rows ≡ Some (form_word form)) × (first_of (codes "deny") rows ≡ Some (deny_word denied))
+
 -- the argument has a text that reads as this number, which is at most 65,535
 abbrev pub Counts : List Row → Text → ℕ → Type 0
 Counts rows id count =
@@ -154,6 +166,7 @@ Asks words (asked.Replay d e style) = Replays words d.now e.now style
 Asks words (asked.Conform d t style) = Conforms words d.now t.now style
 Asks words (asked.Show d format) = Shows words d.now format
 Asks words (asked.Draw d c) = Draws words d.now (option_map (λ path. path.now) c)
+Asks words (asked.Lint d c form denied) = Lints words d.now (option_map (λ path. path.now) c) form denied
 Asks words (asked.Check d c detail style) = Checks words d.now c.now detail style
 Asks words (asked.Run d c wishes style) = Runs words d.now c.now wishes style
 
@@ -177,8 +190,15 @@ paths_of (asked.Replay d e style) = d.now ∷ e.now ∷ []
 paths_of (asked.Conform d t style) = d.now ∷ t.now ∷ []
 paths_of (asked.Show d format) = d.now ∷ []
 paths_of (asked.Draw d c) = d.now ∷ option_map_or (λ path. path.now ∷ []) c []
+paths_of (asked.Lint d c form denied) = d.now ∷ option_map_or (λ path. path.now ∷ []) c []
 paths_of (asked.Check d c detail style) = d.now ∷ c.now ∷ []
 paths_of (asked.Run d c wishes style) = d.now ∷ c.now ∷ []
+
+-- the style in which faults are told beside findings in this form
+abbrev pub style_of_form : LintStyle → Style
+style_of_form form.Text = style.Text
+style_of_form form.Json = style.Json
+style_of_form form.Sarif = style.Text
 
 -- the style in which the answer to a request is told: in lines where it has no other
 abbrev pub style_of : Request → Style
@@ -192,6 +212,7 @@ style_of (asked.Replay d e style) = style
 style_of (asked.Conform d t style) = style
 style_of (asked.Show d format) = style.Text
 style_of (asked.Draw d c) = style.Text
+style_of (asked.Lint d c form denied) = style_of_form form
 style_of (asked.Check d c detail style) = style
 style_of (asked.Run d c wishes style) = style
 
@@ -229,6 +250,9 @@ GivesTo holds (asked.Conform d t style) result = (x y : List ℕ) → holds d.no
 GivesTo holds (asked.Show d format) result = (x : List ℕ) → holds d.now ≡ Some x → Gives result (show_file_outcome format x)
 GivesTo holds (asked.Draw d None) result = (x : List ℕ) → holds d.now ≡ Some x → Gives result (draw_file_outcome x None)
 GivesTo holds (asked.Draw d (Some c)) result = (x y : List ℕ) → holds d.now ≡ Some x → holds c.now ≡ Some y → Gives result (draw_file_outcome x (Some y))
+GivesTo holds (asked.Lint d None form denied) result = (x : List ℕ) → holds d.now ≡ Some x → GivesOneOf (MayLintFile form denied d.now x) result
+GivesTo holds (asked.Lint d (Some c) form denied) result =
+    (x y : List ℕ) → holds d.now ≡ Some x → holds c.now ≡ Some y → GivesOneOf (MayLintFiles form denied d.now c.now x y) result
 GivesTo holds (asked.Run d c wishes style) result = (x y : List ℕ) → holds d.now ≡ Some x → holds c.now ≡ Some y → GivesRun style (file_outcome x y) result
 
 -- the status and what is added to the output are those of this end, or memory or a device failed, and the status is 3
@@ -256,6 +280,10 @@ Answers holds (asked.Show d format) status old new = (x : List ℕ) → holds d.
 Answers holds (asked.Draw d None) status old new = (x : List ℕ) → holds d.now ≡ Some x → Said (draw_file_outcome x None) status old new
 Answers holds (asked.Draw d (Some c)) status old new =
     (x y : List ℕ) → holds d.now ≡ Some x → holds c.now ≡ Some y → Said (draw_file_outcome x (Some y)) status old new
+Answers holds (asked.Lint d None form denied) status old new =
+    (x : List ℕ) → holds d.now ≡ Some x → (status ≡ 3) ⊎ ((end : Outcome) × MayLintFile form denied d.now x end × Said end status old new)
+Answers holds (asked.Lint d (Some c) form denied) status old new =
+    (x y : List ℕ) → holds d.now ≡ Some x → holds c.now ≡ Some y → (status ≡ 3) ⊎ ((end : Outcome) × MayLintFiles form denied d.now c.now x y end × Said end status old new)
 Answers holds (asked.Run d c wishes style) status old new =
     (x y : List ℕ) → holds d.now ≡ Some x → holds c.now ≡ Some y → (status ≡ 3) ⊎ ((end : Outcome) × MayRun style (file_outcome x y) end × Said end status old new)
 

@@ -82,6 +82,11 @@ limiting =
 abbrev pub conforming : App
 conforming = styled (with_rule (one_file (codes "conform")) (file_rule (codes "trace")))
 
+-- the command that looks for everything that is wrong, with a certificate where one is named
+abbrev pub linting : App
+linting =
+    with_rule (with_rule (with_rule (one_file (codes "lint")) (optional_file_rule (codes "certificate"))) (wish_rule (codes "format") (codes "text"))) (wish_rule (codes "deny") (codes "errors"))
+
 -- the command by itself: it has a version, and wants a subcommand
 abbrev pub top_app : App
 top_app = on_top (λ s. record s { subcommand_required = true; has_version = true }) (new_app (codes "ddscheck"))
@@ -96,6 +101,7 @@ whole =
     (with_subcommand
     (with_subcommand
     (with_subcommand
+    (with_subcommand
     (with_subcommand (with_subcommand (with_subcommand (with_subcommand top_app matching.top) checking.top) searching.top) running.top)
     (one_file (codes "migrate")).top)
     showing.top)
@@ -103,4 +109,5 @@ whole =
     refuting.top)
     replaying.top)
     limiting.top)
-    conforming.top
+    conforming.top)
+    linting.top

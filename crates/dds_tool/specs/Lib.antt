@@ -15,4 +15,5 @@ pub mod NeedsText
 pub mod LimitsDocument
 pub mod Reasons
 pub mod ReasonsDocument
+pub mod Linting
 pub mod Limits

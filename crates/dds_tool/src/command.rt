@@ -3,6 +3,7 @@ ghost use Rattle.std.specs.Prelude.{◌≡◌, IfOk, IsOk, OnOk, codes, false};
 ghost use Rattle.clap.specs.Words.{app_of, rule_of, with_subcommand};
 ghost use Rattle.clap.specs.declared.builder.command.Command.TheViews.{out-Command as fields_of};
 ghost use Rattle.dds_tool.specs.Command.{checking, conforming, count_rule, drawing, file_rule, flag_rule, limiting};
+ghost use Rattle.dds_tool.specs.Command.{linting};
 ghost use Rattle.dds_tool.specs.Command.{matching, one_file};
 ghost use Rattle.dds_tool.specs.Command.{optional_file_rule, refuting, replaying, running, searching, showing, styled};
 ghost use Rattle.dds_tool.specs.Command.{seconds_rule, top_app, two_files, whole, wish_rule};
@@ -56,6 +57,15 @@ const DRAWN_CERTIFICATE: &str = "A certificate whose bounds are drawn";
 
 /// What help says of the flag of a certificate of limits.
 const CLAIM: &str = "Prints a certificate that shows these bounds, in place of them";
+
+/// What help says of the certificate of findings.
+const LINTED_CERTIFICATE: &str = "A certificate that is looked at too";
+
+/// What help says of the form of findings.
+const FORM: &str = "text, json or sarif";
+
+/// What help says of what is denied.
+const DENY: &str = "With what the answer is no: errors, or notes too";
 
 /// What help says of the argument that names a file of events.
 const EVENTS: &str = "Events, a line each, as refute prints them";
@@ -277,6 +287,20 @@ fn limits_command<'a>(alloc: Global) -> Result<Command<'a>, NoMemory>
     styled(alloc, command)
 }
 
+fn lint_command<'a>(alloc: Global) -> Result<Command<'a>, NoMemory>
+    ensures app { IfOk result (λ c. app_of c ≡ linting) }
+    ensures local { IfOk result (λ c. (fields_of c).has_globals ≡ false) }
+{
+    one_file_command(
+        alloc,
+        "lint",
+        "Looks for everything that is wrong with the files, and where",
+    )?
+    .arg(optional_file(alloc, "certificate", LINTED_CERTIFICATE))?
+    .arg(wish(alloc, "format", "FORMAT", "text", FORM))?
+    .arg(wish(alloc, "deny", "WHAT", "errors", DENY))
+}
+
 fn migrate_command<'a>(alloc: Global) -> Result<Command<'a>, NoMemory>
     ensures app { IfOk result (λ c. app_of c ≡ one_file (codes "migrate")) }
     ensures local { IfOk result (λ c. (fields_of c).has_globals ≡ false) }
@@ -330,5 +354,6 @@ pub(crate) fn whole_command<'a>(alloc: Global) -> Result<Command<'a>, NoMemory>
     let command = with_command(command, refute_command(alloc))?;
     let command = with_command(command, replay_command(alloc))?;
     let command = with_command(command, limits_command(alloc))?;
-    with_command(command, conform_command(alloc))
+    let command = with_command(command, conform_command(alloc))?;
+    with_command(command, lint_command(alloc))
 }

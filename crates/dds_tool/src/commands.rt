@@ -22,6 +22,7 @@ ghost use Rattle.dds_tool.specs.RunEnds.{GivesRun};
 
 use crate::conforming::conform_answer;
 use crate::limits::limits_file;
+use crate::linting::{lint_file, lint_files};
 use crate::refuting::refute_answer;
 use crate::replaying::replay_answer;
 use crate::request::{NoRequest, Request, read_request};
@@ -219,6 +220,15 @@ fn answer_of<R: Threads + Wait + Clock + Sync, S: Sources>(
             trace,
             style,
         } => conform_files(alloc, deployment, trace, style, files),
+        Request::Lint {
+            deployment,
+            certificate,
+            form,
+            deny,
+        } => match certificate {
+            None => lint_file(alloc, deployment, form, deny, files),
+            Some(certificate) => lint_files(alloc, deployment, certificate, form, deny, files),
+        },
         Request::Run {
             deployment,
             certificate,

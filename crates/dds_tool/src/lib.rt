@@ -10,6 +10,7 @@ mod conformance_document;
 mod conforming;
 mod limits;
 mod limits_document;
+mod linting;
 mod needs;
 mod needs_text;
 mod reasons;

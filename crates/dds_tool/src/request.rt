@@ -8,16 +8,20 @@ ghost use Rattle.dds_json.specs.declared.style.Style.{Style};
 ghost use Rattle.dds_tool.specs.Asking.{AreRefused, AskForHelp, Asks, Counts, IsHelp, IsHelpKind, IsStyled, Misses};
 ghost use Rattle.dds_tool.specs.Asking.{NamesBoth, NamesStyled, NamesTimed, Reads, Wants, detail_of, finding_of};
 ghost use Rattle.dds_tool.specs.Asking.{is_input_twice};
-ghost use Rattle.dds_tool.specs.Asking.{is_set, style_of};
+ghost use Rattle.dds_tool.specs.Asking.{is_set, style_of, style_of_form};
+ghost use Rattle.dds_findings.specs.declared.answer.Deny.{Deny as DenyView};
+ghost use Rattle.dds_findings.specs.declared.answer.LintStyle.{LintStyle as LintStyleView};
+ghost use Rattle.dds_tool.specs.Linting.{deny_word, form_word};
 ghost use Rattle.dds_tool.specs.Command.{whole};
 ghost use Rattle.dds_tool.specs.Wishes.{format_word};
 
 use crate::command::whole_command;
 use crate::limits::Finding;
-use crate::wishes::{Wishes, read_fates, read_format, read_style};
+use crate::wishes::{Wishes, read_deny, read_fates, read_form, read_format, read_style};
 use clap::ArgMatches;
 use clap::error::ErrorKind;
 use dds_answers::{Detail, Format};
+use dds_findings::{Deny, LintStyle};
 use dds_json::Style;
 use std::alloc::Global;
 use std::convert::AsStr;
@@ -33,6 +37,12 @@ const WRONG_FORMAT: &str = "error: the format is json or dds-xml\n";
 
 /// What is told of a word that is no style.
 const WRONG_STYLE: &str = "error: the format is text or json\n";
+
+/// What is told of a word that is no form of findings.
+const WRONG_FORM: &str = "error: the format is text, json or sarif\n";
+
+/// What is told of a word that denies nothing.
+const WRONG_DENY: &str = "error: what is denied is errors or notes\n";
 
 /// What is told of seconds that are no number.
 const WRONG_SECONDS: &str = "error: the seconds are a number\n";
@@ -99,6 +109,13 @@ pub enum Request<'a> {
         deployment: &'a str,
         certificate: Option<&'a str>,
     },
+    /// Everything that is wrong with a deployment, and with a certificate where one is named.
+    Lint {
+        deployment: &'a str,
+        certificate: Option<&'a str>,
+        form: LintStyle,
+        deny: Deny,
+    },
     /// Whether a certificate shows that a deployment is safe.
     Check {
         deployment: &'a str,
@@ -113,6 +130,16 @@ pub enum Request<'a> {
         wishes: Wishes,
         style: Style,
     },
+}
+
+/// The style in which faults are told beside findings in this form.
+fn style_of_form(form: LintStyle) -> Style
+    ensures { result ≡ style_of_form form }
+{
+    match form {
+        LintStyle::Text | LintStyle::Sarif => Style::Text,
+        LintStyle::Json => Style::Json,
+    }
 }
 
 impl<'a> Request<'a> {
@@ -130,6 +157,7 @@ impl<'a> Request<'a> {
             | Request::Limits { style, .. }
             | Request::Replay { style, .. }
             | Request::Conform { style, .. } => *style,
+            Request::Lint { form, .. } => style_of_form(*form),
             Request::Migrate { .. } | Request::Show { .. } | Request::Draw { .. } => Style::Text,
         }
     }
@@ -442,6 +470,51 @@ fn draw_request<'a>(alloc: Global, matches: &ArgMatches<'a>) -> Result<Request<'
     }
 }
 
+/// The form in which findings are asked for, or `None` where the word stands for none.
+fn form(matches: &ArgMatches) -> Option<LintStyle>
+    ensures some { IfSome result
+        (λ form. first_of (codes "format") (rows_of (found_of matches.now)) ≡ Some (form_word form)) }
+    ensures none { IfNone result ((form : LintStyleView)
+        → first_of (codes "format") (rows_of (found_of matches.now)) ≡ Some (form_word form) → ⊥) }
+{
+    read_form(argument(matches, "format")?)
+}
+
+/// What is denied, or `None` where the word stands for nothing.
+fn deny(matches: &ArgMatches) -> Option<Deny>
+    ensures some { IfSome result
+        (λ deny. first_of (codes "deny") (rows_of (found_of matches.now)) ≡ Some (deny_word deny)) }
+    ensures none { IfNone result ((deny : DenyView)
+        → first_of (codes "deny") (rows_of (found_of matches.now)) ≡ Some (deny_word deny) → ⊥) }
+{
+    read_deny(argument(matches, "deny")?)
+}
+
+fn lint_request<'a>(alloc: Global, matches: &ArgMatches<'a>) -> Result<Request<'a>, NoRequest>
+    ensures asked { Reads (codes "lint") (rows_of (found_of matches.now)) result }
+    ensures fault { IfErr result (λ e. ¬ IsHelp e) }
+    ensures unasked { Misses (codes "lint") (rows_of (found_of matches.now)) result }
+{
+    let Some(form) = form(matches) else {
+        return Err(usage(alloc, WRONG_FORM));
+    };
+    let Some(deny) = deny(matches) else {
+        return Err(usage(alloc, WRONG_DENY));
+    };
+    let deployment = deployment(alloc, matches)?;
+    match argument(matches, "certificate") {
+        Some(certificate) if is_input_twice(deployment, certificate) => {
+            Err(usage(alloc, INPUT_TWICE))
+        }
+        certificate => Ok(Request::Lint {
+            deployment,
+            certificate,
+            form,
+            deny,
+        }),
+    }
+}
+
 fn refute_request<'a>(alloc: Global, matches: &ArgMatches<'a>) -> Result<Request<'a>, NoRequest>
     ensures asked { Reads (codes "refute") (rows_of (found_of matches.now)) result }
     ensures fault { IfErr result (λ e. ¬ IsHelp e) }
@@ -534,6 +607,7 @@ fn request_of<'a>(alloc: Global, matches: &ArgMatches<'a>) -> Result<Request<'a>
         Some(("replay", inner)) => replay_request(alloc, inner),
         Some(("limits", inner)) => limits_request(alloc, inner),
         Some(("conform", inner)) => conform_request(alloc, inner),
+        Some(("lint", inner)) => lint_request(alloc, inner),
         _ => Err(usage(alloc, "error: no such command\n")),
     }
 }

@@ -4,10 +4,14 @@ ghost use Rattle.dds_base.specs.declared.events.Fate.{Fate};
 ghost use Rattle.dds_peers.specs.Fates.{AreFates};
 ghost use Rattle.dds_answers.specs.declared.format.Format.{Format};
 ghost use Rattle.dds_json.specs.declared.style.Style.{Style};
+ghost use Rattle.dds_findings.specs.declared.answer.Deny.{Deny};
+ghost use Rattle.dds_findings.specs.declared.answer.LintStyle.{LintStyle};
+ghost use Rattle.dds_tool.specs.Linting.{deny_word, form_word};
 ghost use Rattle.dds_tool.specs.Wishes.{fate_word, fates_text, format_word, style_word};
 
 use dds_answers::Format;
 use dds_base::Fate;
+use dds_findings::{Deny, LintStyle};
 use dds_json::Style;
 use dds_peers::Fates;
 
@@ -42,6 +46,31 @@ pub(crate) fn read_style(word: &str) -> Option<Style>
     match word {
         "text" => Some(Style::Text),
         "json" => Some(Style::Json),
+        _ => None,
+    }
+}
+
+/// The form of findings for which a word stands, or `None` where it stands for none.
+pub(crate) fn read_form(word: &str) -> Option<LintStyle>
+    ensures some { IfSome result (λ form. word.now ≡ form_word form) }
+    ensures none { IfNone result ((form : LintStyle) → word.now ≢ form_word form) }
+{
+    match word {
+        "text" => Some(LintStyle::Text),
+        "json" => Some(LintStyle::Json),
+        "sarif" => Some(LintStyle::Sarif),
+        _ => None,
+    }
+}
+
+/// What is denied by a word, or `None` where it stands for nothing.
+pub(crate) fn read_deny(word: &str) -> Option<Deny>
+    ensures some { IfSome result (λ deny. word.now ≡ deny_word deny) }
+    ensures none { IfNone result ((deny : Deny) → word.now ≢ deny_word deny) }
+{
+    match word {
+        "errors" => Some(Deny::Errors),
+        "notes" => Some(Deny::Notes),
         _ => None,
     }
 }
