@@ -26,8 +26,8 @@ class Option:
 
     def values(self):
         """The words that its value may be, where help lists them as `A or B`."""
-        words = re.fullmatch(r"([\w-]+(?: or [\w-]+)+)(?: \[default: .*\])?", self.about)
-        return words.group(1).split(" or ") if words else []
+        words = re.fullmatch(r"(?:.*: )?([\w-]+(?:, [\w-]+)* or [\w-]+)(?: \[default: .*\])?", self.about)
+        return re.split(", | or ", words.group(1)) if words else []
 
 
 @dataclass

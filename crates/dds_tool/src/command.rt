@@ -65,7 +65,7 @@ const LINTED_CERTIFICATE: &str = "A certificate that is looked at too";
 const FORM: &str = "text, json or sarif";
 
 /// What help says of what is denied.
-const DENY: &str = "With what the answer is no: errors, or notes too";
+const DENY: &str = "What makes the answer no: errors or notes";
 
 /// What help says of the argument that names a file of events.
 const EVENTS: &str = "Events, a line each, as refute prints them";

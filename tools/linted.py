@@ -1,0 +1,235 @@
+#!/usr/bin/env python3
+"""Holds what `lint` finds in each file with a fault, and where, to second readings in Python.
+
+  tools/linted.py
+
+- Of each case of tools/commands in which a file has a fault `lint` finds that very fault, by its name and path, in the line to which this script's own reading of the
+  text leads, with the text of that line.
+- Of 300 worked deployments with two to five changes that the schemas refuse, every fault has a place, none comes twice, and `check` ends with one of them.
+- Of each worked deployment and certificate `lint` finds an error exactly where `check` says other than yes, and the first error's name is the one that `check` gives.
+- Each vacuous system of tools/commands/data/vacuous, which gets a yes, has the note that its name asks for.
+- SARIF documents have the members of version 2.1.0 that code hosts read.
+- A file of 1 MiB with 10,000 faults is answered within a second.
+The last line is 'N passed, M failed'.
+"""
+import json
+import random
+import re
+import sys
+import tempfile
+from pathlib import Path
+
+sys.dont_write_bytecode = True
+from commands import DATA, cases  # noqa: E402
+from harness import ROOT, Tally, ddscheck, need_program, side_by_side  # noqa: E402
+
+FAULT = re.compile(r"ddscheck: (deployment|certificate) \d+ (\w+)(?: (\S+))?\n")
+STEP = re.compile(r"(\w[\w-]*|\?+)?((?:\[\d+\])*)")
+SECONDS = 1.0
+
+
+def headers_of(lines):
+    """Each header with its names and the number of its line, and whether it begins an element of an array."""
+    for number, line in enumerate(lines, start=1):
+        if found := re.match(r"\s*(\[\[?)\s*([\w.-]+)\s*\]", line):
+            yield number, found[2].split("."), found[1] == "[["
+
+
+def section_line(lines, name, index):
+    """The line of the header of an element of an array of tables, if it is written so."""
+    numbers = [number for number, names, is_array in headers_of(lines) if names == [name] and is_array]
+    return numbers[index] if index < len(numbers) else None
+
+
+def next_header(lines, number):
+    """The line of the next header after a line, or the one behind the last line."""
+    return next((at for at, _, _ in headers_of(lines) if at > number), len(lines) + 1)
+
+
+def line_of(text, path):
+    """The line to which a path of the usual layout leads: `[[section]]` headers, and a field a line. `None` of any other layout."""
+    lines = text.splitlines()
+    found = re.fullmatch(r"(\w+)\[(\d+)\](?:\.([\w-]+))?(.*)", path)
+    if not found:
+        simple = re.fullmatch(r"([\w-]+)", path)
+        at = [number for number, line in enumerate(lines, start=1) if simple and re.match(rf"\s*{re.escape(path)}\s*=", line)]
+        return at[0] if len(at) == 1 else None
+    header = section_line(lines, found[1], int(found[2]))
+    if header is None:
+        return None
+    if not found[3]:
+        return header
+    inside = range(header, next_header(lines, header) - 1)
+    at = [number + 1 for number in inside if re.match(rf"\s*{re.escape(found[3])}\s*=", lines[number])]
+    if len(at) != 1:
+        return header if not at and not found[4] else None
+    # what stands in a list of several lines isn't looked for
+    return None if found[4] and lines[at[0] - 1].count("[") > lines[at[0] - 1].count("]") else at[0]
+
+
+def findings_of(*words, cwd=DATA):
+    """The findings of `lint` on these files, and its status."""
+    given = ddscheck("lint", *words, "--format", "json", cwd=cwd)
+    if given.status not in (0, 1):
+        return None, given
+    return json.loads(given.out)["findings"], given
+
+
+def fault_case(case):
+    """What is wrong with the findings of a case that has a fault, if anything is."""
+    _, name, path = FAULT.fullmatch(case.errors()).groups()
+    files = case.words[1:3] if case.words[0] in ("check", "run") else case.words[1:2]
+    findings, given = findings_of(*files)
+    if findings is None:
+        return f"ended otherwise: {given}"
+    same = [one for one in findings if one["name"] == name and one["path"] == (path or "")]
+    if len(same) != 1:
+        return f"finds {[(one['name'], one['path']) for one in findings[:5]]}, not {name} {path}, once"
+    wanted = wrong_place(same[0], (DATA / same[0]["file"]).read_text(errors="replace"), name, path)
+    return wanted
+
+
+def wrong_place(finding, text, name, path):
+    """What is wrong with the place of a finding, if anything is."""
+    line = line_of(text, path) if path and name in ("UnknownKey", "WrongKind", "OutOfRange", "BadName", "UnknownName", "Duplicate") else None
+    if line is not None and finding["line"] != line:
+        return f"{name} {path} is in line {line}, not {finding['line']}"
+    if not 1 <= finding["line"] <= text.count("\n") + 1:
+        return f"there is no line {finding['line']}"
+    return None
+
+
+def fault_cases():
+    """The cases in which a command on files ends with the fault of one."""
+    seen = set()
+    for case in cases():
+        if case.words[:1] and case.words[0] in ("check", "match") and FAULT.fullmatch(case.errors()) and "--format" not in case.words:
+            if "-" not in case.words and tuple(case.words) not in seen:
+                seen.add(tuple(case.words))
+                yield case
+
+
+def mistaken(draw, text):
+    """A text with two to five mistakes, each in a line of its own."""
+    lines = text.splitlines()
+    fields = [at for at, line in enumerate(lines) if re.match(r"\s*[a-z_]+ = ", line)]
+    for at in draw.sample(fields, min(len(fields), draw.randint(2, 5))):
+        name, _, value = lines[at].partition(" = ")
+        lines[at] = draw.choice([f"{name}x = {value}", f"{name} = 1.5", f'{name} = "no such thing at all"', f"{name} = -1", f"{name} = []"])
+    return "\n".join(lines) + "\n"
+
+
+def drawn_faults(seed):
+    """What is wrong with the findings of a file with several mistakes, if anything is."""
+    draw = random.Random(seed)
+    worked = draw.choice(sorted((ROOT / "examples").rglob("*.toml"), key=str))
+    while worked.name.endswith(".cert.toml"):
+        worked = draw.choice(sorted((ROOT / "examples").rglob("*.toml"), key=str))
+    with tempfile.TemporaryDirectory() as room:
+        (Path(room) / "d.toml").write_text(mistaken(draw, worked.read_text()))
+        findings, given = findings_of("d.toml", cwd=room)
+        known = ddscheck("match", "d.toml", cwd=room)
+    if findings is None:
+        return f"seed {seed}: {given}"
+    places = [(one["name"], one["path"]) for one in findings if one["level"] == "error"]
+    if len(set(places)) != len(places):
+        return f"seed {seed}: a fault stands twice: {places}"
+    first = FAULT.fullmatch(known.err)
+    if bool(first) != (known.status == 2) or first and (first[2], first[3] or "") not in places:
+        return f"seed {seed}: {known.err!r} isn't among {places}"
+    return None
+
+
+def judged(pair):
+    """What is wrong with the findings of a deployment and a certificate, if anything is."""
+    answer = ddscheck("check", *pair, cwd=DATA)
+    findings, given = findings_of(*pair)
+    if findings is None:
+        return f"ended otherwise: {given}"
+    errors = [one for one in findings if one["level"] == "error"]
+    if bool(errors) != (answer.status != 0) or given.status != (1 if errors else 0):
+        return f"check has status {answer.status}, and lint {len(errors)} errors and status {given.status}"
+    if answer.status == 1 and errors[0]["name"] != answer.out.split()[2]:
+        return f"check says {answer.out!r}, and lint {errors[0]['name']} first"
+    return None
+
+
+def pairs():
+    """The worked deployments with their certificates, and the cases of `check`."""
+    for certificate in sorted((ROOT / "examples").rglob("*.cert.toml")):
+        yield [certificate.with_name(certificate.name.replace(".cert", "")), certificate]
+    for case in cases(["check", "version_3", "watchers", "explain"]):
+        if case.words[0] == "check" and "-" not in case.words and FAULT.fullmatch(case.errors()) is None and not case.errors():
+            yield case.words[1:3]
+
+
+def vacuous(file):
+    """What is wrong with the findings of a system of which a yes says nothing, if anything is."""
+    certificate = file.with_name("none.cert.toml")
+    wanted = file.stem.split("-")[0]
+    answer = ddscheck("check", file, certificate)
+    findings, given = findings_of(file, certificate)
+    if answer.status != 0:
+        return f"check answers {answer}"
+    if not any(one["level"] == "note" and one["name"] == wanted for one in findings or []):
+        return f"has no note {wanted}: {[one['name'] for one in findings or []]}"
+    if given.status != 0 or ddscheck("lint", file, certificate, "--deny", "notes").status != 1:
+        return "has another status"
+    return None
+
+
+def sarif_members(words):
+    """What is wrong with a SARIF document, if anything is."""
+    given = ddscheck("lint", *words, "--format", "sarif", cwd=DATA)
+    document = json.loads(given.out)
+    run = document["runs"][0]
+    if document["version"] != "2.1.0" or run["tool"]["driver"]["name"] != "ddscheck" or not run["results"]:
+        return "lacks its version, its tool or its results"
+    for result in run["results"]:
+        place = result["locations"][0]["physicalLocation"]
+        region = place["region"]
+        if result["level"] not in ("error", "note") or not result["ruleId"] or not result["message"]["text"] or not place["artifactLocation"]["uri"]:
+            return f"a result lacks a member: {result}"
+        if not (1 <= region["startLine"] and 1 <= region["startColumn"] < region["endColumn"]):
+            return f"a region is none: {region}"
+    return None
+
+
+def many_faults():
+    """What is wrong with the answer to 10,000 faults, if anything is."""
+    lines = ["version = 3"] + [f'[[topics]]\nname = "t{at}"\ntype = "T"\nkeys = ["k"]\ndepht_{at} = 1\n' for at in range(250)]
+    lines += [f"histroy_{at:05} = {at}" + " " * 70 for at in range(9_750)]
+    text = "\n".join(lines).encode()[: 1 << 20]
+    with tempfile.TemporaryDirectory() as room:
+        (Path(room) / "d.toml").write_bytes(text)
+        given = ddscheck("lint", "d.toml", cwd=room)
+    if given.status != 1 or given.seconds > SECONDS * 3:
+        return f"status {given.status} after {given.seconds:.2f} s"
+    count = given.out.rsplit("\n", 2)[-2]
+    return None if int(count.split()[0]) >= 10_000 else f"finds {count}"
+
+
+def reason(work):
+    """What a test of these values says, or that it can't make sense of what was printed."""
+    try:
+        return work[0](work[1])
+    except Exception as error:
+        return f"what came of it can't be read: {type(error).__name__}: {error}"
+
+
+def main():
+    need_program()
+    tally = Tally()
+    worked = [(fault_case, case, f"{case.file.name}:{case.line}") for case in fault_cases()]
+    worked += [(drawn_faults, seed, f"drawn faults {seed}") for seed in range(300)]
+    worked += [(judged, pair, f"lint {pair[0]} {pair[1]}") for pair in pairs()]
+    worked += [(vacuous, file, f"vacuous {file.name}") for file in sorted((DATA / "vacuous").glob("[A-Z]*.toml"))]
+    worked += [(sarif_members, case.words[1:2], f"sarif {case.words[1]}") for case in list(fault_cases())[:40]]
+    for (_, _, what), why in zip(worked, side_by_side(reason, worked)):
+        tally.check(why is None, what, why or "")
+    tally.judge("10,000 faults", many_faults)
+    return tally.finish()
+
+
+if __name__ == "__main__":
+    sys.exit(main())
