@@ -1,0 +1,23 @@
+//! All faults of a deployment file or of a certificate file, in words. The proved readers give the first fault alone;
+//! these functions are for where one of them has found it, and that it is among what they list is proved.
+#![tactic(auto)]
+
+pub mod fault;
+mod fields;
+mod first;
+mod head;
+mod listing;
+mod lists;
+mod names;
+mod nearest;
+mod owners;
+mod tables;
+#[cfg(test)]
+mod tests;
+mod values;
+mod walk;
+mod whole;
+mod wording;
+
+pub use fault::{FileFault, Known};
+pub use listing::{certificate_faults, deployment_faults};
