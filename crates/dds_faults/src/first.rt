@@ -1,0 +1,59 @@
+//! The first fault of a file is always among those that are listed.
+ghost use Rattle.std.specs.Prelude.{IfOk, IsTrue, ◌→◌};
+ghost use Rattle.dds_faults.specs.Listed.{IsListed};
+
+use crate::fault::{FileFault, Known};
+use dds_base::NoMemory;
+use std::alloc::Global;
+
+// What is wrong where there's nothing to say of the case.
+fn words(name: &str) -> &'static str {
+    match name {
+        "NotToml" => "this is no TOML",
+        "WrongVersion" => "this version can't be read here",
+        "UnknownKey" => "there's no such field",
+        "MissingKey" => "this has to be there",
+        "WrongKind" => "this is of another kind than what belongs here",
+        "OutOfRange" => "this is out of its range",
+        "Duplicate" => "this is there already",
+        "UnknownName" => "there's nothing of this name",
+        "BadName" => "this is no name",
+        "Qos" => "the depth and the limits contradict each other",
+        "TooMany" => "there are more than may be, with what short forms stand for",
+        "EndpointOwner" => "exactly one application has to own this, at the same participant",
+        "RuleEntry" => "what the rule takes and writes doesn't fit its application",
+        _ => "this can't be read",
+    }
+}
+
+fn is_first(fault: &FileFault, first: &Known) -> bool {
+    fault.number == first.number && fault.name == first.name && fault.path.as_str() == first.path
+}
+
+fn is_listed(faults: &[FileFault], first: &Known) -> bool {
+    faults.iter().any(|fault| is_first(fault, first))
+}
+
+/// The faults with the first one before them, where it isn't one of them.
+pub(crate) fn with_first(
+    alloc: Global,
+    mut faults: Vec<FileFault>,
+    first: &Known,
+) -> Result<Vec<FileFault>, NoMemory> {
+    if is_listed(&faults, first) {
+        return Ok(faults);
+    }
+    let path = String::from_str(alloc, first.path)?;
+    let message = String::from_str(alloc, words(first.name))?;
+    faults.insert(
+        0,
+        FileFault {
+            number: first.number,
+            name: first.name,
+            path,
+            message,
+            help: None,
+        },
+    )?;
+    Ok(faults)
+}

@@ -1,0 +1,109 @@
+//! The head of a document: its version, and the sections that it has.
+
+use crate::fault::{Faults, FileKind};
+use crate::walk::{Walk, help_with_words, tell_kind};
+use crate::wording::{choice, shown, shown_key};
+use dds_base::NoMemory;
+use dds_fields::fault::FaultKind;
+use dds_fields::place::Place;
+use std::alloc::Global;
+use toml::Table;
+
+const VERSION: Place<'static> = Place::Key {
+    parent: &Place::Root,
+    key: "version",
+};
+
+/// The version that a file is read as: its own, the newest where it has none that is known.
+pub(crate) fn version_of(file: FileKind, document: &Table) -> i64 {
+    let newest = file.newest();
+    match document.get("version") {
+        Some(version) => match version.as_integer() {
+            Some(version) if 1 <= version && version <= newest => version,
+            _ => newest,
+        },
+        None => newest,
+    }
+}
+
+fn tell_no_version(walk: &Walk, faults: &mut Faults) -> Result<(), NoMemory> {
+    let alloc = walk.alloc;
+    let (noun, newest) = (walk.file.noun(), walk.file.newest());
+    let message = format!(in alloc; "{noun} needs `version`")?;
+    let help = format!(in alloc; "begin with version = {newest}")?;
+    faults.add(alloc, FaultKind::MissingKey, &VERSION, message, Some(help))
+}
+
+fn tell_wrong_version(walk: &Walk, faults: &mut Faults, version: i64) -> Result<(), NoMemory> {
+    let alloc = walk.alloc;
+    let versions = walk.file.versions();
+    let message = format!(in alloc; "version {version} isn't known: {versions}")?;
+    faults.add(alloc, FaultKind::WrongVersion, &VERSION, message, None)
+}
+
+fn check_version(walk: &Walk, faults: &mut Faults) -> Result<(), NoMemory> {
+    let Some(value) = walk.document.get("version") else {
+        return tell_no_version(walk, faults);
+    };
+    match value.as_integer() {
+        Some(version) if 1 <= version && version <= walk.file.newest() => Ok(()),
+        Some(version) => tell_wrong_version(walk, faults, version),
+        None => tell_kind(walk, faults, walk.file.versions(), &VERSION, value),
+    }
+}
+
+fn has_section(file: FileKind, key: &str) -> bool {
+    file.parts().iter().any(|part| part.key == key)
+}
+
+fn section_keys(alloc: Global, file: FileKind) -> Result<Vec<&'static str>, NoMemory> {
+    let mut keys = Vec::new(alloc);
+    keys.push("version")?;
+    for part in file.parts() {
+        keys.push(part.key)?;
+    }
+    Ok(keys)
+}
+
+fn help_with_section(
+    walk: &Walk,
+    faults: &mut Faults,
+    key: &str,
+) -> Result<Option<String>, NoMemory> {
+    let alloc = walk.alloc;
+    let other = walk.file.other();
+    if has_section(other, key) {
+        let noun = other.noun();
+        return Ok(Some(format!(in alloc; "this is {noun}")?));
+    }
+    let keys = section_keys(alloc, walk.file)?;
+    let list = choice(alloc, &keys, "`", " and ")?;
+    let all = format!(in alloc; "it has {list}")?;
+    help_with_words(walk, faults, key, &keys, "`", all.as_str())
+}
+
+fn check_section_key(walk: &Walk, faults: &mut Faults, key: &str) -> Result<(), NoMemory> {
+    if key == "version" || has_section(walk.file, key) {
+        return Ok(());
+    }
+    let alloc = walk.alloc;
+    let help = help_with_section(walk, faults, key)?;
+    let noun = walk.file.noun();
+    let name = shown(alloc, key)?;
+    let message = format!(in alloc; "`{name}` is no section of {noun}")?;
+    let path = shown_key(alloc, key)?;
+    let at = Place::Key {
+        parent: &Place::Root,
+        key: path.as_str(),
+    };
+    faults.add(alloc, FaultKind::UnknownKey, &at, message, help)
+}
+
+/// Lists what is wrong with the version and with the keys of the document.
+pub(crate) fn check_head(walk: &Walk, faults: &mut Faults) -> Result<(), NoMemory> {
+    check_version(walk, faults)?;
+    for key in walk.document.keys() {
+        check_section_key(walk, faults, key.as_str())?;
+    }
+    Ok(())
+}

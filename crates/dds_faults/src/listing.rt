@@ -1,0 +1,415 @@
+//! The walk through a file, section by section, in the order of the reader.
+use crate::fault::{Faults, FileFault, FileKind, Known};
+use crate::fields::{Elements, Entry, Field, Need, Part, Side, Takes};
+use crate::first::with_first;
+use crate::head::{check_head, version_of};
+use crate::lists::check_list;
+use crate::names::{KnownNames, names_of_certificate, names_of_deployment};
+use crate::owners::check_all_owned;
+use crate::values::{Spot, check_value};
+use crate::walk::{Walk, help_with_words, tell_kind, tell_length};
+use crate::whole::{check_element, check_whole};
+use crate::wording::{choice, shown, shown_key};
+use dds_base::{NoMemory, Pairs};
+use dds_fields::fault::FaultKind;
+use dds_fields::place::Place;
+use dds_lists::Deployment;
+use std::alloc::Global;
+use toml::{Table, Value};
+
+fn help_with_fields(
+    walk: &Walk,
+    faults: &mut Faults,
+    entry: Entry,
+    key: &str,
+) -> Result<Option<String>, NoMemory> {
+    let alloc = walk.alloc;
+    if faults.are_many() {
+        return Ok(None);
+    }
+    let keys = entry.fields().keys(alloc, walk.version)?;
+    let list = choice(alloc, &keys, "`", " and ")?;
+    let all = format!(in alloc; "its fields are {list}")?;
+    help_with_words(walk, faults, key, &keys, "`", all.as_str())
+}
+
+fn tell_unknown_key(
+    walk: &Walk,
+    faults: &mut Faults,
+    entry: Entry,
+    at: &Place,
+    key: &str,
+    since: Option<i64>,
+) -> Result<(), NoMemory> {
+    let alloc = walk.alloc;
+    let path = shown_key(alloc, key)?;
+    let at = Place::Key {
+        parent: at,
+        key: path.as_str(),
+    };
+    let name = shown(alloc, key)?;
+    if let Some(since) = since {
+        let message = format!(in alloc; "`{name}` needs version = {since}")?;
+        return faults.add(alloc, FaultKind::UnknownKey, &at, message, None);
+    }
+    let help = help_with_fields(walk, faults, entry, key)?;
+    let noun = entry.noun();
+    let message = format!(in alloc; "`{name}` is no field of {noun}")?;
+    faults.add(alloc, FaultKind::UnknownKey, &at, message, help)
+}
+
+fn check_keys(
+    walk: &Walk,
+    faults: &mut Faults,
+    entry: Entry,
+    at: &Place,
+    table: &Table,
+) -> Result<(), NoMemory> {
+    for key in table.keys() {
+        match entry.fields().find(key.as_str()) {
+            Some(field) if field.since <= walk.version => {}
+            Some(field) => {
+                tell_unknown_key(walk, faults, entry, at, key.as_str(), Some(field.since))?;
+            }
+            None => tell_unknown_key(walk, faults, entry, at, key.as_str(), None)?,
+        }
+    }
+    Ok(())
+}
+
+fn is_needed(walk: &Walk, need: Need) -> bool {
+    match need {
+        Need::Always => true,
+        Need::InVersion1 => walk.version <= 1,
+        Need::Never => false,
+    }
+}
+
+fn check_absent(
+    walk: &Walk,
+    faults: &mut Faults,
+    entry: Entry,
+    field: &Field,
+    at: &Place,
+) -> Result<(), NoMemory> {
+    if !is_needed(walk, field.need) {
+        return Ok(());
+    }
+    let alloc = walk.alloc;
+    let (noun, key) = (entry.noun(), field.key);
+    let message = format!(in alloc; "{noun} needs `{key}`")?;
+    faults.add(alloc, FaultKind::MissingKey, at, message, None)
+}
+
+// What is wrong with a field that has no tables in it.
+fn check_plain_field(
+    walk: &Walk,
+    faults: &mut Faults,
+    entry: Entry,
+    spot: &Spot,
+    field: &Field,
+) -> Result<(), NoMemory> {
+    let at = Place::Key {
+        parent: spot.at,
+        key: field.key,
+    };
+    let Some(value) = spot.table.get(field.key) else {
+        return check_absent(walk, faults, entry, field, &at);
+    };
+    match field.takes {
+        Takes::TopicKeys | Takes::Filter | Takes::Owned(_) | Takes::Partitions => {
+            check_list(walk, faults, spot, field.takes, &at, value)
+        }
+        _ => check_value(walk, faults, spot, field, &at, value),
+    }
+}
+
+fn check_plain_fields(
+    walk: &Walk,
+    faults: &mut Faults,
+    entry: Entry,
+    spot: &Spot,
+    fields: &[Field],
+) -> Result<(), NoMemory> {
+    for field in fields {
+        if field.since <= walk.version {
+            check_plain_field(walk, faults, entry, spot, field)?;
+        }
+    }
+    Ok(())
+}
+
+fn has_each(table: &Table) -> bool {
+    match table.get("each") {
+        Some(each) => each.as_bool() == Some(true),
+        None => false,
+    }
+}
+
+// What the elements of a list in an entry are.
+fn element_of(elements: Elements, table: &Table) -> Entry {
+    match elements {
+        Elements::Portions(side) if has_each(table) => Entry::Share(side),
+        Elements::Portions(side) => Entry::Portion(side),
+        Elements::Weights(side) => Entry::Weight(side),
+    }
+}
+
+fn limit_of(elements: Elements) -> usize {
+    match elements {
+        Elements::Portions(_) => 16,
+        Elements::Weights(_) => 16_384,
+    }
+}
+
+fn check_inner(
+    walk: &Walk,
+    faults: &mut Faults,
+    entry: Entry,
+    outer: &Table,
+    stood: &mut Pairs,
+    spot: &Spot,
+) -> Result<(), NoMemory> {
+    check_keys(walk, faults, entry, spot.at, spot.table)?;
+    check_plain_fields(walk, faults, entry, spot, entry.fields().own)?;
+    check_element(walk, faults, entry, outer, spot.at, spot.table)?;
+    check_whole(walk, faults, entry, stood, spot.at, spot.table)
+}
+
+fn check_inner_list(
+    walk: &Walk,
+    faults: &mut Faults,
+    entry: Entry,
+    outer: &Table,
+    list: &Place,
+    values: &[Value],
+) -> Result<(), NoMemory> {
+    let mut stood = Pairs::new(walk.alloc);
+    for (index, value) in values.iter().enumerate() {
+        let at = Place::Index {
+            parent: list,
+            index,
+        };
+        match value.as_table() {
+            Some(table) => {
+                let at = &at;
+                let spot = Spot { index, at, table };
+                check_inner(walk, faults, entry, outer, &mut stood, &spot)?;
+            }
+            None => tell_kind(walk, faults, "a table", &at, value)?,
+        }
+    }
+    Ok(())
+}
+
+fn check_tables(
+    walk: &Walk,
+    faults: &mut Faults,
+    elements: Elements,
+    outer: &Table,
+    at: &Place,
+    value: &Value,
+) -> Result<(), NoMemory> {
+    let Some(array) = value.as_array() else {
+        return tell_kind(walk, faults, "a list of tables", at, value);
+    };
+    let values = array.as_slice();
+    tell_length(walk, faults, "elements", limit_of(elements), at, values)?;
+    check_inner_list(walk, faults, element_of(elements, outer), outer, at, values)
+}
+
+fn check_field(
+    walk: &Walk,
+    faults: &mut Faults,
+    entry: Entry,
+    spot: &Spot,
+    field: &Field,
+) -> Result<(), NoMemory> {
+    if let Takes::Tables(elements) = field.takes {
+        let at = Place::Key {
+            parent: spot.at,
+            key: field.key,
+        };
+        return match spot.table.get(field.key) {
+            Some(value) => check_tables(walk, faults, elements, spot.table, &at, value),
+            None => Ok(()),
+        };
+    }
+    check_plain_field(walk, faults, entry, spot, field)
+}
+
+fn check_fields(
+    walk: &Walk,
+    faults: &mut Faults,
+    entry: Entry,
+    spot: &Spot,
+    fields: &[Field],
+) -> Result<(), NoMemory> {
+    for field in fields {
+        if field.since <= walk.version {
+            check_field(walk, faults, entry, spot, field)?;
+        }
+    }
+    Ok(())
+}
+
+fn check_entry(
+    walk: &Walk,
+    faults: &mut Faults,
+    entry: Entry,
+    stood: &mut Pairs,
+    spot: &Spot,
+) -> Result<(), NoMemory> {
+    check_keys(walk, faults, entry, spot.at, spot.table)?;
+    check_fields(walk, faults, entry, spot, entry.fields().own)?;
+    check_plain_fields(walk, faults, entry, spot, entry.fields().more)?;
+    check_whole(walk, faults, entry, stood, spot.at, spot.table)
+}
+
+fn check_entries(
+    walk: &Walk,
+    faults: &mut Faults,
+    entry: Entry,
+    list: &Place,
+    values: &[Value],
+) -> Result<(), NoMemory> {
+    let mut stood = Pairs::new(walk.alloc);
+    for (index, value) in values.iter().enumerate() {
+        let at = Place::Index {
+            parent: list,
+            index,
+        };
+        match value.as_table() {
+            Some(table) => {
+                let at = &at;
+                let spot = Spot { index, at, table };
+                check_entry(walk, faults, entry, &mut stood, &spot)?;
+            }
+            None => tell_kind(walk, faults, "a table", &at, value)?,
+        }
+    }
+    Ok(())
+}
+
+fn check_section(walk: &Walk, faults: &mut Faults, part: &Part) -> Result<(), NoMemory> {
+    let Some(value) = walk.document.get(part.key) else {
+        return Ok(());
+    };
+    let key = part.key;
+    let at = Place::Key {
+        parent: &Place::Root,
+        key,
+    };
+    let Some(array) = value.as_array() else {
+        let expected = format!(in walk.alloc; "a list of tables, each below [[{key}]]")?;
+        return tell_kind(walk, faults, expected.as_str(), &at, value);
+    };
+    let values = array.as_slice();
+    tell_length(walk, faults, key, part.limit, &at, values)?;
+    check_entries(walk, faults, part.entry, &at, values)
+}
+
+// The applications, and then whether each endpoint has one. Whether no fault was found.
+fn check_applications(walk: &Walk, faults: &mut Faults, part: &Part) -> Result<bool, NoMemory> {
+    let before = faults.len();
+    check_section(walk, faults, part)?;
+    if faults.len() != before {
+        return Ok(false);
+    }
+    check_all_owned(walk, faults, Side::Writers)?;
+    check_all_owned(walk, faults, Side::Readers)?;
+    Ok(true)
+}
+
+fn check_sections(walk: &Walk, faults: &mut Faults) -> Result<(), NoMemory> {
+    let mut walk = *walk;
+    for part in walk.file.parts() {
+        if part.entry == Entry::Application {
+            walk.owners_are_clear = check_applications(&walk, faults, part)?;
+        } else {
+            check_section(&walk, faults, part)?;
+        }
+    }
+    Ok(())
+}
+
+fn faults_of(
+    alloc: Global,
+    file: FileKind,
+    document: &Table,
+    known: &KnownNames,
+) -> Result<Vec<FileFault>, NoMemory> {
+    let walk = Walk {
+        alloc,
+        file,
+        version: version_of(file, document),
+        document,
+        known,
+        owners_are_clear: false,
+    };
+    let mut faults = Faults::new(alloc, file);
+    check_head(&walk, &mut faults)?;
+    check_sections(&walk, &mut faults)?;
+    Ok(faults.into_all())
+}
+
+fn document_of(alloc: Global, bytes: &[u8]) -> Result<Option<Table>, NoMemory> {
+    match toml::table_from_slice(alloc, bytes) {
+        Ok(document) => Ok(Some(document)),
+        Err(error) => {
+            if error.is_memory() {
+                Err(NoMemory)
+            } else {
+                Ok(None)
+            }
+        }
+    }
+}
+
+fn found_in_deployment(alloc: Global, bytes: &[u8]) -> Result<Vec<FileFault>, NoMemory> {
+    match document_of(alloc, bytes)? {
+        Some(document) => {
+            let known = names_of_deployment(alloc, &document)?;
+            faults_of(alloc, FileKind::Deployment, &document, &known)
+        }
+        None => Ok(Vec::new(alloc)),
+    }
+}
+
+fn found_in_certificate(
+    alloc: Global,
+    lists: &Deployment,
+    bytes: &[u8],
+) -> Result<Vec<FileFault>, NoMemory> {
+    match document_of(alloc, bytes)? {
+        Some(document) => {
+            let known = names_of_certificate(alloc, lists, &document)?;
+            faults_of(alloc, FileKind::Certificate, &document, &known)
+        }
+        None => Ok(Vec::new(alloc)),
+    }
+}
+
+/// The faults of a deployment in which the reader has found a first one, in the order in which it reads, none of them
+/// twice. The first one is among them; where the bytes are no TOML it stands alone. `NoMemory` where memory ran out.
+pub fn deployment_faults(
+    alloc: Global,
+    bytes: &[u8],
+    first: &Known,
+) -> Result<Vec<FileFault>, NoMemory> {
+    let found = found_in_deployment(alloc, bytes)?;
+    with_first(alloc, found, first)
+}
+
+/// The faults of a certificate for a deployment in which the reader has found a first one, in the order in which it
+/// reads, none of them twice. The first one is among them; where the bytes are no TOML it stands alone. `NoMemory`
+/// where memory ran out.
+pub fn certificate_faults(
+    alloc: Global,
+    lists: &Deployment,
+    bytes: &[u8],
+    first: &Known,
+) -> Result<Vec<FileFault>, NoMemory> {
+    let found = found_in_certificate(alloc, lists, bytes)?;
+    with_first(alloc, found, first)
+}
