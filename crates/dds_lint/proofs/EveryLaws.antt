@@ -15,6 +15,11 @@ pub every_more : {A : Type 0} (f : ℕ → List A) (i : ℕ) (first was now : Li
 unfolding every_below
 every_more f i first was now before added = rw (add-one, ← append_assoc, ← before) added
 
+-- of one answer alone
+pub those_once : {A : Type 0} (o : Option A) → those_below 1 (λ i. o) ≡ option_to_list o
+unfolding every_below
+those_once o = refl
+
 -- the same for the elements of a list
 pub every_in_more : {X A : Type 0} (xs : List X) (f : X → ℕ → List A) (i : ℕ) (x : X) (first was now : List A) → slice_get xs i ≡ Some x → was ≡ first ++ every_below i (λ j. option_map_or (λ y. f y j) (slice_get xs j) []) → now ≡ was ++ f x i → now ≡ first ++ every_below (i + 1) (λ j. option_map_or (λ y. f y j) (slice_get xs j) [])
 every_in_more xs f i x first was now here before added =

@@ -56,7 +56,7 @@ readers_first net g f same = first_every net.readers (if_strict net g) (of_stric
 pub bounds_first : (net : Network) (cert : lists.Certificate) → slice_get (bounds_nos net cert) 0 ≡ (first_below net.readers (of_strict net (no_bounds net cert.bounds cert.totals)) orElse first_below net.readers (of_strict net (reader_bound_over net cert.bounds)) orElse first_below net.readers (of_strict net (samples_over net cert.bounds cert.totals)))
 bounds_first net cert =
     let none = readers_first net (no_bounds_nos net cert.bounds cert.totals) (no_bounds net cert.bounds cert.totals)
-      (λ r. both _ _ _ _ (first_those net.keys (no_bound net cert.bounds r)) (first_of_one (no_total net cert.bounds cert.totals r))) in
+    (λ r. both _ _ _ _ (first_those net.keys (no_bound net cert.bounds r)) (first_of_one (no_total net cert.bounds cert.totals r))) in
     let over = readers_first net (bounds_over_nos net cert.bounds) (reader_bound_over net cert.bounds) (λ r. first_those net.keys (bound_over net cert.bounds r)) in
     both _ _ _ _ (both _ _ _ _ none over) (first_those net.readers (of_strict net (samples_over net cert.bounds cert.totals))) ∙ simp orElse_assoc
 
@@ -77,10 +77,10 @@ pub rows_first : (net : Network) (rows : List lists.Row) → slice_get (rows_nos
 unfolding rows_no
 rows_first net rows =
     let takes = first_every_in rows (row_take_nos net) (row_take_raises net)
-      (λ row n. first_every net.readers _ (λ r. first_below net.keys (take_raises net (row_of row) n r)) (λ r. first_those net.keys (take_raises net (row_of row) n r))) in
+    (λ row n. first_every net.readers _ (λ r. first_below net.keys (take_raises net (row_of row) n r)) (λ r. first_those net.keys (take_raises net (row_of row) n r))) in
     let rules = first_every_in rows (row_rule_nos net) (row_rule_raises net) (λ row n. first_those net.rules (rule_raises net (row_of row) n)) in
     let writes = first_every_in rows (row_write_nos net) (row_write_raises net)
-      (λ row n. first_every net.writers _ (λ w. first_below net.keys (write_raises net (row_of row) n w)) (λ w. first_those net.keys (write_raises net (row_of row) n w))) in
+    (λ row n. first_every net.writers _ (λ w. first_below net.keys (write_raises net (row_of row) n w)) (λ w. first_those net.keys (write_raises net (row_of row) n w))) in
     both _ _ _ _ (both _ _ _ _ takes rules) writes ∙ simp orElse_assoc
 
 pub shown_first : (net : Network) (cert : lists.Certificate) → slice_get (shown_nos net cert) 0 ≡ shown_no net cert

@@ -2,7 +2,6 @@
 //! doesn't say.
 #![tactic(auto, using(crate::proofs::EveryLaws::every_below_start, crate::proofs::EveryLaws::every_more, crate::proofs::LiveLaws::any_below_start, crate::proofs::LiveLaws::any_below_more, dds_runs::proofs::Sums::total_start, dds_runs::proofs::Sums::total_more, dds_check::proofs::FirstLemmas::all_below_start, dds_check::proofs::FirstLemmas::all_below_more))]
 
-mod budget;
 mod conditions;
 mod every;
 mod limits;
@@ -10,11 +9,8 @@ mod live;
 pub mod notes;
 mod pairs;
 mod profile;
-mod refusal;
 mod rows;
 mod shown;
-mod spreads;
-mod tables;
 
 pub use conditions::{all_nos, bare_nos};
 pub use notes::{Note, all_notes};

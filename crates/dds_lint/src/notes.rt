@@ -1,6 +1,5 @@
 //! What a yes doesn't say: who may miss samples, what can grow, and what never happens.
-ghost use Rattle.std.specs.Prelude.{◌≡◌, ◌++◌, ◌<◌, ◌==◌, ◌&&◌, ◌||◌, ℕ, Bool, IfOk, OnOk, false, length, slice_get};
-ghost use Rattle.std.specs.Prelude.{Some, slice_index_or, vec_len, not};
+ghost use Rattle.std.specs.Prelude.{◌≡◌, ◌++◌, ◌<◌, ◌==◌, ◌&&◌, ◌||◌, ℕ, Bool, IfOk, OnOk, false, length, slice_index_or};
 ghost use Rattle.std.specs.List.{list_any};
 ghost use Rattle.dds_base.specs.Sums.{any_below};
 ghost use Rattle.dds_match.specs.Network.{is_written};
@@ -19,6 +18,7 @@ use crate::every::{push_below, push_some};
 use crate::live::{RULES, can_take_all, has_takes, live_rules, opens};
 use dds_base::grid::KEYS;
 use dds_base::{KeyNo, NoMemory, ReaderNo, RuleNo, TopicNo, WriterNo};
+use dds_check::shown::{bound_at, total_at};
 use dds_check::{find_bound, find_total, instance_limit, reached, written};
 use dds_conditions::{readers_of, rules_of, writers_of};
 use dds_match::Plan;
@@ -33,10 +33,7 @@ pub enum Note {
     /// The reader has no limit of samples, and no bound or total says how many it may have unread.
     Unlimited(ReaderNo),
     /// No rule writes the key at a writer of its topic.
-    UnwrittenKey {
-        topic: TopicNo,
-        key: KeyNo,
-    },
+    UnwrittenKey { topic: TopicNo, key: KeyNo },
     /// No rule writes at the writer.
     IdleWriter(WriterNo),
     /// There is no rule, so that nothing is written.
@@ -53,10 +50,7 @@ pub enum Note {
     /// No condition asks for the total with this place, from 0: its reader is a watcher, or no sample can come.
     NeedlessTotal(usize),
     /// The writer keeps all within a limit, and waits for the reader where that is slow.
-    HeldUp {
-        writer: WriterNo,
-        reader: ReaderNo,
-    },
+    HeldUp { writer: WriterNo, reader: ReaderNo },
 }
 
 /// The note where the test is true.
@@ -125,7 +119,10 @@ fn is_key_written(plan: &Plan, topic: TopicNo, key: KeyNo) -> bool
 fn unwritten_key(plan: &Plan, topic: TopicNo, key: KeyNo) -> Option<Note>
     ensures { result ≡ unwritten_key plan.now topic key }
 {
-    note_if(!is_key_written(plan, topic, key), Note::UnwrittenKey { topic, key })
+    note_if(
+        !is_key_written(plan, topic, key),
+        Note::UnwrittenKey { topic, key },
+    )
 }
 
 fn idle_writer(plan: &Plan, writer: WriterNo) -> Option<Note>
@@ -233,7 +230,11 @@ fn push_readers(
         ++ reader_notes (network_of plan.now) (certificate_view certificate.now)) }
 {
     push_below(notes, readers_of(plan), |r| watcher(plan, ReaderNo::new(r)))?;
-    push_below(notes, readers_of(plan), |r| grows(plan, certificate, ReaderNo::new(r)))
+    push_below(
+        notes,
+        readers_of(plan),
+        |r| grows(plan, certificate, ReaderNo::new(r)),
+    )
 }
 
 fn push_keys(notes: &mut Vec<Note>, plan: &Plan) -> Result<(), NoMemory>
@@ -252,7 +253,11 @@ fn push_idle(notes: &mut Vec<Note>, plan: &Plan) -> Result<(), NoMemory>
     ensures { OnOk result (notes.new.items ≡ notes.old.items
         ++ those_below (network_of plan.now).writers (idle_writer (network_of plan.now))) }
 {
-    push_below(notes, writers_of(plan), |w| idle_writer(plan, WriterNo::new(w)))
+    push_below(
+        notes,
+        writers_of(plan),
+        |w| idle_writer(plan, WriterNo::new(w)),
+    )
 }
 
 fn push_writers(notes: &mut Vec<Note>, plan: &Plan) -> Result<(), NoMemory>
@@ -269,22 +274,18 @@ fn push_absent(notes: &mut Vec<Note>, plan: &Plan) -> Result<(), NoMemory>
     push_some(notes, no_start(plan))
 }
 
-fn push_stuck(
-    notes: &mut Vec<Note>,
-    plan: &Plan,
-    live: &[bool; RULES],
-) -> Result<(), NoMemory>
+fn push_stuck(notes: &mut Vec<Note>, plan: &Plan, live: &[bool; RULES]) -> Result<(), NoMemory>
     ensures { OnOk result (notes.new.items ≡ notes.old.items ++ those_below (network_of plan.now).rules
         (stuck_rule (network_of plan.now) (λ u. slice_index_or live.now u false))) }
 {
-    push_below(notes, rules_of(plan), |u| stuck_rule(plan, live, RuleNo::new(u)))
+    push_below(
+        notes,
+        rules_of(plan),
+        |u| stuck_rule(plan, live, RuleNo::new(u)),
+    )
 }
 
-fn push_rules(
-    notes: &mut Vec<Note>,
-    plan: &Plan,
-    live: &[bool; RULES],
-) -> Result<(), NoMemory>
+fn push_rules(notes: &mut Vec<Note>, plan: &Plan, live: &[bool; RULES]) -> Result<(), NoMemory>
     ensures { OnOk result (notes.new.items ≡ notes.old.items
         ++ rule_notes (network_of plan.now) (λ u. slice_index_or live.now u false)) }
 {
@@ -292,26 +293,16 @@ fn push_rules(
     push_stuck(notes, plan, live)
 }
 
-fn bound_at(certificate: &Certificate, i: usize) -> &Bound
-    requires { i < vec_len certificate.now.bounds }
-    ensures { slice_get (certificate_view certificate.now).bounds i ≡ Some result.now }
-{
-    &certificate.bounds[i]
-}
-
-fn total_at(certificate: &Certificate, i: usize) -> &Total
-    requires { i < vec_len certificate.now.totals }
-    ensures { slice_get (certificate_view certificate.now).totals i ≡ Some result.now }
-{
-    &certificate.totals[i]
-}
-
 fn push_unused_rows(notes: &mut Vec<Note>, certificate: &Certificate) -> Result<(), NoMemory>
     ensures { OnOk result (notes.new.items ≡ notes.old.items
         ++ those_below (length (certificate_view certificate.now).rows)
         (unused_row (certificate_view certificate.now))) }
 {
-    push_below(notes, certificate.rows.len(), |n| unused_row(certificate, n))
+    push_below(
+        notes,
+        certificate.rows.len(),
+        |n| unused_row(certificate, n),
+    )
 }
 
 fn push_needless_bounds(
@@ -362,7 +353,11 @@ fn push_pairs(notes: &mut Vec<Note>, plan: &Plan) -> Result<(), NoMemory>
 {
     for w in 0..writers_of(plan) {
         let writer = WriterNo::new(w);
-        push_below(notes, readers_of(plan), |r| held_up(plan, writer, ReaderNo::new(r)))?;
+        push_below(
+            notes,
+            readers_of(plan),
+            |r| held_up(plan, writer, ReaderNo::new(r)),
+        )?;
     }
     Ok(())
 }

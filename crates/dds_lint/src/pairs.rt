@@ -5,33 +5,11 @@ ghost use Rattle.dds_check.specs.Pairs.{not_matched, not_intended};
 ghost use Rattle.dds_lint.specs.Conditions.{every_pair, pairs_nos};
 
 use crate::every::push_below;
-use crate::refusal::refusal_if;
 use dds_base::{NoMemory, ReaderNo, WriterNo};
-use dds_check::{No, Number, Subject};
+use dds_check::No;
+use dds_check::pairs::{not_intended, not_matched};
 use dds_conditions::{readers_of, writers_of};
 use dds_match::Plan;
-
-fn not_matched(plan: &Plan, writer: WriterNo, reader: ReaderNo) -> Option<No>
-    ensures { result ≡ not_matched (network_of plan.now) writer reader }
-{
-    let lacks = plan.intended(writer, reader) && !plan.matched(writer, reader);
-    refusal_if(
-        lacks,
-        Number::IntendedNotMatched,
-        Subject::Pair { writer, reader },
-    )
-}
-
-fn not_intended(plan: &Plan, writer: WriterNo, reader: ReaderNo) -> Option<No>
-    ensures { result ≡ not_intended (network_of plan.now) writer reader }
-{
-    let surplus = plan.matched(writer, reader) && !plan.intended(writer, reader);
-    refusal_if(
-        surplus,
-        Number::UnintendedMatch,
-        Subject::Pair { writer, reader },
-    )
-}
 
 fn push_not_matched(nos: &mut Vec<No>, plan: &Plan) -> Result<(), NoMemory>
     ensures { OnOk result (nos.new.items ≡ nos.old.items
@@ -39,7 +17,11 @@ fn push_not_matched(nos: &mut Vec<No>, plan: &Plan) -> Result<(), NoMemory>
 {
     for w in 0..writers_of(plan) {
         let writer = WriterNo::new(w);
-        push_below(nos, readers_of(plan), |r| not_matched(plan, writer, ReaderNo::new(r)))?;
+        push_below(
+            nos,
+            readers_of(plan),
+            |r| not_matched(plan, writer, ReaderNo::new(r)),
+        )?;
     }
     Ok(())
 }
@@ -50,7 +32,11 @@ fn push_not_intended(nos: &mut Vec<No>, plan: &Plan) -> Result<(), NoMemory>
 {
     for w in 0..writers_of(plan) {
         let writer = WriterNo::new(w);
-        push_below(nos, readers_of(plan), |r| not_intended(plan, writer, ReaderNo::new(r)))?;
+        push_below(
+            nos,
+            readers_of(plan),
+            |r| not_intended(plan, writer, ReaderNo::new(r)),
+        )?;
     }
     Ok(())
 }

@@ -1,7 +1,0 @@
-use Rattle.std.proofs.Common.{ap, ◌∙◌}
-use Rattle.dds_weights.specs.Lists.{Row}
-use Rattle.dds_check.proofs.Outside.{weight_as}
-use Rattle.dds_lint.proofs.tables.Tables.take.Goals as goal
-
-pub returns : goal.returns
-returns c = c.at.ensures ∙ weight_as _ _ _ _ (c.self.invariant.1 ∙ ap (λ (x : Row). x.takes) c.self.view_is)
