@@ -4,13 +4,15 @@
   tools/completions.py           # writes docs/completions/ddscheck.{bash,zsh,fish} and docs/man/ddscheck.1
   tools/completions.py --check   # tells which of these files fall behind; the last line is 'N passed, M failed'
 
-The help is read from tools/commands/help.txt, which tools/commands.py holds equal to what the program prints.
+The help is read from tests/commands/help.txt, which tests/commands.py holds equal to what the program prints.
 """
 import re
 import sys
 from dataclasses import dataclass, field
+from pathlib import Path
 
 sys.dont_write_bytecode = True
+sys.path.insert(0, str(Path(__file__).resolve().parent.parent / "tests"))
 from commands import cases  # noqa: E402
 from harness import ROOT, Tally  # noqa: E402
 

@@ -1,8 +1,8 @@
 #!/usr/bin/env python3
 """Holds the schemas of docs/schemas against files whose answers are known.
 
-  tools/schemas.py                       # the commands of tools/commands with what comes of them
-  tools/schemas.py FOLDER ..             # folders with files and expected.jsonl: a line {"words": [..], "out": .., "err": ..} for each command line
+  tests/schemas.py                       # the commands of tests/commands with what comes of them
+  tests/schemas.py FOLDER ..             # folders with files and expected.jsonl: a line {"words": [..], "out": .., "err": ..} for each command line
 
 A file that is read without a fault has to pass its schema. One whose first fault is WrongVersion, UnknownKey, MissingKey, WrongKind, OutOfRange, BadName or
 TooMany has to fail it, but for what a schema can't see: a whole number that is written as a float, and what short forms of version 2 come to. Of the other
@@ -25,7 +25,7 @@ TAKES_CERTIFICATE = {"check", "run"}
 
 
 def commands_of_the_repository():
-    """The words of each command of tools/commands, and what it writes to the error output."""
+    """The words of each command of tests/commands, and what it writes to the error output."""
     return ((DATA, case.words, case.errors()) for case in cases())
 
 

@@ -1,11 +1,11 @@
 #!/bin/sh
-# Runs `propose --thorough` of the built program on the deployments of tools/search-cases. A certificate has to be found exactly where the file `owed`
+# Runs `propose --thorough` of the built program on the deployments of tests/search-cases. A certificate has to be found exactly where the file `owed`
 # there says so: each of its lines names a deployment, and `certificate`, `none`, or the least bound that weights show for a limit, as an exact solver of
 # linear programs found it. What is found has to be accepted by `check`, with no bound above the one that is owed, and where none is found a line on
 # standard error has to say why. The last line is 'N passed, M failed'; the status is 1 if one failed.
 here=$(CDPATH='' cd -- "$(dirname -- "$0")/.." && pwd)
 program=$here/crates/ddscheck/out/ddscheck
-cases=$here/tools/search-cases
+cases=$here/tests/search-cases
 room=$(mktemp -d) || exit 1
 trap 'rm -rf "$room"' EXIT
 passed=0

@@ -1,7 +1,7 @@
 #!/usr/bin/env python3
 """Tries `tools/package`: makes the Debian package twice, compares what is in it with the sources, and installs it into a root of its own.
 
-  tools/packages.py
+  tests/packages.py
 
 The program that is packed is the built one. The tests that need dpkg-deb count as skipped where it isn't installed, and the installation where this doesn't run as root.
 The last line is 'N passed, M failed'; the status is 1 if one failed.

@@ -1,7 +1,7 @@
 #!/usr/bin/env python3
-"""Runs `refute` of the built program on the deployments of tools/search-cases.
+"""Runs `refute` of the built program on the deployments of tests/search-cases.
 
-  tools/refuted.py
+  tests/refuted.py
 
 What is owed stands in the file `refuted` there, as a search in exact numbers found it, and of the last six cases as it was worked out by hand: `certificate`, `unsafe`, or `no run`
 where neither a certificate nor a run that loses a sample exists. `refute` has to answer `safe`, `unsafe ..` and `unknown exhausted`, each within a second. A run has as many events as its first line says, ends with the loss that it names,
@@ -14,7 +14,7 @@ from pathlib import Path
 sys.dont_write_bytecode = True
 from harness import ROOT, Tally, ddscheck, need_program  # noqa: E402
 
-CASES = ROOT / "tools/search-cases"
+CASES = ROOT / "tests/search-cases"
 OWED = {"certificate": ("safe", 0), "unsafe": ("unsafe", 1), "no run": ("unknown exhausted", 1)}
 # the first words of the reply that is a loss; of the other losses it is a rejection for that reason
 ENDS = {"Overwrote": ["overwrote"], "Lost": ["lost"]}

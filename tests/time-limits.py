@@ -1,7 +1,7 @@
 #!/usr/bin/env python3
 """Holds the built program to the time and the memory that it may take: each command on its largest input, by the table of docs/FORMAT.md, and inputs that once cost it far more.
 
-  tools/time-limits.py
+  tests/time-limits.py
 
 Each case is a command on files of legal sizes, how its output begins and ends, its status, and the seconds that it may take. What the table says is held in seconds of the
 processor, so that other work doesn't count. A search gets 3 seconds, `--seconds 3`. The last line is 'N passed, M failed'; the status is 1 if one failed.

@@ -1,8 +1,8 @@
 #!/usr/bin/env python3
 """Says what `ddscheck show` owes, by a reading of its own, and holds the built program against it.
 
-  tools/shown.py              # every deployment of tools/commands, of the examples and of tools/search-cases
-  tools/shown.py DEPLOYMENT   # prints what is owed for a deployment without a fault
+  tests/shown.py              # every deployment of tests/commands, of the examples and of tests/search-cases
+  tests/shown.py DEPLOYMENT   # prints what is owed for a deployment without a fault
 
 A deployment is read by Python's TOML parser, with the defaults of docs/FORMAT.md, and its rules with `each` are expanded as that page says; the text is put together here
 a second time, and Python's JSON parser has to read the lists out of it. Of a deployment with a fault `show` owes what `match` answers: nothing, the same line
@@ -126,7 +126,7 @@ def answer_of(words):
 
 
 def deployments():
-    for folder in ("tools/commands/data", "examples", "tools/search-cases"):
+    for folder in ("tests/commands/data", "examples", "tests/search-cases"):
         for path in sorted((ROOT / folder).rglob("*.toml")):
             if not path.name.endswith(".cert.toml") and "certificates" not in path.parts:
                 yield path

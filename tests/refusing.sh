@@ -23,7 +23,7 @@ finish() {
 build_library() {
     toolchain=$(readlink -f "$(command -v rt)")
     for compiler in "$CC" clang gcc cc "$(dirname "$toolchain")/../toolchain/bin/clang"; do
-        if [ -n "$compiler" ] && "$compiler" -shared -fPIC -O1 -fno-builtin -nostdlib -o "$room/refuse.so" "$here/tools/refuse.c" 2>>"$room/compilers"; then
+        if [ -n "$compiler" ] && "$compiler" -shared -fPIC -O1 -fno-builtin -nostdlib -o "$room/refuse.so" "$here/tests/refuse.c" 2>>"$room/compilers"; then
             return 0
         fi
     done

@@ -1,10 +1,10 @@
 #!/usr/bin/env python3
 """Says what `ddscheck draw` owes, by a reading of its own, and holds the built program against it.
 
-  tools/drawn.py
+  tests/drawn.py
 
-Drawn is every deployment of tools/commands, of the examples and of tools/search-cases, and every pair of a deployment and a certificate of the examples and
-of the commands of tools/commands. Deployments are read by tools/shown.py and certificates here, both with Python's TOML parser; which endpoints match
+Drawn is every deployment of tests/commands, of the examples and of tests/search-cases, and every pair of a deployment and a certificate of the examples and
+of the commands of tests/commands. Deployments are read by tests/shown.py and certificates here, both with Python's TOML parser; which endpoints match
 is decided here a second time (OMG DDS 1.4, clause 2.2.3). The picture is read line by line, and has to have the clusters, nodes and edges that the files say, each
 with its attributes, at its place and in its order. Where `dot` is installed, a picture of at most 400 edges is rendered too: the SVG has to have a title for each
 node, each edge and each cluster with a node in it, and for nothing else. Of a file with a fault `draw` owes what `match` or `check` answers: nothing, the same line

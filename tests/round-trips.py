@@ -1,10 +1,10 @@
 #!/usr/bin/env python3
 """Has each text that a command prints read by the command that it is for.
 
-  tools/round-trips.py           # every deployment
-  tools/round-trips.py NAME ..   # those in whose name or path one of these stands
+  tests/round-trips.py           # every deployment
+  tests/round-trips.py NAME ..   # those in whose name or path one of these stands
 
-On every deployment of the examples and of tools/search-cases, and on the largest inputs: `check` accepts what `propose` and `propose --thorough` print; what `migrate`
+On every deployment of the examples and of tests/search-cases, and on the largest inputs: `check` accepts what `propose` and `propose --thorough` print; what `migrate`
 prints stands for the same lists, by `show`; `replay` of what `refute` prints gives the same lines. Of a JSON document the certificate and the events are the same texts.
 What is printed passes its schema in docs/schemas, where Python's jsonschema is installed. Where `propose` or `migrate` print a text above the 1,048,576 bytes of a
 file, they say so on standard error, and it is refused as too large; `propose --thorough` prints none as long. The last line is 'N passed, M failed'; the status is 1 if one failed.
@@ -155,7 +155,7 @@ def deployments(room):
         path = room / f"{number}.toml"
         path.write_text(text_of())
         yield name, path
-    for folder in ("examples", "tools/search-cases"):
+    for folder in ("examples", "tests/search-cases"):
         for path in sorted((ROOT / folder).rglob("*.toml")):
             if not path.name.endswith(".cert.toml"):
                 yield str(path.relative_to(ROOT)), path

@@ -1,13 +1,13 @@
 #!/usr/bin/env python3
 """Holds what `lint` finds in each file with a fault, and where, to second readings in Python.
 
-  tools/linted.py
+  tests/linted.py
 
-- Of each case of tools/commands in which a file has a fault `lint` finds that very fault, by its name and path, in the line to which this script's own reading of the
+- Of each case of tests/commands in which a file has a fault `lint` finds that very fault, by its name and path, in the line to which this script's own reading of the
   text leads, with the text of that line.
 - Of 300 worked deployments with two to five changes that the schemas refuse, every fault has a place, none comes twice, and `check` ends with one of them.
 - Of each worked deployment and certificate `lint` finds an error exactly where `check` says other than yes, and the first error's name is the one that `check` gives.
-- Each vacuous system of tools/commands/data/vacuous, which gets a yes, has the note that its name asks for.
+- Each vacuous system of tests/commands/data/vacuous, which gets a yes, has the note that its name asks for.
 - SARIF documents have the members of version 2.1.0 that code hosts read.
 - A file of 1 MiB with 10,000 faults is answered within a second.
 The last line is 'N passed, M failed'.

@@ -2,7 +2,7 @@
 # Runs tests of cache, reader, writer, domain and book with each of their allocations refused in turn. Each makes a refused call once more, after it
 # saw that nothing changed, and has to pass as with ample memory. The last line is 'N passed, M failed'; the status is 1 if one failed.
 here=$(CDPATH='' cd -- "$(dirname -- "$0")/.." && pwd)
-. "$here/tools/refusing.sh"
+. "$here/tests/refusing.sh"
 
 # The built tests of a crate.
 tests_of() { echo "$here/crates/$1/out/$1_tests"; }
@@ -36,7 +36,7 @@ build_tests() {
 build_tests test_running
 build_tests test_threads
 if ! build_library; then
-    fail "no compiler built tools/refuse.c"
+    fail "no compiler built tests/refuse.c"
     finish
 fi
 sweep test_running tests::caches::caches_call_by_call

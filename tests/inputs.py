@@ -6,7 +6,7 @@ import sys
 from pathlib import Path
 
 sys.dont_write_bytecode = True
-sys.path.insert(0, str(Path(__file__).resolve().parent / "benchmark"))
+sys.path.insert(0, str(Path(__file__).resolve().parent.parent / "bench"))
 from largest import KEYS, LIMIT, Largest, inline, most, quoted, short_names  # noqa: E402
 from proposals import pairs, ring  # noqa: E402, F401
 

@@ -1,7 +1,7 @@
 #!/usr/bin/env python3
 """Tries `./ddscheck`, the script that finds the built program, has the interpreter answer, builds and installs.
 
-  tools/wrapper.py
+  tests/wrapper.py
 
 It works on small trees of its own, in folders with a blank in their names, with a stand-in for the toolchain's `rt`: `rt ci` makes a program that prints which source it was made of,
 `rt try` answers as the interpreter does. So each case has known answers. The last line is 'N passed, M failed'; the status is 1 if one failed.

@@ -1,8 +1,8 @@
 #!/usr/bin/env python3
 """Holds the built program to the stack that docs/HOSTILE.md says, and has it tell where memory runs out.
 
-  tools/resources.py            # every command but `run`, whose threads may do less on a loaded machine
-  tools/resources.py NAME ..    # these commands
+  tests/resources.py            # every command but `run`, whose threads may do less on a loaded machine
+  tests/resources.py NAME ..    # these commands
 
 The least stack, heap and address space with which a command answers as with ample ones are found by bisection, so that nothing here depends on the machine.
 

@@ -1,7 +1,7 @@
 #!/usr/bin/env python3
 """Holds that a domain which runs long takes no more memory than one that runs shortly.
 
-  tools/steady-memory.py [TRIPS]
+  tests/steady-memory.py [TRIPS]
 
 One thread drives examples/ping in a domain: 1,000 round trips, and then 1,000,000 (or TRIPS), with an acknowledgement after each sample and after each third. The
 longer run has to do with 256 KiB of address space more than the least in which the shorter one is made, and both end with nothing kept and nothing stored. That a domain which

@@ -1,10 +1,10 @@
 #!/usr/bin/env python3
 """Gives the built program whole commands, and compares what comes of them with what is expected.
 
-  tools/commands.py            # every command of tools/commands/*.txt
-  tools/commands.py NAME ..    # those of tools/commands/NAME.txt ..
+  tests/commands.py            # every command of tests/commands/*.txt
+  tests/commands.py NAME ..    # those of tests/commands/NAME.txt ..
 
-A case is data. In a file of tools/commands a line `$ ddscheck WORD ..` is a command, given in the folder tools/commands/data, where the files lie that it names. Below
+A case is data. In a file of tests/commands a line `$ ddscheck WORD ..` is a command, given in the folder tests/commands/data, where the files lie that it names. Below
 it stands what it writes to its output; after a line `errors:`, where it writes any, what it writes to its error output; and a line `status N`. A command after the word
 `often` is given fifty times, and has to answer alike. All other lines are empty, or headings that begin with `#`. The last line is 'N passed, M failed'; the status is 1
 if one failed.
@@ -17,7 +17,7 @@ from pathlib import Path
 sys.dont_write_bytecode = True
 from harness import ROOT, Tally, ddscheck, need_program, side_by_side  # noqa: E402
 
-FOLDER = ROOT / "tools/commands"
+FOLDER = ROOT / "tests/commands"
 DATA = FOLDER / "data"
 
 

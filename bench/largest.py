@@ -1,7 +1,7 @@
 #!/usr/bin/env python3
 """Writes the largest deployment and certificate that the formats allow: both files fill their 1,048,576 bytes.
 
-  python3 tools/benchmark/largest.py /tmp/largest          # writes /tmp/largest/deployment.toml and /tmp/largest/certificate.toml
+  python3 bench/largest.py /tmp/largest          # writes /tmp/largest/deployment.toml and /tmp/largest/certificate.toml
   time crates/ddscheck/out/ddscheck check /tmp/largest/deployment.toml /tmp/largest/certificate.toml
 
 The answer is `yes`, so that every condition is tested to its end. With the word `last` after the folder the last bound of the certificate is one

@@ -2,7 +2,7 @@
 """Writes two deployments of 1,048,576 bytes with the same 256 rules of 16 takes and 16 writes: one of version 1, and one of version 2 in which four rules
 with `each` of 64 keys stand for them. What is shorter in version 2 is filled up by more connections, and then by a comment.
 
-  python3 tools/benchmark/short_forms.py /tmp/forms        # writes /tmp/forms/version1.toml and /tmp/forms/version2.toml
+  python3 bench/short_forms.py /tmp/forms        # writes /tmp/forms/version1.toml and /tmp/forms/version2.toml
   time crates/ddscheck/out/ddscheck check /tmp/forms/version1.toml /dev/null
   time crates/ddscheck/out/ddscheck check /tmp/forms/version2.toml /dev/null
 

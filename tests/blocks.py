@@ -1,11 +1,11 @@
 #!/usr/bin/env python3
 """Runs what the documents print: README, GUIDE, FORMAT, GUARD, HOSTILE, REAL-DDS and examples/README.
 
-  tools/blocks.py
+  tests/blocks.py
 
 Of a fenced block with lines `$ COMMAND` each command is run, and has to write what stands below it, to either output. A block of commands alone is run line by line, and
 so is each command in a line of text that names files; each has to end with the status 0, of `refute` also 1. What another block shows is the output of the last command before it. A block of
-TOML has to stand in a file of the examples or of tools/commands, comments apart. A block that is none of these fails, so nothing is printed that
+TOML has to stand in a file of the examples or of tests/commands, comments apart. A block that is none of these fails, so nothing is printed that
 nothing tests. C is compiled by bridge/guard/test, and what needs Cyclone DDS is run by the tests of bridge/cyclone. Then each pattern has to get a yes with limits that suffice, and
 certificates and pictures of the examples have to be what the program, and Graphviz in the version that made them, makes of their deployments. The last line is 'N passed, M failed'; the
 status is 1 if one failed.
@@ -22,7 +22,7 @@ sys.dont_write_bytecode = True
 from harness import PROGRAM, ROOT, Skipped, Tally, ddscheck, need_program, run  # noqa: E402
 
 DOCUMENTS = ["README.md", "docs/GUIDE.md", "docs/FORMAT.md", "docs/GUARD.md", "docs/HOSTILE.md", "docs/REAL-DDS.md", "examples/README.md"]
-COMMAND = re.compile(r"(?:\./)?ddscheck |tools/")
+COMMAND = re.compile(r"(?:\./)?ddscheck |(?:bench|tests|tools)/")
 # builds and tests are no commands to try within a test, and what needs Cyclone DDS doesn't run here
 NOT_RUN = re.compile(r"\./test$|\./ddscheck --build$|bridge/|make -C bridge/|\(cd crates/dds_guard_c && rt lib\)$|cc -Iinclude ")
 # what stands for a word in capitals
@@ -69,12 +69,13 @@ def commands_in(text, document):
 
 
 class Room:
-    """A folder with the program, the examples and the tools, in which commands run."""
+    """A folder with the program, the examples, the tests and the tools, in which commands run."""
 
     def __init__(self, folder):
         self.folder = Path(folder)
         shutil.copytree(ROOT / "examples", self.folder / "examples")
-        (self.folder / "tools").symlink_to(ROOT / "tools")
+        for folder in ("bench", "tests", "tools"):
+            (self.folder / folder).symlink_to(ROOT / folder)
         (self.folder / "ddscheck").symlink_to(PROGRAM)
         self.environment = os.environ | {"DDSCHECK": str(PROGRAM), "PATH": f"{self.folder}:{os.environ['PATH']}"}
 
@@ -131,7 +132,7 @@ def fault_of_c(block):
 def fault_of_toml(block):
     """What is wrong with a block of TOML: it stands in no file that is tested."""
     owed = "\n" + "\n".join(plain_lines("\n".join(block.lines))) + "\n"
-    files = (path for folder in ("examples", "tools/commands/data") for path in sorted((ROOT / folder).rglob("*.toml")))
+    files = (path for folder in ("examples", "tests/commands/data") for path in sorted((ROOT / folder).rglob("*.toml")))
     texts = (path.read_bytes().decode("utf-8", "replace") for path in files)
     return None if any(owed in "\n" + "\n".join(plain_lines(text)) + "\n" for text in texts) else "a block that no file has"
 

@@ -1,7 +1,7 @@
 #!/usr/bin/env python3
 """Reads the JSON documents of commands again, by Python's reader, and has outputs fail under them.
 
-  tools/documents.py
+  tests/documents.py
 
 Each row is a command over a deployment and a certificate, its status, and of its document the answer and the text at a place, as a JSON pointer (RFC 6901). Then
 a document that isn't written whole is told: an output takes 0, 1 or 5 bytes, by the system's limit on the size of a file. The last line is

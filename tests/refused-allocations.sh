@@ -3,7 +3,7 @@
 # nothing on standard output, 'ddscheck: 7 NoMemory' on standard error, status 3. Words that allocate nothing fail. The last line is 'N passed, M failed'; the status is 1 if one failed.
 here=$(CDPATH='' cd -- "$(dirname -- "$0")/.." && pwd)
 program=$here/crates/ddscheck/out/ddscheck
-. "$here/tools/refusing.sh"
+. "$here/tests/refusing.sh"
 
 # Runs the program with ample memory into $room/want.*; the rest are its words.
 run_with_memory() {
@@ -46,7 +46,7 @@ if [ ! -x "$program" ]; then
     finish
 fi
 if ! build_library; then
-    fail "no compiler built tools/refuse.c"
+    fail "no compiler built tests/refuse.c"
     finish
 fi
 ping=$here/examples/ping

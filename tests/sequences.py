@@ -1,10 +1,10 @@
 #!/usr/bin/env python3
 """Says what `tools/sequence` owes of a run, by a reading of its own, and holds its pictures against it.
 
-  tools/sequences.py           # every run that tools/commands, tools/search-cases and the examples lose a sample in or replay, and drawn ones; hostile input
-  tools/sequences.py --write   # draws docs/run.svg anew
+  tests/sequences.py           # every run that tests/commands, tests/search-cases and the examples lose a sample in or replay, and drawn ones; hostile input
+  tests/sequences.py --write   # draws docs/run.svg anew
 
-The lines come from the built program, and the deployment is read by tools/shown.py. A picture has to be well-formed XML; it has a lifeline for each application with an
+The lines come from the built program, and the deployment is read by tests/shown.py. A picture has to be well-formed XML; it has a lifeline for each application with an
 event, an arrow for each packet that arrives, from the lifeline of its source to that of its target, a cross for each that is lost, and a mark for each other event, in
 the order of the lines. A reader that rejects a sample for want of room has as many as its limit says. No text lies on another, or outside of the picture. What isn't such
 lines ends with a line and the status 2. The last line is 'N passed, M failed'; the status is 1 if one failed.
@@ -30,8 +30,8 @@ PICTURE, PICTURED = ROOT / "docs/run.svg", "examples/plant/unsafe.toml"
 ENVIRONMENT = os.environ | {"DDSCHECK": str(PROGRAM)}
 SVG = "{http://www.w3.org/2000/svg}"
 DRAWN, MUTATED = 40, 400
-DRAWN_OF = ["tools/commands/data/small.toml", "tools/commands/data/replays/a_filter.toml", "tools/commands/data/replays/a_watcher.toml", "examples/loop/loop.toml",
-            "examples/vehicle/vehicle.toml", "examples/robot/unsafe.toml", "tools/search-cases/224_depth_slow_reader.toml"]
+DRAWN_OF = ["tests/commands/data/small.toml", "tests/commands/data/replays/a_filter.toml", "tests/commands/data/replays/a_watcher.toml", "examples/loop/loop.toml",
+            "examples/vehicle/vehicle.toml", "examples/robot/unsafe.toml", "tests/search-cases/224_depth_slow_reader.toml"]
 
 
 def sequence(*words, **how):
@@ -190,9 +190,9 @@ def drawn_events(deployment, seed):
 
 def runs():
     """The runs: a name, the deployment, and the lines that the program prints."""
-    for line in (ROOT / "tools/search-cases/refuted").read_text(encoding="utf-8").splitlines():
+    for line in (ROOT / "tests/search-cases/refuted").read_text(encoding="utf-8").splitlines():
         if line.endswith(" unsafe"):
-            yield from run_of("refute", ROOT / "tools/search-cases" / line.split(" ")[0])
+            yield from run_of("refute", ROOT / "tests/search-cases" / line.split(" ")[0])
     for deployment in sorted((ROOT / "examples").glob("*/unsafe.toml")):
         yield from run_of("refute", deployment)
     for case in commands.cases(("replay", "refute")):
@@ -343,7 +343,7 @@ def main(words):
     with tempfile.TemporaryDirectory() as room:
         refuse(tally, Path(room))
     mutated(tally)
-    tally.check(PICTURE.read_text(encoding="utf-8") == picture(), f"{PICTURE.relative_to(ROOT)} isn't what is drawn: tools/sequences.py --write makes it")
+    tally.check(PICTURE.read_text(encoding="utf-8") == picture(), f"{PICTURE.relative_to(ROOT)} isn't what is drawn: tests/sequences.py --write makes it")
     return tally.finish()
 
 

@@ -1,7 +1,7 @@
 #!/usr/bin/env python3
 """Writes deployments by which the proposer's speed is measured.
 
-  python3 tools/benchmark/proposals.py /tmp/proposals      # writes pairs.toml, limited_pairs.toml and ring.toml there
+  python3 bench/proposals.py /tmp/proposals      # writes pairs.toml, limited_pairs.toml and ring.toml there
   time crates/ddscheck/out/ddscheck propose /tmp/proposals/ring.toml
 
 `limited_pairs` has 64 pairs of applications that answer each other, as in `examples/ping`, with all 128 readers limited: more limits than a

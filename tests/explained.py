@@ -1,10 +1,10 @@
 #!/usr/bin/env python3
 """Says what `ddscheck check --explain` owes, by sums of its own, and holds the built program against it.
 
-  tools/explained.py                          # every check of tools/commands and of the examples
-  tools/explained.py DEPLOYMENT CERTIFICATE   # prints what is owed
+  tests/explained.py                          # every check of tests/commands and of the examples
+  tests/explained.py DEPLOYMENT CERTIFICATE   # prints what is owed
 
-The answer is found a second time by tools/judged.py, and each number of a reason is added up here a second time. From the built program come the faults of files and,
+The answer is found a second time by tests/judged.py, and each number of a reason is added up here a second time. From the built program come the faults of files and,
 by `match`, which endpoints match. A file that Python can't read, being TOML 1.1 and not 1.0, counts as skipped. The last line is 'N passed, M failed';
 the status is 1 if one failed.
 """
