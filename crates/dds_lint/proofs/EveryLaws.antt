@@ -3,7 +3,7 @@ use Rattle.std.proofs.Common.{ℕ, zero, suc, ◌≡◌, ◌+◌, List, [], ◌�
 use Rattle.std.proofs.lemmas.List.{append_assoc, append-nil}
 use Rattle.std.specs.Option.{option_map_or, option_to_list}
 use Rattle.dds_runs.specs.First.{◌orElse◌, first_below, first_in, at_item}
-use Rattle.dds_lint.specs.Every.{every_below, those_below, every_in, those_in}
+use Rattle.dds_lint.specs.Every.{every_below, those_below, every_in}
 
 -- nothing is added yet
 pub every_below_start : {A : Type 0} (f : ℕ → List A) (xs : List A) → xs ≡ xs ++ every_below 0 f

@@ -1,9 +1,8 @@
 -- The first condition of all that fail is the one with which the checker refuses.
-use Rattle.std.proofs.Common.{ℕ, Bool, true, false, ◌≡◌, List, [], ◌++◌, slice_get, Option, None, refl, sym, ap, ap₂, ◌∙◌, if◌then◌else◌}
-use Rattle.std.specs.Option.{option_to_list}
+use Rattle.std.proofs.Common.{ℕ, Bool, true, false, ◌≡◌, List, [], ◌++◌, slice_get, Option, None, refl, ap₂, ◌∙◌, if◌then◌else◌}
 use Rattle.dds_qos.specs.declared.profile.Outside.{Outside}
 use Rattle.dds_qos.specs.declared.profile.Outside.TheVariants.{WriterKeepsLast, Exclusive, SourceOrder, OrderedOrCoherent, WriterBestEffort}
-use Rattle.dds_lists.specs.Lists.{Lists, profile_of}
+use Rattle.dds_lists.specs.Lists.{Lists}
 use Rattle.dds_match.specs.Network.{Network}
 use Rattle.dds_match.specs.Plan.{network_of}
 use Rattle.dds_weights.specs.Lists as lists
@@ -13,10 +12,10 @@ use Rattle.dds_check.specs.declared.verdict.No.{No}
 use Rattle.dds_check.specs.Accepts.{first_no}
 use Rattle.dds_check.specs.Limits.{of_strict, reader_instances, no_bound, no_total, no_bounds, reader_bound_over, bound_over, samples_over, writer_instances, keep_last_filter, writer_depth, pair_depth, limits_no}
 use Rattle.dds_check.specs.Pairs.{not_matched, not_intended, first_pair, pairs_no}
-use Rattle.dds_check.specs.Profile.{writer_outside, reader_outside, first_outside, profile_no}
+use Rattle.dds_check.specs.Profile.{first_outside, profile_no}
 use Rattle.dds_check.specs.Rows.{take_raises, row_take_raises, rule_raises, row_rule_raises, write_raises, row_write_raises, rows_no}
-use Rattle.dds_check.specs.Shown.{bound_not_shown, total_not_shown, shown_no}
-use Rattle.dds_lint.specs.Conditions.{every_pair, pairs_nos, every_outside, profile_nos, if_strict, no_bounds_nos, bounds_over_nos, depth_nos, instances_nos, written_nos, bounds_nos, depths_nos, limits_nos, row_take_nos, row_rule_nos, row_write_nos, rows_nos, shown_nos, all_nos}
+use Rattle.dds_check.specs.Shown.{shown_no}
+use Rattle.dds_lint.specs.Conditions.{every_pair, pairs_nos, every_outside, profile_nos, if_strict, no_bounds_nos, bounds_over_nos, depth_nos, bounds_nos, depths_nos, limits_nos, row_take_nos, row_rule_nos, row_write_nos, rows_nos, shown_nos, all_nos}
 use Rattle.dds_lint.specs.Every.{every_below, those_below}
 use Rattle.dds_lint.proofs.EveryLaws.{orElse_assoc, first_of_both, first_of_one, first_every, first_those, first_every_in}
 

@@ -1,5 +1,5 @@
 -- Every condition that fails, by the definitions of the checker, in the order in which it asks them.
-use Rattle.std.specs.Prelude.{ℕ, Bool, List, [], ◌++◌, length, Option, if◌then◌else◌}
+use Rattle.std.specs.Prelude.{ℕ, List, [], ◌++◌, Option, if◌then◌else◌}
 use Rattle.std.specs.Option.{option_to_list}
 use Rattle.dds_qos.specs.declared.profile.Outside.{Outside}
 use Rattle.dds_qos.specs.declared.profile.Outside.TheVariants.{WriterKeepsLast, Exclusive, SourceOrder, OrderedOrCoherent, WriterBestEffort}
@@ -9,7 +9,7 @@ use Rattle.dds_match.specs.Plan.{network_of}
 use Rattle.dds_weights.specs.Lists as lists
 use Rattle.dds_weights.specs.declared.certificate.Bound.{Bound}
 use Rattle.dds_weights.specs.declared.certificate.Total.{Total}
-use Rattle.dds_runs.specs.Accepted.{Row, row_of}
+use Rattle.dds_runs.specs.Accepted.{row_of}
 use Rattle.dds_check.specs.declared.verdict.No.{No}
 use Rattle.dds_check.specs.Limits.{of_strict, reader_instances, no_bound, no_total, bound_over, samples_over, writer_instances, keep_last_filter, writer_depth}
 use Rattle.dds_check.specs.Pairs.{not_matched, not_intended}

@@ -42,10 +42,10 @@ fn push_all(nos: &mut Vec<No>, plan: &Plan, certificate: &Certificate) -> Result
     push_shown(nos, plan, certificate)
 }
 
-/// Every condition that fails for a plan and a certificate that fits it, in the order in which the checker asks them: by
-/// number, then by row, endpoint and key, each in file order. The first is the one with which the checker refuses the
-/// certificate, and there is none where it accepts it. Of an endpoint that the running profile doesn't have the least
-/// number is told. Only want of memory is an error.
+/// Every condition that fails for a plan and a certificate that fits it, in the order in which the checker asks them:
+/// by number, then by row, endpoint and key, each in file order. The first is the one with which the checker refuses
+/// the certificate, and there is none where it accepts it. Of an endpoint that the running profile doesn't have the
+/// least number is told. Only want of memory is an error.
 #[tactic(auto, using(crate::proofs::FirstOfAll::first_of_all))]
 pub fn all_nos(alloc: Global, plan: &Plan, certificate: &Certificate) -> Result<Vec<No>, NoMemory>
     requires { fits (network_of plan.now) (certificate_view certificate.now) ≡ true }

@@ -4,9 +4,10 @@ ghost use Rattle.std.specs.Option.{option_to_list};
 ghost use Rattle.dds_match.specs.Plan.{network_of};
 ghost use Rattle.dds_weights.specs.Views.{certificate_view};
 ghost use Rattle.dds_check.specs.Tables.{IsTabled};
-ghost use Rattle.dds_check.specs.Limits.{reader_instances, no_total, samples_over, writer_instances, keep_last_filter, of_strict};
-ghost use Rattle.dds_lint.specs.Conditions.{bounds_nos, bounds_nos_by, bounds_over_nos, depth_nos, depths_nos, every_pair, if_strict};
-ghost use Rattle.dds_lint.specs.Conditions.{instances_nos, no_bounds_nos, written_nos};
+ghost use Rattle.dds_check.specs.Limits.{reader_instances, no_total, samples_over, writer_instances};
+ghost use Rattle.dds_check.specs.Limits.{keep_last_filter, of_strict};
+ghost use Rattle.dds_lint.specs.Conditions.{bounds_nos, bounds_nos_by, bounds_over_nos, depth_nos, depths_nos};
+ghost use Rattle.dds_lint.specs.Conditions.{every_pair, if_strict, instances_nos, no_bounds_nos, written_nos};
 ghost use Rattle.dds_lint.specs.Every.{every_below, those_below};
 
 use crate::every::push_below;
@@ -206,8 +207,8 @@ fn push_filters(nos: &mut Vec<No>, plan: &Plan) -> Result<(), NoMemory>
     Ok(())
 }
 
-/// Adds the writers that write more keys than their `max_instances`, and those that keep the last samples alone with the
-/// strict readers that don't hear all that rules write there: numbers 24 and 25.
+/// Adds the writers that write more keys than their `max_instances`, and those that keep the last samples alone with
+/// the strict readers that don't hear all that rules write there: numbers 24 and 25.
 pub(crate) fn push_written(nos: &mut Vec<No>, plan: &Plan) -> Result<(), NoMemory>
     ensures { OnOk result (nos.new.items ≡ nos.old.items ++ written_nos (network_of plan.now)) }
 {

@@ -1,5 +1,6 @@
 //! What a yes doesn't say: who may miss samples, what can grow, and what never happens.
-ghost use Rattle.std.specs.Prelude.{◌≡◌, ◌++◌, ◌<◌, ◌==◌, ◌&&◌, ◌||◌, ℕ, Bool, IfOk, OnOk, false, length, slice_index_or};
+ghost use Rattle.std.specs.Prelude.{◌≡◌, ◌++◌, ◌<◌, ◌==◌, ◌&&◌, ◌||◌, ℕ, Bool, false, length, slice_index_or};
+ghost use Rattle.std.specs.Prelude.{IfOk, OnOk};
 ghost use Rattle.std.specs.List.{list_any};
 ghost use Rattle.dds_base.specs.Sums.{any_below};
 ghost use Rattle.dds_match.specs.Network.{is_written};
@@ -9,7 +10,8 @@ ghost use Rattle.dds_weights.specs.Views.{certificate_view};
 ghost use Rattle.dds_check.specs.Limits.{all_bounded, is_bounded};
 ghost use Rattle.dds_lint.specs.Every.{every_below, those_below, those_in};
 ghost use Rattle.dds_lint.specs.Live.{IsLive, opens};
-ghost use Rattle.dds_lint.specs.Notes.{absent_notes, all_notes, certificate_notes, grows, held_up, idle_writer, is_key_written, is_stuck};
+ghost use Rattle.dds_lint.specs.Notes.{absent_notes, all_notes, certificate_notes, grows, held_up, idle_writer};
+ghost use Rattle.dds_lint.specs.Notes.{is_key_written, is_stuck};
 ghost use Rattle.dds_lint.specs.Notes.{needless_bound, needless_total, no_rules, no_start, noted, pair_notes};
 ghost use Rattle.dds_lint.specs.Notes.{reader_notes, rule_notes, stuck_rule, unused_row, unwritten_key, unwritten_keys};
 ghost use Rattle.dds_lint.specs.Notes.{watcher, writer_notes};
@@ -379,10 +381,10 @@ fn push_all(
     push_pairs(notes, plan)
 }
 
-/// What a yes doesn't say of a plan and a certificate, which may be empty: readers that may miss samples or grow without
-/// end, keys and writers that no rule writes, rules that never fire, what of the certificate nothing needs, and readers
-/// for which a writer waits. Which rules can fire goes by counts without amounts: what can come once is taken to come as
-/// often as a rule needs it. Only want of memory is an error.
+/// What a yes doesn't say of a plan and a certificate, which may be empty: readers that may miss samples or grow
+/// without end, keys and writers that no rule writes, rules that never fire, what of the certificate nothing needs, and
+/// readers for which a writer waits. Which rules can fire goes by counts without amounts: what can come once is taken
+/// to come as often as a rule needs it. Only want of memory is an error.
 pub fn all_notes(
     alloc: Global,
     plan: &Plan,

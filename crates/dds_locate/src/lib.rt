@@ -1,5 +1,5 @@
-//! Where in the bytes of a TOML file a path leads, as the faults of files carry it: `writers[2].history`. One walk through
-//! the text notes what stands at each path, so that thousands of paths can be found.
+//! Where in the bytes of a TOML file a path leads, as the faults of files carry it: `writers[2].history`. One walk
+//! through the text notes what stands at each path, so that thousands of paths can be found.
 #![tactic(auto)]
 
 mod path;

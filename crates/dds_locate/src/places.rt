@@ -14,8 +14,8 @@ use std::marker::Model;
 pub struct Found {
     /// The name before a value, the header of a table, or the element of an array.
     pub name: Span,
-    /// The value after the name: a word or a text whole, of an array or a table the bracket that opens it. Of a header it
-    /// is the header, and of a name on the way to another it's the name.
+    /// The value after the name: a word or a text whole, of an array or a table the bracket that opens it. Of a header
+    /// it's the header, and of a name on the way to another it's the name.
     pub value: Span,
     /// Whether the path leads here, and not just past here.
     pub is_exact: bool,

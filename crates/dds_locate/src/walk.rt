@@ -8,8 +8,8 @@ use dds_base::NoMemory;
 use indexmap::IndexMap;
 use std::alloc::Global;
 
-/// The most bytes of a path that is noted. Without a limit a text of many open brackets would take memory and time by the
-/// square of its length.
+/// The most bytes of a path that is noted. Without a limit a text of many open brackets would take memory and time by
+/// the square of its length.
 const LONGEST_PATH: usize = 1024;
 
 /// An array or a table in brackets that isn't closed yet: how long its own path is, and of an array which element comes
@@ -179,8 +179,8 @@ impl<'a> Walk<'a> {
         Ok(Next::End)
     }
 
-    /// Passes the value of a statement with all that it holds. It ends where nothing is passed any more, as in a text that
-    /// is no TOML.
+    /// Passes the value of a statement with all that it holds. It ends where nothing is passed any more, as in a text
+    /// that is no TOML.
     fn walk_values(&mut self, open: &mut Vec<Open>, first: Span) -> Result<(), NoMemory> {
         let mut name = Some(first);
         for _ in 0..self.scanner.bytes.len() {

@@ -1,4 +1,3 @@
-use Rattle.dds_weights.specs.Views.{certificate_view}
 use Rattle.dds_check.proofs.Fitting.{tabled_of}
 use Rattle.dds_lint.proofs.conditions.all_nos.Goals as goal
 

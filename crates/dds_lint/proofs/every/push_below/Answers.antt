@@ -1,6 +1,5 @@
-use Rattle.std.proofs.Common.{◌++◌, ◌≡◌, ap, ◌∙◌, subst, arith}
+use Rattle.std.proofs.Common.{◌++◌, ap, ◌∙◌, arith}
 use Rattle.std.specs.Option.{option_to_list}
-use Rattle.dds_lint.specs.Every.{those_below}
 use Rattle.dds_lint.proofs.EveryLaws.{every_more}
 use Rattle.dds_lint.proofs.every.push_below.Goals as goal
 
