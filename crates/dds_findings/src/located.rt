@@ -8,13 +8,16 @@ use std::alloc::Global;
 /// How many bytes of a line are shown on either side of a place, at most.
 const SHOWN: usize = 200;
 
+/// After how many bytes the characters are counted, so that a long line isn't counted for each of its places.
+const STRETCH: usize = 256;
+
 /// Whether a byte begins a character, and doesn't continue one (RFC 3629, section 3).
-pub(crate) fn begins_character(byte: u8) -> bool {
+fn begins_character(byte: u8) -> bool {
     byte < 128 || 191 < byte
 }
 
 /// The bytes from one place up to another, as far as they are there.
-pub(crate) fn cut(bytes: &[u8], from: usize, to: usize) -> &[u8] {
+fn cut(bytes: &[u8], from: usize, to: usize) -> &[u8] {
     let Span { start, end } = Span::within(bytes.len(), from, to);
     &bytes[start..end]
 }
@@ -32,6 +35,8 @@ pub(crate) struct Located<'a> {
     bytes: &'a [u8],
     /// Of each line but the first.
     starts: Vec<usize>,
+    /// How many characters begin before each stretch of bytes.
+    counts: Vec<usize>,
     places: Places,
 }
 
@@ -46,6 +51,23 @@ fn line_starts(alloc: Global, bytes: &[u8]) -> Result<Vec<usize>, NoMemory> {
     Ok(starts)
 }
 
+/// How many characters begin in these bytes.
+fn characters(bytes: &[u8]) -> usize {
+    bytes.iter().filter(|byte| begins_character(**byte)).count()
+}
+
+/// How many characters begin before each stretch.
+fn stretch_counts(alloc: Global, bytes: &[u8]) -> Result<Vec<usize>, NoMemory> {
+    let mut counts = Vec::new(alloc);
+    let mut count: usize = 0;
+    for stretch in 0..bytes.len() / STRETCH + 1 {
+        counts.push(count)?;
+        let start = stretch.saturating_mul(STRETCH);
+        count = count.saturating_add(characters(cut(bytes, start, start.saturating_add(STRETCH))));
+    }
+    Ok(counts)
+}
+
 impl<'a> Located<'a> {
     /// The places of these bytes.
     pub(crate) fn new(alloc: Global, bytes: &'a [u8]) -> Result<Located<'a>, NoMemory> {
@@ -53,6 +75,7 @@ impl<'a> Located<'a> {
         Ok(Located {
             bytes,
             starts: line_starts(alloc, bytes)?,
+            counts: stretch_counts(alloc, bytes)?,
             places,
         })
     }
@@ -79,9 +102,27 @@ impl<'a> Located<'a> {
         }
     }
 
+    /// How many characters begin before a place.
+    fn characters_before(&self, at: usize) -> usize {
+        let stretch = at / STRETCH;
+        let before = self.counts.get(stretch).copied().unwrap_or(0);
+        let rest = cut(self.bytes, stretch.saturating_mul(STRETCH), at);
+        before.saturating_add(characters(rest))
+    }
+
+    /// How many characters begin from one place up to another.
+    pub(crate) fn characters_between(&self, from: usize, to: usize) -> usize {
+        self.characters_before(to).saturating_sub(self.characters_before(from))
+    }
+
+    /// The bytes from one place up to another.
+    pub(crate) fn cut(&self, from: usize, to: usize) -> &[u8] {
+        cut(self.bytes, from, to)
+    }
+
     /// The spot of a stretch.
     pub(crate) fn spot(&self, alloc: Global, span: Span) -> Result<Spot, NoMemory> {
-        spot_in(alloc, self.bytes, self.line_of(span.start), span.start, span.end)
+        spot_in(alloc, self, self.line_of(span.start), span.start, span.end)
     }
 
     /// Whether something stands where the path leads.

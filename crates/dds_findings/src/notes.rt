@@ -46,6 +46,15 @@ fn watcher_cause(lists: &Deployment, reader: ReaderNo) -> &'static str {
     }
 }
 
+/// The field that makes a reader a watcher.
+fn watcher_field(lists: &Deployment, reader: ReaderNo) -> &'static str {
+    if reader.number() < lists.readers() && lists.reader(reader).may_lose {
+        "may_lose"
+    } else {
+        "reliability"
+    }
+}
+
 /// What would be right, or why it is so.
 fn help_of(lists: &Deployment, note: Note) -> &'static str {
     match note {
@@ -149,9 +158,11 @@ fn message_of(alloc: Global, judged: &Judged, note: Note) -> Result<String, NoMe
 /// The section, the place and the field of the deployment that a note is about.
 fn entry_of(judged: &Judged, note: Note) -> (Role, &'static str, usize, &'static str) {
     match note {
-        Note::Watcher(reader) | Note::Unlimited(reader) => {
-            (Role::Deployment, "readers", reader.number(), "reliability")
+        Note::Watcher(reader) => {
+            let field = watcher_field(judged.plan.lists(), reader);
+            (Role::Deployment, "readers", reader.number(), field)
         }
+        Note::Unlimited(reader) => (Role::Deployment, "readers", reader.number(), "name"),
         Note::UnwrittenKey { topic, .. } => (Role::Deployment, "topics", topic.number(), "keys"),
         Note::IdleWriter(writer) => (Role::Deployment, "writers", writer.number(), "name"),
         Note::NoRules | Note::NoStart => (Role::Deployment, "rules", 0, "name"),

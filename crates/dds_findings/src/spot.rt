@@ -1,6 +1,6 @@
 //! Where a finding is, as people see it: a line, columns, and what stands there.
 
-use crate::located::{begins_character, cut};
+use crate::located::Located;
 use dds_base::NoMemory;
 use std::alloc::Global;
 
@@ -19,11 +19,6 @@ pub struct Spot {
     pub marker: String,
     /// As many blanks as the number of the line has digits.
     pub margin: String,
-}
-
-/// How many characters begin in a text.
-fn characters(bytes: &[u8]) -> usize {
-    bytes.iter().filter(|byte| begins_character(**byte)).count()
 }
 
 /// A text with a blank for each control character; none where it isn't UTF-8.
@@ -62,18 +57,18 @@ pub(crate) struct Line {
     pub(crate) shown_to: usize,
 }
 
-/// The spot of a stretch that begins in a line of these bytes.
+/// The spot of a stretch that begins in a line of this file.
 pub(crate) fn spot_in(
     alloc: Global,
-    bytes: &[u8],
+    file: &Located,
     line: Line,
     from: usize,
     to: usize,
 ) -> Result<Spot, NoMemory> {
-    let before = characters(cut(bytes, line.start, from));
-    let width = characters(cut(bytes, from, to.min(line.shown_to))).max(1);
-    let blanks = characters(cut(bytes, line.shown_from, from));
-    let text = plain_text(alloc, cut(bytes, line.shown_from, line.shown_to))?;
+    let before = file.characters_between(line.start, from);
+    let width = file.characters_between(from, to.min(line.shown_to)).max(1);
+    let blanks = file.characters_between(line.shown_from, from);
+    let text = plain_text(alloc, file.cut(line.shown_from, line.shown_to))?;
     let marker = marker(alloc, blanks, width)?;
     let column = before.saturating_add(1);
     Ok(Spot {
