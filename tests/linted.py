@@ -62,7 +62,7 @@ def line_of(text, path):
     inside = range(header, next_header(lines, header) - 1)
     at = [number + 1 for number in inside if re.match(rf"\s*{re.escape(found[3])}\s*=", lines[number])]
     if len(at) != 1:
-        return header if not at and not found[4] else None
+        return None
     # what stands in a list of several lines isn't looked for
     return None if found[4] and lines[at[0] - 1].count("[") > lines[at[0] - 1].count("]") else at[0]
 
