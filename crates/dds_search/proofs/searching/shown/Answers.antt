@@ -5,5 +5,5 @@ use Rattle.dds_search.proofs.searching.shown.Goals as goal
 
 pub returns-in-Some : goal.returns-in-Some
 returns-in-Some c =
-    let claim = rw c.in-Some.is at c.in_ok-claimed.ensures in
+    let claim = rw c.in-Some.is at c.in_ok-certificate.ensures in
     claimed_for (network_of c.args.plan.now) (certificate_view c.in-Some.certificate) c.args.target.now c.args.bound claim
