@@ -1,6 +1,5 @@
 -- To ask a reader what it misses changes no mark, and what arrives afterwards would have done the same before.
-use Rattle.std.proofs.Common.{◌≡◌, ◌≢◌, ℕ, zero, suc, ◌+◌, ◌<◌, ◌≤◌, ◌^◌, ◌-◌, Bool, true, false, not, if◌then◌else◌, List, [], ◌∷◌, ◌++◌, Option, Some, None, refl, sym, ap, ◌∙◌, subst, arith}
-use Rattle.dds_base.specs.Sums.{least, put}
+use Rattle.std.proofs.Common.{◌≡◌, ◌≢◌, ℕ, ◌+◌, ◌<◌, ◌≤◌, Bool, true, false, not, if◌then◌else◌, List, [], ◌∷◌, ◌++◌, Option, Some, None, refl, sym, ap, ◌∙◌, subst, arith}
 use Rattle.dds_base.specs.Sets.{last_number}
 use Rattle.dds_base.specs.Messages.{HeartbeatFor}
 use Rattle.dds_base.specs.declared.events.Refusal.TheVariants.{NoPacket}
@@ -10,7 +9,7 @@ use Rattle.dds_base.proofs.SumLaws.{least_passes, put_at, put_other}
 use Rattle.dds_qos.specs.Reading.{base_of}
 use Rattle.dds_match.specs.Network.{Network}
 use Rattle.dds_runs.specs.World.{World, opening}
-use Rattle.dds_runs.specs.Steps.{Event, Reply, Refusal, Refused, Sent, SendAckNack, Deliver, refusal, RefusedOr, May, AtPlace, after, is_none_of, packet_reply, put_packet, send, sent_place}
+use Rattle.dds_runs.specs.Steps.{Event, Reply, Refusal, Sent, SendAckNack, Deliver, refusal, RefusedOr, May, AtPlace, after, is_none_of, packet_reply, put_packet, send, sent_place}
 use Rattle.dds_runs.specs.Runs.{Move, MayMove, IsRunFrom, after_move, as_moves, replay}
 use Rattle.dds_runs.specs.Runs.Move.{Do}
 use Rattle.dds_runs.proofs.Longer.{as_moves_append, replay_append}

@@ -6,4 +6,3 @@ mod Unaccepted
 mod Never
 mod Growing
 mod Summed
-mod Holding

@@ -11,7 +11,7 @@ pub enum Least {
     /// Some weights show this bound, the least that one row of weights was found to show. For the samples of a reader a
     /// sum of bounds of its keys may be less.
     Shown(u32),
-    /// The climb found that there is no least bound: firings in fractions bring more and more samples.
+    /// There is a ray, so that no weights show a bound: firings and free writes that bring more and more samples.
     Unbounded,
     /// The search gave up: a number passed its bits, or the budget ran out.
     Unknown,

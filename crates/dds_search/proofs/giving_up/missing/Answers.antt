@@ -1,5 +1,4 @@
-use Rattle.std.proofs.Common.{rules, ◌≡◌, ◌≤◌, List, [], ◌∷◌, ◌++◌, Some, ap, subst, arith}
-use Rattle.dds_base.specs.Sets.{last_number}
+use Rattle.std.proofs.Common.{rules, ◌≡◌, List, [], ◌∷◌, ◌++◌, Some, ap, subst, arith}
 use Rattle.dds_base.specs.declared.messages.Packet.TheVariants.{AckNack}
 use Rattle.dds_match.specs.Plan.{network_of}
 use Rattle.dds_runs.specs.Steps.{Event, Reply, SendAckNack, Sent}

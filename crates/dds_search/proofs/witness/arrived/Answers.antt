@@ -1,4 +1,3 @@
-use Rattle.std.proofs.Common.{rules}
 use Rattle.dds_search.proofs.Witnessed.{arrives}
 use Rattle.dds_search.proofs.witness.arrived.Goals as goal
 
