@@ -1,1 +1,1 @@
-mod Faults
+mod FaultLists

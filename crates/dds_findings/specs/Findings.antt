@@ -21,7 +21,7 @@ use Rattle.dds_findings.specs.declared.finding.Level.TheVariants as level
 -- a fault and a condition that fails are errors, a note isn't
 abbrev pub level_of : About → Level
 level_of about.Fault = level.Error
-level_of (about.Condition no) = level.Error
+level_of (about.Condition refused) = level.Error
 level_of (about.Note note) = level.Note
 
 abbrev pub level_word : Level → List ℕ
@@ -30,7 +30,7 @@ level_word level.Note = codes "note"
 
 abbrev pub is_error : About → Bool
 is_error about.Fault = true
-is_error (about.Condition no) = true
+is_error (about.Condition refused) = true
 is_error (about.Note note) = false
 
 -- what findings are about, in their order
@@ -55,7 +55,7 @@ IsBare d found = (notes : List Note) × AreNotes d no_certificate notes × (foun
 
 abbrev pub is_fault : About → Bool
 is_fault about.Fault = true
-is_fault (about.Condition no) = false
+is_fault (about.Condition refused) = false
 is_fault (about.Note note) = false
 
 -- nothing but faults, and one at least

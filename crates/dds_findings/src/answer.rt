@@ -67,7 +67,7 @@ fn findings_text(
 
 /// What the two files are called.
 fn names_of<'a>(deployment: &Named<'a>, certificate: Option<Named<'a>>) -> FileNames<'a>
-    ensures { result ≡ names_of deployment.now.name.now (option_map (λ c. c.name.now) certificate) }
+    ensures { result ≡ names_of deployment.now.name.now (option_map (λ c. c.name.now) certificate.entry) }
 {
     FileNames {
         deployment: deployment.name,
@@ -88,8 +88,8 @@ pub fn lint_answer(
     deny: Deny,
 ) -> Result<Answer, ToolFault>
     ensures said { IfOk result (IsLintAnswer style deny
-        (names_of deployment.now.name.now (option_map (λ c. c.name.now) certificate)) deployment.now.bytes.now
-        (option_map (λ c. c.bytes.now) certificate)) }
+        (names_of deployment.now.name.now (option_map (λ c. c.name.now) certificate.entry)) deployment.now.bytes.now
+        (option_map (λ c. c.bytes.now) certificate.entry)) }
     ensures memory { IfErr result (λ e. e ≡ ToolFault.NoMemory) }
 {
     let bytes = match certificate {

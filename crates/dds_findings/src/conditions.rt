@@ -187,23 +187,23 @@ pub(crate) fn condition(
     alloc: Global,
     files: &Files,
     judged: &Judged,
-    no: No,
+    no: &No,
 ) -> Result<Finding, NoMemory>
-    ensures { IfOk result (λ finding. finding.about ≡ about.Condition no) }
+    ensures { IfOk result (λ finding. finding.about ≡ about.Condition no.now) }
 {
-    let because = reason(alloc, judged.plan, judged.certificate, no)?;
+    let because = reason(alloc, judged.plan, judged.certificate, *no)?;
     let message = first_line(alloc, because.as_str())?;
     let details = later_lines(alloc, because.as_str())?;
     let help = String::from_str(alloc, cure(no.number))?;
-    let Spotted { role, path, spot } = place_of(alloc, files, judged, no.number, no.subject)?;
+    let place = place_of(alloc, files, judged, no.number, no.subject)?;
     Ok(Finding {
-        about: About::Condition(no),
+        about: About::Condition(*no),
         name: no.number.name(),
-        role,
-        path,
+        role: place.role,
+        path: place.path,
         message,
         help,
         details,
-        spot,
+        spot: place.spot,
     })
 }

@@ -1,5 +1,6 @@
 //! The findings of faults of files.
 ghost use Rattle.std.specs.Prelude.{◌≡◌, ◌<◌, IfOk, length, map};
+ghost use Rattle.dds_faults.specs.declared.fault.FileFault.{FileFault};
 ghost use Rattle.dds_findings.specs.Findings.{AreFaults, abouts};
 ghost use Rattle.dds_findings.specs.declared.finding.About.TheVariants as about;
 
@@ -91,7 +92,7 @@ fn each_finding(
     role: Role,
     faults: &[FileFault],
 ) -> Result<Vec<Finding>, NoMemory>
-    ensures { IfOk result (λ found. abouts found.items ≡ map (λ _. about.Fault) faults.now) }
+    ensures { IfOk result (λ found. abouts found.items ≡ map (λ (f : FileFault). about.Fault) faults.now) }
 {
     let mut found = Vec::new(alloc);
     for one in faults {
@@ -101,7 +102,7 @@ fn each_finding(
 }
 
 /// The findings of faults of a file, of which there is one at least. Only want of memory is an error.
-#[tactic(auto, using(crate::proofs::Faults::are_faults))]
+#[tactic(auto, using(crate::proofs::FaultLists::are_faults))]
 pub(crate) fn fault_findings(
     alloc: Global,
     file: &Located,

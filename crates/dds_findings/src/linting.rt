@@ -80,7 +80,7 @@ fn push_conditions(
     ensures { OnOk result (abouts found.new.items ≡ abouts found.old.items ++ map about.Condition nos.now) }
 {
     for no in nos {
-        found.push(condition(alloc, files, judged, *no)?)?;
+        found.push(condition(alloc, files, judged, no)?)?;
     }
     Ok(())
 }
@@ -96,7 +96,7 @@ fn push_notes(
     ensures { OnOk result (abouts found.new.items ≡ abouts found.old.items ++ map about.Note notes.now) }
 {
     for one in notes {
-        found.push(note(alloc, files, judged, *one)?)?;
+        found.push(note(alloc, files, judged, one)?)?;
     }
     Ok(())
 }
@@ -247,7 +247,7 @@ fn plan_findings(
     certificate: Option<&[u8]>,
 ) -> Result<Vec<Finding>, NoMemory>
     ensures { IfOk result
-        (λ found. IsFound (Ok plan.now) (option_map (λ c. c.now) certificate) (abouts found.items)) }
+        (λ found. IsFound (Ok plan.now) (option_map (λ c. c.now) certificate.entry) (abouts found.items)) }
 {
     match certificate {
         None => bare_findings(alloc, files, plan),
@@ -262,7 +262,7 @@ fn lists_findings(
     lists: Deployment,
     certificate: Option<&[u8]>,
 ) -> Result<Vec<Finding>, NoMemory>
-    ensures { IfOk result (λ found. IsFound (Ok lists) (option_map (λ c. c.now) certificate) (abouts found.items)) }
+    ensures { IfOk result (λ found. IsFound (Ok lists) (option_map (λ c. c.now) certificate.entry) (abouts found.items)) }
 {
     match plan(alloc, lists) {
         Ok(plan) => {
@@ -304,7 +304,7 @@ fn file_findings(
     certificate: Option<&[u8]>,
 ) -> Result<Vec<Finding>, NoMemory>
     ensures { IfOk result
-        (λ found. IsLint deployment.now (option_map (λ c. c.now) certificate) (abouts found.items)) }
+        (λ found. IsLint deployment.now (option_map (λ c. c.now) certificate.entry) (abouts found.items)) }
 {
     match read_deployment(alloc, deployment) {
         Ok(lists) => lists_findings(alloc, files, lists, certificate),
@@ -329,7 +329,7 @@ pub fn lint(
     certificate: Option<&[u8]>,
 ) -> Result<Vec<Finding>, NoMemory>
     ensures { IfOk result
-        (λ found. IsLint deployment.now (option_map (λ c. c.now) certificate) (abouts found.items)) }
+        (λ found. IsLint deployment.now (option_map (λ c. c.now) certificate.entry) (abouts found.items)) }
 {
     match Files::new(alloc, deployment, certificate) {
         Ok(files) => {

@@ -197,21 +197,21 @@ pub(crate) fn note(
     alloc: Global,
     files: &Files,
     judged: &Judged,
-    note: Note,
+    note: &Note,
 ) -> Result<Finding, NoMemory>
-    ensures { IfOk result (λ finding. finding.about ≡ about.Note note) }
+    ensures { IfOk result (λ finding. finding.about ≡ about.Note note.now) }
 {
-    let message = message_of(alloc, judged, note)?;
-    let help = String::from_str(alloc, help_of(judged.plan.lists(), note))?;
-    let Spotted { role, path, spot } = place_of(alloc, files, judged, note)?;
+    let message = message_of(alloc, judged, *note)?;
+    let help = String::from_str(alloc, help_of(judged.plan.lists(), *note))?;
+    let place = place_of(alloc, files, judged, *note)?;
     Ok(Finding {
-        about: About::Note(note),
-        name: name_of(note),
-        role,
-        path,
+        about: About::Note(*note),
+        name: name_of(*note),
+        role: place.role,
+        path: place.path,
         message,
         help,
         details: Vec::new(alloc),
-        spot,
+        spot: place.spot,
     })
 }

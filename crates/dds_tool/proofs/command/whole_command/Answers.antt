@@ -1,6 +1,6 @@
 use Rattle.std.proofs.Common.{◌≡◌, ◌∙◌, sym, true≢false, Result, Ok, Err, IfOk, IsOk, OnOk, ap₂, codes}
 use Rattle.clap.specs.Words.{App, app_of, with_subcommand}
-use Rattle.dds_tool.specs.Command.{checking, conforming, drawing, limiting, matching, one_file, refuting, replaying, running, searching, showing, top_app}
+use Rattle.dds_tool.specs.Command.{checking, conforming, drawing, limiting, linting, matching, one_file, refuting, replaying, running, searching, showing, top_app}
 use Rattle.dds_tool.proofs.command.whole_command.Goals as goal
 
 abbrev joined : App → App → App
@@ -30,4 +30,5 @@ returns c =
     let eighth = added app_of _ _ _ refuting c.refute_command.result c.in_ok-command-8.ensures.app c.in_ok-command-8.ensures.below c.refute_command.ensures.app seventh in
     let ninth = added app_of _ _ _ replaying c.replay_command.result c.in_ok-command-9.ensures.app c.in_ok-command-9.ensures.below c.replay_command.ensures.app eighth in
     let tenth = added app_of _ _ _ limiting c.limits_command.result c.in_ok-command-10.ensures.app c.in_ok-command-10.ensures.below c.limits_command.ensures.app ninth in
-    added_if app_of c.with_command-11.result _ _ conforming c.conform_command.result c.with_command-11.ensures.app c.with_command-11.ensures.below c.conform_command.ensures.app tenth
+    let eleventh = added app_of _ _ _ conforming c.conform_command.result c.in_ok-command-11.ensures.app c.in_ok-command-11.ensures.below c.conform_command.ensures.app tenth in
+    added_if app_of c.with_command-12.result _ _ linting c.lint_command.result c.with_command-12.ensures.app c.with_command-12.ensures.below c.lint_command.ensures.app eleventh

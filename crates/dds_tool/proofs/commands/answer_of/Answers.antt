@@ -32,3 +32,8 @@ pub returns-in-None-clause-opened : goal.returns-in-None-clause-opened
 returns-in-None-clause-opened g c =
     rw c.in-Draw.is
     (rw c.in-None.is (one_opens (g.S.Sources.opened c.args.files.now) (g.S.Sources.opened c.draw_file.new.files) c.in-Draw.deployment.now c.draw_file.ensures.opened))
+
+pub returns-in-None-certificate-clause-opened : goal.returns-in-None-certificate-clause-opened
+returns-in-None-certificate-clause-opened g c =
+    rw c.in-Lint.is
+    (rw c.in-None-certificate.is (one_opens (g.S.Sources.opened c.args.files.now) (g.S.Sources.opened c.lint_file.new.files) c.in-Lint.deployment.now c.lint_file.ensures.opened))

@@ -1,3 +1,4 @@
+use Rattle.std.proofs.Common.{◌∙◌, sym}
 use Rattle.clap.specs.Words.{found_of, rows_of}
 use Rattle.dds_tool.proofs.Requested.{lints_once}
 use Rattle.dds_tool.proofs.request.lint_request.Goals as goal
