@@ -190,7 +190,7 @@ fn check_inner_list(
     let mut stood = Pairs::new(walk.alloc);
     for (index, value) in values.iter().enumerate() {
         let at = Place::Index {
-            parent: list,
+            parent: &*list,
             index,
         };
         match value.as_table() {
@@ -279,7 +279,7 @@ fn check_entries(
     let mut stood = Pairs::new(walk.alloc);
     for (index, value) in values.iter().enumerate() {
         let at = Place::Index {
-            parent: list,
+            parent: &*list,
             index,
         };
         match value.as_table() {

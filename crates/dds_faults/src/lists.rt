@@ -47,7 +47,10 @@ fn check_topic_keys(
     }
     let listed = texts_of(alloc, value)?;
     for (index, value) in values.iter().enumerate() {
-        let at = Place::Index { parent: at, index };
+        let at = Place::Index {
+            parent: &*at,
+            index,
+        };
         if let Some(name) = name_of(walk, faults, &at, value)? {
             check_once(walk, faults, &listed, index, &at, name)?;
         }
@@ -89,7 +92,10 @@ fn check_filter(
     tell_length(walk, faults, "keys", 64, at, values)?;
     let listed = texts_of(walk.alloc, value)?;
     for (index, value) in values.iter().enumerate() {
-        let at = Place::Index { parent: at, index };
+        let at = Place::Index {
+            parent: &*at,
+            index,
+        };
         if let Some(name) = name_of(walk, faults, &at, value)? {
             check_filter_key(walk, faults, reader, &at, name)?;
             check_once(walk, faults, &listed, index, &at, name)?;
@@ -111,7 +117,10 @@ fn check_owned(
     let listed = texts_of(walk.alloc, value)?;
     let section = side.section();
     for (index, value) in values.iter().enumerate() {
-        let at = Place::Index { parent: at, index };
+        let at = Place::Index {
+            parent: &*at,
+            index,
+        };
         if let Some(name) = name_of(walk, faults, &at, value)? {
             let names = walk.known.names(section);
             check_known(walk, faults, names, section.noun(), &at, name)?;
@@ -155,7 +164,10 @@ fn check_partitions(
 ) -> Result<(), NoMemory> {
     tell_length(walk, faults, "partitions", 16, at, values)?;
     for (index, value) in values.iter().enumerate() {
-        let at = Place::Index { parent: at, index };
+        let at = Place::Index {
+            parent: &*at,
+            index,
+        };
         check_partition(walk, faults, &at, value)?;
     }
     Ok(())
