@@ -17,6 +17,7 @@ fn check_once(
     walk: &Walk,
     faults: &mut Faults,
     listed: &PlacedNames,
+    list: &str,
     index: usize,
     at: &Place,
     name: &str,
@@ -24,7 +25,7 @@ fn check_once(
     match listed.place(name) {
         Some(place) if place != index => {
             let message = format!(in walk.alloc;
-                "`{name}` stands in the list already, at {place}"
+                "there's already a key `{name}`, {list}[{place}]"
             )?;
             faults.add(walk.alloc, FaultKind::Duplicate, at, message, None)
         }
@@ -52,7 +53,7 @@ fn check_topic_keys(
             index,
         };
         if let Some(name) = name_of(walk, faults, &at, value)? {
-            check_once(walk, faults, &listed, index, &at, name)?;
+            check_once(walk, faults, &listed, "keys", index, &at, name)?;
         }
     }
     Ok(())
@@ -74,8 +75,8 @@ fn check_filter_key(
     match walk.known.keys_of(topic) {
         Some(keys) => {
             let topic = shown(walk.alloc, topic)?;
-            let noun = format!(in walk.alloc; "key of topic {topic}")?;
-            check_known(walk, faults, keys, noun.as_str(), at, name)
+            let whose = format!(in walk.alloc; " in topic `{topic}`")?;
+            check_known(walk, faults, keys, "key", whose.as_str(), at, name)
         }
         None => Ok(()),
     }
@@ -98,7 +99,7 @@ fn check_filter(
         };
         if let Some(name) = name_of(walk, faults, &at, value)? {
             check_filter_key(walk, faults, reader, &at, name)?;
-            check_once(walk, faults, &listed, index, &at, name)?;
+            check_once(walk, faults, &listed, "filter", index, &at, name)?;
         }
     }
     Ok(())
@@ -123,7 +124,7 @@ fn check_owned(
         };
         if let Some(name) = name_of(walk, faults, &at, value)? {
             let names = walk.known.names(section);
-            check_known(walk, faults, names, section.noun(), &at, name)?;
+            check_known(walk, faults, names, section.noun(), "", &at, name)?;
             let is_first = listed.place(name) == Some(index);
             check_owner(walk, faults, side, spot, is_first, &at, name)?;
         }

@@ -2,7 +2,7 @@ use Rattle.std.specs.Prelude.{◌≡◌, List, refl, IsTrue, None}
 use Rattle.std.specs.List.{insert}
 use Rattle.std.proofs.Common.{rules, sym, subst}
 use Rattle.dds_faults.specs.declared.fault.FileFault.{FileFault}
-use Rattle.dds_faults.specs.Listed.{IsFault, IsListed}
+use Rattle.dds_faults.specs.Listed.{IsListed}
 use Rattle.dds_faults.proofs.Listed.{listed_first}
 use Rattle.dds_faults.proofs.first.with_first.Goals as goal
 
