@@ -1,19 +1,31 @@
 //! What is told of small files: the words, which no clause says, and that a fault has no others in its train.
 
-use crate::{Known, deployment_faults};
+use crate::{FileFault, Known, deployment_faults};
 use std::alloc::Global;
 use std::test::Fail;
 
-// The faults of a deployment, each on a line, with its help in brackets.
+fn help_of(fault: &FileFault) -> &str {
+    match &fault.help {
+        Some(help) => help.as_str(),
+        None => "",
+    }
+}
+
+// A fault on a line, with its help in brackets.
+fn line_of(alloc: Global, fault: &FileFault) -> Result<String, Fail> {
+    let name = fault.name;
+    let path = fault.path.as_str();
+    let message = fault.message.as_str();
+    let help = help_of(fault);
+    Ok(format!(in alloc; "{name} {path}: {message} ({help})\n")?)
+}
+
+// The faults of a deployment.
 fn told(alloc: Global, text: &str, first: &Known) -> Result<String, Fail> {
     let mut all = String::new(alloc);
-    for fault in &deployment_faults(alloc, text.as_bytes(), first)? {
-        let help = match &fault.help {
-            Some(help) => help.as_str(),
-            None => "",
-        };
-        let (name, path, message) = (fault.name, fault.path.as_str(), fault.message.as_str());
-        let line = format!(in alloc; "{name} {path}: {message} ({help})\n")?;
+    let faults = deployment_faults(alloc, text.as_bytes(), first)?;
+    for fault in &faults {
+        let line = line_of(alloc, fault)?;
         all.push_str(line.as_str())?;
     }
     Ok(all)
