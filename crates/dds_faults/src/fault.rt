@@ -72,7 +72,7 @@ impl Faults {
             file,
             all: Vec::new(alloc),
             told: Names::new(alloc),
-            effort: 20_000_000,
+            effort: 10_000_000,
         }
     }
 

@@ -1,6 +1,6 @@
 //! The first fault of a file is always among those that are listed.
-ghost use Rattle.std.specs.Prelude.{IfOk, IsTrue, ◌→◌};
-ghost use Rattle.dds_faults.specs.Listed.{IsListed};
+ghost use Rattle.std.specs.Prelude.{◌≡◌, IfOk, IsTrue};
+ghost use Rattle.dds_faults.specs.Listed.{IsFault, IsListed};
 
 use crate::fault::{FileFault, Known};
 use dds_base::NoMemory;
@@ -26,12 +26,21 @@ fn words(name: &str) -> &'static str {
     }
 }
 
-fn is_first(fault: &FileFault, first: &Known) -> bool {
+fn is_first(fault: &FileFault, first: &Known) -> bool
+    ensures { IsTrue result → IsFault first.now.number first.now.name.now first.now.path.now fault.now }
+{
     fault.number == first.number && fault.name == first.name && fault.path.as_str() == first.path
 }
 
-fn is_listed(faults: &[FileFault], first: &Known) -> bool {
-    faults.iter().any(|fault| is_first(fault, first))
+fn is_listed(faults: &[FileFault], first: &Known) -> bool
+    ensures { IsTrue result → IsListed first.now.number first.now.name.now first.now.path.now faults.now }
+{
+    for fault in faults {
+        if is_first(fault, first) {
+            return true;
+        }
+    }
+    false
 }
 
 /// The faults with the first one before them, where it isn't one of them.
@@ -39,7 +48,10 @@ pub(crate) fn with_first(
     alloc: Global,
     mut faults: Vec<FileFault>,
     first: &Known,
-) -> Result<Vec<FileFault>, NoMemory> {
+) -> Result<Vec<FileFault>, NoMemory>
+    ensures { IfOk result
+        (λ all. IsListed first.now.number first.now.name.now first.now.path.now all.items) }
+{
     if is_listed(&faults, first) {
         return Ok(faults);
     }

@@ -1,4 +1,7 @@
 //! The walk through a file, section by section, in the order of the reader.
+ghost use Rattle.std.specs.Prelude.{◌≡◌, IfOk};
+ghost use Rattle.dds_faults.specs.Listed.{IsListed};
+
 use crate::fault::{Faults, FileFault, FileKind, Known};
 use crate::fields::{Elements, Entry, Field, Need, Part, Side, Takes};
 use crate::first::with_first;
@@ -187,7 +190,7 @@ fn check_inner_list(
     let mut stood = Pairs::new(walk.alloc);
     for (index, value) in values.iter().enumerate() {
         let at = Place::Index {
-            parent: list,
+            parent: &*list,
             index,
         };
         match value.as_table() {
@@ -276,7 +279,7 @@ fn check_entries(
     let mut stood = Pairs::new(walk.alloc);
     for (index, value) in values.iter().enumerate() {
         let at = Place::Index {
-            parent: list,
+            parent: &*list,
             index,
         };
         match value.as_table() {
@@ -396,7 +399,10 @@ pub fn deployment_faults(
     alloc: Global,
     bytes: &[u8],
     first: &Known,
-) -> Result<Vec<FileFault>, NoMemory> {
+) -> Result<Vec<FileFault>, NoMemory>
+    ensures { IfOk result
+        (λ all. IsListed first.now.number first.now.name.now first.now.path.now all.items) }
+{
     let found = found_in_deployment(alloc, bytes)?;
     with_first(alloc, found, first)
 }
@@ -409,7 +415,10 @@ pub fn certificate_faults(
     lists: &Deployment,
     bytes: &[u8],
     first: &Known,
-) -> Result<Vec<FileFault>, NoMemory> {
+) -> Result<Vec<FileFault>, NoMemory>
+    ensures { IfOk result
+        (λ all. IsListed first.now.number first.now.name.now first.now.path.now all.items) }
+{
     let found = found_in_certificate(alloc, lists, bytes)?;
     with_first(alloc, found, first)
 }

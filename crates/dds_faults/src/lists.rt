@@ -17,6 +17,7 @@ fn check_once(
     walk: &Walk,
     faults: &mut Faults,
     listed: &PlacedNames,
+    list: &str,
     index: usize,
     at: &Place,
     name: &str,
@@ -24,7 +25,7 @@ fn check_once(
     match listed.place(name) {
         Some(place) if place != index => {
             let message = format!(in walk.alloc;
-                "`{name}` stands in the list already, at {place}"
+                "there's already a key `{name}`, {list}[{place}]"
             )?;
             faults.add(walk.alloc, FaultKind::Duplicate, at, message, None)
         }
@@ -47,9 +48,12 @@ fn check_topic_keys(
     }
     let listed = texts_of(alloc, value)?;
     for (index, value) in values.iter().enumerate() {
-        let at = Place::Index { parent: at, index };
+        let at = Place::Index {
+            parent: &*at,
+            index,
+        };
         if let Some(name) = name_of(walk, faults, &at, value)? {
-            check_once(walk, faults, &listed, index, &at, name)?;
+            check_once(walk, faults, &listed, "keys", index, &at, name)?;
         }
     }
     Ok(())
@@ -71,8 +75,8 @@ fn check_filter_key(
     match walk.known.keys_of(topic) {
         Some(keys) => {
             let topic = shown(walk.alloc, topic)?;
-            let noun = format!(in walk.alloc; "key of topic {topic}")?;
-            check_known(walk, faults, keys, noun.as_str(), at, name)
+            let whose = format!(in walk.alloc; " in topic `{topic}`")?;
+            check_known(walk, faults, keys, "key", whose.as_str(), at, name)
         }
         None => Ok(()),
     }
@@ -89,10 +93,13 @@ fn check_filter(
     tell_length(walk, faults, "keys", 64, at, values)?;
     let listed = texts_of(walk.alloc, value)?;
     for (index, value) in values.iter().enumerate() {
-        let at = Place::Index { parent: at, index };
+        let at = Place::Index {
+            parent: &*at,
+            index,
+        };
         if let Some(name) = name_of(walk, faults, &at, value)? {
             check_filter_key(walk, faults, reader, &at, name)?;
-            check_once(walk, faults, &listed, index, &at, name)?;
+            check_once(walk, faults, &listed, "filter", index, &at, name)?;
         }
     }
     Ok(())
@@ -111,10 +118,13 @@ fn check_owned(
     let listed = texts_of(walk.alloc, value)?;
     let section = side.section();
     for (index, value) in values.iter().enumerate() {
-        let at = Place::Index { parent: at, index };
+        let at = Place::Index {
+            parent: &*at,
+            index,
+        };
         if let Some(name) = name_of(walk, faults, &at, value)? {
             let names = walk.known.names(section);
-            check_known(walk, faults, names, section.noun(), &at, name)?;
+            check_known(walk, faults, names, section.noun(), "", &at, name)?;
             let is_first = listed.place(name) == Some(index);
             check_owner(walk, faults, side, spot, is_first, &at, name)?;
         }
@@ -155,7 +165,10 @@ fn check_partitions(
 ) -> Result<(), NoMemory> {
     tell_length(walk, faults, "partitions", 16, at, values)?;
     for (index, value) in values.iter().enumerate() {
-        let at = Place::Index { parent: at, index };
+        let at = Place::Index {
+            parent: &*at,
+            index,
+        };
         check_partition(walk, faults, &at, value)?;
     }
     Ok(())

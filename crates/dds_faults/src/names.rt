@@ -64,76 +64,79 @@ struct EndpointKeys {
     filter: Option<PlacedNames>,
 }
 
+/// The endpoints of a kind: which keys each has, by its place, and who owns it.
+#[derive(Drop)]
+struct EndpointNames {
+    keys: Vec<EndpointKeys>,
+    // the place of the first application that lists an endpoint
+    owners: PlacedNames,
+}
+
 /// The names that a file may use. An entry with another fault has its name here all the same, so that no fault follows
 /// from another.
 #[derive(Drop)]
 pub(crate) struct KnownNames {
-    participants: PlacedNames,
-    topics: PlacedNames,
-    writers: PlacedNames,
-    readers: PlacedNames,
-    applications: PlacedNames,
-    rules: PlacedNames,
-    rows: PlacedNames,
+    // by the place of the section among all of them
+    sections: Vec<PlacedNames>,
     topic_keys: Vec<PlacedNames>,
-    writer_keys: Vec<EndpointKeys>,
-    reader_keys: Vec<EndpointKeys>,
-    // the place of the first application that lists an endpoint
-    writer_owners: PlacedNames,
-    reader_owners: PlacedNames,
+    writers: EndpointNames,
+    readers: EndpointNames,
+    none: PlacedNames,
+}
+
+// The sections whose names are known.
+static SECTIONS: [Named; 7] = [
+    Named::Participants,
+    Named::Topics,
+    Named::Writers,
+    Named::Readers,
+    Named::Applications,
+    Named::Rules,
+    Named::Rows,
+];
+
+fn place_of(section: Named) -> usize {
+    match section {
+        Named::Participants => 0,
+        Named::Topics => 1,
+        Named::Writers => 2,
+        Named::Readers => 3,
+        Named::Applications => 4,
+        Named::Rules => 5,
+        Named::Rows => 6,
+    }
 }
 
 impl KnownNames {
-    fn new(alloc: Global) -> KnownNames {
-        KnownNames {
-            participants: PlacedNames::new(alloc),
-            topics: PlacedNames::new(alloc),
-            writers: PlacedNames::new(alloc),
-            readers: PlacedNames::new(alloc),
-            applications: PlacedNames::new(alloc),
-            rules: PlacedNames::new(alloc),
-            rows: PlacedNames::new(alloc),
-            topic_keys: Vec::new(alloc),
-            writer_keys: Vec::new(alloc),
-            reader_keys: Vec::new(alloc),
-            writer_owners: PlacedNames::new(alloc),
-            reader_owners: PlacedNames::new(alloc),
+    /// The names of a section.
+    pub(crate) fn names(&self, section: Named) -> &PlacedNames {
+        match self.sections.get(place_of(section)) {
+            Some(names) => names,
+            None => &self.none,
         }
     }
 
-    /// The names of a section.
-    pub(crate) fn names(&self, section: Named) -> &PlacedNames {
-        match section {
-            Named::Participants => &self.participants,
-            Named::Topics => &self.topics,
-            Named::Writers => &self.writers,
-            Named::Readers => &self.readers,
-            Named::Applications => &self.applications,
-            Named::Rules => &self.rules,
-            Named::Rows => &self.rows,
+    fn endpoints(&self, side: Side) -> &EndpointNames {
+        match side {
+            Side::Writers => &self.writers,
+            Side::Readers => &self.readers,
         }
     }
 
     /// The endpoints that applications list, with the place of the first application that does.
     pub(crate) fn owners(&self, side: Side) -> &PlacedNames {
-        match side {
-            Side::Writers => &self.writer_owners,
-            Side::Readers => &self.reader_owners,
-        }
+        &self.endpoints(side).owners
     }
 
     /// The keys of a topic, where it is there.
     pub(crate) fn keys_of(&self, topic: &str) -> Option<&PlacedNames> {
-        self.topic_keys.get(self.topics.place(topic)?)
+        self.topic_keys.get(self.names(Named::Topics).place(topic)?)
     }
 
     /// The keys of an endpoint, where it is clear which they are.
     pub(crate) fn keys_at(&self, side: Side, name: &str) -> Option<&PlacedNames> {
         let place = self.names(side.section()).place(name)?;
-        let keys = match side {
-            Side::Writers => self.writer_keys.get(place)?,
-            Side::Readers => self.reader_keys.get(place)?,
-        };
+        let keys = self.endpoints(side).keys.get(place)?;
         match &keys.filter {
             Some(filter) => Some(filter),
             None => self.topic_keys.get(keys.topic?),
@@ -162,18 +165,23 @@ pub(crate) fn text_at<'a>(entry: &'a Value, key: &str) -> Option<&'a str> {
     entry.as_table()?.get(key)?.as_str()
 }
 
-fn add_names(
-    alloc: Global,
-    names: &mut PlacedNames,
-    document: &Table,
-    section: Named,
-) -> Result<(), NoMemory> {
+fn names_in(alloc: Global, document: &Table, section: Named) -> Result<PlacedNames, NoMemory> {
+    let mut names = PlacedNames::new(alloc);
     for (place, entry) in entries_of(document, section.key()).iter().enumerate() {
         if let Some(name) = text_at(entry, "name") {
             names.add(alloc, name, place)?;
         }
     }
-    Ok(())
+    Ok(names)
+}
+
+fn all_names_in(alloc: Global, document: &Table) -> Result<Vec<PlacedNames>, NoMemory> {
+    let mut all = Vec::new(alloc);
+    for section in &SECTIONS {
+        let names = names_in(alloc, document, *section)?;
+        all.push(names)?;
+    }
+    Ok(all)
 }
 
 /// The texts of a list, each with its first place.
@@ -197,16 +205,13 @@ fn keys_of_topic(alloc: Global, topic: &Value) -> Result<PlacedNames, NoMemory> 
     }
 }
 
-fn add_topic_keys(
-    alloc: Global,
-    all: &mut Vec<PlacedNames>,
-    document: &Table,
-) -> Result<(), NoMemory> {
+fn topic_keys_in(alloc: Global, document: &Table) -> Result<Vec<PlacedNames>, NoMemory> {
+    let mut all = Vec::new(alloc);
     for topic in entries_of(document, "topics") {
         let keys = keys_of_topic(alloc, topic)?;
         all.push(keys)?;
     }
-    Ok(())
+    Ok(all)
 }
 
 fn filter_in(alloc: Global, endpoint: &Value) -> Result<Option<PlacedNames>, NoMemory> {
@@ -219,25 +224,31 @@ fn filter_in(alloc: Global, endpoint: &Value) -> Result<Option<PlacedNames>, NoM
     }
 }
 
-fn add_endpoint_keys(
+fn keys_of_endpoint(
     alloc: Global,
-    all: &mut Vec<EndpointKeys>,
+    topics: &PlacedNames,
+    endpoint: &Value,
+) -> Result<EndpointKeys, NoMemory> {
+    let filter = filter_in(alloc, endpoint)?;
+    let topic = match text_at(endpoint, "topic") {
+        Some(topic) => topics.place(topic),
+        None => None,
+    };
+    Ok(EndpointKeys { topic, filter })
+}
+
+fn endpoint_keys_in(
+    alloc: Global,
     topics: &PlacedNames,
     document: &Table,
     side: Side,
-) -> Result<(), NoMemory> {
+) -> Result<Vec<EndpointKeys>, NoMemory> {
+    let mut all = Vec::new(alloc);
     for endpoint in entries_of(document, side.section().key()) {
-        let filter = match side {
-            Side::Writers => None,
-            Side::Readers => filter_in(alloc, endpoint)?,
-        };
-        let topic = match text_at(endpoint, "topic") {
-            Some(topic) => topics.place(topic),
-            None => None,
-        };
-        all.push(EndpointKeys { topic, filter })?;
+        let keys = keys_of_endpoint(alloc, topics, endpoint)?;
+        all.push(keys)?;
     }
-    Ok(())
+    Ok(all)
 }
 
 fn add_texts(
@@ -261,103 +272,102 @@ fn list_at<'a>(entry: &'a Value, key: &str) -> &'a [Value] {
     }
 }
 
-fn add_owners(
-    alloc: Global,
-    all: &mut PlacedNames,
-    document: &Table,
-    side: Side,
-) -> Result<(), NoMemory> {
+fn owners_in(alloc: Global, document: &Table, side: Side) -> Result<PlacedNames, NoMemory> {
+    let mut owners = PlacedNames::new(alloc);
     for (place, application) in entries_of(document, "applications").iter().enumerate() {
-        add_texts(
-            alloc,
-            all,
-            list_at(application, side.section().key()),
-            place,
-        )?;
+        let listed = list_at(application, side.section().key());
+        add_texts(alloc, &mut owners, listed, place)?;
     }
-    Ok(())
+    Ok(owners)
 }
 
-fn add_deployment(alloc: Global, known: &mut KnownNames, document: &Table) -> Result<(), NoMemory> {
-    add_names(
-        alloc,
-        &mut known.participants,
-        document,
-        Named::Participants,
-    )?;
-    add_names(alloc, &mut known.topics, document, Named::Topics)?;
-    add_names(alloc, &mut known.writers, document, Named::Writers)?;
-    add_names(alloc, &mut known.readers, document, Named::Readers)?;
-    add_names(
-        alloc,
-        &mut known.applications,
-        document,
-        Named::Applications,
-    )?;
-    add_names(alloc, &mut known.rules, document, Named::Rules)?;
-    add_topic_keys(alloc, &mut known.topic_keys, document)
+fn endpoints_in(
+    alloc: Global,
+    topics: &PlacedNames,
+    document: &Table,
+    side: Side,
+) -> Result<EndpointNames, NoMemory> {
+    let keys = endpoint_keys_in(alloc, topics, document, side)?;
+    let owners = owners_in(alloc, document, side)?;
+    Ok(EndpointNames { keys, owners })
 }
 
 /// The names that a deployment has.
 pub(crate) fn names_of_deployment(alloc: Global, document: &Table) -> Result<KnownNames, NoMemory> {
-    let mut known = KnownNames::new(alloc);
-    add_deployment(alloc, &mut known, document)?;
-    let (writers, readers) = (Side::Writers, Side::Readers);
-    add_endpoint_keys(
-        alloc,
-        &mut known.writer_keys,
-        &known.topics,
-        document,
+    let topics = names_in(alloc, document, Named::Topics)?;
+    let sections = all_names_in(alloc, document)?;
+    let topic_keys = topic_keys_in(alloc, document)?;
+    let writers = endpoints_in(alloc, &topics, document, Side::Writers)?;
+    let readers = endpoints_in(alloc, &topics, document, Side::Readers)?;
+    Ok(KnownNames {
+        sections,
+        topic_keys,
         writers,
-    )?;
-    add_endpoint_keys(
-        alloc,
-        &mut known.reader_keys,
-        &known.topics,
-        document,
         readers,
-    )?;
-    add_owners(alloc, &mut known.writer_owners, document, writers)?;
-    add_owners(alloc, &mut known.reader_owners, document, readers)?;
-    Ok(known)
+        none: PlacedNames::new(alloc),
+    })
 }
 
-fn add_listed(alloc: Global, all: &mut PlacedNames, names: &Names) -> Result<(), NoMemory> {
+fn listed_names(alloc: Global, names: &Names) -> Result<PlacedNames, NoMemory> {
+    let mut all = PlacedNames::new(alloc);
     for number in 0..names.len() {
         all.add(alloc, names.name(number), number)?;
     }
-    Ok(())
+    Ok(all)
 }
 
-fn add_listed_topics(
+fn names_for(
     alloc: Global,
-    all: &mut Vec<PlacedNames>,
     lists: &Deployment,
-) -> Result<(), NoMemory> {
+    document: &Table,
+    section: Named,
+) -> Result<PlacedNames, NoMemory> {
+    match section {
+        Named::Topics => listed_names(alloc, lists.topic_names()),
+        Named::Writers => listed_names(alloc, lists.writer_names()),
+        Named::Readers => listed_names(alloc, lists.reader_names()),
+        _ => names_in(alloc, document, section),
+    }
+}
+
+fn all_names_for(
+    alloc: Global,
+    lists: &Deployment,
+    document: &Table,
+) -> Result<Vec<PlacedNames>, NoMemory> {
+    let mut all = Vec::new(alloc);
+    for section in &SECTIONS {
+        let names = names_for(alloc, lists, document, *section)?;
+        all.push(names)?;
+    }
+    Ok(all)
+}
+
+fn topic_keys_for(alloc: Global, lists: &Deployment) -> Result<Vec<PlacedNames>, NoMemory> {
+    let mut all = Vec::new(alloc);
     for topic in 0..lists.topics() {
-        let mut keys = PlacedNames::new(alloc);
-        add_listed(alloc, &mut keys, lists.keys(TopicNo::new(topic)))?;
+        let keys = listed_names(alloc, lists.keys(TopicNo::new(topic)))?;
         all.push(keys)?;
     }
-    Ok(())
+    Ok(all)
 }
 
-fn add_listed_writers(
-    alloc: Global,
-    all: &mut Vec<EndpointKeys>,
-    lists: &Deployment,
-) -> Result<(), NoMemory> {
+fn writers_for(alloc: Global, lists: &Deployment) -> Result<EndpointNames, NoMemory> {
+    let mut keys = Vec::new(alloc);
     for writer in 0..lists.writers() {
-        let topic = Some(lists.writer(WriterNo::new(writer)).topic.number());
-        all.push(EndpointKeys {
-            topic,
+        let topic = lists.writer(WriterNo::new(writer)).topic.number();
+        keys.push(EndpointKeys {
+            topic: Some(topic),
             filter: None,
         })?;
     }
-    Ok(())
+    Ok(EndpointNames {
+        keys,
+        owners: PlacedNames::new(alloc),
+    })
 }
 
-fn filter_of(
+fn filter_for(
     alloc: Global,
     lists: &Deployment,
     topic: TopicNo,
@@ -370,20 +380,20 @@ fn filter_of(
     Ok(keys)
 }
 
-fn add_listed_readers(
-    alloc: Global,
-    all: &mut Vec<EndpointKeys>,
-    lists: &Deployment,
-) -> Result<(), NoMemory> {
+fn readers_for(alloc: Global, lists: &Deployment) -> Result<EndpointNames, NoMemory> {
+    let mut keys = Vec::new(alloc);
     for number in 0..lists.readers() {
         let reader = lists.reader(ReaderNo::new(number));
-        let filter = filter_of(alloc, lists, reader.topic, &reader.filter)?;
-        all.push(EndpointKeys {
+        let filter = filter_for(alloc, lists, reader.topic, &reader.filter)?;
+        keys.push(EndpointKeys {
             topic: Some(reader.topic.number()),
             filter: Some(filter),
         })?;
     }
-    Ok(())
+    Ok(EndpointNames {
+        keys,
+        owners: PlacedNames::new(alloc),
+    })
 }
 
 /// The names that a certificate may use: its own rows, and the endpoints of its deployment with their keys.
@@ -392,13 +402,15 @@ pub(crate) fn names_of_certificate(
     lists: &Deployment,
     document: &Table,
 ) -> Result<KnownNames, NoMemory> {
-    let mut known = KnownNames::new(alloc);
-    add_names(alloc, &mut known.rows, document, Named::Rows)?;
-    add_listed(alloc, &mut known.topics, lists.topic_names())?;
-    add_listed(alloc, &mut known.writers, lists.writer_names())?;
-    add_listed(alloc, &mut known.readers, lists.reader_names())?;
-    add_listed_topics(alloc, &mut known.topic_keys, lists)?;
-    add_listed_writers(alloc, &mut known.writer_keys, lists)?;
-    add_listed_readers(alloc, &mut known.reader_keys, lists)?;
-    Ok(known)
+    let sections = all_names_for(alloc, lists, document)?;
+    let topic_keys = topic_keys_for(alloc, lists)?;
+    let writers = writers_for(alloc, lists)?;
+    let readers = readers_for(alloc, lists)?;
+    Ok(KnownNames {
+        sections,
+        topic_keys,
+        writers,
+        readers,
+        none: PlacedNames::new(alloc),
+    })
 }

@@ -7,7 +7,7 @@ use strsim::levenshtein;
 /// How many of the names are tried.
 pub(crate) const TRIED: usize = 256;
 
-// How many characters may differ: a third of the longer text, and one at least.
+// How many characters may differ: a third of the longer text, and one at least. All of them never may.
 fn may_differ(text: &str, name: &str) -> usize {
     (text.len().max(name.len()) / 3).max(1)
 }
@@ -33,7 +33,7 @@ fn edits(
         None => return Ok(None),
     }
     let edits = levenshtein(alloc, text, name)?;
-    if edits <= may_differ(text, name) {
+    if edits <= may_differ(text, name) && edits < text.len().max(name.len()) {
         Ok(Some(edits))
     } else {
         Ok(None)

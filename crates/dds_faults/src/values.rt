@@ -92,12 +92,13 @@ fn check_new_name(
     }
 }
 
-/// The fault of a name that isn't one of the names that are there, where it isn't.
+/// The fault of a name that isn't one of the names that are there, where it isn't. `whose` ends the message.
 pub(crate) fn check_known(
     walk: &Walk,
     faults: &mut Faults,
     names: &PlacedNames,
     noun: &str,
+    whose: &str,
     at: &Place,
     name: &str,
 ) -> Result<(), NoMemory> {
@@ -106,7 +107,7 @@ pub(crate) fn check_known(
     }
     let alloc = walk.alloc;
     let help = help_with_names(walk, faults, name, names, noun)?;
-    let message = format!(in alloc; "there's no {noun} `{name}`")?;
+    let message = format!(in alloc; "there's no {noun} `{name}`{whose}")?;
     faults.add(alloc, FaultKind::UnknownName, at, message, help)
 }
 
@@ -120,7 +121,7 @@ fn check_name_in(
     match name_of(walk, faults, at, value)? {
         Some(name) => {
             let names = walk.known.names(section);
-            check_known(walk, faults, names, section.noun(), at, name)
+            check_known(walk, faults, names, section.noun(), "", at, name)
         }
         None => Ok(()),
     }
@@ -279,8 +280,9 @@ fn check_key(
     };
     match walk.known.keys_at(side, endpoint) {
         Some(keys) => {
-            let noun = format!(in walk.alloc; "key of {endpoint}")?;
-            check_known(walk, faults, keys, noun.as_str(), at, name)
+            let endpoint = shown(walk.alloc, endpoint)?;
+            let whose = format!(in walk.alloc; " at `{endpoint}`")?;
+            check_known(walk, faults, keys, "key", whose.as_str(), at, name)
         }
         None => Ok(()),
     }
