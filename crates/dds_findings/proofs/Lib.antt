@@ -1,1 +1,3 @@
 mod FaultLists
+mod Joined
+mod Plain

@@ -24,15 +24,27 @@ help_words help = codes " " ++ help
 abbrev pub detail_line : (margin detail : List ℕ) → List ℕ
 detail_line margin detail = margin ++ (codes " = " ++ (detail ++ codes "\n"))
 
--- what a finding is and where, the line with its place underlined, what would be right, the terms of its numbers, and an empty line
+-- what a finding is
+abbrev pub head_line : Finding → List ℕ
+head_line f = level_word (level_of f.about) ++ (codes "[" ++ (f.name.now ++ (codes "]: " ++ (string_bytes f.message ++ codes "\n"))))
+
+-- where it is
+abbrev pub place_lines : FileNames → Finding → List ℕ
+place_lines names f =
+    string_bytes f.spot.margin ++ (codes "--> " ++ (file_name names f.role ++ (codes ":" ++ (decimal f.spot.line ++ (codes ":" ++ (decimal f.spot.column
+    ++ (codes "\n" ++ (string_bytes f.spot.margin ++ codes " |\n"))))))))
+
+-- the line of the file with its place underlined, and what would be right
+abbrev pub source_lines : Finding → List ℕ
+source_lines f =
+    decimal f.spot.line ++ (codes " | " ++ (string_bytes f.spot.text ++ (codes "\n" ++ (string_bytes f.spot.margin ++ (codes " | " ++ (string_bytes f.spot.marker
+    ++ (help_words (string_bytes f.help) ++ codes "\n")))))))
+
+-- all that, the terms of its numbers, and an empty line
 abbrev pub block : FileNames → Finding → List ℕ
 block names f =
-    level_word (level_of f.about) ++ (codes "[" ++ (f.name.now ++ (codes "]: " ++ (string_bytes f.message ++ (codes "\n"
-    ++ (string_bytes f.spot.margin ++ (codes "--> " ++ (file_name names f.role ++ (codes ":" ++ (decimal f.spot.line ++ (codes ":" ++ (decimal f.spot.column ++ (codes "\n"
-    ++ (string_bytes f.spot.margin ++ (codes " |\n"
-    ++ (decimal f.spot.line ++ (codes " | " ++ (string_bytes f.spot.text ++ (codes "\n"
-    ++ (string_bytes f.spot.margin ++ (codes " | " ++ (string_bytes f.spot.marker ++ (help_words (string_bytes f.help) ++ (codes "\n"
-    ++ (flat_map (λ detail. detail_line (string_bytes f.spot.margin) (string_bytes detail)) f.details.items ++ codes "\n")))))))))))))))))))))))))
+    head_line f ++ (place_lines names f ++ (source_lines f
+    ++ (flat_map (λ detail. detail_line (string_bytes f.spot.margin) (string_bytes detail)) f.details.items ++ codes "\n")))
 
 -- how many findings are errors, and how many aren't
 abbrev pub errors_of : List Finding → ℕ

@@ -8,13 +8,22 @@ use Rattle.dds_findings.specs.Findings.{level_of, level_word}
 use Rattle.dds_findings.specs.declared.finding.Finding.{Finding}
 
 -- ── JSON
+-- where a finding is
+abbrev pub place_document : FileNames → Finding → Data
+place_document names f =
+    object (member (codes "column") (number (unsigned f.spot.column)) (member (codes "end_column") (number (unsigned f.spot.end))
+    (member (codes "file") (string (file_name names f.role)) (member (codes "line") (number (unsigned f.spot.line)) (member (codes "path") (string (string_bytes f.path)) no_members)))))
+
+-- what would be right, and the terms of its numbers
+abbrev pub explanation_document : Finding → Data
+explanation_document f =
+    object (member (codes "details") (array (items_of (map (λ detail. string (string_bytes detail)) f.details.items))) (member (codes "help") (string (string_bytes f.help)) no_members))
+
 -- a finding
 abbrev pub finding_document : FileNames → Finding → Data
 finding_document names f =
-    object (member (codes "column") (number (unsigned f.spot.column)) (member (codes "details") (array (items_of (map (λ detail. string (string_bytes detail)) f.details.items)))
-    (member (codes "end_column") (number (unsigned f.spot.end)) (member (codes "file") (string (file_name names f.role)) (member (codes "help") (string (string_bytes f.help))
-    (member (codes "level") (string (level_word (level_of f.about))) (member (codes "line") (number (unsigned f.spot.line)) (member (codes "message") (string (string_bytes f.message))
-    (member (codes "name") (string f.name.now) (member (codes "path") (string (string_bytes f.path)) no_members))))))))))
+    object (member (codes "explanation") (explanation_document f) (member (codes "level") (string (level_word (level_of f.about)))
+    (member (codes "message") (string (string_bytes f.message)) (member (codes "name") (string f.name.now) (member (codes "place") (place_document names f) no_members)))))
 
 -- all of them, and how many there are
 abbrev pub findings_document : FileNames → List Finding → (is_yes : Bool) → Data
@@ -23,29 +32,45 @@ findings_document names findings is_yes =
     (member (codes "findings") (array (items_of (map (finding_document names) findings))) (member (codes "notes") (number (unsigned (notes_of findings))) no_members))))
 
 -- ── SARIF 2.1.0: `result` is clause 3.27, `location` 3.28, `region` 3.30, `run` 3.14
--- where a finding is
+-- the columns and the line of a finding
+abbrev pub region_document : Finding → Data
+region_document f =
+    object (member (codes "endColumn") (number (unsigned f.spot.end)) (member (codes "startColumn") (number (unsigned f.spot.column))
+    (member (codes "startLine") (number (unsigned f.spot.line)) no_members)))
+
+-- its file
+abbrev pub artifact_document : FileNames → Finding → Data
+artifact_document names f = object (member (codes "uri") (string (file_name names f.role)) no_members)
+
+-- both
+abbrev pub physical_document : FileNames → Finding → Data
+physical_document names f =
+    object (member (codes "artifactLocation") (artifact_document names f) (member (codes "region") (region_document f) no_members))
+
 abbrev pub location_document : FileNames → Finding → Data
-location_document names f =
-    object (member (codes "physicalLocation") (object (member (codes "artifactLocation") (object (member (codes "uri") (string (file_name names f.role)) no_members))
-    (member (codes "region") (object (member (codes "endColumn") (number (unsigned f.spot.end)) (member (codes "startColumn") (number (unsigned f.spot.column))
-    (member (codes "startLine") (number (unsigned f.spot.line)) no_members)))) no_members))) no_members)
+location_document names f = object (member (codes "physicalLocation") (physical_document names f) no_members)
 
 -- what a finding says, and what would be right
 abbrev pub result_words : (message help : List ℕ) → List ℕ
 result_words message [] = message
 result_words message help = message ++ (codes ": " ++ help)
 
+-- what a finding says
+abbrev pub message_document : Finding → Data
+message_document f = object (member (codes "text") (string (result_words (string_bytes f.message) (string_bytes f.help))) no_members)
+
 -- a finding as a result
 abbrev pub result_document : FileNames → Finding → Data
 result_document names f =
     object (member (codes "level") (string (level_word (level_of f.about))) (member (codes "locations") (array (items_of (location_document names f ∷ [])))
-    (member (codes "message") (object (member (codes "text") (string (result_words (string_bytes f.message) (string_bytes f.help))) no_members))
-    (member (codes "ruleId") (string f.name.now) no_members))))
+    (member (codes "message") (message_document f) (member (codes "ruleId") (string f.name.now) no_members))))
 
 -- the tool that found them
+abbrev pub driver_document : Data
+driver_document = object (member (codes "name") (string (codes "ddscheck")) (member (codes "version") (string (codes "0.1.0")) no_members))
+
 abbrev pub tool_document : Data
-tool_document =
-    object (member (codes "driver") (object (member (codes "name") (string (codes "ddscheck")) (member (codes "version") (string (codes "0.1.0")) no_members))) no_members)
+tool_document = object (member (codes "driver") driver_document no_members)
 
 -- all of them
 abbrev pub run_document : FileNames → List Finding → Data

@@ -101,5 +101,8 @@ pub fn lint_answer(
     };
     let names = names_of(deployment, certificate);
     let is_yes = is_clean(deny, &findings);
-    answered(findings_text(alloc, &names, &findings, style, is_yes), is_yes)
+    answered(
+        findings_text(alloc, &names, &findings, style, is_yes),
+        is_yes,
+    )
 }

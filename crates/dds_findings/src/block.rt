@@ -1,7 +1,7 @@
 //! Findings as people read them: a block each, with the line of the file.
 ghost use Rattle.std.specs.Prelude.{◌≡◌, IfOk, flat_map, string_bytes};
-ghost use Rattle.dds_findings.specs.Blocks.{block, blocks, detail_line, errors_of, file_name, help_words, notes_of};
-ghost use Rattle.dds_findings.specs.Blocks.{plural, sum_line};
+ghost use Rattle.dds_findings.specs.Blocks.{block, blocks, detail_line, errors_of, file_name, head_line, help_words};
+ghost use Rattle.dds_findings.specs.Blocks.{notes_of, place_lines, plural, source_lines, sum_line};
 
 use crate::finding::{Finding, Level, Role};
 use dds_base::NoMemory;
@@ -64,25 +64,50 @@ fn details_text(alloc: Global, margin: &str, details: &[String]) -> Result<Strin
     Ok(text)
 }
 
-/// The block of a finding: what it is, where it is, the line with the place underlined, what would be right, the terms of
-/// its numbers, and an empty line.
-fn block(alloc: Global, names: &FileNames, finding: &Finding) -> Result<String, NoMemory>
-    ensures { IfOk result (λ text. string_bytes text ≡ block names.now finding.now) }
+/// What a finding is.
+fn head_text(alloc: Global, finding: &Finding) -> Result<String, NoMemory>
+    ensures { IfOk result (λ text. string_bytes text ≡ head_line finding.now) }
 {
     let level = finding.about.level().word();
     let name = finding.name;
     let message = finding.message.as_str();
+    format!(in alloc; "{level}[{name}]: {message}\n")
+}
+
+/// Where a finding is.
+fn place_text(alloc: Global, names: &FileNames, finding: &Finding) -> Result<String, NoMemory>
+    ensures { IfOk result (λ text. string_bytes text ≡ place_lines names.now finding.now) }
+{
     let margin = finding.spot.margin.as_str();
     let file = file_name(names, finding.role);
     let line = finding.spot.line;
     let column = finding.spot.column;
+    format!(in alloc; "{margin}--> {file}:{line}:{column}\n{margin} |\n")
+}
+
+/// The line of the file with the place underlined, and what would be right.
+fn source_text(alloc: Global, finding: &Finding) -> Result<String, NoMemory>
+    ensures { IfOk result (λ text. string_bytes text ≡ source_lines finding.now) }
+{
+    let margin = finding.spot.margin.as_str();
+    let line = finding.spot.line;
     let text = finding.spot.text.as_str();
     let marker = finding.spot.marker.as_str();
     let help = help_text(alloc, finding.help.as_str())?;
+    format!(in alloc; "{line} | {text}\n{margin} | {marker}{help}\n")
+}
+
+/// The block of a finding: what it is, where it is, the line with the place underlined and what would be right, the
+/// terms of its numbers, and an empty line.
+fn block(alloc: Global, names: &FileNames, finding: &Finding) -> Result<String, NoMemory>
+    ensures { IfOk result (λ text. string_bytes text ≡ block names.now finding.now) }
+{
+    let head = head_text(alloc, finding)?;
+    let place = place_text(alloc, names, finding)?;
+    let source = source_text(alloc, finding)?;
+    let margin = finding.spot.margin.as_str();
     let details = details_text(alloc, margin, &finding.details)?;
-    format!(in alloc;
-        "{level}[{name}]: {message}\n{margin}--> {file}:{line}:{column}\n{margin} |\n{line} | {text}\n{margin} | {marker}{help}\n{details}\n"
-    )
+    format!(in alloc; "{head}{place}{source}{details}\n")
 }
 
 /// How many findings are errors.

@@ -46,11 +46,17 @@ fn bounds_of_entry(
 /// The place of the first bound of a key of a reader, or how many bounds there are.
 pub(crate) fn bound_place(certificate: &Certificate, reader: ReaderNo, key: KeyNo) -> usize {
     let bounds = certificate.bounds.as_slice();
-    bounds.iter().position(|b| b.reader == reader && b.key == key).unwrap_or(bounds.len())
+    bounds
+        .iter()
+        .position(|b| b.reader == reader && b.key == key)
+        .unwrap_or(bounds.len())
 }
 
 /// The place of the first total of a reader, or how many totals there are.
 pub(crate) fn total_place(certificate: &Certificate, reader: ReaderNo) -> usize {
     let totals = certificate.totals.as_slice();
-    totals.iter().position(|t| t.reader == reader).unwrap_or(totals.len())
+    totals
+        .iter()
+        .position(|t| t.reader == reader)
+        .unwrap_or(totals.len())
 }

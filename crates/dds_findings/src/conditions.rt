@@ -24,18 +24,22 @@ pub(crate) struct Spotted {
 fn cure(number: Number) -> &'static str {
     match number {
         Number::IntendedNotMatched => "make the policies agree, or take the connection out",
-        Number::UnintendedMatch => "add it to `connections`, or keep the two apart by their partitions",
+        Number::UnintendedMatch =>
+            "add it to `connections`, or keep the two apart by their partitions",
         Number::WriterKeepsLast => "set `history = \"KEEP_ALL\"`, or `version = 3`",
         Number::Exclusive => "set `ownership = \"SHARED\"`",
         Number::SourceOrder => "set `destination_order = \"BY_RECEPTION_TIMESTAMP\"`",
         Number::OrderedOrCoherent => "leave `ordered` and `coherent` out",
         Number::WriterBestEffort => "set `reliability = \"RELIABLE\"`, or `version = 3`",
-        Number::ReaderInstances | Number::WriterInstances => "raise `max_instances`, or let fewer keys come",
-        Number::NoBound => "`ddscheck propose --thorough` looks for bounds, and says which limit has none",
+        Number::ReaderInstances | Number::WriterInstances =>
+            "raise `max_instances`, or let fewer keys come",
+        Number::NoBound =>
+            "`ddscheck propose --thorough` looks for bounds, and says which limit has none",
         Number::BoundOverInstanceLimit | Number::BoundOverSamples => {
             "`ddscheck limits` prints how much room each reader needs"
         }
-        Number::KeepLastFilter => "let the reader take these keys, or let it lose samples with `may_lose = true`",
+        Number::KeepLastFilter =>
+            "let the reader take these keys, or let it lose samples with `may_lose = true`",
         Number::WriterDepth => "`ddscheck limits` prints how deep the writer has to be",
         Number::TakeRaises | Number::RuleRaises | Number::WriteRaises | Number::BoundNotShown => {
             "`ddscheck propose --thorough` finds weights where there are some"
@@ -69,7 +73,9 @@ fn in_deployment(
     number: Number,
 ) -> Result<Spotted, NoMemory> {
     let path = format!(in alloc; "{section}[{place}]")?;
-    let spot = files.deployment.field_spot(alloc, path.as_str(), field(number))?;
+    let spot = files
+        .deployment
+        .field_spot(alloc, path.as_str(), field(number))?;
     Ok(Spotted {
         role: Role::Deployment,
         path,
@@ -142,7 +148,12 @@ fn reader_place(
 ) -> Result<Spotted, NoMemory> {
     match number {
         Number::BoundNotShown => {
-            in_certificate(alloc, files, "totals", total_place(judged.certificate, reader))
+            in_certificate(
+                alloc,
+                files,
+                "totals",
+                total_place(judged.certificate, reader),
+            )
         }
         _ => in_deployment(alloc, files, "readers", reader.number(), number),
     }

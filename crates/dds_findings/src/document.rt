@@ -3,7 +3,8 @@ ghost use Rattle.std.specs.Prelude.{◌≡◌, IfOk, map, string_bytes};
 ghost use Rattle.serde_json.specs.Data.{array, string};
 ghost use Rattle.serde_json.specs.View.{items_of, view};
 ghost use Rattle.dds_json.specs.Line.{line_of};
-ghost use Rattle.dds_findings.specs.Documents.{finding_document, findings_document};
+ghost use Rattle.dds_findings.specs.Documents.{explanation_document, finding_document, findings_document};
+ghost use Rattle.dds_findings.specs.Documents.{place_document};
 
 use crate::block::{FileNames, errors_of, file_name, notes_of};
 use crate::finding::Finding;
@@ -24,32 +25,45 @@ fn details_array(alloc: Global, details: &[String]) -> Result<Value, NoMemory>
     Ok(Value::Array(texts))
 }
 
+/// Where a finding is.
+fn place_document(alloc: Global, names: &FileNames, finding: &Finding) -> Result<Value, NoMemory>
+    ensures { IfOk result (λ v. view v ≡ place_document names.now finding.now) }
+{
+    let file = file_name(names, finding.role);
+    let path = finding.path.as_str();
+    let line = finding.spot.line;
+    let column = finding.spot.column;
+    let end = finding.spot.end;
+    json!(in alloc;
+        {"file": file, "path": path, "line": line, "column": column, "end_column": end}
+    )
+}
+
+/// What would be right, and the terms of the numbers.
+fn explanation_document(alloc: Global, finding: &Finding) -> Result<Value, NoMemory>
+    ensures { IfOk result (λ v. view v ≡ explanation_document finding.now) }
+{
+    let details = details_array(alloc, &finding.details)?;
+    let help = finding.help.as_str();
+    json!(in alloc; {"details": details, "help": help})
+}
+
 /// A finding.
 fn finding_document(alloc: Global, names: &FileNames, finding: &Finding) -> Result<Value, NoMemory>
     ensures { IfOk result (λ v. view v ≡ finding_document names.now finding.now) }
 {
-    let details = details_array(alloc, &finding.details)?;
+    let explanation = explanation_document(alloc, finding)?;
+    let place = place_document(alloc, names, finding)?;
     let level = finding.about.level().word();
     let name = finding.name;
-    let file = file_name(names, finding.role);
-    let path = finding.path.as_str();
     let message = finding.message.as_str();
-    let help = finding.help.as_str();
-    let line = finding.spot.line;
-    let column = finding.spot.column;
-    let end = finding.spot.end;
     json!(in alloc; {
-        "level": level, "name": name, "file": file, "path": path, "line": line, "column": column,
-        "end_column": end, "message": message, "help": help, "details": details
+        "level": level, "name": name, "message": message, "place": place, "explanation": explanation
     })
 }
 
 /// The findings, in their order.
-fn findings_array(
-    alloc: Global,
-    names: &FileNames,
-    findings: &[Finding],
-) -> Result<Value, NoMemory>
+fn findings_array(alloc: Global, names: &FileNames, findings: &[Finding]) -> Result<Value, NoMemory>
     ensures { IfOk result (λ v. view v ≡ array (items_of (map (finding_document names.now) findings.now))) }
 {
     let mut documents = Vec::new(alloc);
@@ -57,6 +71,24 @@ fn findings_array(
         documents.push(finding_document(alloc, names, finding)?)?;
     }
     Ok(Value::Array(documents))
+}
+
+/// The document of findings.
+fn findings_document(
+    alloc: Global,
+    names: &FileNames,
+    findings: &[Finding],
+    is_yes: bool,
+) -> Result<Value, NoMemory>
+    ensures { IfOk result (λ v. view v ≡ findings_document names.now findings.now is_yes) }
+{
+    let documents = findings_array(alloc, names, findings)?;
+    let answer = answer_word(is_yes);
+    let errors = errors_of(findings);
+    let notes = notes_of(findings);
+    json!(in alloc;
+        {"answer": answer, "errors": errors, "notes": notes, "findings": documents}
+    )
 }
 
 /// The line of the document of findings. Only want of memory is an error.
@@ -69,12 +101,6 @@ pub(crate) fn findings_line(
     ensures { IfOk result
         (λ text. string_bytes text ≡ line_of (findings_document names.now findings.now is_yes)) }
 {
-    let documents = findings_array(alloc, names, findings)?;
-    let answer = answer_word(is_yes);
-    let errors = errors_of(findings);
-    let notes = notes_of(findings);
-    let document = json!(in alloc;
-        {"answer": answer, "errors": errors, "notes": notes, "findings": documents}
-    )?;
+    let document = findings_document(alloc, names, findings, is_yes)?;
     line_of(alloc, &document)
 }

@@ -102,7 +102,6 @@ fn each_finding(
 }
 
 /// The findings of faults of a file, of which there is one at least. Only want of memory is an error.
-#[tactic(auto, using(crate::proofs::FaultLists::are_faults))]
 pub(crate) fn fault_findings(
     alloc: Global,
     file: &Located,

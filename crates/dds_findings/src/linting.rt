@@ -181,6 +181,7 @@ fn judged_findings(
 }
 
 /// The findings of the faults of a certificate.
+#[tactic(auto, using(crate::proofs::FaultLists::some_listed))]
 fn certificate_findings(
     alloc: Global,
     files: &Files,
@@ -196,7 +197,12 @@ fn certificate_findings(
         path: first.path.as_str(),
     };
     let faults = certificate_faults(alloc, plan.lists(), bytes, &known)?;
-    fault_findings(alloc, files.file(Role::Certificate), Role::Certificate, &faults)
+    fault_findings(
+        alloc,
+        files.file(Role::Certificate),
+        Role::Certificate,
+        &faults,
+    )
 }
 
 /// What is found of a plan and of a certificate that has a fault: its faults, and then what is found without it.
@@ -278,6 +284,7 @@ fn lists_findings(
 }
 
 /// The findings of the faults of a deployment.
+#[tactic(auto, using(crate::proofs::FaultLists::some_listed))]
 fn deployment_findings(
     alloc: Global,
     files: &Files,

@@ -25,7 +25,10 @@ fn cut(bytes: &[u8], from: usize, to: usize) -> &[u8] {
 /// The first place from here on at which a character begins, or the end.
 fn next_character(bytes: &[u8], at: usize) -> usize {
     let rest = cut(bytes, at, bytes.len());
-    let count = rest.iter().position(|byte| begins_character(*byte)).unwrap_or(rest.len());
+    let count = rest
+        .iter()
+        .position(|byte| begins_character(*byte))
+        .unwrap_or(rest.len());
     at.saturating_add(count)
 }
 
@@ -92,7 +95,10 @@ impl<'a> Located<'a> {
         };
         let near = at.saturating_add(SHOWN);
         let rest = cut(self.bytes, at, near);
-        let length = rest.iter().position(|byte| *byte == b'\n').unwrap_or(rest.len());
+        let length = rest
+            .iter()
+            .position(|byte| *byte == b'\n')
+            .unwrap_or(rest.len());
         let far = next_character(self.bytes, at.saturating_add(length));
         Line {
             number: before.saturating_add(1),
@@ -112,7 +118,8 @@ impl<'a> Located<'a> {
 
     /// How many characters begin from one place up to another.
     pub(crate) fn characters_between(&self, from: usize, to: usize) -> usize {
-        self.characters_before(to).saturating_sub(self.characters_before(from))
+        self.characters_before(to)
+            .saturating_sub(self.characters_before(from))
     }
 
     /// The bytes from one place up to another.
@@ -141,7 +148,12 @@ impl<'a> Located<'a> {
     }
 
     /// The spot of a field of an entry, or where it has no such field of its name.
-    pub(crate) fn field_spot(&self, alloc: Global, entry: &str, field: &str) -> Result<Spot, NoMemory> {
+    pub(crate) fn field_spot(
+        &self,
+        alloc: Global,
+        entry: &str,
+        field: &str,
+    ) -> Result<Spot, NoMemory> {
         let path = format!(in alloc; "{entry}.{field}")?;
         if self.has(path.as_str()) {
             return self.value_spot(alloc, path.as_str());

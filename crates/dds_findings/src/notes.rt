@@ -61,12 +61,14 @@ fn help_of(lists: &Deployment, note: Note) -> &'static str {
         Note::Watcher(reader) => watcher_cause(lists, reader),
         Note::Unlimited(_) => "give it a limit: `ddscheck limits` prints how much room it needs",
         Note::UnwrittenKey { .. } => "let a rule write it, or take it out of `keys`",
-        Note::IdleWriter(_) => "let a rule write there: after which takes, or `start = \"unlimited\"`",
+        Note::IdleWriter(_) =>
+            "let a rule write there: after which takes, or `start = \"unlimited\"`",
         Note::NoRules => "say in `rules` what the applications do",
         Note::NoStart => "give a rule a `start`: how often it writes before anything was taken",
         Note::StuckRule(_) => "let something that it takes be written, or give it a `start`",
         Note::UnusedRow(_) | Note::NeedlessBound(_) | Note::NeedlessTotal(_) => "take it out",
-        Note::HeldUp { .. } => "give the writer no limit of samples, or let a rule wait for the reader",
+        Note::HeldUp { .. } =>
+            "give the writer no limit of samples, or let a rule wait for the reader",
     }
 }
 
@@ -84,7 +86,9 @@ fn topic_key_message(
 fn rule_message(alloc: Global, lists: &Deployment, rule: RuleNo) -> Result<String, NoMemory> {
     let name = rule_text(alloc, lists, rule)?;
     if rule.number() < lists.rules() && lists.rule(rule).takes.is_empty() {
-        format!(in alloc; "{name} takes nothing and has no start, so it never lets anything be written")
+        format!(in alloc;
+            "{name} takes nothing and has no start, so it never lets anything be written"
+        )
     } else {
         format!(in alloc; "{name} can never fire: something that it takes is never written")
     }
@@ -150,7 +154,9 @@ fn message_of(alloc: Global, judged: &Judged, note: Note) -> Result<String, NoMe
         Note::HeldUp { writer, reader } => {
             let writer = writer_name(lists, writer);
             let reader = reader_name(lists, reader);
-            format!(in alloc; "{writer} keeps all within a limit, so it waits where {reader} is slow")
+            format!(in alloc;
+                "{writer} keeps all within a limit, so it waits where {reader} is slow"
+            )
         }
     }
 }

@@ -1,10 +1,11 @@
 //! Findings as SARIF 2.1.0 (OASIS), which code hosts show at their lines.
-ghost use Rattle.std.specs.Prelude.{◌≡◌, IfOk, map, string_bytes};
+ghost use Rattle.std.specs.Prelude.{◌≡◌, ◌∷◌, [], IfOk, map, string_bytes};
 ghost use Rattle.serde_json.specs.Data.{array};
 ghost use Rattle.serde_json.specs.View.{items_of, view};
 ghost use Rattle.dds_json.specs.Line.{line_of};
-ghost use Rattle.dds_findings.specs.Documents.{location_document, result_document, result_words, sarif_document};
-ghost use Rattle.dds_findings.specs.Documents.{tool_document};
+ghost use Rattle.dds_findings.specs.Documents.{artifact_document, driver_document, location_document};
+ghost use Rattle.dds_findings.specs.Documents.{message_document, physical_document, region_document, result_document};
+ghost use Rattle.dds_findings.specs.Documents.{result_words, run_document, sarif_document, tool_document};
 
 use crate::block::{FileNames, file_name};
 use crate::finding::Finding;
@@ -13,21 +14,38 @@ use dds_json::line_of;
 use serde_json::{Value, json};
 use std::alloc::Global;
 
-/// Where a finding is.
-fn location_document(
-    alloc: Global,
-    names: &FileNames,
-    finding: &Finding,
-) -> Result<Value, NoMemory>
-    ensures { IfOk result (λ v. view v ≡ location_document names.now finding.now) }
+/// The columns and the line of a finding.
+fn region_document(alloc: Global, finding: &Finding) -> Result<Value, NoMemory>
+    ensures { IfOk result (λ v. view v ≡ region_document finding.now) }
 {
-    let file = file_name(names, finding.role);
     let line = finding.spot.line;
     let column = finding.spot.column;
     let end = finding.spot.end;
-    let artifact = json!(in alloc; {"uri": file})?;
-    let region = json!(in alloc; {"startLine": line, "startColumn": column, "endColumn": end})?;
-    let place = json!(in alloc; {"artifactLocation": artifact, "region": region})?;
+    json!(in alloc; {"startLine": line, "startColumn": column, "endColumn": end})
+}
+
+/// The file of a finding.
+fn artifact_document(alloc: Global, names: &FileNames, finding: &Finding) -> Result<Value, NoMemory>
+    ensures { IfOk result (λ v. view v ≡ artifact_document names.now finding.now) }
+{
+    let file = file_name(names, finding.role);
+    json!(in alloc; {"uri": file})
+}
+
+/// The file of a finding, and the place in it.
+fn physical_document(alloc: Global, names: &FileNames, finding: &Finding) -> Result<Value, NoMemory>
+    ensures { IfOk result (λ v. view v ≡ physical_document names.now finding.now) }
+{
+    let artifact = artifact_document(alloc, names, finding)?;
+    let region = region_document(alloc, finding)?;
+    json!(in alloc; {"artifactLocation": artifact, "region": region})
+}
+
+/// Where a finding is.
+fn location_document(alloc: Global, names: &FileNames, finding: &Finding) -> Result<Value, NoMemory>
+    ensures { IfOk result (λ v. view v ≡ location_document names.now finding.now) }
+{
+    let place = physical_document(alloc, names, finding)?;
     json!(in alloc; {"physicalLocation": place})
 }
 
@@ -42,14 +60,28 @@ fn result_text(alloc: Global, message: &str, help: &str) -> Result<String, NoMem
     }
 }
 
+/// What a finding says.
+fn message_document(alloc: Global, finding: &Finding) -> Result<Value, NoMemory>
+    ensures { IfOk result (λ v. view v ≡ message_document finding.now) }
+{
+    let text = result_text(alloc, finding.message.as_str(), finding.help.as_str())?;
+    json!(in alloc; {"text": text})
+}
+
+/// Where a finding is, as a list of one place.
+fn locations_array(alloc: Global, names: &FileNames, finding: &Finding) -> Result<Value, NoMemory>
+    ensures { IfOk result (λ v. view v ≡ array (items_of (location_document names.now finding.now ∷ []))) }
+{
+    let location = location_document(alloc, names, finding)?;
+    json!(in alloc; [location])
+}
+
 /// A finding as a result.
 fn result_document(alloc: Global, names: &FileNames, finding: &Finding) -> Result<Value, NoMemory>
     ensures { IfOk result (λ v. view v ≡ result_document names.now finding.now) }
 {
-    let location = location_document(alloc, names, finding)?;
-    let locations = json!(in alloc; [location])?;
-    let text = result_text(alloc, finding.message.as_str(), finding.help.as_str())?;
-    let message = json!(in alloc; {"text": text})?;
+    let locations = locations_array(alloc, names, finding)?;
+    let message = message_document(alloc, finding)?;
     let name = finding.name;
     let level = finding.about.level().word();
     json!(in alloc;
@@ -68,12 +100,45 @@ fn results_array(alloc: Global, names: &FileNames, findings: &[Finding]) -> Resu
     Ok(Value::Array(documents))
 }
 
+/// The name and the version of the tool.
+fn driver_document(alloc: Global) -> Result<Value, NoMemory>
+    ensures { IfOk result (λ v. view v ≡ driver_document) }
+{
+    json!(in alloc; {"name": "ddscheck", "version": "0.1.0"})
+}
+
 /// The tool that found them.
 fn tool_document(alloc: Global) -> Result<Value, NoMemory>
     ensures { IfOk result (λ v. view v ≡ tool_document) }
 {
-    let driver = json!(in alloc; {"name": "ddscheck", "version": "0.1.0"})?;
+    let driver = driver_document(alloc)?;
     json!(in alloc; {"driver": driver})
+}
+
+/// The run that found them.
+fn run_document(alloc: Global, names: &FileNames, findings: &[Finding]) -> Result<Value, NoMemory>
+    ensures { IfOk result (λ v. view v ≡ run_document names.now findings.now) }
+{
+    let results = results_array(alloc, names, findings)?;
+    let tool = tool_document(alloc)?;
+    json!(in alloc; {"tool": tool, "columnKind": "unicodeCodePoints", "results": results})
+}
+
+/// That run, as a list of one.
+fn runs_array(alloc: Global, names: &FileNames, findings: &[Finding]) -> Result<Value, NoMemory>
+    ensures { IfOk result (λ v. view v ≡ array (items_of (run_document names.now findings.now ∷ []))) }
+{
+    let run = run_document(alloc, names, findings)?;
+    json!(in alloc; [run])
+}
+
+/// The document of findings.
+fn sarif_document(alloc: Global, names: &FileNames, findings: &[Finding]) -> Result<Value, NoMemory>
+    ensures { IfOk result (λ v. view v ≡ sarif_document names.now findings.now) }
+{
+    let runs = runs_array(alloc, names, findings)?;
+    let schema = "https://json.schemastore.org/sarif-2.1.0.json";
+    json!(in alloc; {"$schema": schema, "version": "2.1.0", "runs": runs})
 }
 
 /// The line of the SARIF document of findings. Only want of memory is an error.
@@ -84,11 +149,6 @@ pub(crate) fn sarif_line(
 ) -> Result<String, NoMemory>
     ensures { IfOk result (λ text. string_bytes text ≡ line_of (sarif_document names.now findings.now)) }
 {
-    let results = results_array(alloc, names, findings)?;
-    let tool = tool_document(alloc)?;
-    let run = json!(in alloc; {"tool": tool, "columnKind": "unicodeCodePoints", "results": results})?;
-    let runs = json!(in alloc; [run])?;
-    let schema = "https://json.schemastore.org/sarif-2.1.0.json";
-    let document = json!(in alloc; {"$schema": schema, "version": "2.1.0", "runs": runs})?;
+    let document = sarif_document(alloc, names, findings)?;
     line_of(alloc, &document)
 }

@@ -1,0 +1,24 @@
+-- Documents without fractions.
+use Rattle.std.proofs.Common.{◌≡◌, refl, false, List, Bool, String, map, string_bytes}
+use Rattle.std.specs.declared.alloc.Global.{Global}
+use Rattle.serde_json.specs.Data.{string}
+use Rattle.serde_json.specs.Written.{has_float}
+use Rattle.dds_json.proofs.Documents.{no_fractions}
+use Rattle.dds_findings.specs.Blocks.{FileNames}
+use Rattle.dds_findings.specs.Documents.{finding_document, findings_document, result_document, sarif_document}
+use Rattle.dds_findings.specs.declared.finding.Finding.{Finding}
+
+text_plain : (s : String Global) → has_float (string (string_bytes s)) ≡ false
+text_plain s = refl
+
+finding_plain : (names : FileNames) (f : Finding) → has_float (finding_document names f) ≡ false
+finding_plain names f = let none = no_fractions (λ (s : String Global). string (string_bytes s)) text_plain f.details.items in rw none refl
+
+pub findings_plain : (names : FileNames) (fs : List Finding) (is_yes : Bool) → has_float (findings_document names fs is_yes) ≡ false
+findings_plain names fs is_yes = let none = no_fractions (finding_document names) (finding_plain names) fs in rw none refl
+
+result_plain : (names : FileNames) (f : Finding) → has_float (result_document names f) ≡ false
+result_plain names f = refl
+
+pub sarif_plain : (names : FileNames) (fs : List Finding) → has_float (sarif_document names fs) ≡ false
+sarif_plain names fs = let none = no_fractions (result_document names) (result_plain names) fs in rw none refl
