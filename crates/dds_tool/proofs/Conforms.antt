@@ -1,9 +1,8 @@
 -- What is given of an answer to whether a trace keeps the rules.
-use Rattle.std.proofs.Common.{◌≡◌, ◌≤◌, ◌<◌, ◌⊎◌, ◌&&◌, ℕ, Bool, length, nat_le, false, true, List, map, Ok, Err, Result, String, refl, inl, inr, subst, sym, string_bytes}
+use Rattle.std.proofs.Common.{◌≡◌, ◌≤◌, ◌<◌, ◌⊎◌, ◌&&◌, ℕ, Bool, length, nat_le, false, true, List, Ok, Err, Result, String, refl, inl, inr, subst, sym, string_bytes}
 use Rattle.std.specs.Prelude.{IfErr, IfOk, IsOk, IsUtf8, OnOk}
 use Rattle.std.specs.Str.Lines.{lines}
 use Rattle.std.specs.declared.alloc.Global.{Global}
-use Rattle.dds_fields.specs.Reading.{Read}
 use Rattle.dds_deploy.specs.Document.{read}
 use Rattle.dds_lists.specs.Lists.{Lists}
 use Rattle.dds_match.specs.Plan.{network_of}

@@ -1,5 +1,5 @@
 -- What is given of an answer to which limits are needed.
-use Rattle.std.proofs.Common.{◌≡◌, Bool, true, false, ℕ, List, Option, Some, None, Result, Ok, Err, IfSome, IfOk, IfErr, inl, inr, option_map, refl, subst, sym, string_bytes}
+use Rattle.std.proofs.Common.{◌≡◌, Bool, true, false, ℕ, List, Option, Some, None, Result, Ok, Err, IfSome, IfOk, IfErr, inl, inr, option_map, refl, subst, sym}
 use Rattle.dds_lists.specs.Lists.{Lists}
 use Rattle.dds_match.specs.Plan.{network_of}
 use Rattle.dds_weights.specs.Fits.{fits}
@@ -21,7 +21,7 @@ use Rattle.dds_json.specs.declared.style.Style.{Style}
 use Rattle.serde_json.specs.Data.{Data}
 use Rattle.serde_json.specs.Written.{has_float}
 use Rattle.dds_tool.specs.LimitsDocument.{least_document, limited_document, limits_document, need_document, subject_document}
-use Rattle.dds_tool.specs.Limits.{IsSaid, MayTellClaim, MayTellNeeds, TellsClaim, TellsFound, is_claimed, claim_told, needs_told, none_told, text_told}
+use Rattle.dds_tool.specs.Limits.{IsSaid, MayTellClaim, MayTellNeeds, TellsFound, needs_told, none_told, text_told}
 use Rattle.dds_tool.specs.Needs.{are_bounded, needs_of, room_of}
 use Rattle.dds_tool.specs.declared.needs.Limit.{Limit}
 use Rattle.dds_tool.specs.declared.needs.Need.{Need}

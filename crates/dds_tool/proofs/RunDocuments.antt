@@ -1,5 +1,5 @@
 -- The document of a run.
-use Rattle.std.proofs.Common.{◌≡◌, ℕ, false, List, [], length, refl}
+use Rattle.std.proofs.Common.{◌≡◌, ℕ, false, List, length, refl}
 use Rattle.std.specs.List.{range_with_len}
 use Rattle.serde_json.specs.Written.{has_float}
 use Rattle.dds_book.specs.declared.entry.Entry.{Entry}

@@ -1,5 +1,5 @@
 -- What the words of a command line ask for, by clap's own account of a command and its words.
-use Rattle.std.specs.Prelude.{ℕ, Err, IfErr, IfOk, ◌≡◌, ◌≢◌, ◌⊎◌, ◌&&◌, ◌<◌, ◌^◌, Bool, List, [], ◌∷◌, Option, Some, None, Result, option_map, true, false, codes, pos, if◌then◌else◌}
+use Rattle.std.specs.Prelude.{ℕ, Err, IfErr, IfOk, ◌≡◌, ◌≢◌, ◌⊎◌, ◌&&◌, ◌<◌, ◌^◌, Bool, List, [], ◌∷◌, Option, Some, None, Result, option_map, true, false, codes, if◌then◌else◌}
 use Rattle.std.specs.Option.{option_map_or}
 use Rattle.std.specs.Str.{bytes_eq}
 use Rattle.std.specs.Io.KnownBytes.{Appends}

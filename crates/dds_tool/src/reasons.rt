@@ -1,5 +1,5 @@
 //! Why a deployment needs what it needs.
-ghost use Rattle.std.specs.Prelude.{◌≡◌, ◌∷◌, [], IfErr, IfOk, find, flat_map, map, option_map, string_bytes};
+ghost use Rattle.std.specs.Prelude.{◌≡◌, ◌++◌, IfOk, codes, find, flat_map, option_map, string_bytes};
 ghost use Rattle.dds_match.specs.Plan.{network_of};
 ghost use Rattle.dds_search.specs.Reasons.{IsReason, IsReasoned};
 ghost use Rattle.dds_tool.specs.Reasons.{AreExplained, IsExplained, because_line, because_of, because_of_reader};
@@ -76,15 +76,20 @@ fn firings_text(alloc: Global, lists: &Deployment, firings: &Firings) -> TextRes
     format!(in alloc; "{rule} {count}")
 }
 
+/// A rule, and how often it fires, after a comma.
+fn next_firings(alloc: Global, lists: &Deployment, firings: &Firings) -> TextResult
+    ensures { IfOk result (λ text. string_bytes text ≡ codes ", " ++ firings_words lists.now firings.now) }
+{
+    let text = firings_text(alloc, lists, firings)?;
+    format!(in alloc; ", {text}")
+}
+
 /// Rules and how often they fire, each after a comma.
 fn more_firings(alloc: Global, lists: &Deployment, rest: &[Firings]) -> TextResult
     ensures { IfOk result
         (λ text. string_bytes text ≡ flat_map (λ f. codes ", " ++ firings_words lists.now f) rest.now) }
 {
-    text_of_each(alloc, rest, |firings| {
-        let text = firings_text(alloc, lists, firings)?;
-        format!(in alloc; ", {text}")
-    })
+    text_of_each(alloc, rest, |x| { next_firings(alloc, lists, x) })
 }
 
 /// Rules and how often they fire, with commas between them.
@@ -111,15 +116,20 @@ fn writes_text(alloc: Global, lists: &Deployment, writes: &Writes) -> TextResult
     format!(in alloc; "{writer} {key} {count}")
 }
 
+/// A writer, a key, and how often it is written, after a comma.
+fn next_writes(alloc: Global, lists: &Deployment, writes: &Writes) -> TextResult
+    ensures { IfOk result (λ text. string_bytes text ≡ codes ", " ++ writes_words lists.now writes.now) }
+{
+    let text = writes_text(alloc, lists, writes)?;
+    format!(in alloc; ", {text}")
+}
+
 /// Writers, keys and how often these are written, each after a comma.
 fn more_writes(alloc: Global, lists: &Deployment, rest: &[Writes]) -> TextResult
     ensures { IfOk result
         (λ text. string_bytes text ≡ flat_map (λ w. codes ", " ++ writes_words lists.now w) rest.now) }
 {
-    text_of_each(alloc, rest, |writes| {
-        let text = writes_text(alloc, lists, writes)?;
-        format!(in alloc; ", {text}")
-    })
+    text_of_each(alloc, rest, |x| { next_writes(alloc, lists, x) })
 }
 
 /// Writers, keys and how often these are written, with commas between them.
@@ -209,7 +219,7 @@ fn reason_line(alloc: Global, plan: &Plan, size: &Size, reason: &Reason) -> Text
 /// A size with its line.
 fn explain(alloc: Global, plan: &Plan, found: Reasoned) -> Result<Explained, NoMemory>
     requires { IsReasoned (network_of plan.now) found }
-    ensures size { IfOk result (λ e. e.size ≡ found.entry.size) }
+    ensures size { IfOk result (λ e. e.size ≡ found.size) }
     ensures explained { IfOk result (IsExplained plan.now) }
 {
     let Reasoned { size, reason } = found;

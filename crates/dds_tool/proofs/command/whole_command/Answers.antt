@@ -1,6 +1,6 @@
 use Rattle.std.proofs.Common.{◌≡◌, ◌∙◌, sym, true≢false, Result, Ok, Err, IfOk, IsOk, OnOk, ap₂, codes}
 use Rattle.clap.specs.Words.{App, app_of, with_subcommand}
-use Rattle.dds_tool.specs.Command.{checking, conforming, drawing, limiting, linting, matching, one_file, refuting, replaying, running, searching, showing, top_app}
+use Rattle.dds_tool.specs.Command.{checking, conforming, drawing, limiting, linting, matching, one_file, refuting, replaying, running, searching, showing}
 use Rattle.dds_tool.proofs.command.whole_command.Goals as goal
 
 abbrev joined : App → App → App

@@ -1,4 +1,4 @@
-use Rattle.std.proofs.Common.{◌≡◌, ◌≤◌, ◌<◌, ◌∙◌, ℕ, List, ap, Err, inl, inr, length, subst, sym}
+use Rattle.std.proofs.Common.{◌≡◌, ◌≤◌, ◌<◌, ◌∙◌, ℕ, List, ap, Err, inl, inr, length, subst}
 use Rattle.dds_deploy.specs.Document.{read}
 use Rattle.dds_answers.specs.Answers.{GivesOneOf}
 use Rattle.dds_answers.proofs.FileEnds.{held, unread_gives_one}

@@ -3,4 +3,4 @@ use Rattle.dds_tool.proofs.reasons.explain_sizes.Given as goal
 
 -- the sizes of the targets so far
 abbrev pub invariant-loop-target : goal.invariant-loop-target
-invariant-loop-target l = AreFirst l.plan l.target-items l.target-index l.list.items
+invariant-loop-target g l = AreFirst l.plan l.target-items l.target-index l.list.items

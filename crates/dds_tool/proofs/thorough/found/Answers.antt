@@ -1,4 +1,4 @@
-use Rattle.std.proofs.Common.{◌≡◌, ◌≤◌, ◌∙◌, inl, length, refl, string_bytes, arith}
+use Rattle.std.proofs.Common.{◌≤◌, inl, length, refl, string_bytes, arith}
 use Rattle.dds_weights.specs.Views.{certificate_view}
 use Rattle.dds_answers.specs.Outcome.{unproposed}
 use Rattle.dds_tool.proofs.Founds.{found_ends, found_fault}

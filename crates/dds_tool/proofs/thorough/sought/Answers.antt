@@ -4,4 +4,4 @@ use Rattle.dds_answers.proofs.Proposals.{memory_ends}
 use Rattle.dds_tool.proofs.thorough.sought.Goals as goal
 
 pub returns-in-Err-clause-gives : goal.returns-in-Err-clause-gives
-returns-in-Err-clause-gives c = memory_ends IsFound (Ok c.args.plan.now)
+returns-in-Err-clause-gives g c = memory_ends IsFound (Ok c.args.plan.now)
