@@ -82,20 +82,20 @@ def fault_case(case):
     findings, given = findings_of(*files)
     if findings is None:
         return f"ended otherwise: {given}"
-    same = [one for one in findings if one["name"] == name and one["path"] == (path or "")]
+    same = [one for one in findings if one["name"] == name and one["place"]["path"] == (path or "")]
     if len(same) != 1:
-        return f"finds {[(one['name'], one['path']) for one in findings[:5]]}, not {name} {path}, once"
-    wanted = wrong_place(same[0], (DATA / same[0]["file"]).read_text(errors="replace"), name, path)
+        return f"finds {[(one['name'], one['place']['path']) for one in findings[:5]]}, not {name} {path}, once"
+    wanted = wrong_place(same[0], (DATA / same[0]["place"]["file"]).read_text(errors="replace"), name, path)
     return wanted
 
 
 def wrong_place(finding, text, name, path):
     """What is wrong with the place of a finding, if anything is."""
     line = line_of(text, path) if path and name in ("UnknownKey", "WrongKind", "OutOfRange", "BadName", "UnknownName", "Duplicate") else None
-    if line is not None and finding["line"] != line:
-        return f"{name} {path} is in line {line}, not {finding['line']}"
-    if not 1 <= finding["line"] <= text.count("\n") + 1:
-        return f"there is no line {finding['line']}"
+    if line is not None and finding["place"]["line"] != line:
+        return f"{name} {path} is in line {line}, not {finding['place']['line']}"
+    if not 1 <= finding["place"]["line"] <= text.count("\n") + 1:
+        return f"there is no line {finding['place']['line']}"
     return None
 
 
@@ -131,7 +131,7 @@ def drawn_faults(seed):
         known = ddscheck("match", "d.toml", cwd=room)
     if findings is None:
         return f"seed {seed}: {given}"
-    places = [(one["name"], one["path"]) for one in findings if one["level"] == "error"]
+    places = [(one["name"], one["place"]["path"]) for one in findings if one["level"] == "error"]
     if len(set(places)) != len(places):
         return f"seed {seed}: a fault stands twice: {places}"
     first = FAULT.fullmatch(known.err)

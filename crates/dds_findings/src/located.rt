@@ -18,7 +18,7 @@ fn begins_character(byte: u8) -> bool {
 
 /// The bytes from one place up to another, as far as they are there.
 fn cut(bytes: &[u8], from: usize, to: usize) -> &[u8] {
-    let Span { start, end } = Span::within(bytes.len(), from, to);
+    let Span { start, end } = Span::within(bytes.len(), from, to.min(bytes.len()));
     &bytes[start..end]
 }
 
