@@ -2,7 +2,7 @@
 """Looks for lines of more than 120 columns in the sources of the crates.
 
 Code, clauses and comments of `src` keep within 120 columns, counted in characters. Two kinds of lines may be longer: an attribute `tactic`, which `rt fmt` joins, and
-the data of a crate of tests, as a row of a table or a deployment in a string. The last line is 'N passed, M failed', by files; the status is 1 if one failed.
+the data of tests, as a row of a table or a deployment in a string. The last line is 'N passed, M failed', by files; the status is 1 if one failed.
 """
 import re
 import subprocess
@@ -17,9 +17,14 @@ ATTRIBUTE = re.compile(r"\s*#!?\[tactic\(")
 NO_DATA = re.compile(r"\s*(//|ensures\b|requires\b|ghost\b|fn\b|pub\b|use\b|let\b)")
 
 
+def is_data_of_tests(file):
+    """Whether a file is one of tests."""
+    return file.startswith("crates/test_") or file.endswith("/tests.rt")
+
+
 def may_be_longer(file, line):
     """Whether a line of this file is an attribute or data."""
-    return bool(ATTRIBUTE.match(line)) or file.startswith("crates/test_") and not NO_DATA.match(line)
+    return bool(ATTRIBUTE.match(line)) or is_data_of_tests(file) and not NO_DATA.match(line)
 
 
 def long_lines(file):

@@ -78,8 +78,8 @@ fn names_of<'a>(deployment: &Named<'a>, certificate: Option<Named<'a>>) -> FileN
     }
 }
 
-/// The answer of `lint` to the bytes of a deployment and of a certificate, if there is one: everything that `lint` finds,
-/// in this form. It is yes where there are none of the findings that are denied. Its only fault is `NoMemory`.
+/// The answer of `lint` to the bytes of a deployment and of a certificate, if there is one: everything that `lint`
+/// finds, in this form. It is yes where there are none of the findings that are denied. Its only fault is `NoMemory`.
 pub fn lint_answer(
     alloc: Global,
     deployment: &Named,

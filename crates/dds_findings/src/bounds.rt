@@ -1,5 +1,5 @@
-//! Which entry of a certificate's file each of its bounds comes from: an entry without a key stands for one bound of each
-//! key of its reader.
+//! Which entry of a certificate's file each of its bounds comes from: an entry without a key stands for one bound of
+//! each key of its reader.
 
 use crate::located::Located;
 use dds_base::{KeyNo, NoMemory, ReaderNo};

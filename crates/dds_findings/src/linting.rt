@@ -268,7 +268,8 @@ fn lists_findings(
     lists: Deployment,
     certificate: Option<&[u8]>,
 ) -> Result<Vec<Finding>, NoMemory>
-    ensures { IfOk result (λ found. IsFound (Ok lists) (option_map (λ c. c.now) certificate.entry) (abouts found.items)) }
+    ensures { IfOk result
+        (λ found. IsFound (Ok lists) (option_map (λ c. c.now) certificate.entry) (abouts found.items)) }
 {
     match plan(alloc, lists) {
         Ok(plan) => {
