@@ -11,13 +11,15 @@ _ddscheck() {
     "replay --format") COMPREPLY=($(compgen -W "text json" -- "$word")); return ;;
     "limits --format") COMPREPLY=($(compgen -W "text json" -- "$word")); return ;;
     "conform --format") COMPREPLY=($(compgen -W "text json" -- "$word")); return ;;
+    "lint --format") COMPREPLY=($(compgen -W "text json sarif" -- "$word")); return ;;
+    "lint --deny") COMPREPLY=($(compgen -W "errors notes" -- "$word")); return ;;
     esac
     if [ "$COMP_CWORD" = 1 ]; then
-        COMPREPLY=($(compgen -W "match check propose run migrate show draw refute replay limits conform help -h --help -V --version" -- "$word"))
+        COMPREPLY=($(compgen -W "match check propose run migrate show draw refute replay limits conform lint help -h --help -V --version" -- "$word"))
         return
     fi
     case ${COMP_WORDS[1]} in
-    help) COMPREPLY=($(compgen -W "match check propose run migrate show draw refute replay limits conform help" -- "$word")); return ;;
+    help) COMPREPLY=($(compgen -W "match check propose run migrate show draw refute replay limits conform lint help" -- "$word")); return ;;
     match) options="--format -h --help" ;;
     check) options="--explain --format -h --help" ;;
     propose) options="--thorough --seconds --format -h --help" ;;
@@ -29,6 +31,7 @@ _ddscheck() {
     replay) options="--format -h --help" ;;
     limits) options="--certificate --explain --seconds --format -h --help" ;;
     conform) options="--format -h --help" ;;
+    lint) options="--format --deny -h --help" ;;
     esac
     case $word in
     -*) COMPREPLY=($(compgen -W "$options" -- "$word")) ;;

@@ -17,6 +17,7 @@ _ddscheck() {
             'replay:Makes the events of a file on a deployment, and prints what comes of each'
             'limits:Tells how much room each reader and the history of each writer needs'
             'conform:Tells whether a recorded trace keeps the rules of a deployment'
+            'lint:Looks for everything that is wrong with the files, and where'
             'help:Print this message or the help of the given subcommand(s)'
         )
         _describe command commands ;;
@@ -90,6 +91,13 @@ _ddscheck() {
                 '--help[Print help]' \
                 '1:deployment:_files -g "*.toml"' \
                 '2:trace:_files -g "*.toml"' ;;
+            lint) _arguments \
+                '--format[text, json or sarif \[default: text\]]:FORMAT:(text json sarif)' \
+                '--deny[What makes the answer no: errors or notes \[default: errors\]]:WHAT:(errors notes)' \
+                '-h[Print help]' \
+                '--help[Print help]' \
+                '1:deployment:_files -g "*.toml"' \
+                '2:certificate:_files -g "*.toml"' ;;
         esac ;;
     esac
 }
