@@ -17,5 +17,5 @@ use Rattle.dds_tool.specs.Linting.{MayLint}
 pub lint_gives : (form : LintStyle) (denied : Deny) (names : FileNames) (d : List ℕ) (c : Option (List ℕ)) (r : Result Answer ToolFault)
     → IfOk r (IsLintAnswer form denied names d c) → IfErr r (λ e. e ≡ fault.NoMemory) → GivesOneOf (MayLint form denied names d c) r
 lint_gives form denied names d c (Err e) is memory = rw memory (inl tt)
-lint_gives form denied names d c (Ok answer) (fs, lint, text, yes) memory =
-    (said (findings_text form names fs (is_clean denied fs)) (is_clean denied fs), (fs, lint, refl), says answer (findings_text form names fs (is_clean denied fs)) (is_clean denied fs) text yes)
+lint_gives form denied names d c (Ok answer) (fs, lint, text, clean) memory =
+    (said (findings_text form names fs (is_clean denied fs)) (is_clean denied fs), (fs, lint, refl), says answer (findings_text form names fs (is_clean denied fs)) (is_clean denied fs) text clean)

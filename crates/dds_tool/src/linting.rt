@@ -52,8 +52,9 @@ fn lint_both(
     style: LintStyle,
     deny: Deny,
 ) -> Result<Answer, ToolFault>
-    ensures gives { GivesOneOf (MayLint style deny (names_of deployment.now.name.now (Some certificate.name.now))
-        deployment.now.bytes.now (Some certificate.bytes.now)) result }
+    ensures gives { GivesOneOf (MayLint style deny
+        (names_of deployment.now.name.now (Some certificate.entry.name.now)) deployment.now.bytes.now
+        (Some certificate.entry.bytes.now)) result }
     ensures fault { IfErr result IsAnswerFault }
 {
     lint_answer(alloc, deployment, Some(certificate), style, deny)
