@@ -209,6 +209,30 @@ def many_faults():
     return None if int(count.split()[0]) >= 10_000 else f"finds {count}"
 
 
+def hostile_line(text):
+    """What is wrong with what is shown of a line with control characters, characters of several bytes or bytes that are no text, if anything is."""
+    with tempfile.TemporaryDirectory() as room:
+        (Path(room) / "d.toml").write_bytes(text)
+        given = ddscheck("lint", "d.toml", cwd=room)
+    if given.status != 1 or re.search(r"[\x00-\x09\x0b-\x1f\x7f\x80-\x9f]|\\x", given.out):
+        return f"status {given.status}, and shows {given.out[:200]!r}"
+    blocks = re.findall(r"(?m)^ *\d+ \| (.*)\n *\| ( *)(\^+)", given.out)
+    return None if blocks and all(len(blanks) <= len(shown) or not shown for shown, blanks, _ in blocks) else f"underlines nothing: {given.out[:200]!r}"
+
+
+HOSTILE = [
+    b'version = 1\n[[topics]]\nname = "\\u001b[31m"\n"\\u001b[31m" = 1\n',
+    b'version = 1\n[[topics]]\nname = "t"\ntype = "T"\nkeys = ["k"] # \t tabs\tand \xc2\x9b escapes\nodd = 1\n',
+    b"version = 1\n\todd\t=\t1\t# \t\n",
+    "version = 1\n[[participants]]\nname = \"größe 日本 🚀\"\ndomain = 0\n".encode(),
+    b"version = 1\nname = \"\x1b[31mred\"\n",
+    b"version = 1\nname = \"\xff\xfe\"\n",
+    b"version = 1\r\nodd = 1\r\n",
+    b"odd = 1 # " + "ü".encode() * 100_000 + b"\n",
+    b"version = 1\ntopics = [" + b"{}, " * 4000 + b"]\n",
+]
+
+
 def reason(work):
     """What a test of these values says, or that it can't make sense of what was printed."""
     try:
@@ -224,6 +248,7 @@ def main():
     worked += [(drawn_faults, seed, f"drawn faults {seed}") for seed in range(300)]
     worked += [(judged, pair, f"lint {pair[0]} {pair[1]}") for pair in pairs()]
     worked += [(vacuous, file, f"vacuous {file.name}") for file in sorted((DATA / "vacuous").glob("[A-Z]*.toml"))]
+    worked += [(hostile_line, text, f"a line of {text[:60]}") for text in HOSTILE]
     worked += [(sarif_members, case.words[1:2], f"sarif {case.words[1]}") for case in list(fault_cases())[:40]]
     for (_, _, what), why in zip(worked, side_by_side(reason, worked)):
         tally.check(why is None, what, why or "")
