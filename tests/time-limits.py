@@ -63,6 +63,7 @@ LARGEST = {
     "migrate": ("migrate d", ("largest",)),
     "show": ("show d", ("largest", "keyed")),
     "draw": ("draw d c", ("largest", "keyed")),
+    "lint": ("lint d c", ("largest", "keyed")),
 }
 
 
