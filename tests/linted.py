@@ -4,8 +4,8 @@
   tests/linted.py
 
 - Of each case of tests/commands in which a file has a fault `lint` finds that very fault, by its name and path, in the line to which this script's own reading of the
-  text leads, with the text of that line.
-- Of 300 worked deployments with two to five changes that the schemas refuse, every fault has a place, none comes twice, and `check` ends with one of them.
+  text leads, where it's laid out with a header for each entry and a field a line; columns are compared by tests/commands/lint.txt alone.
+- Of 300 worked deployments with two to five changes that the schemas refuse, none of the faults comes twice, and the one with which `match` ends is among them.
 - Of each worked deployment and certificate `lint` finds an error exactly where `check` says other than yes, and the first error's name is the one that `check` gives.
 - Each vacuous system of tests/commands/data/vacuous, which gets a yes, has the note that its name asks for.
 - SARIF documents have the members of version 2.1.0 that code hosts read.
@@ -203,7 +203,7 @@ def many_faults():
     with tempfile.TemporaryDirectory() as room:
         (Path(room) / "d.toml").write_bytes(text)
         given = ddscheck("lint", "d.toml", cwd=room)
-    if given.status != 1 or given.seconds > SECONDS * 3:
+    if given.status != 1 or given.seconds > SECONDS:
         return f"status {given.status} after {given.seconds:.2f} s"
     count = given.out.rsplit("\n", 2)[-2]
     return None if int(count.split()[0]) >= 10_000 else f"finds {count}"
