@@ -14,7 +14,7 @@ pub enum Exit {
     /// A file did not open, a read failed, 1,001 reads of a file were interrupted, or the output was not written whole:
     /// status 3.
     Device,
-    /// A call reported want of memory: status 3.
+    /// A call reported `NoMemory`: status 3.
     NoMemory,
     /// A run of the deployment came to no end of its own: status 3.
     Run,

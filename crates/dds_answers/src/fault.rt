@@ -98,8 +98,8 @@ fn line_text(
     }
 }
 
-/// The line that is told to users of a fault, and after it where a file is no TOML, if the fault tells that. Only want
-/// of memory is an error.
+/// The line that is told to users of a fault, and after it where a file is no TOML, if the fault tells that. `NoMemory`
+/// is the only error.
 pub fn fault_text(alloc: Global, fault: &ToolFault) -> Result<String, NoMemory>
     ensures { IfOk result (λ text. string_bytes text ≡ fault_line fault.now) }
 {

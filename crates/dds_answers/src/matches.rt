@@ -48,7 +48,7 @@ fn push_writer(
     Ok(())
 }
 
-/// The lines that tell of each writer and reader, in file order, whether they match. Only want of memory is an error.
+/// The lines that say of each writer and reader, in file order, whether they match. `NoMemory` is the only error.
 pub fn match_text(alloc: Global, plan: &Plan) -> Result<String, NoMemory>
     ensures { IfOk result
         (λ text. string_bytes text

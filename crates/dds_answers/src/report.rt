@@ -150,7 +150,7 @@ pub fn detailed_check(
     }
 }
 
-/// The lines of the reason of a report. Only want of memory is an error.
+/// The lines of the reason of a report. `NoMemory` is the only error.
 pub fn because_text(alloc: Global, report: &Report) -> Result<String, NoMemory>
     ensures { IfOk result (λ text. string_bytes text ≡ because_lines report.now) }
 {
@@ -160,8 +160,7 @@ pub fn because_text(alloc: Global, report: &Report) -> Result<String, NoMemory>
     }
 }
 
-/// The lines of a report, with those of its reason after them where they are asked for. Only want of memory is an
-/// error.
+/// The lines of a report, with those of its reason after them where they are asked for. `NoMemory` is the only error.
 #[tactic(auto, unfolding(crate::specs::Report::output_of))]
 pub fn detailed_text(alloc: Global, report: &Report, detail: Detail) -> Result<String, NoMemory>
     ensures { IfOk result (λ text. string_bytes text ≡ output_of (told detail (outcome_of report.now))) }
@@ -176,7 +175,7 @@ pub fn detailed_text(alloc: Global, report: &Report, detail: Detail) -> Result<S
     }
 }
 
-/// The lines of a report. Only want of memory is an error.
+/// The lines of a report. `NoMemory` is the only error.
 #[tactic(auto, unfolding(crate::specs::Report::output_of))]
 pub fn report_text(alloc: Global, report: &Report) -> Result<String, NoMemory>
     ensures { IfOk result (λ text. string_bytes text ≡ report_text_of report.now) }

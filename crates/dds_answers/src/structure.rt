@@ -10,7 +10,7 @@ use dds_verdict::refusal_text;
 use dds_weights::Certificate;
 use std::alloc::Global;
 
-/// The line of a refusal, as `check` prints it, where there is no certificate. Only want of memory is an error.
+/// The line of a refusal, as `check` prints it, where there is no certificate. `NoMemory` is the only error.
 pub fn structure_text(alloc: Global, lists: &Deployment, no: No) -> Result<String, NoMemory>
     ensures { IfOk result (λ text. string_bytes text ≡ refusal_line lists.now nothing no) }
 {

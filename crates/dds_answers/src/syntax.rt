@@ -47,7 +47,7 @@ fn column_after(before: &[u8]) -> usize
     column
 }
 
-/// What the parser says of bytes that are no TOML; of others nothing. Only want of memory is an error.
+/// What the parser says of bytes that are no TOML; of others nothing. `NoMemory` is the only error.
 fn syntax_error(alloc: Global, bytes: &[u8]) -> Result<Option<SyntaxError>, NoMemory>
     ensures { IfOk result (IsSyntaxOf bytes.now) }
 {
@@ -69,8 +69,8 @@ fn syntax_error(alloc: Global, bytes: &[u8]) -> Result<Option<SyntaxError>, NoMe
     }))
 }
 
-/// What is told of the syntax of a file: nothing where no reason is asked for, or the file's fault is another one. Only
-/// want of memory is an error.
+/// What is told of the syntax of a file: nothing where no reason is asked for, or the file's fault is another one.
+/// `NoMemory` is the only error.
 pub(crate) fn syntax_told(
     alloc: Global,
     detail: Detail,

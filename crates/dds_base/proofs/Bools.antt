@@ -24,3 +24,7 @@ both_parts false c h = absurd cc
 pub is_not : (b : Bool) → not b ≡ true → b ≡ false
 is_not true h = absurd cc
 is_not false h = refl
+
+pub and_true : (b : Bool) → (b && true) ≡ b
+and_true true = refl
+and_true false = refl

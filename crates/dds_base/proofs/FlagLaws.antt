@@ -1,9 +1,10 @@
 -- The flags of a set of numbers.
-use Rattle.std.proofs.Common.{◌≡◌, ℕ, ◌+◌, ◌-◌, ◌<◌, ◌≤◌, ◌==◌, leb, Bool, true, false, ◌&&◌, ◌||◌, List, length, get_or, set, refl, sym, ap, ◌∙◌, arith, inl, inr, replicate, get_or-set_same, get_or-set_other}
+use Rattle.std.proofs.Common.{◌≡◌, ℕ, ◌+◌, ◌-◌, ◌<◌, ◌≤◌, ◌==◌, leb, Bool, true, false, ◌&&◌, ◌||◌, List, length, get_or, set, refl, sym, ap, ◌∙◌, arith, inl, inr, replicate, get_or-set_same, get_or-set_other, length-set}
 use Rattle.std.proofs.lemmas.List.{get_or-replicate, get_or_past, length-replicate}
 use Rattle.std.proofs.lemmas.Bool.{cases_eq, cases_lt, lt-leb, le-leb, eq-eqb, ne_eqb, or_right, and_right}
 use Rattle.dds_base.proofs.Bools.{or_false}
-use Rattle.dds_base.specs.Sets.{has_flag, last_number}
+use Rattle.dds_base.specs.Sets.{NumberSet, has_flag, set_of, last_number}
+use Rattle.dds_base.proofs.SetLaws.{flags_are}
 
 -- of flags that are all false none is set
 pub no_flag : (n k : ℕ) → get_or (replicate n false) k false ≡ false
@@ -38,3 +39,10 @@ flag_set base x n ms le lt = elim (cases_eq n x) [
   | inl e ↦ rw (e, flag_itself base x ms le lt) (sym (or_right _ _ (eq-eqb x x refl)))
   | inr ne ↦ rw (flag_other base x n ms le ne, ne_eqb x n (λ e. ne (sym e))) (sym (or_false _))
 ]
+
+abbrev pub set_with_flag : ℕ → ℕ → List Bool → NumberSet
+set_with_flag base x flags = record { base = base; flags = set flags (x - base) true }
+
+-- a set with one number more
+pub set_with : (base x : ℕ) (flags : List Bool) → length flags ≡ 256 → base ≤ x → x - base < 256 → set_with_flag base x flags ≡ set_of base (λ m. has_flag base flags m || (x == m))
+set_with base x flags long low high = ap (λ fs. record { base = base; flags = fs }) (flags_are base (λ m. has_flag base flags m || (x == m)) (set flags (x - base) true) (length-set flags (x - base) true ∙ long) (λ n from to. flag_set base x n flags low (omega (arith, long))))

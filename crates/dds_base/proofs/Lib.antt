@@ -3,6 +3,7 @@ pub mod Places
 pub mod SumLaws
 pub mod CountLaws
 pub mod FlagLaws
+pub mod WordLaws
 pub mod SetLaws
 pub mod NumberedLaws
 pub mod Ranges

@@ -1,8 +1,9 @@
 -- Laws of sets of numbers: what a set has, and when two are equal.
-use Rattle.std.proofs.Common.{◌≡◌, ℕ, ◌+◌, ◌-◌, ◌<◌, ◌≤◌, ◌⊎◌, leb, ltb, Bool, true, false, ◌&&◌, List, length, get_or, refl, sym, ap, ◌∙◌, arith, inl, inr}
+use Rattle.std.proofs.Common.{◌≡◌, ℕ, ◌+◌, ◌-◌, ◌<◌, ◌≤◌, ◌⊎◌, leb, ltb, Bool, false, ◌&&◌, List, length, get_or, refl, sym, ap, ◌∙◌, arith, inl, inr, not, set, get_or-set_same, get_or-set_other}
 use Rattle.std.proofs.lemmas.List.{ext_get_or, get_or_past}
 use Rattle.std.proofs.lemmas.List.FromFn.{get_or-map-range_with_len, length-map-range_with_len}
-use Rattle.std.proofs.lemmas.Bool.{cases_lt, lt-leb, le-leb, lt-ltb, le-ltb, and_right}
+use Rattle.std.proofs.lemmas.Bool.{cases_lt, cases_eq, lt-leb, le-leb, lt-ltb, le-ltb, and_right}
+use Rattle.dds_base.proofs.Bools.{and_true}
 use Rattle.dds_base.specs.Sets.{NumberSet, flags_of, set_of, has_flag, has}
 
 pub length-flags_of : (base : ℕ) (p : ℕ → Bool) → length (flags_of base p) ≡ 256
@@ -21,12 +22,13 @@ flags_are base p flags long answers = ext_get_or false flags (flags_of base p) (
     at : (k : ℕ) → has_flag base flags (base + k) ≡ get_or flags k false
     at k = let e : base + k - base ≡ k = omega arith in rw (le-leb base (base + k) (omega arith), e) refl
 
+-- of the 256 numbers the set has those that pass
+pub has_in : (base n : ℕ) (p : ℕ → Bool) → base ≤ n → n < base + 256 → has_flag base (flags_of base p) n ≡ p n
+has_in base n p low high = let e : base + (n - base) ≡ n = omega arith in rw (le-leb base n low, get-flags_of base (n - base) p (omega arith), e) refl
+
 -- sets of tests that agree on the 256 numbers are equal
 pub same_set_of : (base : ℕ) (p q : ℕ → Bool) → ((n : ℕ) → base ≤ n → n < base + 256 → p n ≡ q n) → set_of base p ≡ set_of base q
-same_set_of base p q same = ap (λ f. record { base = base; flags = f }) (flags_are base q (flags_of base p) (length-flags_of base p) (λ n low high. has_in n low high ∙ same n low high))
-  where
-    has_in : (n : ℕ) → base ≤ n → n < base + 256 → has_flag base (flags_of base p) n ≡ p n
-    has_in n low high = let e : base + (n - base) ≡ n = omega arith in rw (le-leb base n low, get-flags_of base (n - base) p (omega arith), e) refl
+same_set_of base p q same = ap (λ f. record { base = base; flags = f }) (flags_are base q (flags_of base p) (length-flags_of base p) (λ n low high. has_in base n p low high ∙ same n low high))
 
 -- what a set has: the numbers from its base to base + 255 that pass
 pub has-set_of : (base n : ℕ) (p : ℕ → Bool) → has (set_of base p) n ≡ (leb base n && (ltb n (base + 256) && p n))
@@ -51,10 +53,6 @@ has_within s n top long high = elim (cases_lt n top) [
   | inl below ↦ rw (lt-ltb n top below) (and_true (has s n))
   | inr past ↦ rw (le-ltb n top past) (and_right (has s n) false refl ∙ sym (has_past s n long (omega arith)))
 ]
-  where
-    and_true : (b : Bool) → (b && true) ≡ b
-    and_true true = refl
-    and_true false = refl
 
 -- of flags that are cleared one by one from a first one on, at the end those up to the end are
 pub cut_whole : (first k end j : ℕ) → end ≤ k → (k ≡ first) ⊎ (k ≤ end) → (leb first j && ltb j k) ≡ (leb first j && ltb j end)
@@ -62,4 +60,20 @@ cut_whole first k end j past (inr low) = let e : k ≡ end = omega arith in rw e
 cut_whole first k end j past (inl e) = elim (cases_lt j first) [
   | inl below ↦ rw (lt-leb first j below) refl
   | inr above ↦ rw (e, le-ltb j first above, le-ltb j end (omega arith)) refl
+]
+
+pub cut_none : (first j : ℕ) → (leb first j && ltb j first) ≡ false
+cut_none first j = elim (cases_lt j first) [
+  | inl below ↦ rw (lt-leb first j below) refl
+  | inr above ↦ rw (le-ltb j first above) (and_right (leb first j) false refl)
+]
+
+-- a flag is kept where it isn't the one that is cut, and where it wasn't cut before
+pub cut_more : (first k j : ℕ) (flags : List Bool) (b : Bool) → first ≤ k → k < length flags → get_or flags j false ≡ (b && not (leb first j && ltb j k)) → get_or (set flags k false) j false ≡ (b && not (leb first j && ltb j (k + 1)))
+cut_more first k j flags b low long was = elim (cases_eq j k) [
+  | inl e ↦ rw (e, get_or-set_same flags k false false long, le-leb first k low, lt-ltb k (k + 1) (omega arith)) (sym (and_right b false refl))
+  | inr ne ↦ get_or-set_other flags k j false false ne ∙ was ∙ ap (λ t. b && not (leb first j && t)) (elim (cases_lt j k) [
+    | inl below ↦ lt-ltb j k below ∙ sym (lt-ltb j (k + 1) (omega arith))
+    | inr above ↦ le-ltb j k above ∙ sym (le-ltb j (k + 1) (omega (arith, ne)))
+  ])
 ]

@@ -2,6 +2,8 @@ pub mod Names
 pub mod Sums
 pub mod Counts
 pub mod Sets
+pub mod Words
+pub mod WordLaws
 pub mod Messages
 pub mod Numbered
 pub mod Section

@@ -14,6 +14,7 @@ pub mod portion;
 pub mod sample;
 pub mod section;
 pub mod sets;
+mod words;
 
 pub use events::{Event, Fate, Refusal, Reply};
 pub use messages::{AckNack, DataMsg, GapMsg, Heartbeat, Packet};
@@ -26,6 +27,6 @@ pub use sample::{Arrival, Data, Rejection, Sample};
 pub use section::Section;
 pub use sets::SnSet;
 
-/// Memory ran out: an allocation was refused. Every public call that can meet want of memory answers it so; one that
-/// refuses for other reasons too has a case for it in an error of its own.
+/// Memory ran out: an allocation was refused. Every public call that can run out of memory returns it; one that refuses
+/// for other reasons too has a case for it in an error of its own.
 pub use std::alloc::AllocError as NoMemory;

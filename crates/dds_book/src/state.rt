@@ -220,7 +220,7 @@ fn note(holders: &mut Vec<Holder<Entry>>, number: usize, half: &mut Half<Entry>,
     holder.advance(half, journal);
 }
 
-// The half's front is that of the other half of its pair.
+// The half's front is the front of the other half of its pair.
 fn same(holders: &mut Vec<Holder<Entry>>, number: usize, half: Half<Entry>)
     requires number { number < length holders.old.items }
     requires holder { (h : HolderState Entry) → slice_get holders.old.items number ≡ Some h → half.table ≡ h.table }

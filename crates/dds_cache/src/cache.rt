@@ -96,8 +96,8 @@ impl Cache {
         self.contents.unread(key)
     }
 
-    /// What `admit` would answer on the sample, want of memory aside. It changes nothing: a caller that needs memory of
-    /// its own for a sample that is stored asks here first, so that a rejection needs none.
+    /// What `admit` would answer on the sample, memory aside. It changes nothing: a caller that needs memory of its own
+    /// for a sample that is stored asks here first, so that a rejection needs none.
     pub fn admission(&self, sample: &Sample) -> Admit
         ensures { result ≡ admission self.now.limits self.now.stored self.now.keys sample.now }
     {

@@ -62,7 +62,7 @@ fn refused_text(alloc: Global, lists: &Deployment, refused: &Refused) -> Result<
 }
 
 /// The text of an answer: `kept`, `unknown`, or the line of a write that has no permit, and for each rule that could
-/// give one a line for each thing that it lacks. Only want of memory is an error.
+/// give one a line for each thing that it lacks. `NoMemory` is the only error.
 pub fn answer_text(
     alloc: Global,
     lists: &Deployment,

@@ -41,7 +41,7 @@ fn conform_by_search(alloc: Global, plan: &Plan, entries: &[Entry]) -> Result<Co
 ///
 /// `Kept` means that there are such firings. `NoPermit` names a write up to which the entries before it keep the rules
 /// and, where no two rules give permits for the same writes, those up to it don't, whatever is fired. There `Unknown`
-/// comes only where a count would pass 2^64 - 1. Only want of memory is an error.
+/// comes only where a count would pass 2^64 - 1. `NoMemory` is the only error.
 pub fn conform(alloc: Global, plan: &Plan, entries: &[Entry]) -> Result<Conformance, NoMemory>
     requires { AreKnown (network_of plan.now) entries.now }
     ensures { IfOk result (IsAnswer (network_of plan.now) entries.now) }

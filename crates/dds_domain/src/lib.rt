@@ -4,7 +4,7 @@
 //! A simulator runs any plan. What is done to it is a run of the plan, and it stands for the world that this run leads
 //! to; a reply may tell that a reader rejects or overwrites a sample.
 //!
-//! A domain is that of a checked plan. It stands for the last world of some run of its plan, and for the notes that the
+//! A domain belongs to a checked plan. It stands for the last world of some run of its plan, and for the notes that the
 //! run leaves. The layer above sees that each step that is made is a step of the world, and that the domain stands for
 //! the world and the notes after it; so whatever holds of every run of an accepted certificate holds of what a domain
 //! does. `Domain::due` names what a participant is to do next, by that world and those notes.

@@ -36,8 +36,7 @@ fn paired_text(alloc: Global, what: &str, first: &str, second: &str) -> Result<S
     format!(in alloc; "{what} {first} {second}")
 }
 
-/// What is done, in words, with the names of the file. The data of a write is not shown. Only want of memory is an
-/// error.
+/// What is done, in words, with the names of the file. The data of a write is not shown. `NoMemory` is the only error.
 pub fn event_text(alloc: Global, lists: &Deployment, event: &Event) -> Result<String, NoMemory>
     ensures { IfOk result (λ text. string_bytes text ≡ event_text lists.now event.now) }
 {

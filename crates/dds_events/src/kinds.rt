@@ -1,5 +1,4 @@
-//! The event of each kind that a text says. A function answers `None` only where the text is that of no event of its
-//! kind.
+//! The event of each kind that a text says. A function answers `None` only where the text is no event of its kind.
 ghost use Rattle.std.specs.Prelude.{◌≡◌, ◌≢◌, ◌<◌, ◌↔◌, ℕ, Bool, true, List, length, IfNone, IfSome};
 ghost use Rattle.dds_weights.specs.Naming.{reader_key, reader_keys, writer_key, writer_keys};
 ghost use Rattle.dds_lists.specs.Lists.{Lists};

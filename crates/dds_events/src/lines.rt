@@ -8,7 +8,7 @@ use dds_base::{Event, NoMemory, Reply};
 use dds_lists::Deployment;
 use std::alloc::Global;
 
-/// The line of an event with its reply: `EVENT -> REPLY` and a line feed. Only want of memory is an error.
+/// The line of an event with its reply: `EVENT -> REPLY` and a line feed. `NoMemory` is the only error.
 pub fn line_text(
     alloc: Global,
     lists: &Deployment,
@@ -22,8 +22,8 @@ pub fn line_text(
     format!(in alloc; "{event} -> {reply}\n")
 }
 
-/// The lines of events with their replies, in their order. Where one list is longer, the rest of it is left out. Only
-/// want of memory is an error.
+/// The lines of events with their replies, in their order. Where one list is longer, the rest of it is left out.
+/// `NoMemory` is the only error.
 pub fn lines_text(
     alloc: Global,
     lists: &Deployment,

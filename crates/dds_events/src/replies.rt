@@ -68,8 +68,8 @@ fn arrival_text(alloc: Global, lists: &Deployment, arrival: &Arrival) -> Result<
     }
 }
 
-/// What an event did, in words: of a sample its writer and its number there, without its data. Only want of memory is
-/// an error.
+/// What an event did, in words: of a sample its writer and its number there, without its data. `NoMemory` is the only
+/// error.
 pub fn reply_text(alloc: Global, lists: &Deployment, reply: &Reply) -> Result<String, NoMemory>
     ensures { IfOk result (λ text. string_bytes text ≡ reply_text lists.now reply.now) }
 {

@@ -212,7 +212,7 @@ fn reason_of(
 /// The lines of the reason of a refusal. The first begins with `because` and has the numbers that the refusal compares,
 /// as the checker counts and weighs them, or the policy or the pair that it refuses (OMG DDS 1.4, clause 2.2.3); each
 /// further line is indented by two blanks and has a key or a term of one of these numbers. There is no line where the
-/// subject isn't one of the number, or names a row or a rule that isn't there. Only want of memory is an error.
+/// subject isn't one of the number, or names a row or a rule that isn't there. `NoMemory` is the only error.
 #[tactic(auto, unfolding(crate::specs::Explanation::reason))]
 pub fn reason(alloc: Global, plan: &Plan, certificate: &Certificate, no: No) -> TextResult
     ensures { IfOk result (λ text. string_bytes text ≡ reason plan.now (certificate_view certificate.now) no) }
@@ -223,7 +223,7 @@ pub fn reason(alloc: Global, plan: &Plan, certificate: &Certificate, no: No) -> 
 /// How tight an accepted certificate is: a line for each bound and then for each total, in the order of the
 /// certificate. It has the number of samples, the limit of the reader that it keeps or `no limit` (OMG DDS 1.4, clauses
 /// 2.2.3.18 and 2.2.3.19), what the permits at the opening weigh by its row and, of a bound, what a sample weighs and
-/// the least bound that the row shows. Only want of memory is an error.
+/// the least bound that the row shows. `NoMemory` is the only error.
 #[tactic(auto, unfolding(crate::specs::Explanation::margins))]
 pub fn margins(alloc: Global, plan: &Plan, certificate: &Certificate) -> TextResult
     ensures { IfOk result (λ text. string_bytes text ≡ margins plan.now (certificate_view certificate.now)) }

@@ -140,7 +140,7 @@ pub fn require<'a>(
 }
 
 /// The name at a key that isn't one of `names` yet: MissingKey where the key is absent, else as for a new name. `path`
-/// is that of the table.
+/// is the table's.
 #[tactic(auto, unfolding(crate::specs::Reading::field))]
 pub fn new_name_field<'a>(
     alloc: Global,

@@ -148,7 +148,7 @@ fn sum_text(alloc: Global, findings: &[Finding]) -> Result<String, NoMemory>
     format!(in alloc; "{errors} error{of_errors}, {notes} note{of_notes}\n")
 }
 
-/// The blocks of findings, in their order, and how many there are. Only want of memory is an error.
+/// The blocks of findings, in their order, and how many there are. `NoMemory` is the only error.
 pub(crate) fn blocks_text(
     alloc: Global,
     names: &FileNames,

@@ -193,7 +193,7 @@ fn place_of(
     }
 }
 
-/// The finding of a condition that fails. Only want of memory is an error.
+/// The finding of a condition that fails. `NoMemory` is the only error.
 pub(crate) fn condition(
     alloc: Global,
     files: &Files,

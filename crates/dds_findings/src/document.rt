@@ -91,7 +91,7 @@ fn findings_document(
     )
 }
 
-/// The line of the document of findings. Only want of memory is an error.
+/// The line of the document of findings. `NoMemory` is the only error.
 pub(crate) fn findings_line(
     alloc: Global,
     names: &FileNames,

@@ -101,7 +101,7 @@ fn each_finding(
     Ok(found)
 }
 
-/// The findings of faults of a file, of which there is one at least. Only want of memory is an error.
+/// The findings of faults of a file, of which there is one at least. `NoMemory` is the only error.
 pub(crate) fn fault_findings(
     alloc: Global,
     file: &Located,

@@ -330,7 +330,7 @@ fn file_findings(
 /// Of a deployment that has a fault, its faults: the first that `read_deployment` gives is among them. Of another one
 /// the faults of the certificate, the same way, then each condition of the checker that fails and at last the notes;
 /// without a certificate, or where it has a fault, the conditions that ask for none. So an error is found of two files
-/// exactly where the checker doesn't say yes to them. Only want of memory is an error.
+/// exactly where the checker doesn't say yes to them. `NoMemory` is the only error.
 pub fn lint(
     alloc: Global,
     deployment: &[u8],

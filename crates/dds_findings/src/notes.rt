@@ -198,7 +198,7 @@ fn place_of(
     Ok(Spotted { role, path, spot })
 }
 
-/// The finding of a note. Only want of memory is an error.
+/// The finding of a note. `NoMemory` is the only error.
 pub(crate) fn note(
     alloc: Global,
     files: &Files,

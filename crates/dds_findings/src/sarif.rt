@@ -141,7 +141,7 @@ fn sarif_document(alloc: Global, names: &FileNames, findings: &[Finding]) -> Res
     json!(in alloc; {"$schema": schema, "version": "2.1.0", "runs": runs})
 }
 
-/// The line of the SARIF document of findings. Only want of memory is an error.
+/// The line of the SARIF document of findings. `NoMemory` is the only error.
 pub(crate) fn sarif_line(
     alloc: Global,
     names: &FileNames,

@@ -1,5 +1,5 @@
-//! The guard of `dds_guard` for programs in C and C++, as `include/ddscheck.h` declares it. Each call is that of the
-//! guard behind the handle; beside what the guard answers it tells of a handle that isn't open, or is open already.
+//! The guard of `dds_guard` for programs in C and C++, as `include/ddscheck.h` declares it. Each call is the guard's
+//! behind the handle; beside what the guard answers it reports a handle that isn't open, or is open already.
 #![tactic(auto)]
 
 pub mod calls;

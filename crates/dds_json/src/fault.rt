@@ -119,7 +119,7 @@ fn fault_document(alloc: Global, fault: &ToolFault) -> Result<Value, NoMemory>
     }
 }
 
-/// The line of a fault's document. Only want of memory is an error.
+/// The line of a fault's document. `NoMemory` is the only error.
 pub fn fault_line(alloc: Global, fault: &ToolFault) -> Result<String, NoMemory>
     ensures { IfOk result (λ text. string_bytes text ≡ line_of (fault_document fault.now)) }
 {

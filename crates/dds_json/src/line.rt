@@ -8,7 +8,7 @@ use dds_base::NoMemory;
 use serde_json::Value;
 use std::alloc::Global;
 
-/// The text of a document without fractions, without blanks, on a line of its own. Only want of memory is an error.
+/// The text of a document without fractions, without blanks, on a line of its own. `NoMemory` is the only error.
 #[tactic(auto, unfolding(crate::specs::Line::line_of))]
 pub fn line_of(alloc: Global, document: &Value) -> Result<String, NoMemory>
     requires { has_float (view document.now) ≡ false }

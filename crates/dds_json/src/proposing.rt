@@ -62,8 +62,8 @@ fn told_in_json(alloc: Global, answer: Answer) -> Result<Answer, ToolFault>
     }
 }
 
-/// What `propose` answers, told as a document. What an answer has besides stays, as does a fault. Only want of memory
-/// is an error of its own.
+/// What `propose` answers, told as a document. What an answer has besides stays, as does a fault. Its own only
+/// error is `NoMemory`.
 pub fn proposed_in_json(
     alloc: Global,
     answer: Result<Answer, ToolFault>,

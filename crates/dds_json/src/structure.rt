@@ -12,7 +12,7 @@ use dds_weights::Certificate;
 use serde_json::Value;
 use std::alloc::Global;
 
-/// The document of a refusal where there is no certificate. Only want of memory is an error.
+/// The document of a refusal where there is no certificate. `NoMemory` is the only error.
 pub fn structure_document(alloc: Global, lists: &Deployment, no: No) -> Result<Value, NoMemory>
     ensures { IfOk result (λ v. view v ≡ refusal_document lists.now nothing no None) }
 {

@@ -45,7 +45,7 @@ fn push_all(nos: &mut Vec<No>, plan: &Plan, certificate: &Certificate) -> Result
 /// Every condition that fails for a plan and a certificate that fits it, in the order in which the checker asks them:
 /// by number, then by row, endpoint and key, each in file order. The first is the one with which the checker refuses
 /// the certificate, and there is none where it accepts it. Of an endpoint that the running profile doesn't have the
-/// least number is told. Only want of memory is an error.
+/// least number is told. `NoMemory` is the only error.
 #[tactic(auto, using(crate::proofs::FirstOfAll::first_of_all))]
 pub fn all_nos(alloc: Global, plan: &Plan, certificate: &Certificate) -> Result<Vec<No>, NoMemory>
     requires { fits (network_of plan.now) (certificate_view certificate.now) ≡ true }
@@ -71,7 +71,7 @@ fn push_bare(nos: &mut Vec<No>, plan: &Plan) -> Result<(), NoMemory>
 }
 
 /// Every condition that fails for a plan and that asks no certificate: numbers 10 to 17, 20, 24 and 25, in this order
-/// and then in file order. No certificate is accepted for the plan where there is one. Only want of memory is an error.
+/// and then in file order. No certificate is accepted for the plan where there is one. `NoMemory` is the only error.
 pub fn bare_nos(alloc: Global, plan: &Plan) -> Result<Vec<No>, NoMemory>
     ensures { IfOk result (λ nos. nos.items ≡ bare_nos plan.now) }
 {

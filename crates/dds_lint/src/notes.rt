@@ -384,7 +384,7 @@ fn push_all(
 /// What a yes doesn't say of a plan and a certificate, which may be empty: readers that may miss samples or grow
 /// without end, keys and writers that no rule writes, rules that never fire, what of the certificate nothing needs, and
 /// readers for which a writer waits. Which rules can fire goes by counts without amounts: what can come once is taken
-/// to come as often as a rule needs it. Only want of memory is an error.
+/// to come as often as a rule needs it. `NoMemory` is the only error.
 pub fn all_notes(
     alloc: Global,
     plan: &Plan,

@@ -93,7 +93,7 @@ impl Places {
 }
 
 /// Goes through a TOML text once, and keeps what stands where. Of a path that stands twice the first counts, and one of
-/// more than 1024 bytes isn't kept. In a text that is no TOML a place may be any. Only want of memory is an error.
+/// more than 1024 bytes isn't kept. In a text that is no TOML a place may be any. `NoMemory` is the only error.
 pub fn read_places(alloc: Global, bytes: &[u8]) -> Result<Places, NoMemory>
     ensures { IfOk result (λ places. places ≡ length bytes.now) }
 {

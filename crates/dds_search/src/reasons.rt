@@ -126,7 +126,7 @@ impl<'c, C: Clock> Measurer<'c, C> {
     }
 
     /// The size of a target and its reason. Asked for each of `every_target` in its order, it finds the sizes of
-    /// `find_sizes`. After an `Err`, which is want of memory, it may be asked on.
+    /// `find_sizes`. After an `Err`, which is `NoMemory`, it may be asked on.
     pub fn measure(
         &mut self,
         alloc: Global,

@@ -48,7 +48,7 @@ fn reader_targets(alloc: Global, plan: &Plan, reader: ReaderNo) -> Result<Vec<Ta
 }
 
 /// The keys that can reach strict readers, and behind its keys each such reader, in file order: all that a certificate
-/// can bound. Only want of memory is an error.
+/// can bound. `NoMemory` is the only error.
 pub fn every_target(alloc: Global, plan: &Plan) -> Result<Vec<Target>, NoMemory>
     ensures { IfOk result (λ list. list.items ≡ every_target (network_of plan.now)) }
 {

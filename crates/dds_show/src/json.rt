@@ -207,7 +207,7 @@ fn behaviour_sections(alloc: Global, lists: &Deployment) -> TextResult
 /// A deployment in JSON: `participants`, `topics`, `writers`, `readers`, `applications`, `rules` and `connections`,
 /// each a list with its entries in file order, connections by writer and then by reader. An entry has every field of
 /// the file's format, with the default where the file has none; a rule that stands for one key of an entry with `each`
-/// has that `key` besides. Only want of memory is an error.
+/// has that `key` besides. `NoMemory` is the only error.
 pub fn deployment_json(alloc: Global, lists: &Deployment) -> TextResult
     ensures { IfOk result (λ text. string_bytes text ≡ deployment_json lists.now) }
 {

@@ -34,7 +34,7 @@ fn policies_text(alloc: Global, set: PolicySet) -> TextResult
 }
 
 /// Why a writer and a reader don't match, in words: `domain`, `topic`, `partition`, or `policies` and the names of the
-/// incompatible ones, with commas between them (OMG DDS 1.4, clause 2.2.3). Only want of memory is an error.
+/// incompatible ones, with commas between them (OMG DDS 1.4, clause 2.2.3). `NoMemory` is the only error.
 pub fn reason_text(alloc: Global, reason: WhyNot) -> TextResult
     ensures { IfOk result (λ text. string_bytes text ≡ reason_words reason) }
 {

@@ -12,7 +12,7 @@ use std::alloc::Global;
 /// A text, unless memory runs out.
 pub type TextResult = Result<String, NoMemory>;
 
-/// A number, or this text where there is none. Only want of memory is an error.
+/// A number, or this text where there is none. `NoMemory` is the only error.
 pub fn number_or(alloc: Global, number: Option<u32>, none: &str) -> TextResult
     ensures { IfOk result (λ text. string_bytes text ≡ number_or number none.now) }
 {
@@ -29,7 +29,7 @@ pub fn start_of<'a>(place: usize, first: &'a str, next: &'a str) -> &'a str
     if place == 0 { first } else { next }
 }
 
-/// The texts of the numbers below `n`, one after another. Only want of memory is an error, and what `piece` gives.
+/// The texts of the numbers below `n`, one after another. The only errors are `NoMemory` and what `piece` returns.
 pub fn text_below<F: Fn(usize) -> TextResult>(alloc: Global, n: usize, piece: F) -> TextResult
     requires { (i : ℕ) → i < n → F.pre piece i }
     ensures { (text_of : ℕ → List ℕ)
@@ -44,7 +44,7 @@ pub fn text_below<F: Fn(usize) -> TextResult>(alloc: Global, n: usize, piece: F)
     Ok(text)
 }
 
-/// The texts of these elements, one after another. Only want of memory is an error, and what `piece` gives.
+/// The texts of these elements, one after another. The only errors are `NoMemory` and what `piece` returns.
 pub fn text_of_each<T, F: Fn(&T) -> TextResult>(alloc: Global, xs: &[T], piece: F) -> TextResult
     requires { F.IsAlwaysCallable piece }
     ensures { (text_of : T → List ℕ)
@@ -59,8 +59,8 @@ pub fn text_of_each<T, F: Fn(&T) -> TextResult>(alloc: Global, xs: &[T], piece: 
     Ok(text)
 }
 
-/// The texts of the names of these writers or readers, one after another. Only want of memory is an error, and what
-/// `piece` gives.
+/// The texts of the names of these writers or readers, one after another. The only errors are `NoMemory` and what
+/// `piece` returns.
 pub fn text_of_endpoints<E: Endpoint, F: Fn(&str) -> TextResult>(
     alloc: Global,
     names: &Names,

@@ -340,7 +340,7 @@ fn top_command<'a>(alloc: Global) -> Command<'a>
         .subcommand_required(true)
 }
 
-/// The whole command. Only want of memory is an error.
+/// The whole command. `NoMemory` is the only error.
 pub(crate) fn whole_command<'a>(alloc: Global) -> Result<Command<'a>, NoMemory>
     ensures { IfOk result (λ c. app_of c ≡ whole) }
 {

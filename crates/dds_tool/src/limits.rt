@@ -121,7 +121,7 @@ fn told_reasons(
     }
 }
 
-/// What is needed by sizes that are explained. Only want of memory is an error.
+/// What is needed by sizes that are explained. `NoMemory` is the only error.
 fn explained_needs(
     alloc: Global,
     plan: &Plan,

@@ -279,7 +279,7 @@ fn depth_needs(alloc: Global, plan: &Plan, sizes: &[Size]) -> Result<Vec<Need>, 
     Ok(needs)
 }
 
-/// What readers and writers need by the sizes of a plan. Only want of memory is an error.
+/// What readers and writers need by the sizes of a plan. `NoMemory` is the only error.
 #[tactic(auto, unfolding(crate::specs::Needs::needs_of))]
 pub(crate) fn needs_of(alloc: Global, plan: &Plan, sizes: &[Size]) -> Result<Vec<Need>, NoMemory>
     ensures { IfOk result (λ needs. needs.items ≡ needs_of (network_of plan.now) sizes.now) }

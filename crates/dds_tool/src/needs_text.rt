@@ -97,7 +97,7 @@ fn need_text(alloc: Global, lists: &Deployment, need: &Need) -> Result<String, N
     format!(in alloc; "{subject} {least}{limit}\n")
 }
 
-/// The lines of needs, in their order. Only want of memory is an error.
+/// The lines of needs, in their order. `NoMemory` is the only error.
 pub(crate) fn needs_text(
     alloc: Global,
     lists: &Deployment,

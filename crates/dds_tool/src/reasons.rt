@@ -245,7 +245,7 @@ fn explain_target<C: Clock>(
     explain(alloc, plan, found)
 }
 
-/// The sizes of a plan, each with its line. Only want of memory is an error.
+/// The sizes of a plan, each with its line. `NoMemory` is the only error.
 pub(crate) fn explain_sizes<C: Clock>(
     alloc: Global,
     plan: &Plan,
@@ -263,7 +263,7 @@ pub(crate) fn explain_sizes<C: Clock>(
     Ok(list)
 }
 
-/// The sizes alone. Only want of memory is an error.
+/// The sizes alone. `NoMemory` is the only error.
 pub(crate) fn sizes_of(alloc: Global, explained: &[Explained]) -> Result<Vec<Size>, NoMemory>
     ensures { IfOk result (λ sizes. sizes.items ≡ sizes_of explained.now) }
 {
@@ -404,7 +404,7 @@ fn because_of_reader(
     because_line(alloc, who.as_str(), room, why.as_str())
 }
 
-/// The line for a need. Only want of memory is an error.
+/// The line for a need. `NoMemory` is the only error.
 pub(crate) fn because_of(
     alloc: Global,
     plan: &Plan,
@@ -434,7 +434,7 @@ pub(crate) fn because_of(
     }
 }
 
-/// The lines for needs, in their order. Only want of memory is an error.
+/// The lines for needs, in their order. `NoMemory` is the only error.
 pub(crate) fn reasons_text(
     alloc: Global,
     plan: &Plan,

@@ -68,7 +68,7 @@ fn reasons_document(
     json!(in alloc; {"answer": answer, "needs": documents})
 }
 
-/// The line of that document. Only want of memory is an error.
+/// The line of that document. `NoMemory` is the only error.
 pub(crate) fn reasons_line(
     alloc: Global,
     plan: &Plan,

@@ -62,8 +62,8 @@ fn push_totals(
     Ok(())
 }
 
-/// The lines of an acceptance: `yes`, then each bound and each total of the certificate, in its order. Only want of
-/// memory is an error.
+/// The lines of an acceptance: `yes`, then each bound and each total of the certificate, in its order. `NoMemory` is
+/// the only error.
 pub fn acceptance_text(
     alloc: Global,
     lists: &Deployment,

@@ -71,7 +71,7 @@ fn subject_text(
 }
 
 /// The line of a refusal: `no`, the condition's number and name, and the names of what it speaks of. The names of a row
-/// come from the certificate, all others from the lists. Only want of memory is an error.
+/// come from the certificate, all others from the lists. `NoMemory` is the only error.
 pub fn refusal_text(
     alloc: Global,
     no: No,

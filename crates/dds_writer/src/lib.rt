@@ -8,8 +8,8 @@
 //!
 //! No call walks over what is kept, nor over the span of numbers: a sample is found by halving, and the next one that a
 //! reader takes by a search for each key of its filter. Where the oldest sample of a key is dropped the shorter side of
-//! the ring moves, and an ACKNACK takes out what it lets go one by one. The memory is that of the kept samples and the
-//! written keys.
+//! the ring moves, and an ACKNACK takes out what it lets go one by one. The memory is what the kept samples take and
+//! the written keys.
 #![tactic(auto)]
 
 mod history;

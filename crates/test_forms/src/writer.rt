@@ -177,7 +177,7 @@ impl PlainWriter {
         is_among(&self.keys, key)
     }
 
-    // Why a write of the key is refused, want of memory aside.
+    // Why a write of the key is refused, memory aside.
     fn refusal(&self, key: KeyNo) -> Option<WriteRefused>
         ensures { MatchOption result
             (write_refusal self.now.limits self.now.written self.now.keys self.now.kept key ≡ None)

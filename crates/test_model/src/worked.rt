@@ -360,7 +360,7 @@ const WATCHER_ALONE: &[(Move, Told)] = &[
     (Move::Take(0, 0), Told::Took(2, 12)),
 ];
 
-/// A writer that keeps the last two samples drops the first one. A GAP tells of it, so that no HEARTBEAT makes the
+/// A writer that keeps the last two samples drops the first one. A GAP announces it, so that no HEARTBEAT makes the
 /// reader give it up.
 const DROPPED: &[(Move, Told)] = &[
     (Move::Write(0, 0, 11), Told::Written(1)),
@@ -420,7 +420,7 @@ const LOST: &[(Move, Told)] = &[
 /// The runs of writers with KEEP_LAST, which no checked deployment of versions 1 and 2 has.
 pub static KEEP_LAST_RUNS: [Run; 2] = [
     Run {
-        about: "a GAP tells of a dropped sample",
+        about: "a GAP announces a dropped sample",
         stage: Stage::KeepsLast,
         moves: DROPPED,
     },

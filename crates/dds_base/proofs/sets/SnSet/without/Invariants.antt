@@ -1,10 +1,11 @@
-use Rattle.std.proofs.Common.{◌≡◌, ℕ, ◌≤◌, ◌⊎◌, leb, ltb, not, ◌&&◌, false, length, get_or}
+use Rattle.std.proofs.Common.{◌≡◌, ℕ, ◌≤◌, ◌⊎◌, leb, ltb, not, ◌&&◌, false, get_or}
+use Rattle.dds_base.specs.Words.{flags_in, AreWords}
 use Rattle.dds_base.proofs.sets.SnSet.without.Given as goal
 
 abbrev pub invariant-loop-k : goal.invariant-loop-k
 invariant-loop-k l = record {
-  long : length l.flags ≡ 256;
+  words : AreWords l.words;
   low : l.initial.k ≤ l.k;
   top : (l.k ≡ l.initial.k) ⊎ (l.k ≤ l.end);
-  flags : (j : ℕ) → get_or l.flags j false ≡ (get_or l.self-inside.flags j false && not (leb l.initial.k j && ltb j l.k));
+  flags : (j : ℕ) → get_or (flags_in l.words) j false ≡ (get_or (flags_in l.self-inside.words) j false && not (leb l.initial.k j && ltb j l.k));
 }
