@@ -1,9 +1,9 @@
 -- Laws of sets of numbers: what a set has, and when two are equal.
-use Rattle.std.proofs.Common.{◌≡◌, ℕ, ◌+◌, ◌-◌, ◌<◌, ◌≤◌, ◌⊎◌, leb, ltb, Bool, false, ◌&&◌, List, length, get_or, refl, sym, ap, ◌∙◌, arith, inl, inr, not, set, get_or-set_same, get_or-set_other}
+use Rattle.std.proofs.Common.{◌≡◌, ℕ, ◌+◌, ◌-◌, ◌<◌, ◌≤◌, ◌⊎◌, leb, ltb, Bool, true, false, ◌&&◌, ◌==◌, ◌||◌, List, length, get_or, refl, sym, ap, ◌∙◌, arith, inl, inr, not, set, get_or-set_same, get_or-set_other}
 use Rattle.std.proofs.lemmas.List.{ext_get_or, get_or_past}
 use Rattle.std.proofs.lemmas.List.FromFn.{get_or-map-range_with_len, length-map-range_with_len}
-use Rattle.std.proofs.lemmas.Bool.{cases_lt, cases_eq, lt-leb, le-leb, lt-ltb, le-ltb, and_right}
-use Rattle.dds_base.proofs.Bools.{and_true}
+use Rattle.std.proofs.lemmas.Bool.{cases_lt, cases_eq, eq-eqb, ne_eqb, lt-leb, le-leb, lt-ltb, le-ltb, and_right}
+use Rattle.dds_base.proofs.Bools.{and_true, and_false, or_true, or_false}
 use Rattle.dds_base.specs.Sets.{NumberSet, flags_of, set_of, has_flag, has}
 
 pub length-flags_of : (base : ℕ) (p : ℕ → Bool) → length (flags_of base p) ≡ 256
@@ -77,3 +77,31 @@ cut_more first k j flags b low long was = elim (cases_eq j k) [
     | inr above ↦ le-ltb j k above ∙ sym (le-ltb j (k + 1) (omega (arith, ne)))
   ])
 ]
+
+-- a set that grows number by number: of those below a number it has the ones that pass
+pub set_starts : (base : ℕ) (p : ℕ → Bool) → set_of base (λ n. false) ≡ set_of base (λ n. ltb n base && p n)
+set_starts base p = same_set_of base (λ n. false) (λ n. ltb n base && p n) (λ n low high. rw (le-ltb n base low) refl)
+
+below_next : (x n : ℕ) → (n ≡ x → ⊥) → ltb n (x + 1) ≡ ltb n x
+below_next x n ne = elim (cases_lt n x) [
+  | inl below ↦ rw (lt-ltb n x below, lt-ltb n (x + 1) (omega arith)) refl
+  | inr above ↦ rw (le-ltb n x above, le-ltb n (x + 1) (omega (arith, ne))) refl
+]
+
+pub set_grows : (base x : ℕ) (p : ℕ → Bool) → p x ≡ true → set_of base (λ m. has (set_of base (λ n. ltb n x && p n)) m || (x == m)) ≡ set_of base (λ n. ltb n (x + 1) && p n)
+set_grows base x p passes = same_set_of base (λ m. has (set_of base (λ n. ltb n x && p n)) m || (x == m)) (λ n. ltb n (x + 1) && p n) (λ m low high. ap (λ b. b || (x == m)) (has_in base m (λ n. ltb n x && p n) low high) ∙ elim (cases_eq m x) [
+  | inl e ↦ rw (e, eq-eqb x x refl, lt-ltb x (x + 1) (omega arith), passes) (or_true (ltb x x && true))
+  | inr ne ↦ rw (ne_eqb x m (λ e. ne (sym e)), below_next x m ne) (or_false (ltb m x && p m))
+])
+
+pub set_stays : (base x : ℕ) (p : ℕ → Bool) → p x ≡ false → set_of base (λ n. ltb n x && p n) ≡ set_of base (λ n. ltb n (x + 1) && p n)
+set_stays base x p fails = same_set_of base (λ n. ltb n x && p n) (λ n. ltb n (x + 1) && p n) (λ m low high. elim (cases_eq m x) [
+  | inl e ↦ rw (e, fails) (and_false (ltb x x) ∙ sym (and_false (ltb x (x + 1))))
+  | inr ne ↦ ap (λ b. b && p m) (sym (below_next x m ne))
+])
+
+pub set_ends : (base end : ℕ) (p : ℕ → Bool) → ((n : ℕ) → end ≤ n → n < base + 256 → p n ≡ false) → set_of base (λ n. ltb n end && p n) ≡ set_of base p
+set_ends base end p none = same_set_of base (λ n. ltb n end && p n) p (λ m low high. elim (cases_lt m end) [
+  | inl below ↦ rw (lt-ltb m end below) refl
+  | inr above ↦ rw (none m above high) (and_false (ltb m end))
+])
