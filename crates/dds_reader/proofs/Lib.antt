@@ -1,5 +1,4 @@
 pub mod AbsorbLaws
-pub mod FlagLaws
 pub mod GapLaws
 pub mod HasLaws
 pub mod HeldLaws

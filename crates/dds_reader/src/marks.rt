@@ -168,9 +168,12 @@ pub(crate) fn missing(marks: &Marks, writer: WriterNo, base: u64, heard: u64) ->
     requires heard { heard ≤ last_number }
     ensures { result ≡ set_of base (is_wanted (in_marks marks.now writer) heard) }
 {
-    let mut members = [false; 256];
+    let mut set = SnSet::empty(base);
     for i in 0..heard_of(base, heard) {
-        members[i] = wants(marks, writer, base + i as u64, heard);
+        let n = base + i as u64;
+        if wants(marks, writer, n, heard) {
+            set.insert(n);
+        }
     }
-    SnSet::from_flags(base, members)
+    set
 }

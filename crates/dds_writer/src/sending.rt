@@ -1,13 +1,13 @@
 //! What is sent to a matched reader next, and what is noted of it once it is sent.
 
 ghost use Rattle.std.specs.Prelude.{◌≡◌, ℕ, ◌<◌, ◌≤◌, true, map, position, MatchOption, false};
-ghost use Rattle.dds_base.specs.Sets.{has, last_number};
+ghost use Rattle.dds_base.specs.Sets.{last_number};
 ghost use Rattle.dds_writer.specs.Proxies.{after_message, is_unsent, wants, IsInOrder};
 ghost use Rattle.dds_writer.specs.History.{AreOf, IsRunStart, is_silent_in};
 
 use crate::history::History;
 use crate::proxies::MatchedReader;
-use dds_base::{Numbered, ReaderNo, SnSet, WriterNo, place_of};
+use dds_base::{Numbered, ReaderNo, WriterNo, place_of};
 
 // Whether a number is written and none below the least awaited one, and no sample of it is kept whose key the reader
 // takes.
@@ -45,22 +45,6 @@ fn first_silent(
     }
 }
 
-// The first number from one on that a set has.
-fn next_asked(asked: &SnSet, from: u64) -> Option<u64>
-    ensures { MatchOption result
-        ((n : ℕ) → from ≤ n → has asked.now n ≡ false)
-        (λ m. (from ≤ m) × (has asked.now m ≡ true) × ((n : ℕ) → from ≤ n → n < m → has asked.now n ≡ false)) }
-{
-    let base = asked.base();
-    for k in 0..256u64 {
-        let n = base + k;
-        if from <= n && asked.contains(n) {
-            return Some(n);
-        }
-    }
-    None
-}
-
 // The first number from one on that a reader wants, up to the last: the lesser of what it asked for and what was never
 // sent.
 pub(crate) fn next_wanted(proxy: &MatchedReader, from: u64, written: u64) -> Option<u64>
@@ -72,7 +56,7 @@ pub(crate) fn next_wanted(proxy: &MatchedReader, from: u64, written: u64) -> Opt
 {
     let from = from.max(proxy.base());
     let unsent = from.max(proxy.sent.saturating_add(1));
-    let next = match next_asked(&proxy.asked, from) {
+    let next = match proxy.asked.first_from(from) {
         Some(asked) => asked.min(unsent),
         None => unsent,
     };

@@ -4,4 +4,3 @@ mod TakeLaws
 mod ReleasedLaws
 mod CountLaws
 mod PushLaws
-pub mod FlagWalks

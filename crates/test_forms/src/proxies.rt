@@ -222,11 +222,14 @@ fn without(set: &SnSet, from: u64, to: u64) -> SnSet
     ensures { result ≡ set_of set.now.base (λ n. has set.now n && not (leb from n && leb n to)) }
 {
     let base = set.base();
-    let mut flags = [false; 256];
+    let mut rest = SnSet::empty(base);
     for k in 0..256 {
-        flags[k] = has_outside(set, from, to, base + k as u64);
+        let n = base + k;
+        if has_outside(set, from, to, n) {
+            rest.insert(n);
+        }
     }
-    SnSet::from_flags(base, flags)
+    rest
 }
 
 // An ACKNACK of the reader came: it asks for the set.

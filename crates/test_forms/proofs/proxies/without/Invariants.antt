@@ -1,10 +1,6 @@
-use Rattle.std.proofs.Common.{◌≡◌, ℕ, ◌+◌, ◌≤◌, leb, ltb, not, ◌&&◌, true, false, length, get_or}
-use Rattle.dds_base.specs.Sets.{has, last_number}
+use Rattle.std.proofs.Common.{◌≡◌, ◌+◌, ◌&&◌, leb, ltb, not}
+use Rattle.dds_base.specs.Sets.{has, set_of}
 use Rattle.test_forms.proofs.proxies.without.Given as goal
 
 abbrev pub invariant-loop-k : goal.invariant-loop-k
-invariant-loop-k l = record {
-  long : length l.flags ≡ 256;
-  flags : (j : ℕ) → get_or l.flags j false ≡ (ltb j l.k && (has l.set (l.base + j) && not (leb l.from (l.base + j) && leb (l.base + j) l.to)));
-  in_range : (j : ℕ) → get_or l.flags j false ≡ true → l.base + j ≤ last_number;
-}
+invariant-loop-k l = l.rest ≡ set_of l.base (λ n. ltb n (l.base + l.k) && (has l.set n && not (leb l.from n && leb n l.to)))
