@@ -93,17 +93,30 @@ def reason_of(writer, reader, domains):
 # What a picture owes: its lines, as (how far it is indented, what it is, ..)
 
 
-def shown_of(path, lists):
-    """The lines that a certificate adds to the label of each reader."""
+# the colour of a reader's node: the first of these comparisons of a number and its limit that some claim has
+COLOURS = {"above": "salmon", "same": "gold", "below": "palegreen"}
+
+
+def claims_of(path, lists):
+    """What a certificate adds to the node of each reader: the lines of its label, and its colour."""
     found = document_of(path) if path else {}
-    filters = {reader["name"]: reader["filter"] for reader in lists["readers"]}
-    lines = {reader: [] for reader in filters}
+    readers = {reader["name"]: reader for reader in lists["readers"]}
+    lines = {name: [] for name in readers}
+    compared = {name: set() for name in readers}
+
+    def claim(name, words, number, limit):
+        lines[name].append(f"{words} {number}" if limit == "unlimited" else f"{words} {number} of {limit}")
+        if limit != "unlimited":
+            compared[name].add("above" if number > limit else "same" if number == limit else "below")
+
     for bound in found.get("bounds", []):
-        for key in [bound["key"]] if "key" in bound else filters[bound["reader"]]:
-            lines[bound["reader"]].append(f"bound {key} {bound['bound']}")
+        reader = readers[bound["reader"]]
+        limit = reader["depth"] if reader["history"] == "KEEP_LAST" else reader["max_samples_per_instance"]
+        for key in [bound["key"]] if "key" in bound else reader["filter"]:
+            claim(reader["name"], f"bound {key}", bound["bound"], limit)
     for total in found.get("totals", []):
-        lines[total["reader"]].append(f"total {total['bound']}")
-    return lines
+        claim(total["reader"], "total", total["bound"], readers[total["reader"]]["max_samples"])
+    return {name: (lines[name], next((COLOURS[how] for how in COLOURS if how in compared[name]), "white")) for name in readers}
 
 
 def label_of(endpoint, more):
@@ -131,7 +144,7 @@ def application_of(application, rules):
     yield 2, "end"
 
 
-def participant_of(participant, lists, shown):
+def participant_of(participant, lists, claims):
     """The lines of a participant's cluster."""
 
     def own(section):
@@ -145,8 +158,8 @@ def participant_of(participant, lists, shown):
         yield 2, "node", f"writer {writer['name']}", {"label": label_of(writer, [])}
     for reader in own("readers"):
         may_lose = ["may lose"] if reader.get("may_lose", False) else []
-        label = label_of(reader, may_lose + shown[reader["name"]])
-        yield 2, "node", f"reader {reader['name']}", {"style": "filled", "fillcolor": "white", "label": label}
+        lines, colour = claims[reader["name"]]
+        yield 2, "node", f"reader {reader['name']}", {"style": "filled", "fillcolor": colour, "label": label_of(reader, may_lose + lines)}
     yield 1, "end"
 
 
@@ -175,10 +188,10 @@ def pair_edges(lists):
 
 def picture_of(deployment, certificate):
     lists = lists_of(deployment)
-    shown = shown_of(certificate, lists)
+    claims = claims_of(certificate, lists)
     lines = [(0, "digraph", "deployment"), (1, "rankdir", "LR"), (1, "default", {"shape": "box"})]
     for participant in lists["participants"]:
-        lines += participant_of(participant, lists, shown)
+        lines += participant_of(participant, lists, claims)
     return [*lines, *rule_edges(lists["rules"]), *pair_edges(lists), (0, "end")]
 
 

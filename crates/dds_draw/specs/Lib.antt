@@ -1,3 +1,4 @@
+pub mod Room
 pub mod Nodes
 pub mod Clusters
 pub mod Edges

@@ -1,6 +1,8 @@
 -- Endpoints and rules as nodes of a picture, in DOT, with their labels. Names have no byte that DOT escapes; a label has `\n`, two bytes, where a new line begins.
 use Rattle.std.specs.Prelude.{codes, ℕ, Bool, List, [], ◌++◌, ◌==◌, flat_map, Option, Some, None, if◌then◌else◌}
 use Rattle.std.specs.Fmt.{decimal}
+use Rattle.dds_qos.specs.declared.limits.ReaderLimits.{ReaderLimits}
+use Rattle.dds_qos.specs.Limits.{reader_limits_of}
 use Rattle.dds_qos.specs.declared.policies.HistoryKind.{HistoryKind}
 use Rattle.dds_qos.specs.declared.policies.HistoryKind.TheVariants.{KeepLast, KeepAll}
 use Rattle.dds_qos.specs.declared.policies.Policies.{Policies}
@@ -11,7 +13,9 @@ use Rattle.dds_weights.specs.Lists.{Certificate}
 use Rattle.dds_weights.specs.Naming.{name_at, reader_key}
 use Rattle.dds_weights.specs.declared.certificate.Bound.{Bound}
 use Rattle.dds_weights.specs.declared.certificate.Total.{Total}
+use Rattle.dds_runs.specs.Accepted.{instance_limit}
 use Rattle.dds_events.specs.Naming.{rule_text}
+use Rattle.dds_draw.specs.Room.{colour_of}
 
 -- how many samples of an instance stay by KEEP_LAST; nothing of KEEP_ALL (OMG DDS 1.4, clause 2.2.3.18)
 abbrev pub history_line : HistoryKind → ℕ → List ℕ
@@ -36,18 +40,25 @@ policies_lines p =
     ++ (limit_line (codes "max_instances") p.resource_limits.max_instances
     ++ (limit_line (codes "max_samples_per_instance") p.resource_limits.max_samples_per_instance ++ reliability_line p.reliability)))
 
--- a bound, if it is one of the reader
-abbrev pub bound_line : Lists → ℕ → Bound → List ℕ
-bound_line d r b = if b.reader == r then codes "\\nbound " ++ (reader_key d r b.key ++ (codes " " ++ decimal b.bound)) else []
+-- the limit that a number is compared with, nothing where it is unlimited
+abbrev pub limit_words : Option ℕ → List ℕ
+limit_words (Some limit) = codes " of " ++ decimal limit
+limit_words None = []
 
--- a total, if it is one of the reader
-abbrev pub total_line : ℕ → Total → List ℕ
-total_line r t = if t.reader == r then codes "\\ntotal " ++ decimal t.bound else []
+-- a bound with its limit, if it is one of the reader
+abbrev pub bound_line : Lists → ℕ → Option ℕ → Bound → List ℕ
+bound_line d r limit b =
+    if b.reader == r then codes "\\nbound " ++ (reader_key d r b.key ++ (codes " " ++ (decimal b.bound ++ limit_words limit))) else []
 
--- what a certificate shows of a reader: its bounds, then its totals, each in the order of the certificate
-abbrev pub certificate_lines : Lists → ℕ → Option Certificate → List ℕ
-certificate_lines d r None = []
-certificate_lines d r (Some c) = flat_map (bound_line d r) c.bounds ++ flat_map (total_line r) c.totals
+-- a total with its limit, if it is one of the reader
+abbrev pub total_line : ℕ → Option ℕ → Total → List ℕ
+total_line r limit t = if t.reader == r then codes "\\ntotal " ++ (decimal t.bound ++ limit_words limit) else []
+
+-- what a certificate shows of a reader with these limits: its bounds, then its totals, each in the order of the certificate
+abbrev pub certificate_lines : Lists → ℕ → ReaderLimits → Option Certificate → List ℕ
+certificate_lines d r limits None = []
+certificate_lines d r limits (Some c) =
+    flat_map (bound_line d r (instance_limit limits)) c.bounds ++ flat_map (total_line r limits.max_samples) c.totals
 
 -- the name of an endpoint, its topic and its limits
 abbrev pub endpoint_label : List ℕ → List ℕ → Policies → List ℕ
@@ -64,13 +75,16 @@ writer_node d w x =
 abbrev pub may_lose_line : Bool → List ℕ
 may_lose_line may_lose = if may_lose then codes "\\nmay lose" else []
 
--- the node of a reader with this number, with what a certificate shows of it
+-- the node of a reader with this number, with what a certificate shows of it and, as its colour, how much room that leaves
 unfoldable pub reader_node : Lists → Option Certificate → ℕ → Reader → List ℕ
 reader_node d c r x =
     codes "    \"reader "
     ++ (name_at d.readers.names r
-    ++ (codes "\" [style=filled, fillcolor=white, label=\""
-    ++ (endpoint_label (name_at d.readers.names r) (name_at d.topics.names x.topic) x.qos.requested ++ (may_lose_line x.may_lose ++ (certificate_lines d r c ++ codes "\"];\n")))))
+    ++ (codes "\" [style=filled, fillcolor="
+    ++ (colour_of c r (reader_limits_of x.qos.requested)
+    ++ (codes ", label=\""
+    ++ (endpoint_label (name_at d.readers.names r) (name_at d.topics.names x.topic) x.qos.requested
+    ++ (may_lose_line x.may_lose ++ (certificate_lines d r (reader_limits_of x.qos.requested) c ++ codes "\"];\n")))))))
 
 -- how often a rule may write at the opening, nothing where it may not
 abbrev pub start_line : Rule → List ℕ

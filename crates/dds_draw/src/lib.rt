@@ -6,5 +6,6 @@ mod clusters;
 mod edges;
 mod nodes;
 mod picture;
+mod room;
 
 pub use picture::drawing;

@@ -4,13 +4,15 @@ ghost use Rattle.std.specs.Prelude.{◌≡◌, IfOk, option_map, string_bytes};
 ghost use Rattle.dds_lists.specs.Views.{reader_view, rule_view, writer_view};
 ghost use Rattle.dds_weights.specs.Views.{certificate_view};
 ghost use Rattle.dds_draw.specs.Nodes.{bound_line, certificate_lines, endpoint_label, history_line, limit_line};
-ghost use Rattle.dds_draw.specs.Nodes.{may_lose_line, policies_lines, reader_node, reliability_line, rule_node};
+ghost use Rattle.dds_draw.specs.Nodes.{limit_words, may_lose_line, policies_lines, reader_node, reliability_line, rule_node};
 ghost use Rattle.dds_draw.specs.Nodes.{start_line, total_line, writer_node};
 
+use crate::room::colour_of;
 use dds_base::{ReaderNo, RuleNo, WriterNo};
+use dds_check::limits::instance_limit;
 use dds_events::rule_text;
 use dds_lists::{Deployment, Reader, Rule, Writer};
-use dds_qos::{History, HistoryKind, Policies, Reliability};
+use dds_qos::{History, HistoryKind, Policies, ReaderLimits, Reliability, reader_limits};
 use dds_show::texts::{TextResult, text_of_each};
 use dds_weights::naming::{name_at, reader_key};
 use dds_weights::{Bound, Certificate, Total};
@@ -66,48 +68,70 @@ fn policies_lines(alloc: Global, p: &Policies) -> TextResult
     format!(in alloc; "{history}{samples}{instances}{of_one}{reliability}")
 }
 
-/// A bound, if it is one of the reader.
-fn bound_line(alloc: Global, lists: &Deployment, reader: ReaderNo, bound: &Bound) -> TextResult
-    ensures { IfOk result (λ text. string_bytes text ≡ bound_line lists.now reader bound.now) }
+/// The limit that a number is compared with, nothing where it is unlimited.
+fn limit_words(alloc: Global, limit: Option<u32>) -> TextResult
+    ensures { IfOk result (λ text. string_bytes text ≡ limit_words limit) }
+{
+    match limit {
+        Some(limit) => format!(in alloc; " of {limit}"),
+        None => Ok(String::new(alloc)),
+    }
+}
+
+/// A bound with its limit, if it is one of the reader.
+fn bound_line(
+    alloc: Global,
+    lists: &Deployment,
+    reader: ReaderNo,
+    limit: Option<u32>,
+    bound: &Bound,
+) -> TextResult
+    ensures { IfOk result (λ text. string_bytes text ≡ bound_line lists.now reader limit bound.now) }
 {
     if bound.reader != reader {
         return Ok(String::new(alloc));
     }
     let key = reader_key(lists, reader, bound.key);
     let number = bound.bound;
-    format!(in alloc; "\\nbound {key} {number}")
+    let limit = limit_words(alloc, limit)?;
+    format!(in alloc; "\\nbound {key} {number}{limit}")
 }
 
-/// A total, if it is one of the reader.
-fn total_line(alloc: Global, reader: ReaderNo, total: &Total) -> TextResult
-    ensures { IfOk result (λ text. string_bytes text ≡ total_line reader total.now) }
+/// A total with its limit, if it is one of the reader.
+fn total_line(alloc: Global, reader: ReaderNo, limit: Option<u32>, total: &Total) -> TextResult
+    ensures { IfOk result (λ text. string_bytes text ≡ total_line reader limit total.now) }
 {
     if total.reader != reader {
         return Ok(String::new(alloc));
     }
     let number = total.bound;
-    format!(in alloc; "\\ntotal {number}")
+    let limit = limit_words(alloc, limit)?;
+    format!(in alloc; "\\ntotal {number}{limit}")
 }
 
-/// What a certificate shows of a reader: its bounds, then its totals.
+/// What a certificate shows of a reader with these limits: its bounds, then its totals.
 fn certificate_lines(
     alloc: Global,
     lists: &Deployment,
     certificate: Option<&Certificate>,
     reader: ReaderNo,
+    limits: &ReaderLimits,
 ) -> TextResult
     ensures { IfOk result
         (λ text. string_bytes text
-        ≡ certificate_lines lists.now reader (option_map (λ c. certificate_view c.now) certificate.entry)) }
+        ≡ certificate_lines lists.now reader limits.now
+        (option_map (λ c. certificate_view c.now) certificate.entry)) }
 {
     let Some(certificate) = certificate else {
         return Ok(String::new(alloc));
     };
+    let of_instance = instance_limit(limits);
+    let of_samples = limits.max_samples;
     let bounds = text_of_each(alloc, certificate.bounds.as_slice(), |bound| {
-        bound_line(alloc, lists, reader, bound)
+        bound_line(alloc, lists, reader, of_instance, bound)
     })?;
     let totals = text_of_each(alloc, certificate.totals.as_slice(), |total| {
-        total_line(alloc, reader, total)
+        total_line(alloc, reader, of_samples, total)
     })?;
     format!(in alloc; "{bounds}{totals}")
 }
@@ -142,7 +166,7 @@ fn may_lose_line(may_lose: bool) -> &'static str
     if may_lose { "\\nmay lose" } else { "" }
 }
 
-/// The node of a reader, with what a certificate shows of it.
+/// The node of a reader, with what a certificate shows of it and, as its colour, how much room that leaves.
 pub(crate) fn reader_node(
     alloc: Global,
     lists: &Deployment,
@@ -159,9 +183,11 @@ pub(crate) fn reader_node(
     let topic = name_at(lists.topic_names(), x.topic.number());
     let label = endpoint_label(alloc, name, topic, &x.qos.requested)?;
     let may_lose = may_lose_line(x.may_lose);
-    let shown = certificate_lines(alloc, lists, certificate, reader)?;
+    let limits = reader_limits(&x.qos);
+    let colour = colour_of(certificate, reader, &limits);
+    let claims = certificate_lines(alloc, lists, certificate, reader, &limits)?;
     format!(in alloc;
-        "    \"reader {name}\" [style=filled, fillcolor=white, label=\"{label}{may_lose}{shown}\"];\n"
+        "    \"reader {name}\" [style=filled, fillcolor={colour}, label=\"{label}{may_lose}{claims}\"];\n"
     )
 }
 
