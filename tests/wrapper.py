@@ -351,6 +351,31 @@ def install(tree, tally):
         tally.check(tree.ask(*words).status == 4, f"{' '.join(words)} is a fault of usage")
 
 
+def name_the_commit(tree, tally):
+    """`--version` names the commit where git is there and the sources are as they were committed."""
+    if not (git := shutil.which("git")):
+        tally.skip("git isn't here", 6)
+        return
+    named = ["-c", "user.name=tests", "-c", "user.email=tests@localhost", "-c", "init.defaultBranch=main"]
+
+    def commit(*words):
+        return run([git, "-C", tree.top, *named, *words], seconds=30)
+
+    tree.ask("--build")
+    plain = "built of d1 and b1, --version"
+    tally.check(tree.ask("--version").out == f"{plain}\n", "outside a checkout --version names no commit")
+    (tree.tools / "git").symlink_to(git)
+    (tree.top / ".gitignore").write_text("out/\n")
+    for words in (("init", "-q"), ("add", "-A"), ("commit", "-q", "-m", "sources")):
+        given = commit(*words)
+        tally.check(given.status == 0, f"git {words[0]}", given)
+    owed = commit("rev-parse", "--short=12", "HEAD").out.strip()
+    version = tree.ask("--version")
+    tally.check((version.status, version.out) == (0, f"{plain} (commit {owed})\n"), "--version names the commit", version)
+    tree.write("crates/base/must-fail/other.edit", "an edit")
+    tally.check(tree.ask("--version").out == f"{plain}\n", "not where something in crates/ isn't committed")
+
+
 def answer_by_release(tree, tally):
     """The program in dist/ answers where it was made of the sources as they stand."""
     given = run([shutil.which("sh"), ROOT / "tools/release", "a word"], env=tree.environment(), seconds=30)
@@ -381,7 +406,7 @@ def answer_by_release(tree, tally):
 
 CASES = [
     build_and_answer, follow_sources, edit_during_build, take_over, say_what_needs_a_build, fail_by_devices, write_nothing, follow_links, lack_tools,
-    end_by_signals, install, answer_by_release,
+    end_by_signals, install, name_the_commit, answer_by_release,
 ]
 
 
