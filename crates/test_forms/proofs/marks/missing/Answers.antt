@@ -1,4 +1,4 @@
-use Rattle.std.proofs.Common.{◌≡◌, ℕ, ◌+◌, ◌<◌, ◌≤◌, ◌&&◌, ◌==◌, ◌||◌, ltb, leb, not, Bool, true, false, ap, sym, ◌∙◌, arith, inl, inr}
+use Rattle.std.proofs.Common.{◌≡◌, ℕ, ◌+◌, ◌≤◌, ◌&&◌, ◌==◌, ◌||◌, ltb, leb, not, Bool, true, ap, sym, ◌∙◌, arith, inl, inr}
 use Rattle.std.proofs.lemmas.Bool.{cases_lt, lt-leb, false≢true, and_left}
 use Rattle.dds_base.specs.Sets.{NumberSet, has, set_of}
 use Rattle.dds_base.proofs.SetLaws.{set_starts, set_grows, set_stays, set_ends}

@@ -1,4 +1,4 @@
-use Rattle.std.proofs.Common.{◌≡◌, ℕ, ◌+◌, ◌≤◌, ◌&&◌, ◌==◌, ◌||◌, leb, ltb, not, Bool, true, ap, refl, sym, subst, ◌∙◌, arith}
+use Rattle.std.proofs.Common.{◌≡◌, ℕ, ◌+◌, ◌&&◌, ◌==◌, ◌||◌, leb, ltb, not, Bool, ap, sym, ◌∙◌, arith}
 use Rattle.dds_base.specs.Sets.{NumberSet, has, set_of}
 use Rattle.dds_base.proofs.SetLaws.{set_starts, set_grows, set_stays, set_ends}
 use Rattle.test_forms.proofs.proxies.without.Goals as goal
@@ -13,7 +13,7 @@ loop-k-init c =
 pub insert-requires : goal.insert-requires
 insert-requires c =
     let base : c.loop-k.rest.base ≡ c.base-base.result = ap (λ (s : NumberSet). s.base) c.loop-k.invariant in
-    (omega (arith, base), omega (arith, base, c.loop-k-test.true), c.has_outside.ensures.in_range ?)
+    (omega (arith, base), omega (arith, base, c.loop-k-test.true), c.has_outside.ensures.in_range c.if-has_outside.true)
 
 pub loop-k-preserved : goal.loop-k-preserved
 loop-k-preserved c =
@@ -21,11 +21,11 @@ loop-k-preserved c =
     let n : ℕ = c.base-base.result + c.loop-k.k in
     let next : c.base-base.result + c.loop-k.k + 1 ≡ c.base-base.result + (c.loop-k.k + 1) = omega arith in
     elim c.if-has_outside.branch [
-      | then-has_outside w ↦ w.set-is ∙ w.insert.ensures
+      | then-has_outside w ↦ w.rest-is ∙ w.insert.ensures
           ∙ ap (λ (s : NumberSet). set_of s.base (λ m. has s m || (n == m))) c.loop-k.invariant
           ∙ set_grows c.base-base.result n outside (sym c.has_outside.ensures.answer ∙ w.if-has_outside.true)
           ∙ ap (λ x. set_of c.base-base.result (λ m. ltb m x && outside m)) next
-      | else-has_outside w ↦ w.set-is ∙ c.loop-k.invariant
+      | else-has_outside w ↦ w.rest-is ∙ c.loop-k.invariant
           ∙ set_stays c.base-base.result n outside (sym c.has_outside.ensures.answer ∙ w.if-has_outside.false)
           ∙ ap (λ x. set_of c.base-base.result (λ m. ltb m x && outside m)) next
     ]
