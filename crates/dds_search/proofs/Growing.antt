@@ -9,7 +9,7 @@ use Rattle.dds_base.proofs.Ranges.{range_push}
 use Rattle.dds_match.specs.Network.{Network}
 use Rattle.dds_propose.specs.declared.targets.Target.{Target}
 use Rattle.dds_search.specs.Sizes.{AreSizes, IsShownSize, every_target, key_target, key_targets}
-use Rattle.dds_search.specs.declared.sizes.Size.{Size}
+use Rattle.dds_search.specs.declared.certificate.sizes.Size.{Size}
 
 -- what the numbers below n + 1 give
 more_below : {X : Type 0} (f : ℕ → List X) (n : ℕ) → flat_map f (range_with_len 0 (n + 1)) ≡ flat_map f (range_with_len 0 n) ++ f n

@@ -3,7 +3,7 @@ use Rattle.std.proofs.Common.{ℕ, suc, ◌≡◌, ◌+◌, ◌<◌, ◌≤◌, 
 use Rattle.std.proofs.Math.Seq.{drop-cons}
 use Rattle.std.proofs.lemmas.List.{drop_all}
 use Rattle.dds_search.specs.Sizes.{sum_of, with_size}
-use Rattle.dds_search.specs.declared.sizes.Size.{Size}
+use Rattle.dds_search.specs.declared.certificate.sizes.Size.{Size}
 
 -- with the next size
 pub next_summed : (r : ℕ) (sum new whole : Option ℕ) (sizes : List Size) (i : ℕ) (size : Size) → i < length sizes → size ≡ get_or sizes i size → new ≡ with_size r sum size

@@ -11,9 +11,9 @@ use Rattle.dds_propose.specs.declared.targets.Target.{Target}
 use Rattle.dds_search.specs.Rays.{IsRay}
 use Rattle.dds_search.specs.declared.answer.Least.{Least}
 use Rattle.dds_search.specs.declared.answer.Least.TheVariants.{Shown, Unbounded, Unknown}
-use Rattle.dds_search.specs.declared.reasons.Reason.{Reason}
-use Rattle.dds_search.specs.declared.reasons.Reason.TheVariants.{Weights, Growth, Nothing}
-use Rattle.dds_search.specs.declared.reasons.Reasoned.{Reasoned}
+use Rattle.dds_search.specs.declared.certificate.reasons.Reason.{Reason}
+use Rattle.dds_search.specs.declared.certificate.reasons.Reason.TheVariants.{Weights, Growth, Nothing}
+use Rattle.dds_search.specs.declared.certificate.reasons.Reasoned.{Reasoned}
 
 -- the certificate claims this bound for the target, by its first row, and no other bound; it fits, no event raises the weighted sum of a row, and the row shows
 -- the bound

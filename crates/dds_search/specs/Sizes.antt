@@ -13,7 +13,7 @@ use Rattle.dds_propose.specs.declared.targets.Target.TheVariants.{Instance, Read
 use Rattle.dds_search.specs.Answers.{IsShownLeast}
 use Rattle.dds_search.specs.declared.answer.Least.{Least}
 use Rattle.dds_search.specs.declared.answer.Least.TheVariants.{Shown, Unbounded, Unknown}
-use Rattle.dds_search.specs.declared.sizes.Size.{Size}
+use Rattle.dds_search.specs.declared.certificate.sizes.Size.{Size}
 
 -- ── all that a certificate can bound
 -- the key, where it can reach the reader

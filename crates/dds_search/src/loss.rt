@@ -1,5 +1,12 @@
 //! A run that loses a sample.
 
+pub(crate) mod crowding;
+pub(crate) mod giving_up;
+pub(crate) mod history;
+pub(crate) mod making;
+pub mod refuting;
+pub(crate) mod witness;
+
 use dds_base::{Event, KeyNo, ReaderNo, Rejection, Reply};
 
 /// How a strict reader, one that is no watcher, lost a sample.

@@ -5,7 +5,7 @@ use Rattle.std.proofs.Math.Seq.{drop-cons}
 use Rattle.std.proofs.lemmas.List.{drop_all}
 use Rattle.dds_match.specs.Network.{Network}
 use Rattle.dds_search.specs.declared.answer.Least.{Least}
-use Rattle.dds_search.specs.declared.sizes.Size.{Size}
+use Rattle.dds_search.specs.declared.certificate.sizes.Size.{Size}
 use Rattle.dds_tool.specs.Needs.{depth_need, greatest_of, list_of, with_size, writer_needs}
 
 -- the greatest with the next size

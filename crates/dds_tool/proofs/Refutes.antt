@@ -16,9 +16,9 @@ use Rattle.dds_runs.specs.Accepted.{certificate_of}
 use Rattle.dds_check.specs.Accepts.{first_no}
 use Rattle.dds_runs.specs.Certified.{Safe}
 use Rattle.dds_claims.specs.Claims.{structure_no}
-use Rattle.dds_search.specs.declared.refuting.Refutation.{Refutation}
-use Rattle.dds_search.specs.declared.refuting.Refutation.TheVariants as refutation
-use Rattle.dds_search.specs.declared.refuting.Unknown.TheVariants as unknown
+use Rattle.dds_search.specs.declared.loss.refuting.Refutation.{Refutation}
+use Rattle.dds_search.specs.declared.loss.refuting.Refutation.TheVariants as refutation
+use Rattle.dds_search.specs.declared.loss.refuting.Unknown.TheVariants as unknown
 use Rattle.dds_search.specs.Refutations.{IfSafe, IfStructure, IfUnsafe, IsCounterexample}
 use Rattle.dds_tool.specs.Refuting.{IsKnown, MayRefute, is_safe, known_document, told_known}
 use Rattle.dds_json.specs.declared.style.Style.{Style}

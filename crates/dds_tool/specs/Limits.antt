@@ -10,7 +10,7 @@ use Rattle.dds_weights.specs.Text.{certificate_text}
 use Rattle.dds_runs.specs.Accepted.{certificate_of}
 use Rattle.dds_claims.specs.Claims.{IsShown}
 use Rattle.dds_search.specs.Sizes.{AreSizes, claims_all}
-use Rattle.dds_search.specs.declared.sizes.Size.{Size}
+use Rattle.dds_search.specs.declared.certificate.sizes.Size.{Size}
 use Rattle.dds_answers.specs.declared.answer.Answer.{Answer}
 use Rattle.dds_answers.specs.Outcome.{MayOfFile, Outcome, bad_deployment, said}
 use Rattle.dds_json.specs.Line.{line_of}

@@ -8,7 +8,7 @@ use Rattle.dds_propose.specs.declared.targets.Target.TheVariants as target
 use Rattle.dds_search.specs.Sizes.{total_of}
 use Rattle.dds_search.specs.declared.answer.Least.{Least}
 use Rattle.dds_search.specs.declared.answer.Least.TheVariants.{Shown, Unbounded, Unknown}
-use Rattle.dds_search.specs.declared.sizes.Size.{Size}
+use Rattle.dds_search.specs.declared.certificate.sizes.Size.{Size}
 use Rattle.dds_tool.specs.declared.needs.Limit.{Limit}
 use Rattle.dds_tool.specs.declared.needs.Need.{Need}
 use Rattle.dds_tool.specs.declared.needs.Need.TheVariants as need

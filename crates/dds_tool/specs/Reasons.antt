@@ -14,11 +14,11 @@ use Rattle.dds_search.specs.Reasons.{IsReason}
 use Rattle.dds_search.specs.Sizes.{every_target}
 use Rattle.dds_search.specs.declared.answer.Least.{Least}
 use Rattle.dds_search.specs.declared.answer.Least.TheVariants.{Shown, Unbounded, Unknown}
-use Rattle.dds_search.specs.declared.rays.Firings.{Firings}
-use Rattle.dds_search.specs.declared.rays.Writes.{Writes}
-use Rattle.dds_search.specs.declared.reasons.Reason.{Reason}
-use Rattle.dds_search.specs.declared.reasons.Reason.TheVariants.{Weights, Growth, Nothing}
-use Rattle.dds_search.specs.declared.sizes.Size.{Size}
+use Rattle.dds_search.specs.declared.certificate.rays.Firings.{Firings}
+use Rattle.dds_search.specs.declared.certificate.rays.Writes.{Writes}
+use Rattle.dds_search.specs.declared.certificate.reasons.Reason.{Reason}
+use Rattle.dds_search.specs.declared.certificate.reasons.Reason.TheVariants.{Weights, Growth, Nothing}
+use Rattle.dds_search.specs.declared.certificate.sizes.Size.{Size}
 use Rattle.dds_events.specs.Naming.{rule_text}
 use Rattle.dds_explain.specs.Explanation.{margins}
 use Rattle.dds_tool.specs.Needs.{is_for, limit_of_key, limit_of_total}

@@ -18,12 +18,12 @@ use Rattle.dds_events.specs.Replies.{rejection_name}
 use Rattle.dds_search.specs.declared.loss.Counterexample.{Counterexample}
 use Rattle.dds_search.specs.declared.loss.Loss.{Loss}
 use Rattle.dds_search.specs.declared.loss.Loss.TheVariants as lost
-use Rattle.dds_search.specs.declared.refuting.Refutation.{Refutation}
-use Rattle.dds_search.specs.declared.refuting.Refutation.TheVariants as refutation
+use Rattle.dds_search.specs.declared.loss.refuting.Refutation.{Refutation}
+use Rattle.dds_search.specs.declared.loss.refuting.Refutation.TheVariants as refutation
 use Rattle.dds_search.specs.declared.budget.Shortage.{Shortage}
 use Rattle.dds_search.specs.declared.budget.Shortage.TheVariants as short
-use Rattle.dds_search.specs.declared.refuting.Unknown.{Unknown}
-use Rattle.dds_search.specs.declared.refuting.Unknown.TheVariants as unknown
+use Rattle.dds_search.specs.declared.loss.refuting.Unknown.{Unknown}
+use Rattle.dds_search.specs.declared.loss.refuting.Unknown.TheVariants as unknown
 use Rattle.dds_search.specs.Refutations.{IsCounterexample}
 use Rattle.dds_answers.specs.Outcome.{MayOfFile, Outcome, bad_deployment, said}
 use Rattle.dds_answers.specs.Structure.{nothing}
