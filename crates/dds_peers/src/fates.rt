@@ -1,5 +1,5 @@
 //! The fates of packets, in a circle.
-ghost use Rattle.std.specs.Prelude.{◌≡◌, IfSome, IfNone};
+ghost use Rattle.std.specs.Prelude.{◌≡◌, ◌<◌, length, IfSome, IfNone};
 ghost use Rattle.dds_peers.specs.Fates.{AreFates};
 
 use dds_base::Fate;
@@ -47,7 +47,8 @@ impl Fates {
 
     /// The fates, in order.
     pub(crate) fn as_slice(&self) -> &[Fate]
-        ensures { result.now ≡ self.now }
+        ensures all { result.now ≡ self.now }
+        ensures some { 0 < length result.now }
     {
         &self.all[..self.len]
     }
