@@ -1,12 +1,12 @@
 //! How much room a reader's limits leave above what a certificate shows, as the colour of its node.
 ghost use Rattle.std.specs.Prelude.{◌≡◌, option_map};
 ghost use Rattle.dds_weights.specs.Views.{certificate_view};
-ghost use Rattle.dds_draw.specs.Room.{colour_of, has_room, is_room};
+ghost use Rattle.dds_draw.specs.Room.{colour_of, has_bound, has_room, has_total, is_room};
 
 use dds_base::ReaderNo;
 use dds_check::limits::instance_limit;
 use dds_qos::ReaderLimits;
-use dds_weights::Certificate;
+use dds_weights::{Bound, Certificate, Total};
 
 /// How a number compares with a limit.
 #[derive(Clone, Copy, Debug)]
@@ -30,17 +30,39 @@ fn is_room(room: Room, number: u32, limit: Option<u32>) -> bool
     }
 }
 
+/// Whether a limit leaves this room above a bound of the reader.
+fn has_bound(bounds: &[Bound], reader: ReaderNo, limit: Option<u32>, room: Room) -> bool
+    ensures { result ≡ has_bound bounds.now reader limit room }
+{
+    bounds
+        .iter()
+        .any(|b| b.reader == reader && is_room(room, b.bound, limit))
+}
+
+/// Whether a limit leaves this room above a total of the reader.
+fn has_total(totals: &[Total], reader: ReaderNo, limit: Option<u32>, room: Room) -> bool
+    ensures { result ≡ has_total totals.now reader limit room }
+{
+    totals
+        .iter()
+        .any(|t| t.reader == reader && is_room(room, t.bound, limit))
+}
+
 /// Whether a limit of the reader leaves this room above a bound or a total of the certificate.
 fn has_room(certificate: &Certificate, reader: ReaderNo, limits: &ReaderLimits, room: Room) -> bool
     ensures { result ≡ has_room (certificate_view certificate.now) reader limits.now room }
 {
-    let of_instance = instance_limit(limits);
-    let of_samples = limits.max_samples;
-    let is_bound = certificate.bounds.iter().any(|b| b.reader == reader
-        && is_room(room, b.bound, of_instance));
-    let is_total = certificate.totals.iter().any(|t| t.reader == reader
-        && is_room(room, t.bound, of_samples));
-    is_bound || is_total
+    has_bound(
+        certificate.bounds.as_slice(),
+        reader,
+        instance_limit(limits),
+        room,
+    ) || has_total(
+        certificate.totals.as_slice(),
+        reader,
+        limits.max_samples,
+        room,
+    )
 }
 
 /// The colour of a reader's node: red where a bound or total is beyond its limit, amber where one reaches it, green

@@ -1,6 +1,9 @@
-use Rattle.std.proofs.Common.{◌≡◌, ◌∙◌, ap₂, string_bytes}
+use Rattle.std.proofs.Common.{◌≡◌, ◌∙◌, ap, ap₂, string_bytes, option_map}
+use Rattle.dds_qos.specs.Limits.{reader_limits_of}
 use Rattle.dds_weights.specs.Naming.{name_at}
-use Rattle.dds_draw.specs.Nodes.{endpoint_label, reader_node}
+use Rattle.dds_weights.specs.Views.{certificate_view}
+use Rattle.dds_draw.specs.Nodes.{certificate_lines, endpoint_label, reader_node}
+use Rattle.dds_draw.specs.Room.{colour_of}
 use Rattle.dds_draw.proofs.nodes.reader_node.Goals as goal
 
 pub returns : goal.returns
@@ -8,8 +11,12 @@ unfolding reader_node
 returns c =
     let d = c.args.lists.now in
     let x = c.args.x.now in
+    let claimed = option_map (λ c. certificate_view c.now) c.args.certificate in
     let name : c.name_at-name.result.now ≡ name_at d.readers.names c.args.reader = c.name_at-name.ensures ∙ ap₂ name_at c.reader_names.ensures c.number.ensures in
     let topic : c.name_at-topic.result.now ≡ name_at d.topics.names x.topic = c.name_at-topic.ensures ∙ ap₂ name_at c.topic_names.ensures c.number-2.ensures in
     let label : string_bytes c.in_ok-label.label ≡ endpoint_label (name_at d.readers.names c.args.reader) (name_at d.topics.names x.topic) x.qos.requested =
     c.in_ok-label.ensures ∙ ap₂ (λ own text. endpoint_label own text x.qos.requested) name topic in
-    rw (name, label, c.may_lose_line-may_lose.ensures, c.colour_of-colour.ensures, c.reader_limits-limits.ensures, c.in_ok-claims.ensures) at c.format.ensures.ok
+    let colour : c.colour_of-colour.result.now ≡ colour_of claimed c.args.reader (reader_limits_of x.qos.requested) = c.colour_of-colour.ensures ∙ ap (colour_of claimed c.args.reader) c.reader_limits-limits.ensures in
+    let claims : string_bytes c.in_ok-claims.claims ≡ certificate_lines d c.args.reader (reader_limits_of x.qos.requested) claimed =
+    c.in_ok-claims.ensures ∙ ap (λ l. certificate_lines d c.args.reader l claimed) c.reader_limits-limits.ensures in
+    rw (name, colour, label, c.may_lose_line-may_lose.ensures, claims) at c.format.ensures.ok
