@@ -1,3 +1,4 @@
+pub mod Connecting
 pub mod Exit
 pub mod Fault
 pub mod Causes

@@ -6,6 +6,7 @@
 
 mod command;
 mod commands;
+mod comparing;
 mod conformance_document;
 mod conforming;
 mod limits;
@@ -27,6 +28,7 @@ mod thorough;
 mod wishes;
 
 pub use commands::tool;
+pub use comparing::Comparison;
 pub use conforming::conform_answer;
 pub use dds_answers::{Counted, Report, ToolFault, answer_check, read_all, report_text};
 pub use limits::{Finding, limits_answer};
@@ -37,4 +39,4 @@ pub use replaying::replay_answer;
 pub use request::{NoRequest, Request, read_request};
 pub use running::run_answer;
 pub use thorough::{thorough_answer, thorough_file};
-pub use wishes::Wishes;
+pub use wishes::{GoodEnds, Wishes};

@@ -9,7 +9,7 @@ ghost use Rattle.dds_findings.specs.declared.answer.LintStyle.{LintStyle};
 ghost use Rattle.dds_tool.specs.Linting.{deny_word, form_word};
 ghost use Rattle.dds_tool.specs.Wishes.{fate_word, fates_text, format_word, style_word};
 
-use dds_answers::Format;
+use dds_answers::{Detail, Format};
 use dds_base::Fate;
 use dds_findings::{Deny, LintStyle};
 use dds_json::Style;
@@ -18,12 +18,24 @@ use dds_peers::Fates;
 /// The most fates that a list has.
 const MOST: usize = 64;
 
-/// What befalls the packets of a run, and how many samples each application writes and takes.
+/// The ends of all applications that make the answer of a run yes.
+#[derive(Clone, Copy, Debug, PartialEq, Eq)]
+pub enum GoodEnds {
+    /// Each thread ended as its application asked.
+    Stopped,
+    /// Each ended so, or since nothing changed any more.
+    StoppedOrIdle,
+}
+
+/// What befalls the packets of a run, how many samples each application writes and takes, which ends are good, and how
+/// much is told.
 #[derive(Drop)]
 pub struct Wishes {
     pub fates: Fates,
     pub writes: u16,
     pub takes: u16,
+    pub good: GoodEnds,
+    pub detail: Detail,
 }
 
 /// The format for which a word stands, or `None` where it stands for none.
