@@ -1,17 +1,19 @@
 -- A recap that follows a world follows the world after each event that it notes.
-use Rattle.std.proofs.Common.{◌≡◌, ◌≢◌, ◌∙◌, ◌⊎◌, ◌+◌, ◌*◌, ◌<◌, ◌≤◌, ℕ, suc, zero, Bool, true, false, ◌&&◌, cond, List, [], ◌∷◌, ◌++◌, Option, None, Some, Result, Ok, Err, OnOk, refl, sym, ap, subst, inl, inr, arith, length}
+use Rattle.std.proofs.Common.{◌≡◌, ◌≢◌, ◌∙◌, ◌⊎◌, ◌+◌, ◌*◌, ◌<◌, ◌≤◌, ℕ, suc, zero, Bool, true, false, ◌&&◌, cond, List, [], ◌∷◌, ◌++◌, Option, None, Some, Result, Ok, Err, OnOk, refl, sym, ap, subst, inl, inr, arith, length, get_or, take}
 use Rattle.std.specs.Prelude.{count_by, option_map, unwrap_or, ◌==◌, nat_le}
 use Rattle.std.specs.Ordering.{nat_cmp}
 use Rattle.std.specs.BTreeMap.{BTreeMap, UpdatesBy, is_at}
 use Rattle.std.specs.Map.{lookup}
 use Rattle.std.proofs.lemmas.Bool.{cases_eq, eq-eqb, le-leb, ne_eqb}
 use Rattle.dds_base.specs.Sums.{put, total}
+use Rattle.dds_base.specs.declared.portion.Portion.{Portion}
 use Rattle.dds_base.proofs.SumLaws.{total_ext, total_zero}
 use Rattle.dds_base.specs.declared.sample.Arrival.{Arrival}
 use Rattle.dds_base.specs.declared.sample.Arrival.TheVariants.{Heard, New, Overwrote}
 use Rattle.dds_base.specs.declared.messages.Packet.TheVariants.{Data, Gap, Heartbeat, AckNack}
 use Rattle.dds_base.specs.declared.events.Refusal.TheVariants.{Foreign}
 use Rattle.dds_match.specs.Network.{Network, follows, named}
+use Rattle.dds_runs.proofs.CountsWeights.{fired_put}
 use Rattle.dds_runs.specs.World.{World, Sample, Packet, entry_at, has_key, opening, spent}
 use Rattle.dds_runs.specs.Steps.{Event, Reply, Refusal, AtPlace, May, Refused, RefusedOr, Replies, Write, Written, Fire, Fired, Take, Took, SendData, SendGap, SendHeartbeat, SendAckNack, Sent, Deliver, Arrived, Acked, Lose, Dropped, after, after_acknack, after_data, after_gap, after_heartbeat, after_packet, after_watched, arrival_of_data, arrived_from, acknack_packet, data_packet, gap_packet, heartbeat_packet, packet_reply, put_packet, refusal, sample_of, send, sent_place, take_away}
 use Rattle.dds_recap.specs.Tally.{IsMoreBy, Rises, number_at, only_at, pair_cmp}
@@ -20,7 +22,7 @@ use Rattle.dds_recap.specs.declared.levels.Levels.{Levels}
 use Rattle.dds_recap.specs.declared.recap.Recap.{Recap}
 use Rattle.dds_recap.specs.declared.tally.Tally.{Tally}
 use Rattle.dds_recap.proofs.Numbers.{number_changed, pair_changed, rises_after, unchanged_rises}
-use Rattle.dds_recap.proofs.Worlds.{Stores, count_put, data_arrived, gap_stored, keys_put, length_put, other_stored, sample_key}
+use Rattle.dds_recap.proofs.Worlds.{Stores, count_put, data_arrived, gap_stored, keys_put, length_put, named_more, other_stored, sample_key}
 
 -- ── replies
 -- a reply that may come and is no refusal
@@ -71,16 +73,9 @@ unwritten_noted net w k d reply old other = none_noted net (Write w k d) reply o
 -- ── firings
 -- a sum over rules of which one fired once more
 more_fired : (c f : ℕ → ℕ) (u n : ℕ) → u < n → total n (λ x. c x * put f u (suc (f u)) x) ≡ total n (λ x. c x * f x) + c u
-unfolding total
-more_fired c f u zero less = absurd (omega arith)
-more_fired c f u (suc n) less = elim (cases_eq u n) [
-  | inl e ↦
-      let rest : total n (λ x. c x * put f u (suc (f u)) x) ≡ total n (λ x. c x * f x) = total_ext _ _ n (λ x b. let ne : u ≢ x = omega arith in rw (ne_eqb u x ne) refl) in
-      rw (eq-eqb u n e, e) (omega (arith, rest))
-  | inr ne ↦
-      let rest = more_fired c f u n (omega arith) in
-      rw (ne_eqb u n ne) (omega (arith, rest))
-]
+more_fired c f u n less =
+    total_ext (λ x. c x * put f u (suc (f u)) x) (λ x. c x * (0 + put f u (suc (f u)) x)) n (λ x b. omega arith)
+    ∙ (fired_put c (λ x. 0) f n u less ∙ ap (λ y. y + c u) (total_ext (λ x. c x * (0 + f x)) (λ x. c x * f x) n (λ x b. omega arith)))
 
 pub fire_noted : (net : Network) (u : ℕ) (old : Recap) (spent : Tally) → u < net.rules → IsMoreBy (named (net.rule u).takes) old.spent spent
     → Notes net (Fire u) Fired old (record old { spent = spent })
@@ -107,8 +102,8 @@ unfired_noted net u reply old other = none_noted net (Fire u) reply old (λ v ma
 pub unknown_noted : (net : Network) (u : ℕ) (reply : Reply) (old : Recap) → net.rules ≤ u → Notes net (Fire u) reply old old
 unknown_noted net u reply old past = none_noted net (Fire u) reply old
     (λ v may.
-        let foreign : refusal net v (Fire u) ≡ Some Foreign = rw (le-leb net.rules u past) refl in
-        ap (after net v (Fire u)) (subst (λ (o : Option Refusal). RefusedOr o reply (reply ≡ Fired)) foreign may))
+    let foreign : refusal net v (Fire u) ≡ Some Foreign = rw (le-leb net.rules u past) refl in
+    ap (after net v (Fire u)) (subst (λ (o : Option Refusal). RefusedOr o reply (reply ≡ Fired)) foreign may))
 
 -- ── takes
 pub take_noted : (net : Network) (r k : ℕ) (s : Sample) (old : Recap) (taken : Tally) (by_key in_all : Levels) → IsMoreBy (only_at r s.key 1) old.taken taken
@@ -148,7 +143,7 @@ placed : (b : Bool) (p o : Option Packet) → data_of (cond b p o) ≡ cond b (d
 placed true p o = refl
 placed false p o = refl
 
-same_place : (a b : Option ℕ) → Sent a ≡ Sent b → a ≡ b
+pub same_place : (a b : Option ℕ) → Sent a ≡ Sent b → a ≡ b
 same_place a b is = cc
 
 -- a packet was sent to this place, and what it is was noted
@@ -194,8 +189,8 @@ data_noted net w r n key i old places known u = record {
 }
 
 -- an event that sends a packet that is no DATA
-record Sends (net : Network) (e : Event) (p : World → Packet) : Type 0 where
-  pub data : (v : World) → data_of (Some (p v)) ≡ None
+pub record Sends (net : Network) (e : Event) (p : World → Packet) : Type 0 where
+  pub other : (v : World) → data_of (Some (p v)) ≡ None
   pub replies : (v : World) (reply : Reply) → May net v e reply → RefusedOr (refusal net v e) reply (reply ≡ Sent (sent_place v))
   pub after : (v : World) (o : Option ℕ) → after net v e (Sent o) ≡ send v (p v)
 
@@ -205,7 +200,7 @@ other_noted net e p i old places sends u = record {
   follows = λ v f may.
       let at = same_place (Some i) (sent_place v) (allowed (refusal net v e) (Sent (Some i)) (Sent (Some i) ≡ Sent (sent_place v)) (sends.replies v (Sent (Some i)) may) (λ x no. cc)) in
       subst (λ (w : World). Follows net w (record old { places = places })) (sym (sends.after v (Some i)))
-      (sent_follows net v (p v) i old places (subst (λ (m : Option (ℕ × ℕ)). UpdatesBy nat_cmp (nat_cmp i) old.places places m) (sym (sends.data v)) u) at f);
+      (sent_follows net v (p v) i old places (subst (λ (m : Option (ℕ × ℕ)). UpdatesBy nat_cmp (nat_cmp i) old.places places m) (sym (sends.other v)) u) at f);
   by_key = unchanged_rises old.by_key old.by_key refl;
   in_all = unchanged_rises old.in_all old.in_all refl;
 }
@@ -223,6 +218,7 @@ unsent_noted net e p reply old replies sends other = record {
     lost v f is None at =
         subst (λ (r : Reply). Follows net (after net v e r) old) (sym is) (subst (λ (w : World). Follows net w old) (sym (sends v (sent_place v))) (unsent_follows net v (p v) old at f))
     lost v f is (Some i) at = absurd (other i (is ∙ ap (λ (o : Option ℕ). Sent o) (sym at)))
+
     by : (v : World) → Follows net v old → (o : Option Refusal) → RefusedOr o reply (reply ≡ Sent (sent_place v)) → Follows net (after net v e reply) old
     by v f None is = lost v f is (sent_place v) refl
     by v f (Some x) is = subst (λ (r : Reply). Follows net (after net v e r) old) (sym is) f
@@ -231,13 +227,13 @@ pub sends_data : (net : Network) (w r n : ℕ) (reply : Reply) (old : Recap) →
 sends_data net w r n reply old other = unsent_noted net (SendData w r n) (λ v. data_packet v w r n) reply old (λ v q may. may) (λ v o. refl) other
 
 pub sends_gap : (net : Network) (w r n : ℕ) → Sends net (SendGap w r n) (λ v. gap_packet net v w r n)
-sends_gap net w r n = record { data = λ v. refl; replies = λ v q may. may; after = λ v o. refl }
+sends_gap net w r n = record { other = λ v. refl; replies = λ v q may. may; after = λ v o. refl }
 
 pub sends_heartbeat : (net : Network) (w r : ℕ) → Sends net (SendHeartbeat w r) (λ v. heartbeat_packet net v w r)
-sends_heartbeat net w r = record { data = λ v. refl; replies = λ v q may. may; after = λ v o. refl }
+sends_heartbeat net w r = record { other = λ v. refl; replies = λ v q may. may; after = λ v o. refl }
 
 pub sends_acknack : (net : Network) (r w : ℕ) → Sends net (SendAckNack r w) (λ v. acknack_packet v r w)
-sends_acknack net r w = record { data = λ v. refl; replies = λ v q may. may; after = λ v o. refl }
+sends_acknack net r w = record { other = λ v. refl; replies = λ v q may. may; after = λ v o. refl }
 
 pub none_sent : (net : Network) (e : Event) (p : World → Packet) (reply : Reply) (old : Recap) → Sends net e p → ((i : ℕ) → reply ≡ Sent (Some i) → ⊥) → Notes net e reply old old
 none_sent net e p reply old sends other = unsent_noted net e p reply old sends.replies sends.after other
@@ -425,6 +421,22 @@ more_as i j k l n old new e f more = subst (λ (q : ℕ). IsMoreBy (only_at q l 
 pub on_ok_more : {A E : Type 0} (r : Result A E) (P Q : Type 0) → (P → Q) → OnOk r P → OnOk r Q
 on_ok_more (Ok x) P Q more h = more h
 on_ok_more (Err e) P Q more h = tt
+
+pub on_ok_both : {A E : Type 0} (r : Result A E) (P Q R : Type 0) → (P → Q → R) → OnOk r P → OnOk r Q → OnOk r R
+on_ok_both (Ok x) P Q R more p q = more p q
+on_ok_both (Err e) P Q R more p q = tt
+
+-- the takes of one element more are spent
+pub spent_more : (es : List (Portion ℕ)) (n i k c : ℕ) (e : Portion ℕ) (old mid new : Tally) → n < length es → e ≡ get_or es n e → i ≡ e.endpoint → k ≡ e.key → c ≡ e.count
+    → IsMoreBy (named (take n es)) old mid → IsMoreBy (only_at i k c) mid new → IsMoreBy (named (take (n + 1) es)) old new
+spent_more es n i k c e old mid new within at endpoint key count before one = record {
+  numbers = λ r l.
+      let more = named_more es n e r l within at in
+      let first = before.numbers r l in
+      let second : number_at new r l ≡ number_at mid r l + only_at e.endpoint e.key e.count r l =
+      one.numbers r l ∙ (ap (λ (q : ℕ). number_at mid r l + only_at q k c r l) endpoint ∙ (ap (λ (q : ℕ). number_at mid r l + only_at e.endpoint q c r l) key ∙ ap (λ (q : ℕ). number_at mid r l + only_at e.endpoint e.key q r l) count)) in
+      omega (arith, more, first, second);
+}
 
 -- one sample more is stored
 pub new_arrives : (r k : ℕ) (x : Recap) (by_key in_all : Levels) → IsMoreBy (only_at r k 1) x.by_key.came by_key.came → by_key.gone ≡ x.by_key.gone → Rises x.by_key by_key

@@ -164,10 +164,10 @@ data_arrived net v r s a true = watched_stored v r s a
 data_arrived net v r s a false = data_stored v v r s a refl refl refl refl refl refl
 
 -- no other packet stores anything, whatever is told of it
-other_stored : (a : Arrival) (v w : World) → w.written ≡ v.written → w.fired ≡ v.fired → w.bus ≡ v.bus → w.taken ≡ v.taken → w.received ≡ v.received → w.overwritten ≡ v.overwritten
+pub other_stored : (a : Arrival) (v w : World) → w.written ≡ v.written → w.fired ≡ v.fired → w.bus ≡ v.bus → w.taken ≡ v.taken → w.received ≡ v.received → w.overwritten ≡ v.overwritten
     → Stores None a v w
 other_stored a v w written fired bus taken received overwritten = none_stored None a v w written fired bus taken received overwritten (λ r k. refl) (λ r k. refl) (λ r. refl) (λ r. refl)
 
-gap_stored : (a : Arrival) (v w : World) (b : Bool) → Stores None a v w → Stores None a v (cond b w v)
+pub gap_stored : (a : Arrival) (v w : World) (b : Bool) → Stores None a v w → Stores None a v (cond b w v)
 gap_stored a v w true is = is
 gap_stored a v w false is = other_stored a v v refl refl refl refl refl refl

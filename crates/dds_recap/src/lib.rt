@@ -3,8 +3,14 @@
 //! looked at.
 #![tactic(auto)]
 
+mod ends;
+mod explaining;
+mod fullest;
+mod idling;
 mod levels;
-
-
 mod recap;
 mod tally;
+mod waits;
+
+pub use ends::{GoodEnds, all_good};
+pub use explaining::explain_run;

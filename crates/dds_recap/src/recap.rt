@@ -8,7 +8,7 @@ ghost use Rattle.dds_runs.specs.Steps.{Write, Fire, Take, SendData, SendGap, Sen
 ghost use Rattle.dds_base.specs.Sums.{put};
 ghost use Rattle.dds_base.specs.declared.sample.Arrival.TheVariants.{New};
 ghost use Rattle.dds_recap.specs.Recap.{Arrives, Follows, Notes, key_at, place_at, spare_at};
-ghost use Rattle.dds_recap.specs.Tally.{IsMoreBy, IsTight};
+ghost use Rattle.dds_recap.specs.Tally.{IsMoreBy, IsTight, most_at, most_in_all_at};
 
 use crate::levels::Levels;
 use crate::tally::Tally;
@@ -35,6 +35,8 @@ impl Recap {
         ensures follows { (net : Network) → Follows net opening result }
         ensures by_key { IsTight result.by_key }
         ensures in_all { IsTight result.in_all }
+        ensures of_key { (r k : ℕ) → most_at result.by_key r k ≡ 0 }
+        ensures of_all { (r : ℕ) → most_in_all_at result.in_all r ≡ 0 }
     {
         Recap {
             keys: BTreeMap::new(alloc),
@@ -64,7 +66,8 @@ impl Recap {
     {
         for taken in takes {
             let count = u64::from(taken.count);
-            self.spent.add(taken.endpoint.number(), taken.key.number(), count)?;
+            self.spent
+                .add(taken.endpoint.number(), taken.key.number(), count)?;
         }
         Ok(())
     }
@@ -163,12 +166,7 @@ impl Recap {
     }
 
     // Notes what the DATA of a key did that arrived at a reader.
-    fn note_arrival(
-        &mut self,
-        reader: usize,
-        key: usize,
-        arrival: &Arrival,
-    ) -> Result<(), NoMemory>
+    fn note_arrival(&mut self, reader: usize, key: usize, arrival: &Arrival) -> Result<(), NoMemory>
         ensures { OnOk result (Arrives (Some (reader, key)) arrival.now self.old self.new) }
     {
         match arrival {
@@ -225,12 +223,7 @@ impl Recap {
     }
 
     /// Notes an event of the plan and its reply. `NoMemory` is the only error; what was noted is then of no use.
-    pub(crate) fn note(
-        &mut self,
-        plan: &Plan,
-        event: &Event,
-        reply: &Reply,
-    ) -> Result<(), NoMemory>
+    pub(crate) fn note(&mut self, plan: &Plan, event: &Event, reply: &Reply) -> Result<(), NoMemory>
         ensures { OnOk result (Notes (network_of plan.now) event.now reply.now self.old self.new) }
     {
         match event {
@@ -238,7 +231,15 @@ impl Recap {
             Event::Fire { rule } => self.note_firing(plan, *rule, reply),
             Event::Take { reader, .. } => self.note_take(*reader, reply),
             Event::SendData { writer, reader, sn } => self.note_data(*writer, *reader, *sn, reply),
-            Event::SendGap { .. } | Event::SendHeartbeat { .. } | Event::SendAckNack { .. } => {
+            Event::SendGap { .. } => {
+                self.note_sent(reply);
+                Ok(())
+            }
+            Event::SendHeartbeat { .. } => {
+                self.note_sent(reply);
+                Ok(())
+            }
+            Event::SendAckNack { .. } => {
                 self.note_sent(reply);
                 Ok(())
             }

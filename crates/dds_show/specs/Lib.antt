@@ -1,4 +1,3 @@
-pub mod Connections
 pub mod Words
 pub mod Pieces
 pub mod Policies

@@ -1,5 +1,5 @@
 -- What a run of files gives.
-use Rattle.std.proofs.Common.{◌≡◌, ◌≤◌, ◌<◌, ◌⊎◌, ◌∙◌, ℕ, List, length, map, Option, Some, None, Result, Ok, Err, refl, sym, ap, inl, inr, string_bytes, subst}
+use Rattle.std.proofs.Common.{Bool, IfErr, IfOk, ◌≡◌, ◌≤◌, ◌<◌, ◌⊎◌, ◌∙◌, ℕ, List, length, map, Option, Some, None, Result, Ok, Err, refl, sym, ap, inl, inr, string_bytes, subst}
 use Rattle.std.specs.Result.{IsErrAnd}
 use Rattle.std.proofs.lemmas.List.{length-map}
 use Rattle.std.proofs.lemmas.List.FromFn.{length-map-range_with_len}
@@ -16,15 +16,17 @@ use Rattle.dds_book.specs.declared.entry.Entry.{Entry}
 use Rattle.dds_book.specs.Journal.{IsJournal}
 use Rattle.dds_apps.specs.declared.player.AppEnd.{AppEnd}
 use Rattle.dds_answers.specs.declared.answer.Answer.{Answer}
+use Rattle.dds_answers.specs.declared.report.Detail.{Detail}
 use Rattle.dds_answers.specs.declared.fault.ToolFault.{ToolFault}
 use Rattle.dds_answers.specs.declared.fault.ToolFault.TheVariants as fault
-use Rattle.dds_answers.specs.Answers.{Gives}
+use Rattle.dds_answers.specs.Answers.{Gives, SaysNothing}
 use Rattle.dds_answers.specs.Outcome.{Outcome, accepted, bad_certificate, bad_deployment, file_outcome, judged, outcome, planned, refused, said, too_large, verdict}
 use Rattle.dds_answers.specs.Reading.{IsReadingFault}
 use Rattle.dds_answers.specs.Report.{Tells}
 use Rattle.dds_answers.proofs.FileEnds.{few_of_files, large_of_files, unread_gives_one}
 use Rattle.dds_tool.specs.RunEnds.{GivesRun, MayRun}
-use Rattle.dds_tool.specs.Running.{all_good, app_names, because_of}
+use Rattle.dds_tool.specs.Running.{app_names, because_of}
+use Rattle.dds_recap.specs.Ends.{all_good}
 use Rattle.dds_json.proofs.Ends.{says}
 use Rattle.dds_json.specs.Ends.{in_style}
 use Rattle.dds_json.specs.declared.style.Style.{Style}
@@ -104,9 +106,28 @@ accepted_read d c lists cert is = by_read (read d) is
     by_verdict : (first : Option No) (plan : Lists) (found : Certificate) → verdict first plan found ≡ accepted lists cert → plan ≡ lists
     by_verdict None plan found same = cc
     by_verdict (Some no) plan found same = absurd (let wrong : refused no plan found ≡ accepted lists cert = same in cc)
+
     by_judged : (plan : Lists) (found : Read Certificate) → judged plan found ≡ accepted lists cert → plan ≡ lists
     by_judged plan (Ok found) same = by_verdict (first_no plan found) plan found same
     by_judged plan (Err flaw) same = absurd (let wrong : bad_certificate flaw ≡ accepted lists cert = same in cc)
+
     by_read : (r : Read Lists) → planned r c ≡ accepted lists cert → r ≡ Ok lists
     by_read (Ok plan) same = ap (λ (p : Lists). Ok p) (by_judged plan (certificate.read plan c) same)
     by_read (Err flaw) same = absurd (let wrong : bad_deployment flaw ≡ accepted lists cert = same in cc)
+
+-- the same of what is told of a deployment that is read as these lists
+pub told_lines : (style : Style) (is_yes : Bool) (r : Read Lists) (d : Lists) (detail : Detail) (journal : List Entry) (ends : List AppEnd) (because : Option (List ℕ)) (names : List (List ℕ)) (text : List ℕ)
+    → r ≡ Ok d → IfOk r (λ lists. because ≡ because_of detail lists journal ends) → names ≡ app_names d → text ≡ told_run style is_yes because names journal ends
+    → text ≡ told_run style is_yes (because_of detail d journal ends) (app_names d) journal ends
+told_lines style is_yes r d detail journal ends because names text at told are is =
+    let known : because ≡ because_of detail d journal ends = subst (λ (x : Read Lists). IfOk x (λ lists. because ≡ because_of detail lists journal ends)) at told in
+    is ∙ (ap (λ (b : Option (List ℕ)). told_run style is_yes b names journal ends) known ∙ ap (λ (ns : List (List ℕ)). told_run style is_yes (because_of detail d journal ends) ns journal ends) are)
+
+-- an answer that tells a run, if there was memory for it, is what the run gives
+pub answered_run : (wishes : Wishes) (style : Style) (d : Lists) (c : Certificate) (r : Read Lists) (journal : List Entry) (ends : List AppEnd) (because : Option (List ℕ)) (names : List (List ℕ)) (answer : Result Answer ToolFault)
+    → IsJournal d journal → length ends ≡ length d.applications.entries → r ≡ Ok d → IfOk r (λ lists. because ≡ because_of wishes.detail lists journal ends) → names ≡ app_names d
+    → IfOk answer (λ a. string_bytes a.text ≡ told_run style (all_good wishes.good ends) because names journal ends) → IfOk answer (λ a. a.is_yes ≡ all_good wishes.good ends)
+    → IfErr answer (λ e. e ≡ fault.NoMemory) → GivesRun wishes style (accepted d c) answer
+answered_run wishes style d c r journal ends because names (Ok a) is count at told are text yes memory =
+    ran_gives wishes style d c journal ends a is count (told_lines style (all_good wishes.good ends) r d wishes.detail journal ends because names (string_bytes a.text) at told are text) yes
+answered_run wishes style d c r journal ends because names (Err e) is count at told are text yes memory = inr (inl (subst SaysNothing (sym memory) tt))

@@ -10,8 +10,8 @@ use Rattle.clap.specs.declared.error.kind.ErrorKind.TheVariants as kind
 use Rattle.dds_peers.specs.Fates.{AreFates}
 use Rattle.dds_tool.specs.Command.{whole}
 use Rattle.dds_tool.specs.Wishes.{fates_text, format_word, style_word}
-use Rattle.dds_tool.specs.declared.wishes.GoodEnds.{GoodEnds}
-use Rattle.dds_tool.specs.declared.wishes.GoodEnds.TheVariants.{Stopped, StoppedOrIdle}
+use Rattle.dds_recap.specs.declared.ends.GoodEnds.{GoodEnds}
+use Rattle.dds_recap.specs.declared.ends.GoodEnds.TheVariants.{Stopped, StoppedOrIdle}
 use Rattle.dds_tool.specs.declared.wishes.Wishes.{Wishes}
 use Rattle.dds_tool.specs.declared.comparing.Comparison.{Comparison}
 use Rattle.dds_tool.specs.declared.comparing.Comparison.TheVariants.{Pairs, Connections}

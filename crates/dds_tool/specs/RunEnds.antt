@@ -13,7 +13,8 @@ use Rattle.dds_json.specs.Ends.{in_style}
 use Rattle.dds_json.specs.declared.style.Style.{Style}
 use Rattle.dds_tool.specs.RunDocument.{told_run}
 use Rattle.dds_lists.specs.Lists.{Lists}
-use Rattle.dds_tool.specs.Running.{all_good, app_names, because_of}
+use Rattle.dds_tool.specs.Running.{app_names, because_of}
+use Rattle.dds_recap.specs.Ends.{all_good}
 use Rattle.dds_tool.specs.declared.wishes.Wishes.{Wishes}
 
 -- what is said of a run by its journal and the ends of its applications' threads

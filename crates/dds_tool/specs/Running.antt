@@ -1,7 +1,7 @@
 -- The lines that tell of a run.
 use Rattle.std.specs.Prelude.{ℕ, Bool, true, false, List, [], ◌++◌, codes, length, map, Option, Some, None}
 use Rattle.std.specs.Fmt.{decimal}
-use Rattle.std.specs.List.{count_by, list_all, range_with_len, slice_index_or}
+use Rattle.std.specs.List.{count_by, range_with_len, slice_index_or}
 use Rattle.dds_base.specs.declared.events.Event.{Event}
 use Rattle.dds_base.specs.declared.events.Reply.{Reply}
 use Rattle.dds_base.specs.declared.events.Reply.TheVariants.{Took, Written}
@@ -15,8 +15,6 @@ use Rattle.dds_apps.specs.Kept.{entries_of}
 use Rattle.dds_answers.specs.declared.report.Detail.{Detail}
 use Rattle.dds_answers.specs.declared.report.Detail.TheVariants.{Plain, Explained}
 use Rattle.dds_recap.specs.Explanation.{explanation}
-use Rattle.dds_tool.specs.declared.wishes.GoodEnds.{GoodEnds}
-use Rattle.dds_tool.specs.declared.wishes.GoodEnds.TheVariants.{StoppedOrIdle}
 
 -- the reply tells of a sample that was written
 abbrev pub tells_of_write : Reply → Bool
@@ -62,16 +60,6 @@ line_at names journal ends app = app_line (slice_index_or names app []) (entries
 -- the lines of the applications with these names
 abbrev pub run_lines : List (List ℕ) → List Entry → List AppEnd → List ℕ
 run_lines names journal ends = each_below (length names) (line_at names journal ends)
-
--- the end of an application's thread is good: it ended as the application asked, or was idle where that is good too
-abbrev pub is_good : GoodEnds → AppEnd → Bool
-is_good good end.Stopped = true
-is_good StoppedOrIdle end.Idle = true
-is_good _ _ = false
-
--- all are
-abbrev pub all_good : GoodEnds → List AppEnd → Bool
-all_good good ends = list_all (is_good good) ends
 
 -- what the journal of a run comes to, where that is asked for
 abbrev pub because_of : Detail → Lists → List Entry → List AppEnd → Option (List ℕ)

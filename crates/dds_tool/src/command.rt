@@ -49,8 +49,7 @@ const CONNECTIONS: &str =
 const IDLE_OK: &str = "Ends with status 0 too where applications were idle";
 
 /// What help says of the flag of an explained run.
-const EXPLAIN_RUN: &str =
-    "Tells how full each reader was too, and what idle applications wait for";
+const EXPLAIN_RUN: &str = "Tells how full each reader was too, and what idle applications wait for";
 
 /// What help says of the style of an answer.
 const STYLE: &str = "text or json";

@@ -39,4 +39,4 @@ pub use replaying::replay_answer;
 pub use request::{NoRequest, Request, read_request};
 pub use running::run_answer;
 pub use thorough::{thorough_answer, thorough_file};
-pub use wishes::{GoodEnds, Wishes};
+pub use wishes::Wishes;

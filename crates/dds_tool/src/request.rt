@@ -18,12 +18,13 @@ ghost use Rattle.dds_tool.specs.Wishes.{format_word};
 use crate::command::whole_command;
 use crate::comparing::Comparison;
 use crate::limits::Finding;
-use crate::wishes::{GoodEnds, Wishes, read_deny, read_fates, read_form, read_format, read_style};
+use crate::wishes::{Wishes, read_deny, read_fates, read_form, read_format, read_style};
 use clap::ArgMatches;
 use clap::error::ErrorKind;
 use dds_answers::{Detail, Format};
 use dds_findings::{Deny, LintStyle};
 use dds_json::Style;
+use dds_recap::GoodEnds;
 use std::alloc::Global;
 use std::convert::AsStr;
 
@@ -376,14 +377,15 @@ fn match_request<'a>(alloc: Global, matches: &ArgMatches<'a>) -> Result<Request<
 {
     let what = comparison(matches);
     let (deployment, style) = styled_deployment(alloc, matches)?;
-    if !is_printed(what, style) {
-        return Err(usage(alloc, PLAIN_CONNECTIONS));
+    if is_printed(what, style) {
+        Ok(Request::Match {
+            deployment,
+            what,
+            style,
+        })
+    } else {
+        Err(usage(alloc, PLAIN_CONNECTIONS))
     }
-    Ok(Request::Match {
-        deployment,
-        what,
-        style,
-    })
 }
 
 fn check_request<'a>(alloc: Global, matches: &ArgMatches<'a>) -> Result<Request<'a>, NoRequest>

@@ -57,25 +57,24 @@ fn app_documents(
 fn run_document(
     alloc: Global,
     is_yes: bool,
-    because: Option<&str>,
+    because: &Option<String>,
     names: &[String],
     journal: &Journal,
     ends: &[AppEnd],
 ) -> Result<Value, NoMemory>
     requires { length ends.now ≡ length names.now }
     ensures { IfOk result
-        (λ v. view v ≡ run_document is_yes (option_map (λ s. s.now) because.entry) (map string_bytes names.now)
+        (λ v. view v ≡ run_document is_yes (option_map string_bytes because.now) (map string_bytes names.now)
         journal.now ends.now) }
 {
     let applications = Value::Array(app_documents(alloc, names, journal, ends)?);
     let answer = answer_word(is_yes);
     match because {
         None => json!(in alloc; {"answer": answer, "applications": applications}),
-        Some(because) => json!(in alloc; {
-            "answer": answer,
-            "applications": applications,
-            "because": because
-        }),
+        Some(because) => {
+            let because = because.as_str();
+            json!(in alloc; {"answer": answer, "applications": applications, "because": because})
+        }
     }
 }
 
@@ -83,7 +82,7 @@ fn run_document(
 pub(crate) fn run_line(
     alloc: Global,
     is_yes: bool,
-    because: Option<&str>,
+    because: &Option<String>,
     names: &[String],
     journal: &Journal,
     ends: &[AppEnd],
@@ -91,7 +90,7 @@ pub(crate) fn run_line(
     requires { length ends.now ≡ length names.now }
     ensures { IfOk result
         (λ text. string_bytes text
-        ≡ line_of (run_document is_yes (option_map (λ s. s.now) because.entry) (map string_bytes names.now) journal.now
+        ≡ line_of (run_document is_yes (option_map string_bytes because.now) (map string_bytes names.now) journal.now
         ends.now)) }
 {
     let document = run_document(alloc, is_yes, because, names, journal, ends)?;

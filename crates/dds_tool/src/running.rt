@@ -12,11 +12,13 @@ ghost use Rattle.dds_answers.specs.Report.{outcome_of};
 ghost use Rattle.dds_json.specs.Ends.{in_style};
 ghost use Rattle.dds_tool.specs.RunDocument.{told_run};
 ghost use Rattle.dds_tool.specs.RunEnds.{GivesRun};
-ghost use Rattle.dds_tool.specs.Running.{all_good, app_line, app_names, because_of, end_word, is_good};
+ghost use Rattle.dds_tool.specs.Running.{app_line, app_names, because_of, end_word};
+ghost use Rattle.dds_recap.specs.Ends.{all_good};
+ghost use Rattle.dds_recap.specs.Explanation.{explanation};
 ghost use Rattle.dds_tool.specs.Running.{is_taken, is_written, run_lines};
 
 use crate::run_document::run_line;
-use crate::wishes::{GoodEnds, Wishes};
+use crate::wishes::Wishes;
 use dds_answers::{Answer, Detail, Report, ToolFault, answer_check, read_plan, reported};
 use dds_base::{AppNo, NoMemory, Reply};
 use dds_book::{Entry, Journal};
@@ -25,7 +27,7 @@ use dds_json::{Style, reported_in_json};
 use dds_lists::Deployment;
 use dds_match::Plan;
 use dds_peers::{App, AppEnd, Gate, Limits, Outcome, RunFault, Steady, gauge_of, run_peers};
-use dds_recap::explain_run;
+use dds_recap::{GoodEnds, all_good, explain_run};
 use dds_weights::naming::name_at;
 use std::alloc::Global;
 use std::sync::Wait;
@@ -132,28 +134,10 @@ fn run_text(
     Ok(text)
 }
 
-/// Whether the end of an application's thread is good.
-fn is_good(good: GoodEnds, end: AppEnd) -> bool
-    ensures { result ≡ is_good good end }
-{
-    match end {
-        AppEnd::Stopped => true,
-        AppEnd::Idle => matches!(good, GoodEnds::StoppedOrIdle),
-        AppEnd::CallLimit | AppEnd::NoMemory | AppEnd::NotYours | AppEnd::Cut => false,
-    }
-}
-
-/// Whether the ends of all applications' threads are.
-fn all_good(good: GoodEnds, ends: &[AppEnd]) -> bool
-    ensures { result ≡ all_good good ends.now }
-{
-    ends.iter().all(|end| is_good(good, *end))
-}
-
 /// The lines of a run, with what its journal comes to after them, if that is there.
 fn explained_text(
     alloc: Global,
-    because: Option<&str>,
+    because: &Option<String>,
     names: &[String],
     journal: &Journal,
     ends: &[AppEnd],
@@ -162,11 +146,11 @@ fn explained_text(
     ensures { IfOk result
         (λ text. string_bytes text
         ≡ run_lines (map string_bytes names.now) journal.now ends.now
-        ++ unwrap_or (option_map (λ s. s.now) because.entry) []) }
+        ++ unwrap_or (option_map string_bytes because.now) []) }
 {
     let mut text = run_text(alloc, names, journal, ends)?;
     if let Some(because) = because {
-        text.push_str(because)?;
+        text.push_str(because.as_str())?;
     }
     Ok(text)
 }
@@ -175,7 +159,7 @@ fn explained_text(
 fn told_run(
     alloc: Global,
     is_yes: bool,
-    because: Option<&str>,
+    because: &Option<String>,
     names: &[String],
     journal: &Journal,
     ends: &[AppEnd],
@@ -184,7 +168,7 @@ fn told_run(
     requires { length ends.now ≡ length names.now }
     ensures { IfOk result
         (λ text. string_bytes text
-        ≡ told_run style is_yes (option_map (λ s. s.now) because.entry) (map string_bytes names.now) journal.now
+        ≡ told_run style is_yes (option_map string_bytes because.now) (map string_bytes names.now) journal.now
         ends.now) }
 {
     match style {
@@ -193,8 +177,48 @@ fn told_run(
     }
 }
 
-/// What the journal of a run of a deployment comes to, where that is asked for. The run has used up its plan, so the
-/// deployment is read once more.
+/// What the journal of a run of a plan comes to.
+fn told_recap(
+    alloc: Global,
+    plan: &Plan,
+    journal: &Journal,
+    ends: &[AppEnd],
+) -> Result<String, ToolFault>
+    requires journal { IsJournal plan.now journal.now }
+    requires ends { length ends.now ≡ length plan.now.applications.entries }
+    ensures text { IfOk result (λ text. string_bytes text ≡ explanation plan.now journal.now ends.now) }
+    ensures fault { IfErr result (λ e. e ≡ ToolFault.NoMemory) }
+{
+    match explain_run(alloc, plan, journal.entries(), ends) {
+        Ok(text) => Ok(text),
+        Err(_) => Err(ToolFault::NoMemory),
+    }
+}
+
+/// What the journal of a run of a deployment comes to. The run has used up its plan, so the deployment is read once
+/// more.
+fn explained(
+    alloc: Global,
+    deployment: &[u8],
+    journal: &Journal,
+    ends: &[AppEnd],
+) -> Result<String, ToolFault>
+    requires { IfOk (deployment_read deployment.now)
+        (λ d. IsJournal d journal.now × (length ends.now ≡ length d.applications.entries)) }
+    ensures text { IfOk result
+        (λ text. IfOk (deployment_read deployment.now)
+        (λ d. string_bytes text ≡ explanation d journal.now ends.now)) }
+    ensures fault { IfErr result (λ e. e ≡ ToolFault.NoMemory) }
+{
+    let Ok(plan) = read_plan(alloc, deployment) else {
+        return Err(ToolFault::NoMemory);
+    };
+    let told = told_recap(alloc, &plan, journal, ends);
+    drop(plan);
+    told
+}
+
+/// What the journal of a run of a deployment comes to, where that is asked for.
 fn because_of(
     alloc: Global,
     deployment: &[u8],
@@ -209,15 +233,12 @@ fn because_of(
         (λ d. option_map string_bytes because ≡ because_of detail d journal.now ends.now)) }
     ensures fault { IfErr result (λ e. e ≡ ToolFault.NoMemory) }
 {
-    let Detail::Explained = detail else {
-        return Ok(None);
-    };
-    let Ok(plan) = read_plan(alloc, deployment) else {
-        return Err(ToolFault::NoMemory);
-    };
-    match explain_run(alloc, &plan, journal.entries(), ends) {
-        Ok(text) => Ok(Some(text)),
-        Err(_) => Err(ToolFault::NoMemory),
+    match detail {
+        Detail::Plain => Ok(None),
+        Detail::Explained => match explained(alloc, deployment, journal, ends) {
+            Ok(text) => Ok(Some(text)),
+            Err(fault) => Err(fault),
+        },
     }
 }
 
@@ -307,7 +328,7 @@ fn ran<R: Threads + Wait + Clock + Sync>(
 /// The answer that tells a run: yes where all ends of its applications' threads are good.
 fn told_answer(
     alloc: Global,
-    because: Option<&str>,
+    because: &Option<String>,
     names: &[String],
     journal: &Journal,
     ends: &[AppEnd],
@@ -317,7 +338,7 @@ fn told_answer(
     requires { length ends.now ≡ length names.now }
     ensures text { IfOk result
         (λ a. string_bytes a.text
-        ≡ told_run style (all_good good ends.now) (option_map (λ s. s.now) because.entry)
+        ≡ told_run style (all_good good ends.now) (option_map string_bytes because.now)
         (map string_bytes names.now) journal.now ends.now) }
     ensures yes { IfOk result (λ a. a.is_yes ≡ all_good good ends.now) }
     ensures fault { IfErr result (λ e. e ≡ ToolFault.NoMemory) }
@@ -354,7 +375,7 @@ fn played<R: Threads + Wait + Clock + Sync>(
     let because = because_of(alloc, deployment, &journal, ends.as_slice(), wishes.detail)?;
     told_answer(
         alloc,
-        because.as_ref().map(|text| text.as_str()),
+        &because,
         names.as_slice(),
         &journal,
         ends.as_slice(),
@@ -375,7 +396,8 @@ fn told_check(alloc: Global, report: Report, style: Style) -> Result<Answer, Too
 }
 
 /// The answer of `run` to the bytes of a deployment and of a certificate, told in this style: a no of the checker as
-/// `check` answers it, and else what the applications did: yes where all ends of their threads are good. `Run` comes where the journal became full or a thread couldn't be made.
+/// `check` answers it, and else what the applications did: yes where all ends of their threads are good. `Run` comes
+/// where the journal became full or a thread couldn't be made.
 pub fn run_answer<R: Threads + Wait + Clock + Sync>(
     rt: &R,
     alloc: Global,

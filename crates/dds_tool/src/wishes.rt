@@ -14,18 +14,10 @@ use dds_base::Fate;
 use dds_findings::{Deny, LintStyle};
 use dds_json::Style;
 use dds_peers::Fates;
+use dds_recap::GoodEnds;
 
 /// The most fates that a list has.
 const MOST: usize = 64;
-
-/// The ends of all applications that make the answer of a run yes.
-#[derive(Clone, Copy, Debug, PartialEq, Eq)]
-pub enum GoodEnds {
-    /// Each thread ended as its application asked.
-    Stopped,
-    /// Each ended so, or since nothing changed any more.
-    StoppedOrIdle,
-}
 
 /// What befalls the packets of a run, how many samples each application writes and takes, which ends are good, and how
 /// much is told.

@@ -10,9 +10,9 @@ returns-in-Some c =
     let here : Some (c.in-Some.reader, c.in-Some.key) ≡ place_at c.args.self.now c.args.place = cc in
     on_ok_more c.note_arrival.result _ ((net : Network) → Notes net (Deliver c.args.place c.args.keep) c.args.reply.now c.args.self.now c.note_arrival.new.self)
     (λ arrives net.
-        subst (λ (reply : Reply). Notes net (Deliver c.args.place c.args.keep) reply c.args.self.now c.note_arrival.new.self) (sym c.in-Arrived.is)
-        (arrival_noted net c.args.place c.args.keep (Some (c.in-Some.reader, c.in-Some.key)) c.in-Arrived.arrival c.args.self.now c.clear.new.self c.note_arrival.new.self here c.clear.ensures.same
-        c.clear.ensures.places arrives))
+    subst (λ (reply : Reply). Notes net (Deliver c.args.place c.args.keep) reply c.args.self.now c.note_arrival.new.self) (sym c.in-Arrived.is)
+    (arrival_noted net c.args.place c.args.keep (Some (c.in-Some.reader, c.in-Some.key)) c.in-Arrived.arrival c.args.self.now c.clear.new.self c.note_arrival.new.self here c.clear.ensures.same
+    c.clear.ensures.places arrives))
     c.note_arrival.ensures
 
 pub returns-in-None : goal.returns-in-None
