@@ -4,8 +4,8 @@ ghost use Rattle.std.specs.Prelude.{◌≡◌, IfOk, option_map, string_bytes};
 ghost use Rattle.dds_lists.specs.Views.{reader_view, rule_view, writer_view};
 ghost use Rattle.dds_weights.specs.Views.{certificate_view};
 ghost use Rattle.dds_draw.specs.Nodes.{bound_line, certificate_lines, endpoint_label, history_line, limit_line};
-ghost use Rattle.dds_draw.specs.Nodes.{limit_words, may_lose_line, policies_lines, reader_node, reliability_line, rule_node};
-ghost use Rattle.dds_draw.specs.Nodes.{start_line, total_line, writer_node};
+ghost use Rattle.dds_draw.specs.Nodes.{limit_words, may_lose_line, policies_lines, reader_node, reliability_line};
+ghost use Rattle.dds_draw.specs.Nodes.{rule_node, start_line, total_line, writer_node};
 
 use crate::room::colour_of;
 use dds_base::{ReaderNo, RuleNo, WriterNo};
