@@ -7,7 +7,6 @@ mod kits;
 mod longest;
 mod meeting;
 mod plans;
-mod rounds;
 mod runs;
 mod scripts;
 mod seats;
