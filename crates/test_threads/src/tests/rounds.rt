@@ -12,60 +12,87 @@ use std::process::Abort;
 use std::test::Fail;
 use test_model::worked::event_of;
 
-/// A round: the seat, and how many events it may enter; and what it comes to: how many it enters, why it ends, and the
-/// participant's pace then.
-type Expected = (usize, u64, u64, RoundEnd, Pace);
+/// A round, and what it comes to.
+#[derive(Clone, Copy)]
+struct Case {
+    seat: usize,
+    /// How many events it may enter.
+    limit: u64,
+    /// The participant's pace before it.
+    from: Pace,
+    entered: u64,
+    end: RoundEnd,
+    /// The participant's pace after it.
+    to: Pace,
+}
+
+/// Before a participant's first turn.
+const START: Pace = Pace {
+    turn: 0,
+    moved: 0,
+    heartbeats: 0,
+};
+
+/// After the first round, which ends with turn 4.
+const SENT: Pace = Pace {
+    turn: 5,
+    moved: 0,
+    heartbeats: 1,
+};
+
+/// After the second round, which ends with turn 12.
+const SENT_AGAIN: Pace = Pace {
+    turn: 13,
+    moved: 1,
+    heartbeats: 2,
+};
 
 /// Rounds after the calls: a sample was sent and has arrived, and isn't acknowledged.
-const ROUNDS: [Expected; 4] = [
+const ROUNDS: [Case; 4] = [
     // In turn 4 the HEARTBEAT of the writer is due.
-    (
-        2,
-        1,
-        1,
-        RoundEnd::Full,
-        Pace {
-            turn: 5,
-            moved: 0,
-            heartbeats: 1,
-        },
-    ),
+    Case {
+        seat: 2,
+        limit: 1,
+        from: START,
+        entered: 1,
+        end: RoundEnd::Full,
+        to: SENT,
+    },
     // In turn 5 it arrives. Nobody can have answered in turn 12, so it's sent again.
-    (
-        2,
-        u64::MAX,
-        2,
-        RoundEnd::GivesWay,
-        Pace {
-            turn: 13,
-            moved: 1,
-            heartbeats: 2,
-        },
-    ),
+    Case {
+        seat: 2,
+        limit: 100,
+        from: SENT,
+        entered: 2,
+        end: RoundEnd::GivesWay,
+        to: SENT_AGAIN,
+    },
     // In turn 1 it arrives, in turn 6 it's answered, and in turn 7 the answer arrives. Then eight turns have nothing.
-    (
-        3,
-        u64::MAX,
-        3,
-        RoundEnd::Quiet,
-        Pace {
+    Case {
+        seat: 3,
+        limit: 100,
+        from: START,
+        entered: 3,
+        end: RoundEnd::Quiet,
+        to: Pace {
             turn: 16,
             moved: 2,
             heartbeats: 0,
         },
-    ),
-    // The sample is acknowledged.
-    (
-        2,
-        u64::MAX,
-        0,
-        RoundEnd::Quiet,
-        Pace {
+    },
+    // The sample is acknowledged, so there's nothing to do.
+    Case {
+        seat: 2,
+        limit: 100,
+        from: SENT_AGAIN,
+        entered: 0,
+        end: RoundEnd::Quiet,
+        to: Pace {
             turn: 21,
             moved: 1,
             heartbeats: 2,
         },
-    ),
+    },
 ];
 
 fn make_calls<N: Name>(rt: &impl Abort, state: &mut BookState<N>, seats: &mut Vec<Seat<N>>) {
@@ -90,23 +117,27 @@ fn round_of<N: Name>(
     state.turns(seat, pace, &[FATE], limit)
 }
 
+fn expect_round<N: Name>(
+    rt: &impl Abort,
+    state: &mut BookState<N>,
+    seat: &mut Seat<N>,
+    case: &Case,
+) {
+    let before = state.changes();
+    let mut pace = case.from;
+    let round = round_of(rt, state, seat, &mut pace, case.limit);
+    let changes = before.saturating_add(case.entered);
+    expect_equal(rt, round.entered, case.entered, "events of a round");
+    expect_equal(rt, round.end, case.end, "the end of a round");
+    expect_equal(rt, round.changes, changes, "changes");
+    expect_equal(rt, pace, case.to, "the pace after a round");
+}
+
 fn expect_rounds<N: Name>(rt: &impl Abort, state: &mut BookState<N>, seats: &mut Vec<Seat<N>>) {
-    let mut paces = [Pace::default(); 4];
-    for (number, limit, entered, end, pace) in &ROUNDS {
-        let (Some(seat), Some(own)) = (seats.get_mut(*number), paces.get_mut(*number)) else {
-            panic!(rt; "no seat {number}")
-        };
-        let before = state.changes();
-        let round = round_of(rt, state, seat, own, *limit);
-        expect_equal(rt, round.entered, *entered, "events of a round");
-        expect_equal(rt, round.end, *end, "the end of a round");
-        expect_equal(
-            rt,
-            round.changes,
-            before.saturating_add(*entered),
-            "changes",
-        );
-        expect_equal(rt, *own, *pace, "the pace after a round");
+    for case in &ROUNDS {
+        if let Some(seat) = seats.get_mut(case.seat) {
+            expect_round(rt, state, seat, case);
+        }
     }
 }
 
@@ -114,14 +145,11 @@ fn expect_rounds<N: Name>(rt: &impl Abort, state: &mut BookState<N>, seats: &mut
 fn expect_closed<N: Name>(rt: &impl Abort, state: &mut BookState<N>, seats: &mut Vec<Seat<N>>) {
     state.stop();
     if let Some(seat) = seats.get_mut(2) {
-        let round = round_of(rt, state, seat, &mut Pace::default(), 1);
+        let mut pace = START;
+        let round = round_of(rt, state, seat, &mut pace, 1);
+        expect_equal(rt, round.entered, 0, "events of a stopped book");
         let closed = RoundEnd::Fault(BookFault::Closed);
-        expect_equal(
-            rt,
-            (round.entered, round.end),
-            (0, closed),
-            "a stopped book",
-        );
+        expect_equal(rt, round.end, closed, "a stopped book");
     }
 }
 
