@@ -1,5 +1,4 @@
 pub mod PairSteps
-pub mod RoundLaws
 pub mod GaugeSteps
 pub mod GaugeCuts
 pub mod JournalLaws

@@ -4,6 +4,5 @@ pub mod Halves
 pub mod Journal
 pub mod Kit
 pub mod Owning
-pub mod Round
 pub mod Seat
 pub mod State

@@ -1,5 +1,5 @@
 //! The fates of packets, in a circle.
-ghost use Rattle.std.specs.Prelude.{◌≡◌, ◌<◌, length, IfSome, IfNone};
+ghost use Rattle.std.specs.Prelude.{◌≡◌, ◌%◌, Some, length, IfSome, IfNone, slice_get};
 ghost use Rattle.dds_peers.specs.Fates.{AreFates};
 
 use dds_base::Fate;
@@ -45,11 +45,10 @@ impl Fates {
         })
     }
 
-    /// The fates, in order.
-    pub(crate) fn as_slice(&self) -> &[Fate]
-        ensures all { result.now ≡ self.now }
-        ensures some { 0 < length result.now }
+    /// The fate after so many.
+    pub(crate) fn after(&self, count: usize) -> Fate
+        ensures { slice_get self.now (count % length self.now) ≡ Some result }
     {
-        &self.all[..self.len]
+        self.all[count % self.len]
     }
 }
