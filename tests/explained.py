@@ -4,10 +4,11 @@
   tests/explained.py                          # every check of tests/commands and of the examples
   tests/explained.py DEPLOYMENT CERTIFICATE   # prints what is owed
 
-The answer is found a second time by tests/judged.py, and each number of a reason is added up here a second time. From the built program come the faults of files and,
-by `match`, which endpoints match. A file that Python can't read, being TOML 1.1 and not 1.0, counts as skipped. The last line is 'N passed, M failed';
+The answer is found a second time by tests/judged.py, and each number of a reason is added up here a second time, as are the policies that don't agree compared. From the
+built program come the faults of files, by `match`, which endpoints match, and, by `lint`, the words of the notes. A file that Python can't read, being TOML 1.1 and not 1.0, counts as skipped. The last line is 'N passed, M failed';
 the status is 1 if one failed.
 """
+import json
 import re
 import sys
 import tomllib
@@ -116,9 +117,46 @@ def unshown_lines(case, reader, key=None):
     return lines + [sample_line(case, row, reader, k) for k in keys] + permit_lines(case, row)
 
 
+# Where policies don't agree: the fields in the order of the standard, and the words of each that has some, the weakest first
+FIELDS = ["durability", "access_scope", "coherent", "ordered", "deadline", "latency_budget", "ownership", "liveliness", "lease", "reliability", "destination_order"]
+WORDS = {
+    "durability": ["VOLATILE", "TRANSIENT_LOCAL", "TRANSIENT", "PERSISTENT"],
+    "access_scope": ["INSTANCE", "TOPIC", "GROUP"],
+    "liveliness": ["AUTOMATIC", "MANUAL_BY_PARTICIPANT", "MANUAL_BY_TOPIC"],
+    "reliability": ["BEST_EFFORT", "RELIABLE"],
+    "destination_order": ["BY_RECEPTION_TIMESTAMP", "BY_SOURCE_TIMESTAMP"],
+}
+UNITS = [(10**9, "s"), (10**6, "ms"), (10**3, "us"), (1, "ns")]
+
+
+def is_met(field, offered, requested):
+    if field in WORDS:
+        return WORDS[field].index(offered) >= WORDS[field].index(requested)
+    if field == "ownership":
+        return offered == requested
+    if field in ("coherent", "ordered"):
+        return offered or not requested
+    return requested == "infinite" or offered != "infinite" and offered <= requested
+
+
+def value_text(value):
+    if isinstance(value, bool):
+        return "true" if value else "false"
+    if isinstance(value, int):
+        return next(f"{value // size} {unit}" for size, unit in UNITS if value % size == 0)
+    return value
+
+
+def mismatch_lines(case, writer, reader):
+    if not case.reasons[writer, reader].startswith("policies "):
+        return []
+    pairs = [(field, case.writers[writer][field], case.readers[reader][field]) for field in FIELDS]
+    return [f"{field}: offered {value_text(offered)}, requested {value_text(requested)}" for field, offered, requested in pairs if not is_met(field, offered, requested)]
+
+
 def refusal_lines(case, number, words):
     if number == 10:
-        return [f"{words[0]} and {words[1]} don't match: {case.reasons[words[0], words[1]]}"]
+        return [f"{words[0]} and {words[1]} don't match: {case.reasons[words[0], words[1]]}"] + mismatch_lines(case, *words)
     if number == 11:
         return [f"{words[0]} and {words[1]} match, and no connection names them"]
     if number in (12, 14, 15, 16, 17):
@@ -156,6 +194,11 @@ def margin_lines(case):
     return "".join(f"because {line}\n" for line in lines)
 
 
+def note_lines(deployment, certificate):
+    found = json.loads(shown.answer_of(["lint", deployment, certificate, "--format", "json"])[0])["findings"]
+    return "".join(f"note: {one['message']}\n" for one in found if one["level"] == "note")
+
+
 def owed(deployment, certificate):
     """What `check --explain` owes of both files: its output, its error output and its status."""
     out, err, status = shown.answer_of(["check", deployment, certificate])
@@ -165,7 +208,7 @@ def owed(deployment, certificate):
     refusal = judged.refusal_of(case)
     answer = judged.answer_of(case, refusal)
     if refusal is None:
-        return answer + margin_lines(case), "", 0
+        return answer + margin_lines(case) + note_lines(deployment, certificate), "", 0
     first, *terms = refusal_lines(case, *refusal)
     return answer + f"because {first}\n" + "".join(f"  {term}\n" for term in terms), "", 1
 

@@ -3,9 +3,10 @@
 
   tests/linted.py
 
-- Of each case of tests/commands in which a file has a fault `lint` finds that very fault, by its name and path, in the line to which this script's own reading of the
-  text leads, where it's laid out with a header for each entry and a field a line; columns are compared by tests/commands/lint.txt alone.
-- Of 300 worked deployments with two to five changes that the schemas refuse, none of the faults comes twice, and the one with which `match` ends is among them.
+- Of each case of tests/commands in which a file has a fault `lint` finds that very fault, by its name and path, in the line and the columns to which the second
+  reading of tests/places.py leads.
+- Of 300 worked deployments with two to five changes that the schemas refuse, none of the faults comes twice, the one with which `match` ends is among them, and each
+  has the line and the columns of that reading.
 - Of each worked deployment and certificate `lint` finds an error exactly where `check` says other than yes, and the first error's name is the one that `check` gives.
 - Each vacuous system of tests/commands/data/vacuous, which gets a yes, has the note that its name asks for.
 - SARIF documents have the members of version 2.1.0 that code hosts read.
@@ -22,49 +23,10 @@ from pathlib import Path
 sys.dont_write_bytecode = True
 from commands import DATA, cases  # noqa: E402
 from harness import ROOT, Tally, ddscheck, need_program, side_by_side  # noqa: E402
+from places import places, spot  # noqa: E402
 
 FAULT = re.compile(r"ddscheck: (deployment|certificate) \d+ (\w+)(?: (\S+))?\n")
-STEP = re.compile(r"(\w[\w-]*|\?+)?((?:\[\d+\])*)")
 SECONDS = 1.0
-
-
-def headers_of(lines):
-    """Each header with its names and the number of its line, and whether it begins an element of an array."""
-    for number, line in enumerate(lines, start=1):
-        if found := re.match(r"\s*(\[\[?)\s*([\w.-]+)\s*\]", line):
-            yield number, found[2].split("."), found[1] == "[["
-
-
-def section_line(lines, name, index):
-    """The line of the header of an element of an array of tables, if it is written so."""
-    numbers = [number for number, names, is_array in headers_of(lines) if names == [name] and is_array]
-    return numbers[index] if index < len(numbers) else None
-
-
-def next_header(lines, number):
-    """The line of the next header after a line, or the one behind the last line."""
-    return next((at for at, _, _ in headers_of(lines) if at > number), len(lines) + 1)
-
-
-def line_of(text, path):
-    """The line to which a path of the usual layout leads: `[[section]]` headers, and a field a line. `None` of any other layout."""
-    lines = text.splitlines()
-    found = re.fullmatch(r"(\w+)\[(\d+)\](?:\.([\w-]+))?(.*)", path)
-    if not found:
-        simple = re.fullmatch(r"([\w-]+)", path)
-        at = [number for number, line in enumerate(lines, start=1) if simple and re.match(rf"\s*{re.escape(path)}\s*=", line)]
-        return at[0] if len(at) == 1 else None
-    header = section_line(lines, found[1], int(found[2]))
-    if header is None:
-        return None
-    if not found[3]:
-        return header
-    inside = range(header, next_header(lines, header) - 1)
-    at = [number + 1 for number in inside if re.match(rf"\s*{re.escape(found[3])}\s*=", lines[number])]
-    if len(at) != 1:
-        return None
-    # what stands in a list of several lines isn't looked for
-    return None if found[4] and lines[at[0] - 1].count("[") > lines[at[0] - 1].count("]") else at[0]
 
 
 def findings_of(*words, cwd=DATA):
@@ -85,18 +47,32 @@ def fault_case(case):
     same = [one for one in findings if one["name"] == name and one["place"]["path"] == (path or "")]
     if len(same) != 1:
         return f"finds {[(one['name'], one['place']['path']) for one in findings[:5]]}, not {name} {path}, once"
-    wanted = wrong_place(same[0], (DATA / same[0]["place"]["file"]).read_text(errors="replace"), name, path)
-    return wanted
+    return wrong_place(same[0], (DATA / same[0]["place"]["file"]).read_text(errors="replace"))
 
 
-def wrong_place(finding, text, name, path):
-    """What is wrong with the place of a finding, if anything is."""
-    line = line_of(text, path) if path and name in ("UnknownKey", "WrongKind", "OutOfRange", "BadName", "UnknownName", "Duplicate") else None
-    if line is not None and finding["place"]["line"] != line:
-        return f"{name} {path} is in line {line}, not {finding['place']['line']}"
-    if not 1 <= finding["place"]["line"] <= text.count("\n") + 1:
-        return f"there is no line {finding['place']['line']}"
+def stretch_of(found, name, path):
+    """Where a fault of this name stands, by what was found in its file: a name that's too much, or the value that's wrong. `None` where that isn't clear."""
+    if name == "UnknownKey":
+        return found[path][0] if path in found else None
+    field = {"Qos": ".depth", "EndpointOwner": ".name"}.get(name, "")
+    for at in (path + field, path + ".name" if field else path, path):
+        if at in found:
+            return found[at][1]
     return None
+
+
+def wrong_place(finding, text):
+    """What is wrong with the place of a finding, if anything is."""
+    place = finding["place"]
+    if not 1 <= place["line"] <= text.count("\n") + 1:
+        return f"there is no line {place['line']}"
+    if finding["level"] != "error" or finding["name"] == "MissingKey" or (found := places(text)) is None:
+        return None
+    stretch = stretch_of(found, finding["name"], place["path"])
+    got = place["line"], place["column"], place["end_column"]
+    if stretch is None or got == spot(text, stretch):
+        return None
+    return f"{finding['name']} {place['path']} is at {spot(text, stretch)}, not {got}"
 
 
 def fault_cases():
@@ -126,18 +102,20 @@ def drawn_faults(seed):
     while worked.name.endswith(".cert.toml"):
         worked = draw.choice(sorted((ROOT / "examples").rglob("*.toml"), key=str))
     with tempfile.TemporaryDirectory() as room:
-        (Path(room) / "d.toml").write_text(mistaken(draw, worked.read_text()))
+        text = mistaken(draw, worked.read_text())
+        (Path(room) / "d.toml").write_text(text)
         findings, given = findings_of("d.toml", cwd=room)
         known = ddscheck("match", "d.toml", cwd=room)
     if findings is None:
         return f"seed {seed}: {given}"
-    places = [(one["name"], one["place"]["path"]) for one in findings if one["level"] == "error"]
-    if len(set(places)) != len(places):
-        return f"seed {seed}: a fault stands twice: {places}"
+    listed = [(one["name"], one["place"]["path"]) for one in findings if one["level"] == "error"]
+    if len(set(listed)) != len(listed):
+        return f"seed {seed}: a fault stands twice: {listed}"
     first = FAULT.fullmatch(known.err)
-    if bool(first) != (known.status == 2) or first and (first[2], first[3] or "") not in places:
-        return f"seed {seed}: {known.err!r} isn't among {places}"
-    return None
+    if bool(first) != (known.status == 2) or first and (first[2], first[3] or "") not in listed:
+        return f"seed {seed}: {known.err!r} isn't among {listed}"
+    wrong = [why for one in findings if known.status == 2 and (why := wrong_place(one, text))]
+    return f"seed {seed}: {wrong[0]}" if wrong else None
 
 
 def judged(pair):

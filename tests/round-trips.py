@@ -106,8 +106,9 @@ def refute(path, room):
         return str(document)
     if not given.out.startswith("unsafe "):
         return None
-    first, _, lines = given.out.partition("\n")
-    if json.loads(document.out)["events"] not in (lines, given.out):
+    first, summary, lines = given.out.split("\n", 2)
+    told = json.loads(document.out)
+    if told["events"] != lines or f"# {told['summary']}" != summary:
         return "the document has other events"
     events = room / "events"
     events.write_text(given.out)

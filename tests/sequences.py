@@ -213,7 +213,7 @@ def fault_of_run(deployment, lines):
     given = sequence(deployment, stdin=lines.encode())
     if (given.status, given.err) != (0, ""):
         return str(given)
-    return fault_of_picture(deployment, given.out, [line for line in lines.splitlines() if not line.startswith("unsafe ")])
+    return fault_of_picture(deployment, given.out, [line for line in lines.splitlines() if not line.startswith(("unsafe ", "#"))])
 
 
 # Hostile input

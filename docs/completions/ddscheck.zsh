@@ -17,7 +17,7 @@ _ddscheck() {
             'replay:Makes the events of a file on a deployment, and prints what comes of each'
             'limits:Tells how much room each reader and the history of each writer needs'
             'conform:Tells whether a recorded trace keeps the rules of a deployment'
-            'lint:Looks for everything that is wrong with the files, and where'
+            'lint:Looks for what is wrong with the files, and where'
             'help:Print this message or the help of the given subcommand(s)'
         )
         _describe command commands ;;
@@ -29,7 +29,7 @@ _ddscheck() {
                 '--help[Print help]' \
                 '1:deployment:_files -g "*.toml"' ;;
             check) _arguments \
-                '--explain[Tells the reason too: the numbers behind a refusal, how near each bound is to its limit, or where a file is no TOML]' \
+                '--explain[Tells the reason too: the numbers behind a refusal, how near each bound is to its limit and what the yes leaves open, or where a file is no TOML]' \
                 '--format[text or json \[default: text\]]:FORMAT:(text json)' \
                 '-h[Print help]' \
                 '--help[Print help]' \

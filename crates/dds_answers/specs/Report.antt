@@ -17,6 +17,7 @@ use Rattle.dds_show.specs.Json.{deployment_json}
 use Rattle.dds_xml.specs.Document.{deployment_xml}
 use Rattle.dds_draw.specs.Picture.{drawing}
 use Rattle.dds_explain.specs.Explanation.{margins, reason}
+use Rattle.dds_explain.specs.Notes.{note_lines}
 use Rattle.dds_verdict.specs.Acceptance.{acceptance_lines}
 use Rattle.dds_verdict.specs.Refusal.{refusal_line}
 use Rattle.dds_answers.specs.declared.format.Format.{Format}
@@ -55,7 +56,7 @@ shown_text DdsXml d = deployment_xml d
 unfoldable pub output_of : Outcome → List ℕ
 output_of (accepted d c) = acceptance_lines d c
 output_of (refused first d c) = refusal_line d c first
-output_of (accepted_because d c) = acceptance_lines d c ++ margins d c
+output_of (accepted_because d c) = acceptance_lines d c ++ (margins d c ++ note_lines d c)
 output_of (refused_because first d c) = refusal_line d c first ++ reason d c first
 output_of (compared d) = lines_of d (length d.writers.entries) (length d.readers.entries)
 output_of (proposed d c) = certificate_text d c
@@ -72,7 +73,7 @@ output_of too_large = []
 
 -- the lines of the reason of a report
 abbrev pub because_lines : Report → List ℕ
-because_lines (answer.Yes checked) = margins checked.plan checked.certificate
+because_lines (answer.Yes checked) = margins checked.plan checked.certificate ++ note_lines checked.plan checked.certificate
 because_lines (answer.Refused first lists cert) = reason lists (certificate_view cert) first
 
 -- the lines of a report

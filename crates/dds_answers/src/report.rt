@@ -1,11 +1,13 @@
 //! The answer to two files, and its text.
-ghost use Rattle.std.specs.Prelude.{◌≡◌, Err, IfErr, IfOk, string_bytes, true};
+ghost use Rattle.std.specs.Prelude.{◌≡◌, ◌++◌, Err, IfErr, IfOk, string_bytes, true};
 ghost use Rattle.dds_match.specs.Plan.{network_of};
 ghost use Rattle.dds_weights.specs.Fits.{fits};
 ghost use Rattle.dds_weights.specs.Views.{certificate_view};
 ghost use Rattle.dds_check.specs.Accepts.{first_no};
 ghost use Rattle.dds_answers.specs.Outcome.{Outcome, judged, outcome, told, verdict};
 ghost use Rattle.dds_cert.specs.Document.{read as certificate_read};
+ghost use Rattle.dds_explain.specs.Explanation.{margins};
+ghost use Rattle.dds_explain.specs.Notes.{note_lines};
 ghost use Rattle.dds_answers.specs.Report.{IsCertificateFault, IsDeploymentFault, Tells, because_lines, outcome_of};
 ghost use Rattle.dds_answers.specs.Report.{output_of, report_text_of};
 ghost use Rattle.dds_answers.specs.Syntax.{IsFaultTold};
@@ -17,7 +19,7 @@ use dds_base::NoMemory;
 use dds_cert::{CertFault, CertKind, read_certificate};
 use dds_check::{Checked, No, check};
 use dds_deploy::DeployFault;
-use dds_explain::{margins, reason};
+use dds_explain::{margins, note_lines, reason};
 use dds_fields::fault::FaultKind;
 use dds_match::Plan;
 use dds_verdict::{acceptance_text, refusal_text};
@@ -29,7 +31,8 @@ use std::alloc::Global;
 pub enum Detail {
     /// The answer.
     Plain,
-    /// The answer, and after it its reason: the numbers behind a refusal, or how near each bound is to its limit.
+    /// The answer, and after it its reason: the numbers behind a refusal, or how near each bound is to its limit and what
+    /// the yes doesn't say.
     Explained,
 }
 
@@ -150,12 +153,24 @@ pub fn detailed_check(
     }
 }
 
+/// How near each bound is to its limit, and what the yes doesn't say.
+fn accepted_because(alloc: Global, checked: &Checked) -> Result<String, NoMemory>
+    ensures { IfOk result
+        (λ text. string_bytes text
+        ≡ margins checked.now.plan checked.now.certificate
+        ++ note_lines checked.now.plan checked.now.certificate) }
+{
+    let margins = margins(alloc, checked.plan(), checked.certificate())?;
+    let notes = note_lines(alloc, checked.plan(), checked.certificate())?;
+    format!(in alloc; "{margins}{notes}")
+}
+
 /// The lines of the reason of a report. `NoMemory` is the only error.
 pub fn because_text(alloc: Global, report: &Report) -> Result<String, NoMemory>
     ensures { IfOk result (λ text. string_bytes text ≡ because_lines report.now) }
 {
     match report {
-        Report::Yes(checked) => margins(alloc, checked.plan(), checked.certificate()),
+        Report::Yes(checked) => accepted_because(alloc, checked),
         Report::Refused(no, plan, certificate) => reason(alloc, plan, certificate, *no),
     }
 }

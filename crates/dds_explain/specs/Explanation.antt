@@ -9,7 +9,7 @@ use Rattle.dds_check.specs.declared.verdict.Subject.{Subject}
 use Rattle.dds_check.specs.declared.verdict.Subject.TheVariants as subject
 use Rattle.dds_explain.specs.Limits.{reader_instances_lines, writer_instances_lines, no_bound_line, no_total_lines, bound_over_line, samples_over_lines, keep_last_filter_lines, writer_depth_lines}
 use Rattle.dds_explain.specs.Margin.{margin_lines}
-use Rattle.dds_explain.specs.Pairs.{not_matched_line, not_intended_line}
+use Rattle.dds_explain.specs.Pairs.{not_matched_lines, not_intended_line}
 use Rattle.dds_events.specs.Naming.{writer_name, reader_name}
 use Rattle.dds_explain.specs.Policies.{keeps_last_line, exclusive_line, source_order_line, ordered_line, best_effort_line}
 use Rattle.dds_explain.specs.Rows.{take_raises_line, rule_raises_lines, write_raises_lines}
@@ -17,7 +17,7 @@ use Rattle.dds_explain.specs.Shown.{bound_not_shown_lines, total_not_shown_lines
 
 -- why a pair is refused
 abbrev pub pair_reason : Lists → Number → ℕ → ℕ → List ℕ
-pair_reason d IntendedNotMatched w r = not_matched_line d w r
+pair_reason d IntendedNotMatched w r = not_matched_lines d w r
 pair_reason d UnintendedMatch w r = not_intended_line d w r
 pair_reason d KeepLastFilter w r = keep_last_filter_lines d w r
 pair_reason d _ w r = []

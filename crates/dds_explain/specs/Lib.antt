@@ -1,8 +1,10 @@
 pub mod Pieces
+pub mod Values
 pub mod Pairs
 pub mod Policies
 pub mod Limits
 pub mod Rows
 pub mod Shown
 pub mod Margin
+pub mod Notes
 pub mod Explanation

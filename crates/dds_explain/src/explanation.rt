@@ -10,7 +10,7 @@ use crate::limits::{
     samples_over_lines, writer_depth_lines, writer_instances_lines,
 };
 use crate::margin::margin_lines;
-use crate::pairs::{not_intended_line, not_matched_line};
+use crate::pairs::{not_intended_line, not_matched_lines};
 use crate::pieces::{reader_name, writer_name};
 use crate::policies::{
     best_effort_line, exclusive_line, keeps_last_line, ordered_line, source_order_line,
@@ -35,7 +35,7 @@ fn pair_reason(
     ensures { IfOk result (λ text. string_bytes text ≡ pair_reason plan.now number writer reader) }
 {
     match number {
-        Number::IntendedNotMatched => not_matched_line(alloc, plan, writer, reader),
+        Number::IntendedNotMatched => not_matched_lines(alloc, plan, writer, reader),
         Number::UnintendedMatch => not_intended_line(alloc, plan, writer, reader),
         Number::KeepLastFilter => keep_last_filter_lines(alloc, plan, writer, reader),
         _ => Ok(String::new(alloc)),

@@ -1,14 +1,18 @@
-//! The reasons of a check's answer: the numbers behind a refusal, and how tight what is accepted is.
+//! The reasons of a check's answer: the numbers behind a refusal, how tight what is accepted is, and what a yes doesn't
+//! say.
 #![tactic(auto, using(dds_runs::proofs::Sums::total_start, dds_runs::proofs::Sums::total_more))]
 
 mod explanation;
 mod limits;
 mod margin;
+mod notes;
 mod pairs;
 mod pieces;
 mod policies;
 mod rows;
 mod shown;
+mod values;
 mod weights;
 
 pub use explanation::{margins, reason};
+pub use notes::{note_lines, note_text};

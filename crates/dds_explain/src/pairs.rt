@@ -3,9 +3,10 @@ ghost use Rattle.std.specs.Prelude.{◌≡◌, [], IfOk, string_bytes};
 ghost use Rattle.std.specs.Option.{option_map_or};
 ghost use Rattle.dds_match.specs.Matching.{why_not};
 ghost use Rattle.dds_show.specs.Reasons.{reason_words};
-ghost use Rattle.dds_explain.specs.Pairs.{not_intended_line, not_matched_line};
+ghost use Rattle.dds_explain.specs.Pairs.{not_intended_line, not_matched_lines};
 
 use crate::pieces::{reader_name, writer_name};
+use crate::values::mismatch_lines;
 use dds_base::{ReaderNo, WriterNo};
 use dds_match::Plan;
 use dds_show::reasons::reason_text;
@@ -22,19 +23,20 @@ fn why_not_text(alloc: Global, plan: &Plan, writer: WriterNo, reader: ReaderNo) 
     }
 }
 
-/// A connection whose endpoints don't match, and why.
-pub(crate) fn not_matched_line(
+/// A connection whose endpoints don't match, and why: of policies what is offered and what is requested.
+pub(crate) fn not_matched_lines(
     alloc: Global,
     plan: &Plan,
     writer: WriterNo,
     reader: ReaderNo,
 ) -> TextResult
-    ensures { IfOk result (λ text. string_bytes text ≡ not_matched_line plan.now writer reader) }
+    ensures { IfOk result (λ text. string_bytes text ≡ not_matched_lines plan.now writer reader) }
 {
     let reason = why_not_text(alloc, plan, writer, reader)?;
+    let values = mismatch_lines(alloc, plan, writer, reader)?;
     let writer = writer_name(plan, writer);
     let reader = reader_name(plan, reader);
-    format!(in alloc; "because {writer} and {reader} don't match: {reason}\n")
+    format!(in alloc; "because {writer} and {reader} don't match: {reason}\n{values}")
 }
 
 /// A pair that matches and is no connection.

@@ -1,7 +1,9 @@
-//! All faults of a deployment file or of a certificate file, in words. The proved readers give the first fault alone;
-//! these functions are for where one of them has found it, and that it is among what they list is proved.
+//! The faults of a deployment file or of a certificate file, in words: each that doesn't follow from another, but for
+//! what short forms stand for beyond what may be there. The proved readers give the first fault alone; these functions
+//! are for where one of them has found it, and that it is among what they list is proved.
 #![tactic(auto)]
 
+mod each;
 pub mod fault;
 mod fields;
 mod first;

@@ -2,6 +2,7 @@
 ghost use Rattle.std.specs.Prelude.{◌≡◌, IfOk};
 ghost use Rattle.dds_faults.specs.Listed.{IsListed};
 
+use crate::each::{check_common, has_each};
 use crate::fault::{Faults, FileFault, FileKind, Known};
 use crate::fields::{Elements, Entry, Field, Need, Part, Side, Takes};
 use crate::first::with_first;
@@ -142,13 +143,6 @@ fn check_plain_fields(
     Ok(())
 }
 
-fn has_each(table: &Table) -> bool {
-    match table.get("each") {
-        Some(each) => each.as_bool() == Some(true),
-        None => false,
-    }
-}
-
 // What the elements of a list in an entry are.
 fn element_of(elements: Elements, table: &Table) -> Entry {
     match elements {
@@ -263,10 +257,15 @@ fn check_entry(
     stood: &mut Pairs,
     spot: &Spot,
 ) -> Result<(), NoMemory> {
+    let before = faults.len();
     check_keys(walk, faults, entry, spot.at, spot.table)?;
     check_fields(walk, faults, entry, spot, entry.fields().own)?;
     check_plain_fields(walk, faults, entry, spot, entry.fields().more)?;
-    check_whole(walk, faults, entry, stood, spot.at, spot.table)
+    check_whole(walk, faults, entry, stood, spot.at, spot.table)?;
+    if entry == Entry::Rule && has_each(spot.table) && faults.len() == before {
+        check_common(walk, faults, spot.at, spot.table)?;
+    }
+    Ok(())
 }
 
 fn check_entries(
@@ -394,7 +393,9 @@ fn found_in_certificate(
 }
 
 /// The faults of a deployment in which the reader has found a first one, in the order in which it reads, none of them
-/// twice. The first one is among them; where the bytes are no TOML it stands alone. `NoMemory` where memory ran out.
+/// twice. The first one is among them; where the bytes are no TOML it stands alone. What follows from another fault
+/// isn't listed, nor that short forms stand for more than may be there, where that isn't the first. `NoMemory` where
+/// memory ran out.
 pub fn deployment_faults(
     alloc: Global,
     bytes: &[u8],
@@ -408,8 +409,9 @@ pub fn deployment_faults(
 }
 
 /// The faults of a certificate for a deployment in which the reader has found a first one, in the order in which it
-/// reads, none of them twice. The first one is among them; where the bytes are no TOML it stands alone. `NoMemory`
-/// where memory ran out.
+/// reads, none of them twice. The first one is among them; where the bytes are no TOML it stands alone. What follows
+/// from another fault isn't listed, nor that short forms stand for more than may be there, where that isn't the first.
+/// `NoMemory` where memory ran out.
 pub fn certificate_faults(
     alloc: Global,
     lists: &Deployment,

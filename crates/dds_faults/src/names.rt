@@ -46,6 +46,15 @@ impl PlacedNames {
         self.names.len()
     }
 
+    /// The name with this number.
+    pub(crate) fn name(&self, number: usize) -> Option<&str> {
+        if number < self.names.len() {
+            Some(self.names.name(number))
+        } else {
+            None
+        }
+    }
+
     /// At most so many of them, the first ones.
     pub(crate) fn first(&self, alloc: Global, limit: usize) -> Result<Vec<&str>, NoMemory> {
         let mut first = Vec::new(alloc);

@@ -84,9 +84,10 @@ EndpointOwner writers[0]: no application owns `w` ()
 fn rules_and_owners(rt: HostRuntime) -> Result<(), Fail> {
     let text = "version = 2
 participants = [{ name = \"p\", domain = 0 }, { name = \"q\", domain = 0 }]
-topics = [{ name = \"t\", type = \"T\", keys = [\"k\"] }]
+topics = [{ name = \"t\", type = \"T\", keys = [\"k\"] }, { name = \"o\", type = \"O\", keys = [\"j\", \"k\"] }]
+readers = [{ name = \"l\", participant = \"p\", topic = \"o\", filter = [\"j\"] }, { name = \"m\", participant = \"p\", topic = \"o\" }]
 writers = [{ name = \"w\", participant = \"p\", topic = \"t\", depth = 20, max_samples_per_instance = 10 }, { name = \"v\", participant = \"q\", topic = \"t\" }]
-applications = [{ name = \"a\", participant = \"p\", writers = [\"w\"] }, { name = \"b\", participant = \"q\", writers = [\"v\"] }]
+applications = [{ name = \"a\", participant = \"p\", writers = [\"w\"], readers = [\"l\", \"m\"] }, { name = \"b\", participant = \"q\", writers = [\"v\"] }]
 [[rules]]
 name = \"r\"
 application = \"a\"
@@ -97,6 +98,18 @@ name = \"s\"
 application = \"a\"
 each = true
 writes = [{ writer = \"w\", key = \"k\", count = 1 }]
+[[rules]]
+name = \"u\"
+application = \"a\"
+each = true
+takes = [{ reader = \"l\", count = 1 }]
+writes = [{ writer = \"w\", count = 1 }]
+[[rules]]
+name = \"x\"
+application = \"a\"
+each = true
+takes = [{ reader = \"m\", count = 1 }]
+writes = [{ writer = \"w\", count = 1 }]
 ";
     let first = Known {
         number: 10,
@@ -113,6 +126,7 @@ OutOfRange rules[0].writes[2].count: `count` is 70000, and has to be a whole num
 RuleEntry rules[0].writes[3]: `k` at `w` stands in the list already ()
 WrongKind rules[0].start: `start` is a text, and has to be a whole number from 0 to 65535 ()
 UnknownKey rules[1].writes[0].key: `key` is no field of a write of a rule with `each` (its fields are `writer` and `count`)
+RuleEntry rules[2]: no key is one of each of its endpoints, so `each` stands for no rule ()
 "
     );
     Ok(())

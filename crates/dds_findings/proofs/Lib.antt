@@ -1,3 +1,4 @@
+mod Agreement
 mod FaultLists
 mod Joined
 mod Plain

@@ -2,3 +2,4 @@ pub mod Findings
 pub mod Blocks
 pub mod Documents
 pub mod Answers
+pub mod Agreement

@@ -1,5 +1,6 @@
 //! What `lint` answers.
 ghost use Rattle.std.specs.Prelude.{◌≡◌, IfErr, IfOk, option_map, string_bytes};
+ghost use Rattle.dds_findings.specs.Agreement.{AnswersAsCheck};
 ghost use Rattle.dds_findings.specs.Answers.{IsLintAnswer, findings_text, is_clean, names_of};
 
 use crate::block::{FileNames, blocks_text, errors_of, notes_of};
@@ -79,7 +80,9 @@ fn names_of<'a>(deployment: &Named<'a>, certificate: Option<Named<'a>>) -> FileN
 }
 
 /// The answer of `lint` to the bytes of a deployment and of a certificate, if there is one: everything that `lint`
-/// finds, in this form. It is yes where there are none of the findings that are denied. Its only fault is `NoMemory`.
+/// finds, in this form. It is yes where there are none of the findings that are denied: of two files, where errors
+/// alone are denied, exactly where the check of them says yes. Its only fault is `NoMemory`.
+#[tactic(auto, using(crate::proofs::Agreement::answered_as_check))]
 pub fn lint_answer(
     alloc: Global,
     deployment: &Named,
@@ -90,6 +93,8 @@ pub fn lint_answer(
     ensures said { IfOk result (IsLintAnswer style deny
         (names_of deployment.now.name.now (option_map (λ c. c.name.now) certificate.entry)) deployment.now.bytes.now
         (option_map (λ c. c.bytes.now) certificate.entry)) }
+    ensures agrees { IfOk result
+        (AnswersAsCheck deny deployment.now.bytes.now (option_map (λ c. c.bytes.now) certificate.entry)) }
     ensures memory { IfErr result (λ e. e ≡ ToolFault.NoMemory) }
 {
     let bytes = match certificate {

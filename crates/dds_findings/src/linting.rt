@@ -4,6 +4,7 @@ ghost use Rattle.dds_match.specs.Plan.{network_of};
 ghost use Rattle.dds_weights.specs.Fits.{fits};
 ghost use Rattle.dds_weights.specs.Views.{certificate_view};
 ghost use Rattle.dds_cert.specs.Document.{read as certificate_read};
+ghost use Rattle.dds_findings.specs.Agreement.{AgreesWithCheck};
 ghost use Rattle.dds_findings.specs.Findings.{AreFaults, IsBare, IsFound, IsJudged, IsLint, abouts};
 ghost use Rattle.dds_findings.specs.Findings.{no_certificate, of_lists};
 ghost use Rattle.dds_findings.specs.declared.finding.About.TheVariants as about;
@@ -330,14 +331,18 @@ fn file_findings(
 /// Of a deployment that has a fault, its faults: the first that `read_deployment` gives is among them. Of another one
 /// the faults of the certificate, the same way, then each condition of the checker that fails and at last the notes;
 /// without a certificate, or where it has a fault, the conditions that ask for none. So an error is found of two files
-/// exactly where the checker doesn't say yes to them. `NoMemory` is the only error.
+/// exactly where the check of them doesn't say yes, and of a deployment alone only where the check says yes to no
+/// certificate of it. `NoMemory` is the only error.
+#[tactic(auto, using(crate::proofs::Agreement::found_as_check))]
 pub fn lint(
     alloc: Global,
     deployment: &[u8],
     certificate: Option<&[u8]>,
 ) -> Result<Vec<Finding>, NoMemory>
-    ensures { IfOk result
+    ensures found { IfOk result
         (λ found. IsLint deployment.now (option_map (λ c. c.now) certificate.entry) (abouts found.items)) }
+    ensures agrees { IfOk result
+        (λ found. AgreesWithCheck deployment.now (option_map (λ c. c.now) certificate.entry) (abouts found.items)) }
 {
     match Files::new(alloc, deployment, certificate) {
         Ok(files) => {

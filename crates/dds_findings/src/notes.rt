@@ -5,11 +5,10 @@ ghost use Rattle.dds_findings.specs.declared.finding.About.TheVariants as about;
 use crate::conditions::{Spotted, rule_entry};
 use crate::finding::{About, Finding, Role};
 use crate::linting::{Files, Judged};
-use dds_base::{KeyNo, NoMemory, ReaderNo, RuleNo, TopicNo, WriterNo};
-use dds_events::rule_text;
+use dds_base::{NoMemory, ReaderNo};
+use dds_explain::note_text;
 use dds_lint::Note;
 use dds_lists::Deployment;
-use dds_weights::naming::{name_at, reader_key, row_name};
 use std::alloc::Global;
 
 /// The name of a kind of note.
@@ -27,14 +26,6 @@ fn name_of(note: Note) -> &'static str {
         Note::NeedlessTotal(_) => "NeedlessTotal",
         Note::HeldUp { .. } => "HeldUp",
     }
-}
-
-fn reader_name(lists: &Deployment, reader: ReaderNo) -> &str {
-    name_at(lists.reader_names(), reader.number())
-}
-
-fn writer_name(lists: &Deployment, writer: WriterNo) -> &str {
-    name_at(lists.writer_names(), writer.number())
 }
 
 /// Why a reader is a watcher.
@@ -69,95 +60,6 @@ fn help_of(lists: &Deployment, note: Note) -> &'static str {
         Note::UnusedRow(_) | Note::NeedlessBound(_) | Note::NeedlessTotal(_) => "take it out",
         Note::HeldUp { .. } =>
             "give the writer no limit of samples, or let a rule wait for the reader",
-    }
-}
-
-fn topic_key_message(
-    alloc: Global,
-    lists: &Deployment,
-    topic: TopicNo,
-    key: KeyNo,
-) -> Result<String, NoMemory> {
-    let key = lists.key_name(topic, key);
-    let topic = name_at(lists.topic_names(), topic.number());
-    format!(in alloc; "no rule writes {key} of topic {topic}")
-}
-
-fn rule_message(alloc: Global, lists: &Deployment, rule: RuleNo) -> Result<String, NoMemory> {
-    let name = rule_text(alloc, lists, rule)?;
-    if rule.number() < lists.rules() && lists.rule(rule).takes.is_empty() {
-        format!(in alloc;
-            "{name} takes nothing and has no start, so it never lets anything be written"
-        )
-    } else {
-        format!(in alloc; "{name} can never fire: something that it takes is never written")
-    }
-}
-
-fn row_message(alloc: Global, judged: &Judged, row: usize) -> Result<String, NoMemory> {
-    let name = row_name(judged.certificate, row);
-    format!(in alloc; "no bound and no total names row {name}")
-}
-
-fn bound_message(alloc: Global, judged: &Judged, place: usize) -> Result<String, NoMemory> {
-    let lists = judged.plan.lists();
-    match judged.certificate.bounds.get(place) {
-        Some(bound) => {
-            let key = reader_key(lists, bound.reader, bound.key);
-            let reader = reader_name(lists, bound.reader);
-            format!(in alloc; "nothing needs the bound of {key} at {reader}")
-        }
-        None => Ok(String::new(alloc)),
-    }
-}
-
-fn total_message(alloc: Global, judged: &Judged, place: usize) -> Result<String, NoMemory> {
-    let lists = judged.plan.lists();
-    match judged.certificate.totals.get(place) {
-        Some(total) => {
-            let reader = reader_name(lists, total.reader);
-            format!(in alloc; "nothing needs the total of {reader}")
-        }
-        None => Ok(String::new(alloc)),
-    }
-}
-
-/// What a note says.
-fn message_of(alloc: Global, judged: &Judged, note: Note) -> Result<String, NoMemory> {
-    let lists = judged.plan.lists();
-    match note {
-        Note::Watcher(reader) => {
-            let reader = reader_name(lists, reader);
-            format!(in alloc; "{reader} may miss samples, and a yes says nothing of that")
-        }
-        Note::Unlimited(reader) => {
-            let reader = reader_name(lists, reader);
-            format!(in alloc; "{reader} has no limit, and no bound says how much it may store")
-        }
-        Note::UnwrittenKey { topic, key } => topic_key_message(alloc, lists, topic, key),
-        Note::IdleWriter(writer) => {
-            let writer = writer_name(lists, writer);
-            format!(in alloc; "no rule writes at {writer}")
-        }
-        Note::NoRules => {
-            let text = String::from_str(alloc, "there's no rule, so nothing is ever written")?;
-            Ok(text)
-        }
-        Note::NoStart => {
-            let text = String::from_str(alloc, "no rule has a start, so nothing is ever written")?;
-            Ok(text)
-        }
-        Note::StuckRule(rule) => rule_message(alloc, lists, rule),
-        Note::UnusedRow(row) => row_message(alloc, judged, row),
-        Note::NeedlessBound(place) => bound_message(alloc, judged, place),
-        Note::NeedlessTotal(place) => total_message(alloc, judged, place),
-        Note::HeldUp { writer, reader } => {
-            let writer = writer_name(lists, writer);
-            let reader = reader_name(lists, reader);
-            format!(in alloc;
-                "{writer} keeps all within a limit, so it waits where {reader} is slow"
-            )
-        }
     }
 }
 
@@ -207,7 +109,7 @@ pub(crate) fn note(
 ) -> Result<Finding, NoMemory>
     ensures { IfOk result (λ finding. finding.about ≡ about.Note note.now) }
 {
-    let message = message_of(alloc, judged, *note)?;
+    let message = note_text(alloc, judged.plan, judged.certificate, *note)?;
     let help = String::from_str(alloc, help_of(judged.plan.lists(), *note))?;
     let place = place_of(alloc, files, judged, *note)?;
     Ok(Finding {

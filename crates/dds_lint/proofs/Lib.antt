@@ -1,3 +1,4 @@
 mod EveryLaws
-mod FirstOfAll
+pub mod FirstOfAll
 mod LiveLaws
+mod LiveRounds

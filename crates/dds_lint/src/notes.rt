@@ -1,5 +1,5 @@
 //! What a yes doesn't say: who may miss samples, what can grow, and what never happens.
-ghost use Rattle.std.specs.Prelude.{◌≡◌, ◌++◌, ◌<◌, ◌==◌, ◌&&◌, ◌||◌, ℕ, Bool, false, length, slice_index_or};
+ghost use Rattle.std.specs.Prelude.{◌≡◌, ◌++◌, ◌<◌, ◌==◌, ◌&&◌, ◌||◌, false, length, slice_index_or};
 ghost use Rattle.std.specs.Prelude.{IfOk, OnOk};
 ghost use Rattle.std.specs.List.{list_any};
 ghost use Rattle.dds_base.specs.Sums.{any_below};
@@ -9,7 +9,7 @@ ghost use Rattle.dds_lists.specs.Lists.{writer_topic};
 ghost use Rattle.dds_weights.specs.Views.{certificate_view};
 ghost use Rattle.dds_check.specs.Limits.{all_bounded, is_bounded};
 ghost use Rattle.dds_lint.specs.Every.{every_below, those_below, those_in};
-ghost use Rattle.dds_lint.specs.Live.{IsLive, opens};
+ghost use Rattle.dds_lint.specs.Live.{IsLive, live_of, opens};
 ghost use Rattle.dds_lint.specs.Notes.{absent_notes, all_notes, certificate_notes, grows, held_up, idle_writer};
 ghost use Rattle.dds_lint.specs.Notes.{is_key_written, is_stuck};
 ghost use Rattle.dds_lint.specs.Notes.{needless_bound, needless_total, no_rules, no_start, noted, pair_notes};
@@ -385,14 +385,16 @@ fn push_all(
 /// without end, keys and writers that no rule writes, rules that never fire, what of the certificate nothing needs, and
 /// readers for which a writer waits. Which rules can fire goes by counts without amounts: what can come once is taken
 /// to come as often as a rule needs it. `NoMemory` is the only error.
+
 pub fn all_notes(
     alloc: Global,
     plan: &Plan,
     certificate: &Certificate,
 ) -> Result<Vec<Note>, NoMemory>
-    ensures { IfOk result
-        (λ notes. (live : ℕ → Bool) × IsLive (network_of plan.now) live
-        × (notes.items ≡ all_notes plan.now live (certificate_view certificate.now))) }
+    ensures rules { IsLive (network_of plan.now) (live_of (network_of plan.now)) }
+    ensures all { IfOk result
+        (λ notes. notes.items
+        ≡ all_notes plan.now (live_of (network_of plan.now)) (certificate_view certificate.now)) }
 {
     let live = live_rules(plan);
     let mut notes = Vec::new(alloc);

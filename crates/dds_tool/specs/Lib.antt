@@ -5,6 +5,7 @@ pub mod Wishes
 pub mod Command
 pub mod Asking
 pub mod Causes
+pub mod Summary
 pub mod Refuting
 pub mod Replaying
 pub mod Conforming

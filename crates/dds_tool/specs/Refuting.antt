@@ -25,6 +25,7 @@ use Rattle.dds_search.specs.declared.budget.Shortage.TheVariants as short
 use Rattle.dds_search.specs.declared.loss.refuting.Unknown.{Unknown}
 use Rattle.dds_search.specs.declared.loss.refuting.Unknown.TheVariants as unknown
 use Rattle.dds_search.specs.Refutations.{IsCounterexample}
+use Rattle.dds_tool.specs.Summary.{summary_line, summary_text}
 use Rattle.dds_answers.specs.Outcome.{MayOfFile, Outcome, bad_deployment, said}
 use Rattle.dds_answers.specs.Structure.{nothing}
 use Rattle.dds_verdict.specs.Refusal.{refusal_line}
@@ -46,9 +47,9 @@ abbrev pub unsafe_line : Lists → Counterexample → List ℕ
 unsafe_line d c =
     codes "unsafe " ++ (name_at d.readers.names c.reader ++ (codes " " ++ (reader_key d c.reader c.key ++ (codes " " ++ (loss_name c.loss ++ (codes " " ++ (decimal (length c.events.items) ++ codes "\n")))))))
 
--- the line, and those of its events with their replies
+-- the line, that which sums the run up, and those of its events with their replies
 abbrev pub refuted_text : Lists → Counterexample → List ℕ
-refuted_text d c = unsafe_line d c ++ lines_of d c.events.items c.replies.items
+refuted_text d c = unsafe_line d c ++ (summary_line d c.events.items c.replies.items ++ lines_of d c.events.items c.replies.items)
 
 -- the word for what a search ran out of
 abbrev pub shortage_word : Shortage → List ℕ
@@ -71,10 +72,10 @@ unknown_document unknown.Exhausted = object (member (codes "answer") (string (co
 unknown_document (unknown.Budget shortage) =
     object (member (codes "answer") (string (codes "no")) (member (codes "spent") (string (shortage_word shortage)) (member (codes "unknown") (string (codes "budget")) no_members)))
 
--- the document of a counterexample: the reader, the key, the loss, and the lines of its events with their replies
+-- the document of a counterexample: the reader, the key, the loss, what sums its run up, and the lines of its events with their replies
 abbrev pub unsafe_document : Lists → Counterexample → Data
 unsafe_document d c =
-    object (member (codes "answer") (string (codes "no")) (member (codes "events") (string (lines_of d c.events.items c.replies.items)) (member (codes "key") (string (reader_key d c.reader c.key)) (member (codes "loss") (string (loss_name c.loss)) (member (codes "reader") (string (name_at d.readers.names c.reader)) no_members)))))
+    object (member (codes "answer") (string (codes "no")) (member (codes "events") (string (lines_of d c.events.items c.replies.items)) (member (codes "key") (string (reader_key d c.reader c.key)) (member (codes "loss") (string (loss_name c.loss)) (member (codes "reader") (string (name_at d.readers.names c.reader)) (member (codes "summary") (string (summary_text d c.events.items c.replies.items)) no_members))))))
 
 -- the document for what is known
 abbrev pub known_document : Lists → Refutation → Data

@@ -49,8 +49,8 @@ const REASONS: &str = "Tells by what weights, or by which firings without end, e
 
 /// What help says of the flag of an explained answer.
 const EXPLAIN: &str =
-    "Tells the reason too: the numbers behind a refusal, how near each bound is to its limit, \
-     or where a file is no TOML";
+    "Tells the reason too: the numbers behind a refusal, how near each bound is to its limit and \
+     what the yes leaves open, or where a file is no TOML";
 
 /// What help says of the certificate of a picture.
 const DRAWN_CERTIFICATE: &str = "A certificate whose bounds are drawn";
@@ -294,7 +294,7 @@ fn lint_command<'a>(alloc: Global) -> Result<Command<'a>, NoMemory>
     one_file_command(
         alloc,
         "lint",
-        "Looks for everything that is wrong with the files, and where",
+        "Looks for what is wrong with the files, and where",
     )?
     .arg(optional_file(alloc, "certificate", LINTED_CERTIFICATE))?
     .arg(wish(alloc, "format", "FORMAT", "text", FORM))?

@@ -22,6 +22,7 @@ mod request;
 mod run_document;
 mod running;
 mod styled;
+mod summary;
 mod telling;
 mod thorough;
 mod wishes;

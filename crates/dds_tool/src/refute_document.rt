@@ -5,6 +5,7 @@ ghost use Rattle.dds_json.specs.Line.{line_of};
 ghost use Rattle.dds_tool.specs.Refuting.{known_document, unknown_document, unsafe_document};
 
 use crate::refuting::{loss_name, shortage_word};
+use crate::summary::summary_text;
 use dds_base::NoMemory;
 use dds_events::lines_text;
 use dds_json::{line_of, structure_document};
@@ -15,7 +16,8 @@ use dds_weights::naming::{name_at, reader_key};
 use serde_json::{Value, json};
 use std::alloc::Global;
 
-/// The document of a counterexample: the reader, the key, the loss, and the lines of its events with their replies.
+/// The document of a counterexample: the reader, the key, the loss, what sums its run up, and the lines of its events
+/// with their replies.
 fn unsafe_document(
     alloc: Global,
     lists: &Deployment,
@@ -26,8 +28,11 @@ fn unsafe_document(
     let key = reader_key(lists, found.reader, found.key);
     let reader = name_at(lists.reader_names(), found.reader.number());
     let loss = loss_name(found.loss);
+    let summary = summary_text(alloc, lists, &found.events, &found.replies)?;
     let events = lines_text(alloc, lists, &found.events, &found.replies)?;
-    json!(in alloc; {"answer": "no", "reader": reader, "key": key, "loss": loss, "events": events})
+    json!(in alloc; {
+        "answer": "no", "reader": reader, "key": key, "loss": loss, "summary": summary, "events": events
+    })
 }
 
 /// The document where neither a certificate nor a run that loses a sample was found.

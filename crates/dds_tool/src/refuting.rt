@@ -7,6 +7,7 @@ ghost use Rattle.dds_tool.specs.Refuting.{MayRefute, is_safe, known_text, loss_n
 ghost use Rattle.dds_tool.specs.Refuting.{shortage_word, unknown_line, unsafe_line};
 
 use crate::refute_document::known_line;
+use crate::summary::summary_line;
 use dds_answers::{Answer, ToolFault, answered, read_plan, structure_text};
 use dds_base::NoMemory;
 use dds_events::{lines_text, rejection_name};
@@ -44,7 +45,7 @@ fn unsafe_line(
     format!(in alloc; "unsafe {reader} {key} {loss} {count}\n")
 }
 
-/// The line of a counterexample, and those of its events with their replies.
+/// The line of a counterexample, the line that sums its run up, and those of its events with their replies.
 fn refuted_text(
     alloc: Global,
     lists: &Deployment,
@@ -53,8 +54,9 @@ fn refuted_text(
     ensures { IfOk result (λ text. string_bytes text ≡ refuted_text lists.now found.now) }
 {
     let line = unsafe_line(alloc, lists, found)?;
+    let summary = summary_line(alloc, lists, &found.events, &found.replies)?;
     let lines = lines_text(alloc, lists, &found.events, &found.replies)?;
-    format!(in alloc; "{line}{lines}")
+    format!(in alloc; "{line}{summary}{lines}")
 }
 
 /// The word for what a search ran out of.

@@ -1,0 +1,61 @@
+-- What a yes doesn't say, in words.
+use Rattle.std.specs.Prelude.{ℕ, Bool, false, ◌==◌, if◌then◌else◌, codes, List, [], ◌++◌, flat_map, length, slice_get}
+use Rattle.std.specs.Option.{option_map_or}
+use Rattle.dds_lists.specs.Lists.{Lists, Rule, key_name}
+use Rattle.dds_match.specs.Plan.{network_of}
+use Rattle.dds_weights.specs.Lists.{Certificate}
+use Rattle.dds_weights.specs.Naming.{name_at, reader_key, row_name}
+use Rattle.dds_weights.specs.declared.certificate.Bound.{Bound}
+use Rattle.dds_weights.specs.declared.certificate.Total.{Total}
+use Rattle.dds_lint.specs.Live.{live_of}
+use Rattle.dds_lint.specs.Notes.{all_notes}
+use Rattle.dds_lint.specs.declared.notes.Note.{Note}
+use Rattle.dds_lint.specs.declared.notes.Note.TheVariants as note
+use Rattle.dds_events.specs.Naming.{reader_name, rule_text, writer_name}
+
+-- the rule is there, and takes nothing
+abbrev pub takes_nothing : Lists → ℕ → Bool
+takes_nothing d u = option_map_or (λ (x : Rule). length x.takes == 0) (slice_get d.rules.entries u) false
+
+-- a rule that never lets anything be written
+abbrev pub stuck_words : Lists → ℕ → List ℕ
+stuck_words d u =
+    if takes_nothing d u then rule_text d u ++ codes " takes nothing and has no start, so it never lets anything be written" else
+    rule_text d u ++ codes " can never fire: something that it takes is never written"
+
+-- a key that no rule writes
+abbrev pub unwritten_words : Lists → ℕ → ℕ → List ℕ
+unwritten_words d t k = codes "no rule writes " ++ (key_name d.topics t k ++ (codes " of topic " ++ name_at d.topics.names t))
+
+-- a bound and a total that nothing needs
+abbrev pub bound_words : Lists → Bound → List ℕ
+bound_words d b = codes "nothing needs the bound of " ++ (reader_key d b.reader b.key ++ (codes " at " ++ reader_name d b.reader))
+
+abbrev pub total_words : Lists → Total → List ℕ
+total_words d t = codes "nothing needs the total of " ++ reader_name d t.reader
+
+-- a writer that waits
+abbrev pub held_up_words : Lists → ℕ → ℕ → List ℕ
+held_up_words d w r = writer_name d w ++ (codes " keeps all within a limit, so it waits where " ++ (reader_name d r ++ codes " is slow"))
+
+-- a note in words
+abbrev pub note_text : Lists → Certificate → Note → List ℕ
+note_text d c (note.Watcher r) = reader_name d r ++ codes " may miss samples, and a yes says nothing of that"
+note_text d c (note.Unlimited r) = reader_name d r ++ codes " has no limit, and no bound says how much it may store"
+note_text d c (note.UnwrittenKey t k) = unwritten_words d t k
+note_text d c (note.IdleWriter w) = codes "no rule writes at " ++ writer_name d w
+note_text d c note.NoRules = codes "there's no rule, so nothing is ever written"
+note_text d c note.NoStart = codes "no rule has a start, so nothing is ever written"
+note_text d c (note.StuckRule u) = stuck_words d u
+note_text d c (note.UnusedRow n) = codes "no bound and no total names row " ++ row_name c n
+note_text d c (note.NeedlessBound i) = option_map_or (bound_words d) (slice_get c.bounds i) []
+note_text d c (note.NeedlessTotal i) = option_map_or (total_words d) (slice_get c.totals i) []
+note_text d c (note.HeldUp w r) = held_up_words d w r
+
+-- the line of a note
+abbrev pub note_line : Lists → Certificate → Note → List ℕ
+note_line d c x = codes "note: " ++ (note_text d c x ++ codes "\n")
+
+-- the lines of all notes on a deployment and a certificate
+unfoldable pub note_lines : Lists → Certificate → List ℕ
+note_lines d c = flat_map (note_line d c) (all_notes d (live_of (network_of d)) c)

@@ -1,0 +1,182 @@
+//! What a yes doesn't say, in words.
+ghost use Rattle.std.specs.Prelude.{◌≡◌, [], IfOk, flat_map, option_map, slice_get, string_bytes};
+ghost use Rattle.std.specs.Option.{option_map_or};
+ghost use Rattle.dds_weights.specs.Views.{certificate_view};
+ghost use Rattle.dds_explain.specs.Notes.{bound_words, held_up_words, note_line, note_lines, note_text, stuck_words};
+ghost use Rattle.dds_explain.specs.Notes.{takes_nothing, total_words, unwritten_words};
+
+use crate::pieces::{reader_name, writer_name};
+use dds_base::{KeyNo, ReaderNo, RuleNo, TopicNo, WriterNo};
+use dds_events::rule_text;
+use dds_lint::{Note, all_notes};
+use dds_lists::Deployment;
+use dds_match::Plan;
+use dds_show::texts::{TextResult, text_of_each};
+use dds_weights::naming::{name_at, reader_key, row_name};
+use dds_weights::{Bound, Certificate, Total};
+use std::alloc::Global;
+
+/// Whether the rule is there, and takes nothing.
+fn takes_nothing(lists: &Deployment, rule: RuleNo) -> bool
+    ensures { result ≡ takes_nothing lists.now rule }
+{
+    rule.number() < lists.rules() && lists.rule(rule).takes.is_empty()
+}
+
+/// A rule that never lets anything be written.
+fn stuck_words(alloc: Global, lists: &Deployment, rule: RuleNo) -> TextResult
+    ensures { IfOk result (λ text. string_bytes text ≡ stuck_words lists.now rule) }
+{
+    let name = rule_text(alloc, lists, rule)?;
+    if takes_nothing(lists, rule) {
+        format!(in alloc;
+            "{name} takes nothing and has no start, so it never lets anything be written"
+        )
+    } else {
+        format!(in alloc; "{name} can never fire: something that it takes is never written")
+    }
+}
+
+/// A key that no rule writes.
+fn unwritten_words(alloc: Global, lists: &Deployment, topic: TopicNo, key: KeyNo) -> TextResult
+    ensures { IfOk result (λ text. string_bytes text ≡ unwritten_words lists.now topic key) }
+{
+    let key = lists.key_name(topic, key);
+    let topic = name_at(lists.topic_names(), topic.number());
+    format!(in alloc; "no rule writes {key} of topic {topic}")
+}
+
+/// The bound at this place of a certificate, if there is one.
+fn find_bound(certificate: &Certificate, place: usize) -> Option<&Bound>
+    ensures { option_map (λ bound. bound.now) result ≡ slice_get (certificate_view certificate.now).bounds place }
+{
+    certificate.bounds.get(place)
+}
+
+/// The total at this place of a certificate, if there is one.
+fn find_total(certificate: &Certificate, place: usize) -> Option<&Total>
+    ensures { option_map (λ total. total.now) result ≡ slice_get (certificate_view certificate.now).totals place }
+{
+    certificate.totals.get(place)
+}
+
+/// A bound that nothing needs.
+fn bound_words(alloc: Global, plan: &Plan, bound: &Bound) -> TextResult
+    ensures { IfOk result (λ text. string_bytes text ≡ bound_words plan.now bound.now) }
+{
+    let key = reader_key(plan.lists(), bound.reader, bound.key);
+    let reader = reader_name(plan, bound.reader);
+    format!(in alloc; "nothing needs the bound of {key} at {reader}")
+}
+
+/// The bound at this place of a certificate, where nothing needs it.
+fn needless_bound(alloc: Global, plan: &Plan, certificate: &Certificate, place: usize) -> TextResult
+    ensures { IfOk result
+        (λ text. string_bytes text
+        ≡ option_map_or (bound_words plan.now) (slice_get (certificate_view certificate.now).bounds place) []) }
+{
+    match find_bound(certificate, place) {
+        Some(bound) => bound_words(alloc, plan, bound),
+        None => Ok(String::new(alloc)),
+    }
+}
+
+/// A total that nothing needs.
+fn total_words(alloc: Global, plan: &Plan, total: &Total) -> TextResult
+    ensures { IfOk result (λ text. string_bytes text ≡ total_words plan.now total.now) }
+{
+    let reader = reader_name(plan, total.reader);
+    format!(in alloc; "nothing needs the total of {reader}")
+}
+
+/// The total at this place of a certificate, where nothing needs it.
+fn needless_total(alloc: Global, plan: &Plan, certificate: &Certificate, place: usize) -> TextResult
+    ensures { IfOk result
+        (λ text. string_bytes text
+        ≡ option_map_or (total_words plan.now) (slice_get (certificate_view certificate.now).totals place) []) }
+{
+    match find_total(certificate, place) {
+        Some(total) => total_words(alloc, plan, total),
+        None => Ok(String::new(alloc)),
+    }
+}
+
+/// A writer that waits for a reader.
+fn held_up_words(alloc: Global, plan: &Plan, writer: WriterNo, reader: ReaderNo) -> TextResult
+    ensures { IfOk result (λ text. string_bytes text ≡ held_up_words plan.now writer reader) }
+{
+    let writer = writer_name(plan, writer);
+    let reader = reader_name(plan, reader);
+    format!(in alloc; "{writer} keeps all within a limit, so it waits where {reader} is slow")
+}
+
+/// A note in words, on one line: what a yes doesn't say of something. Of a bound or a total that isn't there, nothing.
+/// `NoMemory` is the only error.
+pub fn note_text(alloc: Global, plan: &Plan, certificate: &Certificate, note: Note) -> TextResult
+    ensures { IfOk result
+        (λ text. string_bytes text ≡ note_text plan.now (certificate_view certificate.now) note) }
+{
+    match note {
+        Note::Watcher(reader) => {
+            let reader = reader_name(plan, reader);
+            format!(in alloc; "{reader} may miss samples, and a yes says nothing of that")
+        }
+        Note::Unlimited(reader) => {
+            let reader = reader_name(plan, reader);
+            format!(in alloc; "{reader} has no limit, and no bound says how much it may store")
+        }
+        Note::UnwrittenKey { topic, key } => unwritten_words(alloc, plan.lists(), topic, key),
+        Note::IdleWriter(writer) => {
+            let writer = writer_name(plan, writer);
+            format!(in alloc; "no rule writes at {writer}")
+        }
+        Note::NoRules => { String::from_str(alloc, "there's no rule, so nothing is ever written") }
+        Note::NoStart => {
+            String::from_str(alloc, "no rule has a start, so nothing is ever written")
+        }
+        Note::StuckRule(rule) => stuck_words(alloc, plan.lists(), rule),
+        Note::UnusedRow(row) => {
+            let name = row_name(certificate, row);
+            format!(in alloc; "no bound and no total names row {name}")
+        }
+        Note::NeedlessBound(place) => needless_bound(alloc, plan, certificate, place),
+        Note::NeedlessTotal(place) => needless_total(alloc, plan, certificate, place),
+        Note::HeldUp { writer, reader } => held_up_words(alloc, plan, writer, reader),
+    }
+}
+
+/// The line of a note.
+fn note_line(alloc: Global, plan: &Plan, certificate: &Certificate, note: &Note) -> TextResult
+    ensures { IfOk result
+        (λ text. string_bytes text ≡ note_line plan.now (certificate_view certificate.now) note.now) }
+{
+    let words = note_text(alloc, plan, certificate, *note)?;
+    format!(in alloc; "note: {words}\n")
+}
+
+/// The lines of these notes.
+fn lines_of(alloc: Global, plan: &Plan, certificate: &Certificate, notes: &[Note]) -> TextResult
+    ensures { IfOk result
+        (λ text. string_bytes text
+        ≡ flat_map (note_line plan.now (certificate_view certificate.now)) notes.now) }
+{
+    text_of_each(
+        alloc,
+        notes,
+        |note|
+            ensures { IfOk result (λ text. string_bytes text
+                ≡ note_line plan.entry.now (certificate_view certificate.entry.now) note.now) }
+        { note_line(alloc, plan, certificate, note) },
+    )
+}
+
+/// What a yes to a plan and a certificate doesn't say: a line for each note, in the order of `dds_lint::all_notes`. It's
+/// `note: ` and the words of `note_text`. `NoMemory` is the only error.
+#[tactic(auto, unfolding(crate::specs::Notes::note_lines))]
+pub fn note_lines(alloc: Global, plan: &Plan, certificate: &Certificate) -> TextResult
+    ensures { IfOk result
+        (λ text. string_bytes text ≡ note_lines plan.now (certificate_view certificate.now)) }
+{
+    let notes = all_notes(alloc, plan, certificate)?;
+    lines_of(alloc, plan, certificate, &notes)
+}

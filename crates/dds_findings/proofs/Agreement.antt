@@ -1,0 +1,182 @@
+-- Errors are found exactly where the check doesn't say yes.
+use Rattle.std.proofs.Common.{ℕ, ◌≡◌, ◌<◌, ◌∙◌, ◌||◌, ◌&&◌, Bool, true, false, not, List, [], ◌∷◌, ◌++◌, length, map, slice_get, Option, Some, None, is_some, Result, Ok, Err, IfOk, refl, sym, ap, ap₂, arith, cond, ◌==◌}
+use Rattle.std.specs.List.{list_all, list_any}
+use Rattle.std.proofs.lemmas.List.Folds.{list_any-append, sum_by-zero}
+use Rattle.dds_fields.specs.Reading.{Read}
+use Rattle.dds_lists.specs.Lists.{Lists}
+use Rattle.dds_deploy.specs.Document as deployment
+use Rattle.dds_match.specs.Plan.{network_of}
+use Rattle.dds_weights.specs.Lists.{Certificate}
+use Rattle.dds_cert.specs.Document as certificate
+use Rattle.dds_check.specs.declared.verdict.No.{No}
+use Rattle.dds_check.specs.Accepts.{first_no}
+use Rattle.dds_lint.specs.Conditions.{all_nos, bare_nos, bounds_nos, depths_nos, instances_nos, limits_nos, pairs_nos, profile_nos, rows_nos, shown_nos, written_nos}
+use Rattle.dds_lint.specs.declared.notes.Note.{Note}
+use Rattle.dds_lint.proofs.FirstOfAll.{first_of_all}
+use Rattle.dds_answers.specs.Outcome.{Outcome, judged, outcome, planned, verdict}
+use Rattle.dds_answers.specs.declared.answer.Answer.{Answer}
+use Rattle.dds_findings.specs.Agreement.{AgreesWithCheck, AnswersAsCheck, has_error, says_yes}
+use Rattle.dds_findings.specs.Answers.{IsLintAnswer, is_clean}
+use Rattle.dds_findings.specs.Blocks.{FileNames, errors_of, notes_of}
+use Rattle.dds_findings.specs.Findings.{AreFaults, IsBare, IsFound, IsJudged, IsLint, abouts, is_error, is_fault, of_lists}
+use Rattle.dds_findings.specs.declared.answer.Deny.{Deny}
+use Rattle.dds_findings.specs.declared.answer.Deny.TheVariants as deny
+use Rattle.dds_findings.specs.declared.answer.LintStyle.{LintStyle}
+use Rattle.dds_findings.specs.declared.finding.About.{About}
+use Rattle.dds_findings.specs.declared.finding.About.TheVariants as about
+use Rattle.dds_findings.specs.declared.finding.Finding.{Finding}
+
+-- ── conditions that fail and faults are errors, and notes are none
+has_one : List No → Bool
+has_one nos = is_some (slice_get nos 0)
+
+conditions_errors : (nos : List No) → list_any is_error (map about.Condition nos) ≡ is_some (slice_get nos 0)
+conditions_errors [] = refl
+conditions_errors (no ∷ nos) = refl
+
+notes_errors : (notes : List Note) → list_any is_error (map about.Note notes) ≡ false
+notes_errors [] = refl
+notes_errors (note ∷ notes) = notes_errors notes
+
+or_false : (b : Bool) → (b || false) ≡ b
+or_false true = refl
+or_false false = refl
+
+lists_errors : (nos : List No) (notes : List Note) → has_error (of_lists nos notes) ≡ is_some (slice_get nos 0)
+lists_errors nos notes =
+    list_any-append is_error (map about.Condition nos) (map about.Note notes)
+    ∙ (ap₂ (λ a b. a || b) (conditions_errors nos) (notes_errors notes) ∙ or_false (is_some (slice_get nos 0)))
+
+fault_error : (one : About) (more rest : Bool) → (is_fault one && rest) ≡ true → (is_error one || more) ≡ true
+fault_error about.Fault more rest h = refl
+fault_error (about.Condition refused) more rest h = refl
+fault_error (about.Note note) more rest h = cc
+
+faults_errors : (found : List About) → AreFaults found → has_error found ≡ true
+faults_errors [] (some, all) = absurd (omega (arith, some))
+faults_errors (one ∷ found) (some, all) = fault_error one (list_any is_error found) (list_all is_fault found) all
+
+-- ── the check of what was read
+verdict_says : (o : Option No) (d : Lists) (cert : Certificate) → is_some o ≡ not (says_yes (verdict o d cert))
+verdict_says None d cert = refl
+verdict_says (Some no) d cert = refl
+
+judged_agrees : (d : Lists) (read : Read Certificate) (found : List About) → IsJudged d read found → has_error found ≡ not (says_yes (judged d read))
+judged_agrees d (Ok cert) found (notes, are, same) =
+    ap has_error same ∙ (lists_errors (all_nos d cert) notes ∙ (ap is_some (first_of_all d cert) ∙ verdict_says (first_no d cert) d cert))
+judged_agrees d (Err flaw) found (faults, rest, are, bare, same) =
+    ap has_error same ∙ (list_any-append is_error faults rest ∙ ap (λ b. b || has_error rest) (faults_errors faults are))
+
+-- ── what asks no certificate fails with each
+has_two : (xs ys : List No) → has_one (xs ++ ys) ≡ (has_one xs || has_one ys)
+unfolding has_one
+has_two [] ys = refl
+has_two (x ∷ xs) ys = refl
+
+bare_has : (d : Lists)
+    → has_one (bare_nos d) ≡ (((has_one (pairs_nos (network_of d)) || has_one (profile_nos d)) || has_one (instances_nos (network_of d))) || has_one (written_nos (network_of d)))
+unfolding bare_nos
+bare_has d = simp has_two
+
+all_has : (d : Lists) (cert : Certificate)
+    → has_one (all_nos d cert)
+    ≡ ((((has_one (pairs_nos (network_of d)) || has_one (profile_nos d))
+    || (((has_one (instances_nos (network_of d)) || has_one (bounds_nos (network_of d) cert)) || has_one (written_nos (network_of d))) || has_one (depths_nos (network_of d) cert)))
+    || has_one (rows_nos (network_of d) cert.rows))
+    || has_one (shown_nos (network_of d) cert))
+unfolding all_nos
+all_has d cert = simp has_two
+
+more_or : (p q i w b e r s : Bool) → (((p || q) || i) || w) ≡ true → (((p || q) || (((i || b) || w) || e)) || r || s) ≡ true
+more_or true q i w b e r s h = refl
+more_or false true i w b e r s h = refl
+more_or false false true w b e r s h = refl
+more_or false false false true true e r s h = refl
+more_or false false false true false e r s h = refl
+more_or false false false false b e r s h = cc
+
+bare_fails : (d : Lists) (cert : Certificate) → has_one (bare_nos d) ≡ true → is_some (first_no d cert) ≡ true
+unfolding has_one
+bare_fails d cert some =
+    ap is_some (sym (first_of_all d cert))
+    ∙ (all_has d cert
+    ∙ more_or (has_one (pairs_nos (network_of d))) (has_one (profile_nos d)) (has_one (instances_nos (network_of d))) (has_one (written_nos (network_of d)))
+    (has_one (bounds_nos (network_of d) cert)) (has_one (depths_nos (network_of d) cert)) (has_one (rows_nos (network_of d) cert.rows)) (has_one (shown_nos (network_of d) cert)) (sym (bare_has d) ∙ some))
+
+verdict_refuses : (o : Option No) (d : Lists) (cert : Certificate) → is_some o ≡ true → says_yes (verdict o d cert) ≡ false
+verdict_refuses None d cert some = cc
+verdict_refuses (Some no) d cert some = refl
+
+bare_refuses : (d : Lists) (read : Read Certificate) → is_some (slice_get (bare_nos d) 0) ≡ true → says_yes (judged d read) ≡ false
+unfolding has_one
+bare_refuses d (Ok cert) some = verdict_refuses (first_no d cert) d cert (bare_fails d cert some)
+bare_refuses d (Err flaw) some = refl
+
+bare_agrees : (d : Lists) (found : List About) → IsBare d found → has_error found ≡ true → (c : List ℕ) → says_yes (planned (Ok d) c) ≡ false
+bare_agrees d found (notes, are, same) has c =
+    bare_refuses d (certificate.read d c) (sym (ap has_error same ∙ lists_errors (bare_nos d) notes) ∙ has)
+
+-- ── lint and the check read the same files
+found_agrees : (read : Read Lists) (d : List ℕ) (c : Option (List ℕ)) (found : List About) → read ≡ deployment.read d → IsFound read c found → AgreesWithCheck d c found
+unfolding outcome
+found_agrees (Err flaw) d None found is faults = λ has c. ap (λ r. says_yes (planned r c)) (sym is)
+found_agrees (Err flaw) d (Some c) found is faults = faults_errors found faults ∙ ap (λ r. not (says_yes (planned r c))) is
+found_agrees (Ok lists) d None found is bare = λ has c. ap (λ r. says_yes (planned r c)) (sym is) ∙ bare_agrees lists found bare has c
+found_agrees (Ok lists) d (Some c) found is judged = judged_agrees lists (certificate.read lists c) found judged ∙ ap (λ r. not (says_yes (planned r c))) is
+
+lint_agrees : (d : List ℕ) (c : Option (List ℕ)) (found : List About) → IsLint d c found → AgreesWithCheck d c found
+unfolding IsLint
+lint_agrees d c found lint = found_agrees (deployment.read d) d c found refl lint
+
+-- what lint finds agrees with the check
+pub found_as_check : {V E : Type 0} (items : V → List Finding) (d : List ℕ) (c : Option (List ℕ)) (r : Result V E) → IfOk r (λ v. IsLint d c (abouts (items v)))
+    → IfOk r (λ v. AgreesWithCheck d c (abouts (items v)))
+found_as_check items d c (Ok v) lint = lint_agrees d c (abouts (items v)) lint
+found_as_check items d c (Err e) lint = tt
+
+-- ── the answer of lint
+none_step : (b rest any : Bool) → rest ≡ not any → ((cond b 1 0 == 0) && rest) ≡ not (b || any)
+none_step true rest any same = refl
+none_step false rest any same = same
+
+none_fails : (findings : List Finding) → list_all (λ (f : Finding). cond (is_error f.about) 1 0 == 0) findings ≡ not (has_error (abouts findings))
+none_fails [] = refl
+none_fails (one ∷ findings) =
+    none_step (is_error one.about) (list_all (λ (f : Finding). cond (is_error f.about) 1 0 == 0) findings) (has_error (abouts findings)) (none_fails findings)
+
+none_counted : (findings : List Finding) → (errors_of findings == 0) ≡ not (has_error (abouts findings))
+none_counted findings = sum_by-zero (λ (f : Finding). cond (is_error f.about) 1 0) findings ∙ none_fails findings
+
+not_not : (b : Bool) → not (not b) ≡ b
+not_not true = refl
+not_not false = refl
+
+not_false : (b : Bool) → not b ≡ false → b ≡ true
+not_false true h = refl
+not_false false h = cc
+
+not_true : (b : Bool) → not b ≡ true → b ≡ false
+not_true true h = cc
+not_true false h = refl
+
+and_left : (a b : Bool) → (a && b) ≡ true → a ≡ true
+and_left true b h = refl
+and_left false b h = h
+
+as_check : (denied : Deny) (d : List ℕ) (c : Option (List ℕ)) (answer : Answer) (findings : List Finding) → IsLint d c (abouts findings) → answer.is_yes ≡ is_clean denied findings
+    → AnswersAsCheck denied d c answer
+as_check deny.Errors d (Some c) answer findings lint clean =
+    clean ∙ (none_counted findings ∙ (ap not (lint_agrees d (Some c) (abouts findings) lint) ∙ not_not (says_yes (outcome d c))))
+as_check deny.Errors d None answer findings lint clean =
+    λ no c. lint_agrees d None (abouts findings) lint (not_false (has_error (abouts findings)) (sym (clean ∙ none_counted findings) ∙ no)) c
+as_check deny.Notes d (Some c) answer findings lint clean =
+    λ yes. not_false (says_yes (outcome d c))
+    (sym (lint_agrees d (Some c) (abouts findings) lint)
+    ∙ not_true (has_error (abouts findings)) (sym (none_counted findings) ∙ and_left (errors_of findings == 0) (notes_of findings == 0) (sym clean ∙ yes)))
+as_check deny.Notes d None answer findings lint clean = tt
+
+-- an answer that tells what lint finds agrees with the check
+pub answered_as_check : {E : Type 0} (form : LintStyle) (denied : Deny) (names : FileNames) (d : List ℕ) (c : Option (List ℕ)) (r : Result Answer E)
+    → IfOk r (IsLintAnswer form denied names d c) → IfOk r (AnswersAsCheck denied d c)
+answered_as_check form denied names d c (Ok answer) (fs, lint, text, clean) = as_check denied d c answer fs lint clean
+answered_as_check form denied names d c (Err e) said = tt
