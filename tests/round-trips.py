@@ -5,11 +5,13 @@
   tests/round-trips.py NAME ..   # those in whose name or path one of these stands
 
 On every deployment of the examples and of tests/search-cases, and on the largest inputs: `check` accepts what `propose` and `propose --thorough` print; what `migrate`
-prints stands for the same lists, by `show`; `replay` of what `refute` prints gives the same lines. Of a JSON document the certificate and the events are the same texts.
-What is printed passes its schema in docs/schemas, where Python's jsonschema is installed. Where `propose` or `migrate` print a text above the 1,048,576 bytes of a
-file, they say so on standard error, and it is refused as too large; `propose --thorough` prints none as long. The last line is 'N passed, M failed'; the status is 1 if one failed.
+prints stands for the same lists, by `show`; a deployment with what `match --connections` prints in place of its connections matches as it is meant to; `replay` of what
+`refute` prints gives the same lines. Of a JSON document the certificate and the events are the same texts. What is printed passes its schema in docs/schemas, where
+Python's jsonschema is installed. Where `propose` or `migrate` print a text above the 1,048,576 bytes of a file, they say so on standard error, and it is refused as too
+large; `propose --thorough` prints none as long. The last line is 'N passed, M failed'; the status is 1 if one failed.
 """
 import json
+import re
 import sys
 import tempfile
 import tomllib
@@ -96,6 +98,24 @@ def migrate(path, room):
     return None if passes("deployment", given.out) else "the deployment doesn't pass its schema"
 
 
+def connect(path, room):
+    """`match --connections`, and then `match` of the deployment with these connections in place of its own."""
+    given, pairs = ask("match", path, "--connections"), ask("match", path)
+    if given.status != pairs.status or pairs.status not in (0, 1):
+        return f"{given}; {pairs}"
+    bare = re.sub(r"^\[\[connections\]\]\n(?:\w+ = .*\n)*", "", path.read_text(), flags=re.MULTILINE)
+    if "connections" in tomllib.loads(bare):
+        return None
+    connected = room / "connected"
+    connected.write_text(f"{bare}\n{given.out}")
+    if connected.stat().st_size > LIMIT:
+        return None
+    matching = [tuple(line.split()[1:]) for line in pairs.out.splitlines() if line.startswith("match ")]
+    named = [(entry["writer"], entry["reader"]) for entry in tomllib.loads(given.out).get("connections", [])]
+    again = ask("match", connected)
+    return None if named == matching and (again.status, again.out) == (0, pairs.out) else f"{len(named)} connections: status {again.status}"
+
+
 def refute(path, room):
     """`refute` and then `replay`."""
     given = ask("refute", path)
@@ -133,7 +153,7 @@ def read_to_the_limit(room, command, said):
     return None if (given.status, given.out, given.err) == (2, "", "ddscheck: 4 TooLarge\n") else f"one byte more: {given}"
 
 
-WAYS = [propose, propose_thoroughly, migrate, refute]
+WAYS = [propose, propose_thoroughly, migrate, connect, refute]
 # what the searches need minutes for
 TOO_LONG = {("the largest deployment", propose_thoroughly), ("the largest deployment", refute)}
 

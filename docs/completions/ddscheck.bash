@@ -20,10 +20,10 @@ _ddscheck() {
     fi
     case ${COMP_WORDS[1]} in
     help) COMPREPLY=($(compgen -W "match check propose run migrate show draw refute replay limits conform lint help" -- "$word")); return ;;
-    match) options="--format -h --help" ;;
+    match) options="--connections --format -h --help" ;;
     check) options="--explain --format -h --help" ;;
     propose) options="--thorough --seconds --format -h --help" ;;
-    run) options="--fates --writes --takes --format -h --help" ;;
+    run) options="--fates --writes --takes --idle-ok --explain --format -h --help" ;;
     migrate) options="-h --help" ;;
     show) options="--format -h --help" ;;
     draw) options="-h --help" ;;

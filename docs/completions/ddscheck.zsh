@@ -24,6 +24,7 @@ _ddscheck() {
     words)
         case $line[1] in
             match) _arguments \
+                '--connections[Prints the connections of all pairs that match, for a deployment file, in place of the pairs]' \
                 '--format[text or json \[default: text\]]:FORMAT:(text json)' \
                 '-h[Print help]' \
                 '--help[Print help]' \
@@ -46,6 +47,8 @@ _ddscheck() {
                 '--fates[What befalls packets, in a circle: pass, keep, last, lose, with commas \[default: pass\]]:LIST:()' \
                 '--writes[How many samples each application writes \[default: 10\]]:N:()' \
                 '--takes[How many samples each application takes \[default: 10\]]:N:()' \
+                '--idle-ok[Ends with status 0 too where applications were idle]' \
+                '--explain[Tells how full each reader was too, and what idle applications wait for]' \
                 '--format[text or json \[default: text\]]:FORMAT:(text json)' \
                 '-h[Print help]' \
                 '--help[Print help]' \

@@ -1,3 +1,5 @@
+pub mod Connecting
+pub mod Connections
 pub mod Exit
 pub mod Fault
 pub mod Causes

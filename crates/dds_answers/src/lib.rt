@@ -5,6 +5,8 @@
 #![tactic(auto)]
 
 mod answer;
+mod connecting;
+mod connections;
 mod counted;
 mod disk;
 mod drawing;
@@ -26,6 +28,8 @@ pub use answer::{
     Answer, answered, certified, check_answer, match_answer, migrate_answer, propose_answer,
     reported, show_answer,
 };
+pub use connecting::{connections_answer, connections_file};
+pub use connections::connections_text;
 pub use counted::Counted;
 pub use disk::Disk;
 pub use drawing::draw_answer;

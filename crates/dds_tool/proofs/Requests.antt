@@ -5,6 +5,7 @@ use Rattle.dds_answers.specs.declared.fault.ToolFault.{ToolFault}
 use Rattle.dds_answers.specs.declared.fault.ToolFault.TheVariants as fault
 use Rattle.dds_tool.specs.declared.request.Request.{Request}
 use Rattle.dds_tool.specs.declared.request.Request.TheVariants as asked
+use Rattle.dds_tool.specs.declared.wishes.Wishes.{Wishes}
 use Rattle.dds_answers.specs.declared.answer.Answer.{Answer}
 use Rattle.dds_answers.specs.Answers.{Gives, GivesOneOf}
 use Rattle.dds_tool.specs.Asking.{Answers, GivesTo, Said}
@@ -12,9 +13,10 @@ use Rattle.dds_answers.specs.Exit.{exit_status}
 use Rattle.dds_answers.specs.Fault.{fault_status}
 use Rattle.dds_answers.specs.declared.exit.Exit.{Exit}
 use Rattle.dds_answers.specs.Migrations.{MayMigrateFor}
-use Rattle.dds_answers.specs.Outcome.{Outcome, check_file_outcome, draw_file_outcome, file_outcome, match_file_outcome, show_file_outcome, too_large, unproposed}
+use Rattle.dds_answers.specs.Outcome.{Outcome, check_file_outcome, draw_file_outcome, file_outcome, show_file_outcome, too_large, unproposed}
 use Rattle.dds_answers.specs.Report.{Ends, output_of, status_of}
 use Rattle.dds_answers.proofs.FileEnds.{any_end}
+use Rattle.dds_tool.specs.Comparing.{compared_file}
 use Rattle.dds_tool.specs.Limits.{MayLimitFor}
 use Rattle.dds_tool.specs.Linting.{MayLintFile, MayLintFiles}
 use Rattle.dds_tool.specs.Refuting.{MayRefuteFor}
@@ -104,20 +106,20 @@ no_fault : (exit : Exit) (e : ToolFault) → Passes (Err e) (Ok exit) → ⊥
 no_fault exit e passed = cc
 
 -- an end that a run may come to was said, where a fault is passed on
-run_said : (style : Style) (checked : Outcome) (given : Result Answer ToolFault) (exit : Exit) (old new : Option (List ℕ)) → GivesRun style checked given
+run_said : (wishes : Wishes) (style : Style) (checked : Outcome) (given : Result Answer ToolFault) (exit : Exit) (old new : Option (List ℕ)) → GivesRun wishes style checked given
     → ((end : Outcome) → Gives given end → (exit_status exit ≡ status_of end) × Appends old new (output_of end))
     → Passes given (Ok exit)
-    → (exit_status exit ≡ 3) ⊎ ((end : Outcome) × MayRun style checked end × Said end (exit_status exit) old new)
-run_said style checked (Ok answer) exit old new (end, may, is) written passed = inr (end, may, inl (written end is))
-run_said style checked (Err e) exit old new gives written passed = absurd (no_fault exit e passed)
+    → (exit_status exit ≡ 3) ⊎ ((end : Outcome) × MayRun wishes style checked end × Said end (exit_status exit) old new)
+run_said wishes style checked (Ok answer) exit old new (end, may, is) written passed = inr (end, may, inl (written end is))
+run_said wishes style checked (Err e) exit old new gives written passed = absurd (no_fault exit e passed)
 
 -- a fault is said of one of the ends that a run may come to, or of the run, of memory or of a device
-run_faulted : (style : Style) (checked : Outcome) (given : Result Answer ToolFault) (f : ToolFault) (status : ℕ) (old new : Option (List ℕ)) → GivesRun style checked given
+run_faulted : (wishes : Wishes) (style : Style) (checked : Outcome) (given : Result Answer ToolFault) (f : ToolFault) (status : ℕ) (old new : Option (List ℕ)) → GivesRun wishes style checked given
     → ((end : Outcome) → Gives given end → Ends f end) → (f ≡ fault.Write) ⊎ Keeps old new → IfErr given (λ e. f ≡ e)
-    → (status ≡ fault_status f) ⊎ (status ≡ 3) → (status ≡ 3) ⊎ ((end : Outcome) × MayRun style checked end × Said end status old new)
-run_faulted style checked (Ok answer) f status old new gives ends nothing passed told = one_faulted (MayRun style checked) (Ok answer) f status old new gives ends nothing told
-run_faulted style checked (Err e) f status old new (inr gives) ends nothing passed told = one_faulted (MayRun style checked) (Err e) f status old new gives ends nothing told
-run_faulted style checked (Err e) f status old new (inl run) ends nothing passed told = inl (elim told [ inl h ↦ h ∙ ap fault_status (passed ∙ run.1) | inr h ↦ h ])
+    → (status ≡ fault_status f) ⊎ (status ≡ 3) → (status ≡ 3) ⊎ ((end : Outcome) × MayRun wishes style checked end × Said end status old new)
+run_faulted wishes style checked (Ok answer) f status old new gives ends nothing passed told = one_faulted (MayRun wishes style checked) (Ok answer) f status old new gives ends nothing told
+run_faulted wishes style checked (Err e) f status old new (inr gives) ends nothing passed told = one_faulted (MayRun wishes style checked) (Err e) f status old new gives ends nothing told
+run_faulted wishes style checked (Err e) f status old new (inl run) ends nothing passed told = inl (elim told [ inl h ↦ h ∙ ap fault_status (passed ∙ run.1) | inr h ↦ h ])
 
 -- an answer that was written is what is said of the request
 pub answered : (holds : List ℕ → Option (List ℕ)) (request : Request) (given : Result Answer ToolFault) (r : Result Exit ToolFault) (old new : Option (List ℕ))
@@ -127,7 +129,7 @@ pub answered : (holds : List ℕ → Option (List ℕ)) (request : Request) (giv
     → IfOk r (λ exit. Answers holds request (exit_status exit) old new)
 answered holds (asked.Check d b detail style) given (Ok exit) old new gives written passed =
     λ x y hx hy. inl (written (in_style style (check_file_outcome detail x y)) (gives x y hx hy).0)
-answered holds (asked.Match d style) given (Ok exit) old new gives written passed = λ x hx. inl (written (in_style style (match_file_outcome x)) (gives x hx))
+answered holds (asked.Match d what style) given (Ok exit) old new gives written passed = λ x hx. inl (written (compared_file what style x) (gives x hx))
 answered holds (asked.Propose d style) given (Ok exit) old new gives written passed = λ x hx. let g = gives x hx in (g.0, g.1, inl (written (in_style style g.0) g.2))
 answered holds (asked.ProposeThoroughly d seconds style) given (Ok exit) old new gives written passed = λ x hx. let g = gives x hx in (g.0, g.1, inl (written (in_style style g.0) g.2))
 answered holds (asked.Migrate d) given (Ok exit) old new gives written passed = λ x hx. one_said (MayMigrateFor x) given (exit_status exit) old new (gives x hx) written
@@ -146,9 +148,9 @@ answered holds (asked.Lint d None form denied) given (Ok exit) old new gives wri
 answered holds (asked.Lint d (Some c) form denied) given (Ok exit) old new gives written passed =
     λ x y hx hy. one_said (MayLintFiles form denied d.now c.now x y) given (exit_status exit) old new (gives x y hx hy) written
 answered holds (asked.Run d b wishes style) given (Ok exit) old new gives written passed =
-    λ x y hx hy. run_said style (file_outcome x y) given exit old new (gives x y hx hy) written passed
+    λ x y hx hy. run_said wishes style (file_outcome x y) given exit old new (gives x y hx hy) written passed
 answered holds (asked.Check d b detail style) given (Err f) old new gives written passed = tt
-answered holds (asked.Match d style) given (Err f) old new gives written passed = tt
+answered holds (asked.Match d what style) given (Err f) old new gives written passed = tt
 answered holds (asked.Propose d style) given (Err f) old new gives written passed = tt
 answered holds (asked.ProposeThoroughly d seconds style) given (Err f) old new gives written passed = tt
 answered holds (asked.Migrate d) given (Err f) old new gives written passed = tt
@@ -170,8 +172,8 @@ pub faulted : (holds : List ℕ → Option (List ℕ)) (request : Request) (give
     → IfErr r (λ f. (status : ℕ) → (status ≡ fault_status f) ⊎ (status ≡ 3) → Answers holds request status old new)
 faulted holds (asked.Check d b detail style) given (Err f) old new gives ends nothing passed =
     λ status told x y hx hy. fault_said (in_style style (check_file_outcome detail x y)) f status old new (ends (in_style style (check_file_outcome detail x y)) (gives x y hx hy).0) nothing told
-faulted holds (asked.Match d style) given (Err f) old new gives ends nothing passed =
-    λ status told x hx. fault_said (in_style style (match_file_outcome x)) f status old new (ends (in_style style (match_file_outcome x)) (gives x hx)) nothing told
+faulted holds (asked.Match d what style) given (Err f) old new gives ends nothing passed =
+    λ status told x hx. fault_said (compared_file what style x) f status old new (ends (compared_file what style x) (gives x hx)) nothing told
 faulted holds (asked.Propose d style) given (Err f) old new gives ends nothing passed =
     λ status told x hx. let g = gives x hx in (g.0, g.1, fault_said (in_style style g.0) f status old new (ends (in_style style g.0) g.2) nothing told)
 faulted holds (asked.ProposeThoroughly d seconds style) given (Err f) old new gives ends nothing passed =
@@ -197,9 +199,9 @@ faulted holds (asked.Lint d None form denied) given (Err f) old new gives ends n
 faulted holds (asked.Lint d (Some c) form denied) given (Err f) old new gives ends nothing passed =
     λ status told x y hx hy. one_faulted (MayLintFiles form denied d.now c.now x y) given f status old new (gives x y hx hy) ends nothing told
 faulted holds (asked.Run d b wishes style) given (Err f) old new gives ends nothing passed =
-    λ status told x y hx hy. run_faulted style (file_outcome x y) given f status old new (gives x y hx hy) ends nothing (same_fault given f passed) told
+    λ status told x y hx hy. run_faulted wishes style (file_outcome x y) given f status old new (gives x y hx hy) ends nothing (same_fault given f passed) told
 faulted holds (asked.Check d b detail style) given (Ok exit) old new gives ends nothing passed = tt
-faulted holds (asked.Match d style) given (Ok exit) old new gives ends nothing passed = tt
+faulted holds (asked.Match d what style) given (Ok exit) old new gives ends nothing passed = tt
 faulted holds (asked.Propose d style) given (Ok exit) old new gives ends nothing passed = tt
 faulted holds (asked.ProposeThoroughly d seconds style) given (Ok exit) old new gives ends nothing passed = tt
 faulted holds (asked.Migrate d) given (Ok exit) old new gives ends nothing passed = tt

@@ -18,6 +18,7 @@ use Rattle.dds_tool.specs.Asking.{Answers, GivesTo, IsAcceptedRun, Tells, TellsB
 use Rattle.dds_tool.specs.Causes.{IsCaused, IsRun}
 use Rattle.dds_tool.specs.RunEnds.{GivesRun, IsAccepted}
 use Rattle.dds_tool.specs.declared.request.Request.{Request}
+use Rattle.dds_tool.specs.declared.wishes.Wishes.{Wishes}
 use Rattle.dds_tool.specs.declared.request.Request.TheVariants as asked
 
 -- how a command ends that tells this fault
@@ -104,14 +105,14 @@ told_run f failed e (inr (inl is)) run = absurd (let no : exit.NoMemory ≡ exit
 told_run f failed e (inr (inr is)) run = absurd (let no : exit.Device ≡ exit.Run = sym is.0 ∙ run in cc)
 
 -- a run that gives that fault was accepted
-given_run : (style : Style) (checked : Outcome) → GivesRun style checked (Err fault.Run) → IsAccepted checked
-given_run style checked (inl run) = run.0
-given_run style checked (inr (inl nothing)) = absurd nothing
-given_run style checked (inr (inr (end, may, ends))) = absurd ends
+given_run : (wishes : Wishes) (style : Style) (checked : Outcome) → GivesRun wishes style checked (Err fault.Run) → IsAccepted checked
+given_run wishes style checked (inl run) = run.0
+given_run wishes style checked (inr (inl nothing)) = absurd nothing
+given_run wishes style checked (inr (inr (end, may, ends))) = absurd ends
 
 accepted_run : (holds : List ℕ → Option (List ℕ)) (request : Request) → IsRun request → GivesTo holds request (Err fault.Run) → IsAcceptedRun holds request
-accepted_run holds (asked.Run d c wishes style) run gives = λ x y hx hy. given_run style (file_outcome x y) (gives x y hx hy)
-accepted_run holds (asked.Match d style) run gives = absurd run
+accepted_run holds (asked.Run d c wishes style) run gives = λ x y hx hy. given_run wishes style (file_outcome x y) (gives x y hx hy)
+accepted_run holds (asked.Match d what style) run gives = absurd run
 accepted_run holds (asked.Propose d style) run gives = absurd run
 accepted_run holds (asked.ProposeThoroughly d seconds style) run gives = absurd run
 accepted_run holds (asked.Migrate d) run gives = absurd run

@@ -10,7 +10,12 @@ use Rattle.clap.specs.declared.error.kind.ErrorKind.TheVariants as kind
 use Rattle.dds_peers.specs.Fates.{AreFates}
 use Rattle.dds_tool.specs.Command.{whole}
 use Rattle.dds_tool.specs.Wishes.{fates_text, format_word, style_word}
+use Rattle.dds_recap.specs.declared.ends.GoodEnds.{GoodEnds}
+use Rattle.dds_recap.specs.declared.ends.GoodEnds.TheVariants.{Stopped, StoppedOrIdle}
 use Rattle.dds_tool.specs.declared.wishes.Wishes.{Wishes}
+use Rattle.dds_tool.specs.declared.comparing.Comparison.{Comparison}
+use Rattle.dds_tool.specs.declared.comparing.Comparison.TheVariants.{Pairs, Connections}
+use Rattle.dds_tool.specs.Comparing.{compared_file}
 use Rattle.dds_tool.specs.declared.request.Request.{Request}
 use Rattle.dds_tool.specs.declared.request.Request.TheVariants as asked
 use Rattle.dds_tool.specs.declared.request.NoRequest.{NoRequest}
@@ -18,7 +23,7 @@ use Rattle.dds_tool.specs.declared.request.NoRequest.TheVariants as none
 use Rattle.dds_answers.specs.declared.answer.Answer.{Answer}
 use Rattle.dds_answers.specs.declared.fault.ToolFault.{ToolFault}
 use Rattle.dds_answers.specs.Answers.{Gives, GivesOneOf}
-use Rattle.dds_answers.specs.Outcome.{Outcome, check_file_outcome, draw_file_outcome, file_outcome, match_file_outcome, show_file_outcome}
+use Rattle.dds_answers.specs.Outcome.{Outcome, check_file_outcome, draw_file_outcome, file_outcome, show_file_outcome}
 use Rattle.dds_answers.specs.declared.format.Format.{Format}
 use Rattle.dds_answers.specs.declared.report.Detail.{Detail}
 use Rattle.dds_answers.specs.declared.report.Detail.TheVariants.{Plain, Explained}
@@ -62,9 +67,20 @@ IsStyled rows style = first_of (codes "format") rows ≡ Some (style_word style)
 abbrev pub NamesStyled : List Row → Text → Style → Type 0
 NamesStyled rows name style = (first_of (codes "deployment") rows ≡ Some name) × IsStyled rows style
 
--- the words name the subcommand and a deployment, and ask for an answer in this style
-abbrev pub NamesOne : List Text → Text → Text → Style → Type 0
-NamesOne words command name style = (rows : List Row) × (subcommand_of whole words ≡ Some (command, rows)) × NamesStyled rows name style
+-- what is printed of a comparison
+abbrev pub comparison_of : List Row → Comparison
+comparison_of rows = if is_set rows (codes "connections") then Connections else Pairs
+
+-- what is printed has this style: connections are text
+abbrev pub is_printed : Comparison → Style → Bool
+is_printed Pairs style = true
+is_printed Connections style.Text = true
+is_printed Connections style.Json = false
+
+-- the words compare the endpoints of the deployment with this name, and ask for so much of it, in a style that it has
+abbrev pub Compares : List Text → Text → Comparison → Style → Type 0
+Compares words name what style =
+    (rows : List Row) × (subcommand_of whole words ≡ Some (codes "match", rows)) × (comparison_of rows ≡ what) × NamesStyled rows name style × (is_printed what style ≡ true)
 
 -- the words look for a certificate of the deployment with this name, and ask for an answer in this style
 abbrev pub Looks : List Text → Text → Style → Type 0
@@ -88,7 +104,7 @@ Replays words deployment events style = (rows : List Row) × (subcommand_of whol
 abbrev pub Conforms : List Text → Text → Text → Style → Type 0
 Conforms words deployment trace style = (rows : List Row) × (subcommand_of whole words ≡ Some (codes "conform", rows)) × NamesBoth (codes "trace") rows deployment trace × IsStyled rows style
 
--- how much a check is asked to tell
+-- how much a check or a run is asked to tell
 abbrev pub detail_of : List Row → Detail
 detail_of rows = if is_set rows (codes "explain") then Explained else Plain
 
@@ -144,10 +160,15 @@ abbrev pub Limits : List Text → Text → Finding → ℕ → Style → Type 0
 Limits words name what seconds style =
     (rows : List Row) × (subcommand_of whole words ≡ Some (codes "limits", rows)) × (finding_of rows ≡ what) × NamesTimed rows name seconds style
 
+-- the ends of a run that are good
+abbrev pub good_of : List Row → GoodEnds
+good_of rows = if is_set rows (codes "idle-ok") then StoppedOrIdle else Stopped
+
 -- the arguments have the texts of these wishes
 abbrev pub Wants : List Row → Wishes → Type 0
 Wants rows wishes =
     AreFates wishes.fates × (first_of (codes "fates") rows ≡ Some (fates_text wishes.fates)) × Counts rows (codes "writes") wishes.writes × Counts rows (codes "takes") wishes.takes
+    × (good_of rows ≡ wishes.good) × (detail_of rows ≡ wishes.detail)
 
 -- the words run the deployment with this name, by the certificate with that name, with these wishes, and ask for an answer in this style
 abbrev pub Runs : List Text → Text → Text → Wishes → Style → Type 0
@@ -156,7 +177,7 @@ Runs words deployment certificate wishes style =
 
 -- the words ask for this, by clap's own account of the command
 abbrev pub Asks : List Text → Request → Type 0
-Asks words (asked.Match d style) = NamesOne words (codes "match") d.now style
+Asks words (asked.Match d what style) = Compares words d.now what style
 Asks words (asked.Propose d style) = Looks words d.now style
 Asks words (asked.ProposeThoroughly d seconds style) = LooksThoroughly words d.now seconds style
 Asks words (asked.Migrate d) = Names words (codes "migrate") (codes "deployment") d.now
@@ -180,7 +201,7 @@ Misses command rows result = (words : List Text) → subcommand_of whole words �
 
 -- the paths of the files that a request names, in the order of the words
 abbrev pub paths_of : Request → List Text
-paths_of (asked.Match d style) = d.now ∷ []
+paths_of (asked.Match d what style) = d.now ∷ []
 paths_of (asked.Propose d style) = d.now ∷ []
 paths_of (asked.ProposeThoroughly d seconds style) = d.now ∷ []
 paths_of (asked.Migrate d) = d.now ∷ []
@@ -202,7 +223,7 @@ style_of_form form.Sarif = style.Text
 
 -- the style in which the answer to a request is told: in lines where it has no other
 abbrev pub style_of : Request → Style
-style_of (asked.Match d style) = style
+style_of (asked.Match d what style) = style
 style_of (asked.Propose d style) = style
 style_of (asked.ProposeThoroughly d seconds style) = style
 style_of (asked.Migrate d) = style.Text
@@ -239,7 +260,7 @@ IsHelp none.NoMemory = ⊥
 abbrev pub GivesTo : (List ℕ → Option (List ℕ)) → Request → Result Answer ToolFault → Type 0
 GivesTo holds (asked.Check d c detail style) result =
     (x y : List ℕ) → holds d.now ≡ Some x → holds c.now ≡ Some y → Gives result (in_style style (check_file_outcome detail x y)) × IfErr result (IsFaultTold detail x y)
-GivesTo holds (asked.Match d style) result = (x : List ℕ) → holds d.now ≡ Some x → Gives result (in_style style (match_file_outcome x))
+GivesTo holds (asked.Match d what style) result = (x : List ℕ) → holds d.now ≡ Some x → Gives result (compared_file what style x)
 GivesTo holds (asked.Propose d style) result = (x : List ℕ) → holds d.now ≡ Some x → (end : Outcome) × MayProposeFor x end × Gives result (in_style style end)
 GivesTo holds (asked.ProposeThoroughly d seconds style) result = (x : List ℕ) → holds d.now ≡ Some x → (end : Outcome) × MayFindFor x end × Gives result (in_style style end)
 GivesTo holds (asked.Migrate d) result = (x : List ℕ) → holds d.now ≡ Some x → GivesOneOf (MayMigrateFor x) result
@@ -253,7 +274,7 @@ GivesTo holds (asked.Draw d (Some c)) result = (x y : List ℕ) → holds d.now 
 GivesTo holds (asked.Lint d None form denied) result = (x : List ℕ) → holds d.now ≡ Some x → GivesOneOf (MayLintFile form denied d.now x) result
 GivesTo holds (asked.Lint d (Some c) form denied) result =
     (x y : List ℕ) → holds d.now ≡ Some x → holds c.now ≡ Some y → GivesOneOf (MayLintFiles form denied d.now c.now x y) result
-GivesTo holds (asked.Run d c wishes style) result = (x y : List ℕ) → holds d.now ≡ Some x → holds c.now ≡ Some y → GivesRun style (file_outcome x y) result
+GivesTo holds (asked.Run d c wishes style) result = (x y : List ℕ) → holds d.now ≡ Some x → holds c.now ≡ Some y → GivesRun wishes style (file_outcome x y) result
 
 -- the status and what is added to the output are those of this end, or memory or a device failed, and the status is 3
 abbrev pub Said : Outcome → ℕ → Option (List ℕ) → Option (List ℕ) → Type 0
@@ -263,7 +284,7 @@ Said end status old new = ((status ≡ status_of end) × Appends old new (output
 abbrev pub Answers : (List ℕ → Option (List ℕ)) → Request → ℕ → Option (List ℕ) → Option (List ℕ) → Type 0
 Answers holds (asked.Check d c detail style) status old new =
     (x y : List ℕ) → holds d.now ≡ Some x → holds c.now ≡ Some y → Said (in_style style (check_file_outcome detail x y)) status old new
-Answers holds (asked.Match d style) status old new = (x : List ℕ) → holds d.now ≡ Some x → Said (in_style style (match_file_outcome x)) status old new
+Answers holds (asked.Match d what style) status old new = (x : List ℕ) → holds d.now ≡ Some x → Said (compared_file what style x) status old new
 Answers holds (asked.Propose d style) status old new = (x : List ℕ) → holds d.now ≡ Some x → (end : Outcome) × MayProposeFor x end × Said (in_style style end) status old new
 Answers holds (asked.ProposeThoroughly d seconds style) status old new =
     (x : List ℕ) → holds d.now ≡ Some x → (end : Outcome) × MayFindFor x end × Said (in_style style end) status old new
@@ -285,7 +306,7 @@ Answers holds (asked.Lint d None form denied) status old new =
 Answers holds (asked.Lint d (Some c) form denied) status old new =
     (x y : List ℕ) → holds d.now ≡ Some x → holds c.now ≡ Some y → (status ≡ 3) ⊎ ((end : Outcome) × MayLintFiles form denied d.now c.now x y end × Said end status old new)
 Answers holds (asked.Run d c wishes style) status old new =
-    (x y : List ℕ) → holds d.now ≡ Some x → holds c.now ≡ Some y → (status ≡ 3) ⊎ ((end : Outcome) × MayRun style (file_outcome x y) end × Said end status old new)
+    (x y : List ℕ) → holds d.now ≡ Some x → holds c.now ≡ Some y → (status ≡ 3) ⊎ ((end : Outcome) × MayRun wishes style (file_outcome x y) end × Said end status old new)
 
 -- where a document is asked for, and the command ends with a fault: the fault is one with which it may end, and its document is added to the output
 abbrev pub TellsInJson : (List ℕ → Option (List ℕ)) → Request → ℕ → Option (List ℕ) → Option (List ℕ) → Type 0

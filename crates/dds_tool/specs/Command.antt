@@ -33,9 +33,9 @@ seconds_rule = record (wish_rule (codes "seconds") (codes "60")) { parser = Some
 abbrev pub styled : App → App
 styled command = with_rule command (wish_rule (codes "format") (codes "text"))
 
--- the command that compares the endpoints of a deployment
+-- the command that compares the endpoints of a deployment, and prints connections where its flag is given
 abbrev pub matching : App
-matching = styled (one_file (codes "match"))
+matching = styled (with_rule (one_file (codes "match")) (flag_rule (codes "connections")))
 
 -- the command that looks for a certificate, thoroughly where its flag is given
 abbrev pub searching : App
@@ -55,7 +55,13 @@ count_rule id = record (wish_rule id (codes "10")) { parser = Some (Signed (pos 
 
 -- the command that runs a deployment
 abbrev pub running : App
-running = styled (with_rule (with_rule (with_rule (two_files (codes "run")) (wish_rule (codes "fates") (codes "pass"))) (count_rule (codes "writes"))) (count_rule (codes "takes")))
+running =
+    styled
+    (with_rule
+    (with_rule
+    (with_rule (with_rule (with_rule (two_files (codes "run")) (wish_rule (codes "fates") (codes "pass"))) (count_rule (codes "writes"))) (count_rule (codes "takes")))
+    (flag_rule (codes "idle-ok")))
+    (flag_rule (codes "explain")))
 
 -- the command that shows a deployment in a format
 abbrev pub showing : App

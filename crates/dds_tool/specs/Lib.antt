@@ -3,6 +3,7 @@ pub mod RunDocument
 pub mod RunEnds
 pub mod Wishes
 pub mod Command
+pub mod Comparing
 pub mod Asking
 pub mod Causes
 pub mod Summary

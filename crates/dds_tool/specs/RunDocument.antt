@@ -1,5 +1,5 @@
 -- The document that tells of a run.
-use Rattle.std.specs.Prelude.{ℕ, List, [], codes, length, map}
+use Rattle.std.specs.Prelude.{ℕ, Bool, List, [], ◌++◌, codes, length, map, Option, Some, None, unwrap_or}
 use Rattle.std.specs.List.{count_by, range_with_len, slice_index_or}
 use Rattle.serde_json.specs.Data.{Data, array, member, no_members, number, object, string, unsigned}
 use Rattle.serde_json.specs.View.{items_of}
@@ -13,7 +13,7 @@ use Rattle.dds_json.specs.Line.{line_of}
 use Rattle.dds_json.specs.Matching.{answer_word}
 use Rattle.dds_json.specs.declared.style.Style.{Style}
 use Rattle.dds_json.specs.declared.style.Style.TheVariants.{Text, Json}
-use Rattle.dds_tool.specs.Running.{all_stopped, end_word, is_taken, is_written, run_lines}
+use Rattle.dds_tool.specs.Running.{end_word, is_taken, is_written, run_lines}
 
 -- the application with this name: how much it wrote and took, and how its thread ended
 abbrev pub app_document : List ℕ → List (Event × Reply) → AppEnd → Data
@@ -24,12 +24,18 @@ app_document name entries ended =
 abbrev pub document_at : List (List ℕ) → List Entry → List AppEnd → ℕ → Data
 document_at names journal ends app = app_document (slice_index_or names app []) (entries_of app journal) (slice_index_or ends app end.Stopped)
 
--- yes where the thread of each application ended as the application asked, with each application
-abbrev pub run_document : List (List ℕ) → List Entry → List AppEnd → Data
-run_document names journal ends =
-    object (member (codes "answer") (string (answer_word (all_stopped ends))) (member (codes "applications") (array (items_of (map (document_at names journal ends) (range_with_len 0 (length names))))) no_members))
+-- the applications with these names
+abbrev pub app_documents : List (List ℕ) → List Entry → List AppEnd → Data
+app_documents names journal ends = array (items_of (map (document_at names journal ends) (range_with_len 0 (length names))))
 
--- a run, told in this style
-abbrev pub told_run : Style → List (List ℕ) → List Entry → List AppEnd → List ℕ
-told_run Text names journal ends = run_lines names journal ends
-told_run Json names journal ends = line_of (run_document names journal ends)
+-- yes or no, with each application, and what the journal comes to, where that is asked for
+abbrev pub run_document : Bool → Option (List ℕ) → List (List ℕ) → List Entry → List AppEnd → Data
+run_document is_yes None names journal ends =
+    object (member (codes "answer") (string (answer_word is_yes)) (member (codes "applications") (app_documents names journal ends) no_members))
+run_document is_yes (Some because) names journal ends =
+    object (member (codes "answer") (string (answer_word is_yes)) (member (codes "applications") (app_documents names journal ends) (member (codes "because") (string because) no_members)))
+
+-- a run, told in this style: yes or no, and what its journal comes to, where that is asked for
+abbrev pub told_run : Style → Bool → Option (List ℕ) → List (List ℕ) → List Entry → List AppEnd → List ℕ
+told_run Text is_yes because names journal ends = run_lines names journal ends ++ unwrap_or because []
+told_run Json is_yes because names journal ends = line_of (run_document is_yes because names journal ends)

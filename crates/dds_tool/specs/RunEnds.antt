@@ -12,15 +12,22 @@ use Rattle.dds_answers.specs.Report.{Ends}
 use Rattle.dds_json.specs.Ends.{in_style}
 use Rattle.dds_json.specs.declared.style.Style.{Style}
 use Rattle.dds_tool.specs.RunDocument.{told_run}
-use Rattle.dds_tool.specs.Running.{all_stopped, app_names}
+use Rattle.dds_lists.specs.Lists.{Lists}
+use Rattle.dds_tool.specs.Running.{app_names, because_of}
+use Rattle.dds_recap.specs.Ends.{all_good}
+use Rattle.dds_tool.specs.declared.wishes.Wishes.{Wishes}
+
+-- what is said of a run by its journal and the ends of its applications' threads
+abbrev pub ran : Wishes → Style → Lists → List Entry → List AppEnd → Outcome
+ran wishes style d journal ends =
+    let is_yes = all_good wishes.good ends in said (told_run style is_yes (because_of wishes.detail d journal ends) (app_names d) journal ends) is_yes
 
 -- what a run of files may come to whose check ends so, told in this style: where the certificate is accepted, the deployment ran, by a journal of its plan,
 -- and the thread of each application ended; every other end is that of the check
-abbrev pub MayRun : Style → Outcome → Outcome → Type 0
-MayRun style (accepted d c) end =
-    (journal : List Entry) × (ends : List AppEnd) × IsJournal d journal × (length ends ≡ length d.applications.entries)
-    × (end ≡ said (told_run style (app_names d) journal ends) (all_stopped ends))
-MayRun style checked end = end ≡ in_style style checked
+abbrev pub MayRun : Wishes → Style → Outcome → Outcome → Type 0
+MayRun wishes style (accepted d c) end =
+    (journal : List Entry) × (ends : List AppEnd) × IsJournal d journal × (length ends ≡ length d.applications.entries) × (end ≡ ran wishes style d journal ends)
+MayRun wishes style checked end = end ≡ in_style style checked
 
 -- the certificate is accepted
 abbrev pub IsAccepted : Outcome → Type 0
@@ -29,6 +36,6 @@ IsAccepted _ = ⊥
 
 -- what is given for a run of files whose check ends so: the answer of an end that may be, or the fault with which one that may be ends, or a
 -- fault of memory or of a device, or, but only where the certificate is accepted, that of the run
-abbrev pub GivesRun : Style → Outcome → Result Answer ToolFault → Type 0
-GivesRun style checked (Ok answer) = (end : Outcome) × MayRun style checked end × IsAnswer answer end
-GivesRun style checked (Err e) = (IsAccepted checked × (e ≡ fault.Run)) ⊎ (SaysNothing e ⊎ ((end : Outcome) × MayRun style checked end × Ends e end))
+abbrev pub GivesRun : Wishes → Style → Outcome → Result Answer ToolFault → Type 0
+GivesRun wishes style checked (Ok answer) = (end : Outcome) × MayRun wishes style checked end × IsAnswer answer end
+GivesRun wishes style checked (Err e) = (IsAccepted checked × (e ≡ fault.Run)) ⊎ (SaysNothing e ⊎ ((end : Outcome) × MayRun wishes style checked end × Ends e end))

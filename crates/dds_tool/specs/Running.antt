@@ -1,7 +1,7 @@
 -- The lines that tell of a run.
-use Rattle.std.specs.Prelude.{ℕ, Bool, true, false, List, [], ◌++◌, codes, length, map}
+use Rattle.std.specs.Prelude.{ℕ, Bool, true, false, List, [], ◌++◌, codes, length, map, Option, Some, None}
 use Rattle.std.specs.Fmt.{decimal}
-use Rattle.std.specs.List.{count_by, list_all, range_with_len, slice_index_or}
+use Rattle.std.specs.List.{count_by, range_with_len, slice_index_or}
 use Rattle.dds_base.specs.declared.events.Event.{Event}
 use Rattle.dds_base.specs.declared.events.Reply.{Reply}
 use Rattle.dds_base.specs.declared.events.Reply.TheVariants.{Took, Written}
@@ -12,6 +12,9 @@ use Rattle.dds_book.specs.declared.entry.Entry.{Entry}
 use Rattle.dds_apps.specs.declared.player.AppEnd.{AppEnd}
 use Rattle.dds_apps.specs.declared.player.AppEnd.TheVariants as end
 use Rattle.dds_apps.specs.Kept.{entries_of}
+use Rattle.dds_answers.specs.declared.report.Detail.{Detail}
+use Rattle.dds_answers.specs.declared.report.Detail.TheVariants.{Plain, Explained}
+use Rattle.dds_recap.specs.Explanation.{explanation}
 
 -- the reply tells of a sample that was written
 abbrev pub tells_of_write : Reply → Bool
@@ -58,11 +61,7 @@ line_at names journal ends app = app_line (slice_index_or names app []) (entries
 abbrev pub run_lines : List (List ℕ) → List Entry → List AppEnd → List ℕ
 run_lines names journal ends = each_below (length names) (line_at names journal ends)
 
--- the application's thread ended as the application asked
-abbrev pub has_stopped : AppEnd → Bool
-has_stopped end.Stopped = true
-has_stopped _ = false
-
--- all did
-abbrev pub all_stopped : List AppEnd → Bool
-all_stopped ends = list_all has_stopped ends
+-- what the journal of a run comes to, where that is asked for
+abbrev pub because_of : Detail → Lists → List Entry → List AppEnd → Option (List ℕ)
+because_of Plain d journal ends = None
+because_of Explained d journal ends = Some (explanation d journal ends)

@@ -41,6 +41,16 @@ const SECONDS: &str = "How many seconds a search may take";
 /// What help says of the seconds of a search that is made with a flag.
 const THOROUGH_SECONDS: &str = "How many seconds the thorough search may take";
 
+/// What help says of the flag of connections.
+const CONNECTIONS: &str =
+    "Prints the connections of all pairs that match, for a deployment file, in place of the pairs";
+
+/// What help says of the flag of idle applications.
+const IDLE_OK: &str = "Ends with status 0 too where applications were idle";
+
+/// What help says of the flag of an explained run.
+const EXPLAIN_RUN: &str = "Tells how full each reader was too, and what idle applications wait for";
+
 /// What help says of the style of an answer.
 const STYLE: &str = "text or json";
 
@@ -129,7 +139,8 @@ fn match_command<'a>(alloc: Global) -> Result<Command<'a>, NoMemory>
         alloc,
         "match",
         "Tells which writers and readers match, and why others don't",
-    )?;
+    )?
+    .arg(flag(alloc, "connections", CONNECTIONS))?;
     styled(alloc, command)
 }
 
@@ -205,7 +216,9 @@ fn run_command<'a>(alloc: Global) -> Result<Command<'a>, NoMemory>
     )?
     .arg(wish(alloc, "fates", "LIST", "pass", FATES))?
     .arg(count(alloc, "writes", WRITES))?
-    .arg(count(alloc, "takes", TAKES))?;
+    .arg(count(alloc, "takes", TAKES))?
+    .arg(flag(alloc, "idle-ok", IDLE_OK))?
+    .arg(flag(alloc, "explain", EXPLAIN_RUN))?;
     styled(alloc, command)
 }
 

@@ -20,6 +20,7 @@ ghost use Rattle.dds_tool.specs.Replaying.{MayReplayFor};
 ghost use Rattle.dds_tool.specs.Conforming.{MayConformFor};
 ghost use Rattle.dds_tool.specs.RunEnds.{GivesRun};
 
+use crate::comparing::compare_file;
 use crate::conforming::conform_answer;
 use crate::limits::limits_file;
 use crate::linting::{lint_file, lint_files};
@@ -27,7 +28,7 @@ use crate::refuting::refute_answer;
 use crate::replaying::replay_answer;
 use crate::request::{NoRequest, Request, read_request};
 use crate::running::run_answer;
-use crate::styled::{check_in_style, match_in_style, propose_in_style, search_in_style};
+use crate::styled::{check_in_style, propose_in_style, search_in_style};
 use crate::telling::tell_in_style;
 use crate::wishes::Wishes;
 use dds_answers::{
@@ -54,7 +55,7 @@ fn run_files<R: Threads + Wait + Clock + Sync, S: Sources>(
 ) -> Result<Answer, ToolFault>
     ensures gives { (d c : List ℕ) → S.holds files.old deployment.now ≡ Some d
         → S.holds files.old certificate.now ≡ Some c
-        → GivesRun style (file_outcome d c) result }
+        → GivesRun wishes.now style (file_outcome d c) result }
     ensures causes { IfErr result (λ e. (e ≡ ToolFault.Run) ⊎ IsFileFault (S.has_failed files.new) e) }
     ensures opened { Opens (S.opened files.old) (S.opened files.new) (deployment.now ∷ certificate.now ∷ []) }
     ensures all_opened { OnOk result (OpensAll (S.opened files.old) (S.opened files.new)
@@ -180,7 +181,11 @@ fn answer_of<R: Threads + Wait + Clock + Sync, S: Sources>(
             detail,
             style,
         } => check_in_style(alloc, deployment, certificate, detail, style, files),
-        Request::Match { deployment, style } => match_in_style(alloc, deployment, style, files),
+        Request::Match {
+            deployment,
+            what,
+            style,
+        } => compare_file(alloc, deployment, what, style, files),
         Request::Propose { deployment, style } => propose_in_style(alloc, deployment, style, files),
         Request::ProposeThoroughly {
             deployment,

@@ -6,6 +6,7 @@
 
 mod command;
 mod commands;
+mod comparing;
 mod conformance_document;
 mod conforming;
 mod limits;
@@ -28,6 +29,7 @@ mod thorough;
 mod wishes;
 
 pub use commands::tool;
+pub use comparing::Comparison;
 pub use conforming::conform_answer;
 pub use dds_answers::{Counted, Report, ToolFault, answer_check, read_all, report_text};
 pub use limits::{Finding, limits_answer};

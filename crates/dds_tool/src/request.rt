@@ -7,7 +7,7 @@ ghost use Rattle.dds_answers.specs.declared.format.Format.{Format};
 ghost use Rattle.dds_json.specs.declared.style.Style.{Style};
 ghost use Rattle.dds_tool.specs.Asking.{AreRefused, AskForHelp, Asks, Counts, IsHelp, IsHelpKind, IsStyled, Misses};
 ghost use Rattle.dds_tool.specs.Asking.{NamesBoth, NamesStyled, NamesTimed, Reads, Wants, detail_of, finding_of};
-ghost use Rattle.dds_tool.specs.Asking.{is_input_twice};
+ghost use Rattle.dds_tool.specs.Asking.{comparison_of, good_of, is_input_twice, is_printed};
 ghost use Rattle.dds_tool.specs.Asking.{is_set, style_of, style_of_form};
 ghost use Rattle.dds_findings.specs.declared.answer.Deny.{Deny as DenyView};
 ghost use Rattle.dds_findings.specs.declared.answer.LintStyle.{LintStyle as LintStyleView};
@@ -16,6 +16,7 @@ ghost use Rattle.dds_tool.specs.Command.{whole};
 ghost use Rattle.dds_tool.specs.Wishes.{format_word};
 
 use crate::command::whole_command;
+use crate::comparing::Comparison;
 use crate::limits::Finding;
 use crate::wishes::{Wishes, read_deny, read_fates, read_form, read_format, read_style};
 use clap::ArgMatches;
@@ -23,6 +24,7 @@ use clap::error::ErrorKind;
 use dds_answers::{Detail, Format};
 use dds_findings::{Deny, LintStyle};
 use dds_json::Style;
+use dds_recap::GoodEnds;
 use std::alloc::Global;
 use std::convert::AsStr;
 
@@ -37,6 +39,9 @@ const WRONG_FORMAT: &str = "error: the format is json or dds-xml\n";
 
 /// What is told of a word that is no style.
 const WRONG_STYLE: &str = "error: the format is text or json\n";
+
+/// What is told of words that ask for connections as a document.
+const PLAIN_CONNECTIONS: &str = "error: connections are printed as text alone\n";
 
 /// What is told of a word that is no form of findings.
 const WRONG_FORM: &str = "error: the format is text, json or sarif\n";
@@ -54,9 +59,10 @@ const WRONG_FATES: &str =
 /// What is asked for. The texts are those of the command line.
 #[derive(Drop)]
 pub enum Request<'a> {
-    /// Which endpoints of a deployment match.
+    /// Which endpoints of a deployment match, or the connections that these pairs would be.
     Match {
         deployment: &'a str,
+        what: Comparison,
         style: Style,
     },
     /// A certificate that shows that a deployment is safe.
@@ -284,7 +290,7 @@ fn both_files<'a>(
     Ok((deployment, file))
 }
 
-/// How much a check is asked to tell.
+/// How much a check or a run is asked to tell.
 fn detail(matches: &ArgMatches) -> Detail
     ensures { result ≡ detail_of (rows_of (found_of matches.now)) }
 {
@@ -346,13 +352,40 @@ fn timed_deployment<'a>(
     Ok((deployment, seconds, style))
 }
 
+/// What is printed of a comparison.
+fn comparison(matches: &ArgMatches) -> Comparison
+    ensures { result ≡ comparison_of (rows_of (found_of matches.now)) }
+{
+    if is_set(matches, "connections") {
+        Comparison::Connections
+    } else {
+        Comparison::Pairs
+    }
+}
+
+/// Whether what is printed of a comparison has this style: connections are text.
+fn is_printed(what: Comparison, style: Style) -> bool
+    ensures { result ≡ is_printed what style }
+{
+    !matches!((what, style), (Comparison::Connections, Style::Json))
+}
+
 fn match_request<'a>(alloc: Global, matches: &ArgMatches<'a>) -> Result<Request<'a>, NoRequest>
     ensures asked { Reads (codes "match") (rows_of (found_of matches.now)) result }
     ensures fault { IfErr result (λ e. ¬ IsHelp e) }
     ensures unasked { Misses (codes "match") (rows_of (found_of matches.now)) result }
 {
+    let what = comparison(matches);
     let (deployment, style) = styled_deployment(alloc, matches)?;
-    Ok(Request::Match { deployment, style })
+    if is_printed(what, style) {
+        Ok(Request::Match {
+            deployment,
+            what,
+            style,
+        })
+    } else {
+        Err(usage(alloc, PLAIN_CONNECTIONS))
+    }
 }
 
 fn check_request<'a>(alloc: Global, matches: &ArgMatches<'a>) -> Result<Request<'a>, NoRequest>
@@ -390,6 +423,17 @@ fn propose_request<'a>(alloc: Global, matches: &ArgMatches<'a>) -> Result<Reques
     }
 }
 
+/// The ends that are good.
+fn good_ends(matches: &ArgMatches) -> GoodEnds
+    ensures { result ≡ good_of (rows_of (found_of matches.now)) }
+{
+    if is_set(matches, "idle-ok") {
+        GoodEnds::StoppedOrIdle
+    } else {
+        GoodEnds::Stopped
+    }
+}
+
 /// How a deployment is to run, or `None` where the fates aren't a list of them.
 fn wishes(matches: &ArgMatches) -> Option<Wishes>
     ensures some { IfSome result (Wants (rows_of (found_of matches.now))) }
@@ -399,6 +443,8 @@ fn wishes(matches: &ArgMatches) -> Option<Wishes>
         fates: read_fates(argument(matches, "fates")?)?,
         writes: number(matches, "writes")?,
         takes: number(matches, "takes")?,
+        good: good_ends(matches),
+        detail: detail(matches),
     })
 }
 

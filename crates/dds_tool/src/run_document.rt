@@ -1,5 +1,5 @@
 //! The document of a run.
-ghost use Rattle.std.specs.Prelude.{◌≡◌, IfOk, length, map, string_bytes};
+ghost use Rattle.std.specs.Prelude.{◌≡◌, IfOk, length, map, option_map, string_bytes};
 ghost use Rattle.std.specs.List.{range_with_len};
 ghost use Rattle.serde_json.specs.Data.{array};
 ghost use Rattle.serde_json.specs.View.{items_of, view};
@@ -7,7 +7,7 @@ ghost use Rattle.dds_json.specs.Line.{line_of};
 ghost use Rattle.dds_apps.specs.Kept.{entries_of};
 ghost use Rattle.dds_tool.specs.RunDocument.{app_document, document_at, run_document};
 
-use crate::running::{all_stopped, end_word, taken_by, written_by};
+use crate::running::{end_word, taken_by, written_by};
 use dds_base::NoMemory;
 use dds_book::{Entry, Journal};
 use dds_json::{answer_word, line_of};
@@ -53,33 +53,46 @@ fn app_documents(
     Ok(documents)
 }
 
-/// The document of a run: yes where the thread of each application ended as the application asked, with each
-/// application.
+/// The document of a run: yes or no, with each application, and what its journal comes to, if that is there.
 fn run_document(
     alloc: Global,
+    is_yes: bool,
+    because: &Option<String>,
     names: &[String],
     journal: &Journal,
     ends: &[AppEnd],
 ) -> Result<Value, NoMemory>
     requires { length ends.now ≡ length names.now }
-    ensures { IfOk result (λ v. view v ≡ run_document (map string_bytes names.now) journal.now ends.now) }
+    ensures { IfOk result
+        (λ v. view v ≡ run_document is_yes (option_map string_bytes because.now) (map string_bytes names.now)
+        journal.now ends.now) }
 {
     let applications = Value::Array(app_documents(alloc, names, journal, ends)?);
-    let answer = answer_word(all_stopped(ends));
-    json!(in alloc; {"answer": answer, "applications": applications})
+    let answer = answer_word(is_yes);
+    match because {
+        None => json!(in alloc; {"answer": answer, "applications": applications}),
+        Some(because) => {
+            let because = because.as_str();
+            json!(in alloc; {"answer": answer, "applications": applications, "because": because})
+        }
+    }
 }
 
 /// The line of the document of a run.
 pub(crate) fn run_line(
     alloc: Global,
+    is_yes: bool,
+    because: &Option<String>,
     names: &[String],
     journal: &Journal,
     ends: &[AppEnd],
 ) -> Result<String, NoMemory>
     requires { length ends.now ≡ length names.now }
     ensures { IfOk result
-        (λ text. string_bytes text ≡ line_of (run_document (map string_bytes names.now) journal.now ends.now)) }
+        (λ text. string_bytes text
+        ≡ line_of (run_document is_yes (option_map string_bytes because.now) (map string_bytes names.now) journal.now
+        ends.now)) }
 {
-    let document = run_document(alloc, names, journal, ends)?;
+    let document = run_document(alloc, is_yes, because, names, journal, ends)?;
     line_of(alloc, &document)
 }

@@ -1,8 +1,9 @@
 //! What `run` answers: the deployment is checked, and where the answer is yes it runs, with a steady application for
 //! each that it names.
-ghost use Rattle.std.specs.Prelude.{◌≡◌, ◌⊎◌, IfErr, IfOk, length, map, string_bytes};
+ghost use Rattle.std.specs.Prelude.{◌≡◌, ◌⊎◌, ◌++◌, [], IfErr, IfOk, Ok, length, map, option_map, string_bytes, unwrap_or};
 ghost use Rattle.std.specs.List.{count_by};
 ghost use Rattle.dds_book.specs.Journal.{IsJournal};
+ghost use Rattle.dds_deploy.specs.Document.{read as deployment_read};
 ghost use Rattle.dds_apps.specs.Kept.{entries_of};
 ghost use Rattle.dds_answers.specs.Answers.{Gives};
 ghost use Rattle.dds_answers.specs.Fault.{IsAnswerFault};
@@ -11,11 +12,14 @@ ghost use Rattle.dds_answers.specs.Report.{outcome_of};
 ghost use Rattle.dds_json.specs.Ends.{in_style};
 ghost use Rattle.dds_tool.specs.RunDocument.{told_run};
 ghost use Rattle.dds_tool.specs.RunEnds.{GivesRun};
-ghost use Rattle.dds_tool.specs.Running.{all_stopped, app_line, app_names, end_word, is_taken, is_written, run_lines};
+ghost use Rattle.dds_tool.specs.Running.{app_line, app_names, because_of, end_word};
+ghost use Rattle.dds_recap.specs.Ends.{all_good};
+ghost use Rattle.dds_recap.specs.Explanation.{explanation};
+ghost use Rattle.dds_tool.specs.Running.{is_taken, is_written, run_lines};
 
 use crate::run_document::run_line;
 use crate::wishes::Wishes;
-use dds_answers::{Answer, Detail, Report, ToolFault, answer_check, reported};
+use dds_answers::{Answer, Detail, Report, ToolFault, answer_check, read_plan, reported};
 use dds_base::{AppNo, NoMemory, Reply};
 use dds_book::{Entry, Journal};
 use dds_check::Checked;
@@ -23,6 +27,7 @@ use dds_json::{Style, reported_in_json};
 use dds_lists::Deployment;
 use dds_match::Plan;
 use dds_peers::{App, AppEnd, Gate, Limits, Outcome, RunFault, Steady, gauge_of, run_peers};
+use dds_recap::{GoodEnds, all_good, explain_run};
 use dds_weights::naming::name_at;
 use std::alloc::Global;
 use std::sync::Wait;
@@ -129,16 +134,32 @@ fn run_text(
     Ok(text)
 }
 
-/// Whether the thread of each application ended as the application asked.
-pub(crate) fn all_stopped(ends: &[AppEnd]) -> bool
-    ensures { result ≡ all_stopped ends.now }
+/// The lines of a run, with what its journal comes to after them, if that is there.
+fn explained_text(
+    alloc: Global,
+    because: &Option<String>,
+    names: &[String],
+    journal: &Journal,
+    ends: &[AppEnd],
+) -> Result<String, NoMemory>
+    requires { length ends.now ≡ length names.now }
+    ensures { IfOk result
+        (λ text. string_bytes text
+        ≡ run_lines (map string_bytes names.now) journal.now ends.now
+        ++ unwrap_or (option_map string_bytes because.now) []) }
 {
-    ends.iter().all(|end| matches!(end, AppEnd::Stopped))
+    let mut text = run_text(alloc, names, journal, ends)?;
+    if let Some(because) = because {
+        text.push_str(because.as_str())?;
+    }
+    Ok(text)
 }
 
-/// A run, told in this style.
+/// A run, told in this style: whether all ends are good, and what its journal comes to, if that is there.
 fn told_run(
     alloc: Global,
+    is_yes: bool,
+    because: &Option<String>,
     names: &[String],
     journal: &Journal,
     ends: &[AppEnd],
@@ -146,11 +167,78 @@ fn told_run(
 ) -> Result<String, NoMemory>
     requires { length ends.now ≡ length names.now }
     ensures { IfOk result
-        (λ text. string_bytes text ≡ told_run style (map string_bytes names.now) journal.now ends.now) }
+        (λ text. string_bytes text
+        ≡ told_run style is_yes (option_map string_bytes because.now) (map string_bytes names.now) journal.now
+        ends.now) }
 {
     match style {
-        Style::Text => run_text(alloc, names, journal, ends),
-        Style::Json => run_line(alloc, names, journal, ends),
+        Style::Text => explained_text(alloc, because, names, journal, ends),
+        Style::Json => run_line(alloc, is_yes, because, names, journal, ends),
+    }
+}
+
+/// What the journal of a run of a plan comes to.
+fn told_recap(
+    alloc: Global,
+    plan: &Plan,
+    journal: &Journal,
+    ends: &[AppEnd],
+) -> Result<String, ToolFault>
+    requires journal { IsJournal plan.now journal.now }
+    requires ends { length ends.now ≡ length plan.now.applications.entries }
+    ensures text { IfOk result (λ text. string_bytes text ≡ explanation plan.now journal.now ends.now) }
+    ensures fault { IfErr result (λ e. e ≡ ToolFault.NoMemory) }
+{
+    match explain_run(alloc, plan, journal.entries(), ends) {
+        Ok(text) => Ok(text),
+        Err(_) => Err(ToolFault::NoMemory),
+    }
+}
+
+/// What the journal of a run of a deployment comes to. The run has used up its plan, so the deployment is read once
+/// more.
+fn explained(
+    alloc: Global,
+    deployment: &[u8],
+    journal: &Journal,
+    ends: &[AppEnd],
+) -> Result<String, ToolFault>
+    requires { IfOk (deployment_read deployment.now)
+        (λ d. IsJournal d journal.now × (length ends.now ≡ length d.applications.entries)) }
+    ensures text { IfOk result
+        (λ text. IfOk (deployment_read deployment.now)
+        (λ d. string_bytes text ≡ explanation d journal.now ends.now)) }
+    ensures fault { IfErr result (λ e. e ≡ ToolFault.NoMemory) }
+{
+    let Ok(plan) = read_plan(alloc, deployment) else {
+        return Err(ToolFault::NoMemory);
+    };
+    let told = told_recap(alloc, &plan, journal, ends);
+    drop(plan);
+    told
+}
+
+/// What the journal of a run of a deployment comes to, where that is asked for.
+fn because_of(
+    alloc: Global,
+    deployment: &[u8],
+    journal: &Journal,
+    ends: &[AppEnd],
+    detail: Detail,
+) -> Result<Option<String>, ToolFault>
+    requires { IfOk (deployment_read deployment.now)
+        (λ d. IsJournal d journal.now × (length ends.now ≡ length d.applications.entries)) }
+    ensures because { IfOk result
+        (λ because. IfOk (deployment_read deployment.now)
+        (λ d. option_map string_bytes because ≡ because_of detail d journal.now ends.now)) }
+    ensures fault { IfErr result (λ e. e ≡ ToolFault.NoMemory) }
+{
+    match detail {
+        Detail::Plain => Ok(None),
+        Detail::Explained => match explained(alloc, deployment, journal, ends) {
+            Ok(text) => Ok(Some(text)),
+            Err(fault) => Err(fault),
+        },
     }
 }
 
@@ -237,15 +325,46 @@ fn ran<R: Threads + Wait + Clock + Sync>(
     perform(rt, alloc, checked, apps, wishes)
 }
 
-/// The answer of a run of a checked plan: yes where the thread of each application ended as the application asked.
+/// The answer that tells a run: yes where all ends of its applications' threads are good.
+fn told_answer(
+    alloc: Global,
+    because: &Option<String>,
+    names: &[String],
+    journal: &Journal,
+    ends: &[AppEnd],
+    good: GoodEnds,
+    style: Style,
+) -> Result<Answer, ToolFault>
+    requires { length ends.now ≡ length names.now }
+    ensures text { IfOk result
+        (λ a. string_bytes a.text
+        ≡ told_run style (all_good good ends.now) (option_map string_bytes because.now)
+        (map string_bytes names.now) journal.now ends.now) }
+    ensures yes { IfOk result (λ a. a.is_yes ≡ all_good good ends.now) }
+    ensures fault { IfErr result (λ e. e ≡ ToolFault.NoMemory) }
+{
+    let is_yes = all_good(good, ends);
+    match told_run(alloc, is_yes, because, names, journal, ends, style) {
+        Ok(text) => Ok(Answer {
+            text,
+            is_yes,
+            note: None,
+        }),
+        Err(_) => Err(ToolFault::NoMemory),
+    }
+}
+
+/// The answer of a run of the checked plan of a deployment: yes where all ends of its applications' threads are good.
 fn played<R: Threads + Wait + Clock + Sync>(
     rt: &R,
     alloc: Global,
+    deployment: &[u8],
     checked: Checked,
     wishes: &Wishes,
     style: Style,
 ) -> Result<Answer, ToolFault>
-    ensures gives { GivesRun style (accepted checked.plan checked.certificate) result }
+    requires { deployment_read deployment.now ≡ Ok checked.plan }
+    ensures gives { GivesRun wishes.now style (accepted checked.plan checked.certificate) result }
     ensures fault { IfErr result (λ e. (e ≡ ToolFault.Run) ⊎ (e ≡ ToolFault.NoMemory)) }
 {
     let Ok(names) = names_of(alloc, checked.plan().lists()) else {
@@ -253,14 +372,16 @@ fn played<R: Threads + Wait + Clock + Sync>(
         return Err(ToolFault::NoMemory);
     };
     let (journal, ends) = ran(rt, alloc, checked, wishes)?;
-    match told_run(alloc, names.as_slice(), &journal, ends.as_slice(), style) {
-        Ok(text) => Ok(Answer {
-            text,
-            is_yes: all_stopped(ends.as_slice()),
-            note: None,
-        }),
-        Err(_) => Err(ToolFault::NoMemory),
-    }
+    let because = because_of(alloc, deployment, &journal, ends.as_slice(), wishes.detail)?;
+    told_answer(
+        alloc,
+        &because,
+        names.as_slice(),
+        &journal,
+        ends.as_slice(),
+        wishes.good,
+        style,
+    )
 }
 
 /// The answer of a check that refuses, or accepts, told in this style.
@@ -275,8 +396,8 @@ fn told_check(alloc: Global, report: Report, style: Style) -> Result<Answer, Too
 }
 
 /// The answer of `run` to the bytes of a deployment and of a certificate, told in this style: a no of the checker as
-/// `check` answers it, and else what the applications did: yes where the thread of each ended as the application asked.
-/// `Run` comes where the journal became full or a thread couldn't be made.
+/// `check` answers it, and else what the applications did: yes where all ends of their threads are good. `Run` comes
+/// where the journal became full or a thread couldn't be made.
 pub fn run_answer<R: Threads + Wait + Clock + Sync>(
     rt: &R,
     alloc: Global,
@@ -285,11 +406,11 @@ pub fn run_answer<R: Threads + Wait + Clock + Sync>(
     wishes: &Wishes,
     style: Style,
 ) -> Result<Answer, ToolFault>
-    ensures gives { GivesRun style (outcome deployment.now certificate.now) result }
+    ensures gives { GivesRun wishes.now style (outcome deployment.now certificate.now) result }
     ensures fault { IfErr result (λ e. (e ≡ ToolFault.Run) ⊎ IsAnswerFault e) }
 {
     match answer_check(alloc, deployment, certificate) {
-        Ok(Report::Yes(checked)) => played(rt, alloc, checked, wishes, style),
+        Ok(Report::Yes(checked)) => played(rt, alloc, deployment, checked, wishes, style),
         Ok(refused) => told_check(alloc, refused, style),
         Err(fault) => Err(fault),
     }

@@ -3,15 +3,15 @@ ghost use Rattle.std.specs.Prelude.{◌≡◌, ◌⊎◌, ℕ, List, [], ◌∷�
 ghost use Rattle.dds_answers.specs.Answers.{Gives};
 ghost use Rattle.dds_answers.specs.Causes.{IsFileFault};
 ghost use Rattle.dds_answers.specs.Opened.{Opens, OpensAll};
-ghost use Rattle.dds_answers.specs.Outcome.{Outcome, check_file_outcome, match_file_outcome};
+ghost use Rattle.dds_answers.specs.Outcome.{Outcome, check_file_outcome};
 ghost use Rattle.dds_answers.specs.Proposals.{MayProposeFor};
 ghost use Rattle.dds_answers.specs.Syntax.{IsFaultTold};
 ghost use Rattle.dds_json.specs.Ends.{EndsProposal, in_style};
 ghost use Rattle.dds_tool.specs.Searches.{MayFindFor};
 
 use crate::thorough::thorough_file;
-use dds_answers::{Answer, Detail, Sources, ToolFault, check_files, match_file, propose_file};
-use dds_json::{Style, check_files_in_json, match_file_in_json, proposed_in_json};
+use dds_answers::{Answer, Detail, Sources, ToolFault, check_files, propose_file};
+use dds_json::{Style, check_files_in_json, proposed_in_json};
 use dds_search::Budget;
 use std::alloc::Global;
 use std::time::Clock;
@@ -39,24 +39,6 @@ pub(crate) fn check_in_style<S: Sources>(
     match style {
         Style::Text => check_files(alloc, deployment, certificate, detail, files),
         Style::Json => check_files_in_json(alloc, deployment, certificate, detail, files),
-    }
-}
-
-/// The answer of `match` to a file, told in this style.
-pub(crate) fn match_in_style<S: Sources>(
-    alloc: Global,
-    deployment: &str,
-    style: Style,
-    files: &mut S,
-) -> Result<Answer, ToolFault>
-    ensures gives { (d : List ℕ) → S.holds files.old deployment.now ≡ Some d
-        → Gives result (in_style style (match_file_outcome d)) }
-    ensures causes { IfErr result (IsFileFault (S.has_failed files.new)) }
-    ensures opened { OpensAll (S.opened files.old) (S.opened files.new) (deployment.now ∷ []) }
-{
-    match style {
-        Style::Text => match_file(alloc, deployment, files),
-        Style::Json => match_file_in_json(alloc, deployment, files),
     }
 }
 

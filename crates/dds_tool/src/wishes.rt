@@ -9,21 +9,25 @@ ghost use Rattle.dds_findings.specs.declared.answer.LintStyle.{LintStyle};
 ghost use Rattle.dds_tool.specs.Linting.{deny_word, form_word};
 ghost use Rattle.dds_tool.specs.Wishes.{fate_word, fates_text, format_word, style_word};
 
-use dds_answers::Format;
+use dds_answers::{Detail, Format};
 use dds_base::Fate;
 use dds_findings::{Deny, LintStyle};
 use dds_json::Style;
 use dds_peers::Fates;
+use dds_recap::GoodEnds;
 
 /// The most fates that a list has.
 const MOST: usize = 64;
 
-/// What befalls the packets of a run, and how many samples each application writes and takes.
+/// What befalls the packets of a run, how many samples each application writes and takes, which ends are good, and how
+/// much is told.
 #[derive(Drop)]
 pub struct Wishes {
     pub fates: Fates,
     pub writes: u16,
     pub takes: u16,
+    pub good: GoodEnds,
+    pub detail: Detail,
 }
 
 /// The format for which a word stands, or `None` where it stands for none.

@@ -1,22 +1,37 @@
-use Rattle.std.proofs.Common.{◌≡◌, ◌∙◌, None, List, ℕ, length, map, string_bytes, sym, ap, ap₂}
+use Rattle.std.proofs.Common.{◌≡◌, ◌∙◌, IfOk, List, Ok, Option, ℕ, length, map, sym, ap, subst, string_bytes}
+use Rattle.std.specs.Prelude.{option_map}
+use Rattle.dds_fields.specs.Reading.{Read}
+use Rattle.dds_deploy.specs.Document.{read}
+use Rattle.dds_book.specs.Journal.{IsJournal}
 use Rattle.dds_apps.specs.declared.player.AppEnd.{AppEnd}
+use Rattle.dds_recap.specs.Ends.{all_good}
 use Rattle.dds_tool.specs.RunDocument.{told_run}
-use Rattle.dds_tool.specs.Running.{all_stopped, app_names}
-use Rattle.dds_tool.proofs.RunGives.{names_len, ran_gives}
+use Rattle.dds_tool.specs.Running.{app_names, because_of}
+use Rattle.dds_tool.proofs.RunGives.{answered_run, names_len}
 use Rattle.dds_tool.proofs.running.played.Goals as goal
 
-pub told_run-requires : goal.told_run-requires
-told_run-requires g c =
+pub because_of-because-requires : goal.because_of-because-requires
+because_of-because-requires g c =
+    subst (λ (r : Read _). IfOk r (λ d. IsJournal d c.in_ok-journal.journal × (length c.as_slice.result.now ≡ length d.applications.entries))) (sym c.requires)
+    (c.in_ok-journal.ensures.journal, ap length c.as_slice.ensures.value ∙ c.in_ok-journal.ensures.ends)
+
+pub told_answer-requires : goal.told_answer-requires
+told_answer-requires g c =
     let names = c.in-Ok.ensures ∙ ap app_names (c.lists.ensures.value ∙ c.plan.ensures.value) in
     let count = names_len string_bytes c.in-Ok.names.items c.args.checked.plan names in
-    ap length c.as_slice-2.ensures.value ∙ (c.in_ok-journal.ensures.ends ∙ (sym count ∙ ap length (sym c.as_slice.ensures.value)))
+    ap length c.as_slice-3.ensures.value ∙ (c.in_ok-journal.ensures.ends ∙ (sym count ∙ ap length (sym c.as_slice-2.ensures.value)))
 
-pub returns-in-Ok-told_run-clause-gives : goal.returns-in-Ok-told_run-clause-gives
-returns-in-Ok-told_run-clause-gives g c =
-    let names = c.in-Ok.ensures ∙ ap app_names (c.lists.ensures.value ∙ c.plan.ensures.value) in
-    let lines : string_bytes c.in-Ok-told_run.text ≡ told_run c.args.style (app_names c.args.checked.plan) c.in_ok-journal.journal c.in_ok-journal.ends.items =
-    c.in-Ok-told_run.ensures
-    ∙ ap₂ (λ (names : List (List ℕ)) (ends : List AppEnd). told_run c.args.style names c.in_ok-journal.journal ends) (ap (map string_bytes) c.as_slice.ensures.value ∙ names) c.as_slice-2.ensures.value in
-    ran_gives c.args.style c.args.checked.plan c.args.checked.certificate c.in_ok-journal.journal c.in_ok-journal.ends.items
-    (record { text = c.in-Ok-told_run.text; is_yes = c.all_stopped.result; note = None }) c.in_ok-journal.ensures.journal c.in_ok-journal.ensures.ends lines
-    (c.all_stopped.ensures ∙ ap all_stopped c.as_slice-in-Ok-told_run.ensures.value)
+pub returns-clause-gives : goal.returns-clause-gives
+returns-clause-gives g c =
+    let good = c.args.wishes.now.good in
+    let journal = c.in_ok-journal.journal in
+    let because = option_map string_bytes c.in_ok-because.because in
+    let names = ap (map string_bytes) c.as_slice-2.ensures.value ∙ (c.in-Ok.ensures ∙ ap app_names (c.lists.ensures.value ∙ c.plan.ensures.value)) in
+    let told = subst (λ (ends : List AppEnd). IfOk (read c.args.deployment.now) (λ lists. because ≡ because_of c.args.wishes.now.detail lists journal ends)) c.as_slice.ensures.value
+    c.in_ok-because.ensures.because in
+    let text =
+    subst (λ (ends : List AppEnd). IfOk c.told_answer.result (λ a. string_bytes a.text ≡ told_run c.args.style (all_good good ends) because (map string_bytes c.as_slice-2.result.now) journal ends))
+    c.as_slice-3.ensures.value c.told_answer.ensures.text in
+    let yes = subst (λ (ends : List AppEnd). IfOk c.told_answer.result (λ a. a.is_yes ≡ all_good good ends)) c.as_slice-3.ensures.value c.told_answer.ensures.yes in
+    answered_run c.args.wishes.now c.args.style c.args.checked.plan c.args.checked.certificate (read c.args.deployment.now) journal c.in_ok-journal.ends.items because
+    (map string_bytes c.as_slice-2.result.now) c.told_answer.result c.in_ok-journal.ensures.journal c.in_ok-journal.ensures.ends c.requires told names text yes c.told_answer.ensures.fault

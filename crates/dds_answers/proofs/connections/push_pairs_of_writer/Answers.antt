@@ -1,0 +1,7 @@
+use Rattle.dds_answers.specs.Connections.{pair_at}
+use Rattle.dds_show.proofs.ShowLaws.{and_those}
+use Rattle.dds_answers.proofs.connections.push_pairs_of_writer.Goals as goal
+
+pub loop-r-preserved : goal.loop-r-preserved
+loop-r-preserved c =
+    and_those (pair_at c.args.plan.now c.args.w) c.loop-r.r c.args.found.now.items c.loop-r.found.items c.push_pair.new.found.items c.loop-r.invariant c.in_ok-push_pair.ensures

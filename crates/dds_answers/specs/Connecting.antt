@@ -1,0 +1,26 @@
+-- How a command ends that prints the connections that the pairs which match would be.
+use Rattle.std.specs.Prelude.{ℕ, List, Ok, Err}
+use Rattle.dds_fields.specs.Reading.{Read}
+use Rattle.dds_deploy.specs.Document as deployment
+use Rattle.dds_lists.specs.Lists.{Lists}
+use Rattle.dds_match.specs.Plan.{network_of}
+use Rattle.dds_answers.specs.Connections.{connections_text}
+use Rattle.dds_answers.specs.Matches.{is_as_intended}
+use Rattle.dds_answers.specs.Outcome.{Outcome, bad_deployment, of_file, said}
+
+-- the tables of the pairs that match, and yes where exactly these are the connections
+abbrev pub connected : Lists → Outcome
+connected d = said (connections_text d) (is_as_intended (network_of d))
+
+-- they are printed, if the bytes are a deployment
+abbrev pub connecting : Read Lists → Outcome
+connecting (Ok lists) = connected lists
+connecting (Err flaw) = bad_deployment flaw
+
+-- how that ends for a deployment with these bytes
+unfoldable pub connections_outcome : List ℕ → Outcome
+connections_outcome d = connecting (deployment.read d)
+
+-- how that ends for a file with these bytes
+unfoldable pub connections_file_outcome : List ℕ → Outcome
+connections_file_outcome d = of_file d (connections_outcome d)

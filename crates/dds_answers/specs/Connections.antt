@@ -1,0 +1,36 @@
+-- The tables of a deployment file that name exactly the pairs that match.
+use Rattle.std.specs.Prelude.{codes, ℕ, List, [], ◌∷◌, ◌++◌, flat_map, length, slice_get, if◌then◌else◌}
+use Rattle.std.specs.List.{range_with_len}
+use Rattle.std.specs.Option.{option_map_or}
+use Rattle.dds_lists.specs.Lists.{Lists}
+use Rattle.dds_match.specs.Plan.{matched}
+use Rattle.dds_weights.specs.Naming.{name_at}
+use Rattle.dds_weights.specs.Text.{each_below}
+use Rattle.dds_show.specs.Pieces.{start_of}
+
+-- the pairs that match, by writer and then by reader, each in file order
+abbrev pub pair_at : Lists → ℕ → ℕ → List (ℕ × ℕ)
+pair_at d w r = if matched d w r then (w, r) ∷ [] else []
+
+abbrev pub pairs_of_writer : Lists → ℕ → List (ℕ × ℕ)
+pairs_of_writer d w = flat_map (pair_at d w) (range_with_len 0 (length d.readers.entries))
+
+abbrev pub matching_pairs : Lists → List (ℕ × ℕ)
+matching_pairs d = flat_map (pairs_of_writer d) (range_with_len 0 (length d.writers.entries))
+
+-- what stands before the table at this place: an empty line keeps it apart from the one before
+abbrev pub table_start : ℕ → List ℕ
+table_start i = start_of [] (codes "\n") i
+
+-- the table of a pair
+abbrev pub connection_table : Lists → ℕ × ℕ → List ℕ
+connection_table d p =
+    codes "[[connections]]\nwriter = \"" ++ (name_at d.writers.names p.0 ++ (codes "\"\nreader = \"" ++ (name_at d.readers.names p.1 ++ codes "\"\n")))
+
+-- the table of the pair at this place, with what stands before it
+abbrev pub connection_piece : Lists → ℕ → List ℕ
+connection_piece d i = table_start i ++ option_map_or (connection_table d) (slice_get (matching_pairs d) i) []
+
+-- the tables of all of them
+abbrev pub connections_text : Lists → List ℕ
+connections_text d = each_below (length (matching_pairs d)) (connection_piece d)
