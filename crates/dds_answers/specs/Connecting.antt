@@ -4,7 +4,7 @@ use Rattle.dds_fields.specs.Reading.{Read}
 use Rattle.dds_deploy.specs.Document as deployment
 use Rattle.dds_lists.specs.Lists.{Lists}
 use Rattle.dds_match.specs.Plan.{network_of}
-use Rattle.dds_answers.specs.Connections.{connections_text}
+use Rattle.dds_show.specs.Connections.{connections_text}
 use Rattle.dds_answers.specs.Matches.{is_as_intended}
 use Rattle.dds_answers.specs.Outcome.{Outcome, bad_deployment, of_file, said}
 

@@ -1,5 +1,4 @@
 pub mod Connecting
-pub mod Connections
 pub mod Exit
 pub mod Fault
 pub mod Causes

@@ -7,13 +7,13 @@ ghost use Rattle.dds_answers.specs.Fault.{IsAnswerFault};
 ghost use Rattle.dds_answers.specs.Opened.{OpensAll};
 
 use crate::answer::{Answer, answered};
-use crate::connections::connections_text;
 use crate::fault::ToolFault;
 use crate::files::read_file;
 use crate::matches::is_as_intended;
 use crate::planning::read_plan;
 use crate::sources::Sources;
 use dds_match::Plan;
+use dds_show::connections::connections_text;
 use std::alloc::Global;
 
 /// The answer with the connections of a plan, which is needed no longer.

@@ -6,7 +6,6 @@
 
 mod answer;
 mod connecting;
-mod connections;
 mod counted;
 mod disk;
 mod drawing;
@@ -29,7 +28,6 @@ pub use answer::{
     reported, show_answer,
 };
 pub use connecting::{connections_answer, connections_file};
-pub use connections::connections_text;
 pub use counted::Counted;
 pub use disk::Disk;
 pub use drawing::draw_answer;

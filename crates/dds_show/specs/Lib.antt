@@ -1,3 +1,4 @@
+pub mod Connections
 pub mod Words
 pub mod Pieces
 pub mod Policies

@@ -1,6 +1,7 @@
 //! A deployment as it was read, for other programs, and the words for its policies and for why endpoints don't match.
 #![tactic(auto)]
 
+pub mod connections;
 mod entries;
 mod json;
 mod pieces;

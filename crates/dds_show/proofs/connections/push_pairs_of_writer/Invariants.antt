@@ -1,7 +1,7 @@
 use Rattle.std.proofs.Common.{◌≡◌, ◌++◌, flat_map}
 use Rattle.std.specs.List.{range_with_len}
-use Rattle.dds_answers.specs.Connections.{pair_at}
-use Rattle.dds_answers.proofs.connections.push_pairs_of_writer.Given as goal
+use Rattle.dds_show.specs.Connections.{pair_at}
+use Rattle.dds_show.proofs.connections.push_pairs_of_writer.Given as goal
 
 -- the pairs of the readers so far are added
 abbrev pub invariant-loop-r : goal.invariant-loop-r

@@ -1,13 +1,12 @@
 //! The connections that a deployment would have if exactly the pairs were meant that match: the tables of a deployment
 //! file.
-ghost use Rattle.std.specs.Prelude.{◌≡◌, ◌++◌, ◌<◌, ℕ, List, IfOk, string_bytes};
-ghost use Rattle.dds_answers.specs.Connections.{connection_table, connections_text, matching_pairs, pair_at};
-ghost use Rattle.dds_answers.specs.Connections.{pairs_of_writer, table_start};
-ghost use Rattle.dds_weights.specs.Text.{each_below};
+ghost use Rattle.std.specs.Prelude.{◌≡◌, ◌++◌, ◌<◌, IfOk, length, string_bytes};
+ghost use Rattle.dds_show.specs.Connections.{connection_piece, connection_table, connections_text, matching_pairs};
+ghost use Rattle.dds_show.specs.Connections.{pair_at, pairs_of_writer};
 
+use crate::texts::{TextResult, start_of, text_below};
 use dds_base::{NoMemory, ReaderNo, WriterNo};
 use dds_match::Plan;
-use dds_show::texts::{TextResult, start_of, text_below};
 use dds_weights::naming::name_at;
 use std::alloc::Global;
 
@@ -60,25 +59,20 @@ fn connection_table(alloc: Global, plan: &Plan, pair: (usize, usize)) -> TextRes
     format!(in alloc; "[[connections]]\nwriter = \"{writer}\"\nreader = \"{reader}\"\n")
 }
 
-/// The tables below `n`, with an empty line between them.
-fn tables_below<F: Fn(usize) -> TextResult>(alloc: Global, n: usize, table: F) -> TextResult
-    requires { (i : ℕ) → i < n → F.pre table i }
-    ensures { (table_of : ℕ → List ℕ)
-        → ((i : ℕ) (r : _) → i < n → F.post table i r
-        → IfOk r (λ text. table_start i ++ string_bytes text ≡ table_of i))
-        → IfOk result (λ text. string_bytes text ≡ each_below n table_of) }
+/// The table of the pair at a place, with an empty line before it where it isn't the first.
+fn connection_piece(
+    alloc: Global,
+    plan: &Plan,
+    pairs: &[(usize, usize)],
+    place: usize,
+) -> TextResult
+    requires there { place < length pairs.now }
+    requires pairs { pairs.now ≡ matching_pairs plan.now }
+    ensures { IfOk result (λ text. string_bytes text ≡ connection_piece plan.now place) }
 {
-    text_below(
-        alloc,
-        n,
-        |i|
-            requires { F.pre table i }
-        {
-            let start = start_of(i, "", "\n");
-            let table = table(i)?;
-            format!(in alloc; "{start}{table}")
-        },
-    )
+    let start = start_of(place, "", "\n");
+    let table = connection_table(alloc, plan, pairs[place])?;
+    format!(in alloc; "{start}{table}")
 }
 
 /// The tables `[[connections]]` of the pairs that match, by writer and then by reader, each in file order, with an empty
@@ -88,7 +82,7 @@ pub fn connections_text(alloc: Global, plan: &Plan) -> TextResult
     ensures { IfOk result (λ text. string_bytes text ≡ connections_text plan.now) }
 {
     let pairs = matching_pairs(alloc, plan)?;
-    tables_below(alloc, pairs.len(), |i| {
-        connection_table(alloc, plan, pairs[i])
+    text_below(alloc, pairs.len(), |i| {
+        connection_piece(alloc, plan, pairs.as_slice(), i)
     })
 }

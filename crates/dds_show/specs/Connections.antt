@@ -18,18 +18,14 @@ pairs_of_writer d w = flat_map (pair_at d w) (range_with_len 0 (length d.readers
 abbrev pub matching_pairs : Lists → List (ℕ × ℕ)
 matching_pairs d = flat_map (pairs_of_writer d) (range_with_len 0 (length d.writers.entries))
 
--- what stands before the table at this place: an empty line keeps it apart from the one before
-abbrev pub table_start : ℕ → List ℕ
-table_start i = start_of [] (codes "\n") i
-
 -- the table of a pair
 abbrev pub connection_table : Lists → ℕ × ℕ → List ℕ
 connection_table d p =
     codes "[[connections]]\nwriter = \"" ++ (name_at d.writers.names p.0 ++ (codes "\"\nreader = \"" ++ (name_at d.readers.names p.1 ++ codes "\"\n")))
 
--- the table of the pair at this place, with what stands before it
+-- the table of the pair at this place, with an empty line before it where it isn't the first
 abbrev pub connection_piece : Lists → ℕ → List ℕ
-connection_piece d i = table_start i ++ option_map_or (connection_table d) (slice_get (matching_pairs d) i) []
+connection_piece d i = start_of [] (codes "\n") i ++ option_map_or (connection_table d) (slice_get (matching_pairs d) i) []
 
 -- the tables of all of them
 abbrev pub connections_text : Lists → List ℕ
