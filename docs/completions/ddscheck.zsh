@@ -6,7 +6,7 @@ _ddscheck() {
     case $state in
     command)
         local -a commands=(
-            'match:Tells which writers and readers match, and why others don'\''t'
+            'match:Prints which writers and readers match, and why others don'\''t'
             'check:Checks a certificate of a deployment'
             'propose:Looks for a certificate of a deployment'
             'run:Runs a deployment that a certificate shows to be safe'
@@ -14,41 +14,41 @@ _ddscheck() {
             'show:Prints a deployment as it was read, with every field'
             'draw:Prints a picture of a deployment, for Graphviz'
             'refute:Looks for a run of a deployment that loses a sample'
-            'replay:Makes the events of a file on a deployment, and prints what comes of each'
-            'limits:Tells how much room each reader and the history of each writer needs'
-            'conform:Tells whether a recorded trace keeps the rules of a deployment'
-            'lint:Looks for what is wrong with the files, and where'
+            'replay:Replays the events of a file on a deployment, and prints the reply to each'
+            'limits:Prints how much room each reader and each writer'\''s history needs'
+            'conform:Checks whether a recorded trace keeps the rules of a deployment'
+            'lint:Finds what is wrong with the files, where it is and what would be right'
             'help:Print this message or the help of the given subcommand(s)'
         )
         _describe command commands ;;
     words)
         case $line[1] in
             match) _arguments \
-                '--connections[Prints the connections of all pairs that match, for a deployment file, in place of the pairs]' \
+                '--connections[Prints a table \[\[connections\]\] for each pair that matches, to paste into a deployment file]' \
                 '--format[text or json \[default: text\]]:FORMAT:(text json)' \
                 '-h[Print help]' \
                 '--help[Print help]' \
                 '1:deployment:_files -g "*.toml"' ;;
             check) _arguments \
-                '--explain[Tells the reason too: the numbers behind a refusal, how near each bound is to its limit and what the yes leaves open, or where a file is no TOML]' \
+                '--explain[Also prints the reason: the numbers behind a no, how near each bound is to its limit and what a yes doesn'\''t say, or where a file isn'\''t TOML]' \
                 '--format[text or json \[default: text\]]:FORMAT:(text json)' \
                 '-h[Print help]' \
                 '--help[Print help]' \
                 '1:deployment:_files -g "*.toml"' \
                 '2:certificate:_files -g "*.toml"' ;;
             propose) _arguments \
-                '--thorough[Searches by linear programming, for the least bounds, and tells which limit has no certificate]' \
+                '--thorough[Searches by linear programming for the least bounds, and reports which limit has no certificate]' \
                 '--seconds[How many seconds the thorough search may take \[default: 60\]]:N:()' \
                 '--format[text or json \[default: text\]]:FORMAT:(text json)' \
                 '-h[Print help]' \
                 '--help[Print help]' \
                 '1:deployment:_files -g "*.toml"' ;;
             run) _arguments \
-                '--fates[What befalls packets, in a circle: pass, keep, last, lose, with commas \[default: pass\]]:LIST:()' \
+                '--fates[What happens to packets, in a circle: pass, keep, last, lose, with commas between them \[default: pass\]]:LIST:()' \
                 '--writes[How many samples each application writes \[default: 10\]]:N:()' \
                 '--takes[How many samples each application takes \[default: 10\]]:N:()' \
-                '--idle-ok[Ends with status 0 too where applications were idle]' \
-                '--explain[Tells how full each reader was too, and what idle applications wait for]' \
+                '--idle-ok[Ends with status 0 also where applications were idle]' \
+                '--explain[Also prints how full each reader was, and what idle applications wait for]' \
                 '--format[text or json \[default: text\]]:FORMAT:(text json)' \
                 '-h[Print help]' \
                 '--help[Print help]' \
@@ -81,8 +81,8 @@ _ddscheck() {
                 '1:deployment:_files -g "*.toml"' \
                 '2:events:_files -g "*.toml"' ;;
             limits) _arguments \
-                '--certificate[Prints a certificate that shows these bounds, in place of them]' \
-                '--explain[Tells by what weights, or by which firings without end, each line is so]' \
+                '--certificate[Prints a certificate that shows these bounds instead]' \
+                '--explain[Also prints the reason for each line: its weights, or the firings that never end]' \
                 '--seconds[How many seconds a search may take \[default: 60\]]:N:()' \
                 '--format[text or json \[default: text\]]:FORMAT:(text json)' \
                 '-h[Print help]' \

@@ -50,3 +50,6 @@ pub use report::{
 pub use sources::Sources;
 pub use structure::structure_text;
 pub use syntax::SyntaxError;
+
+/// The version of the program, as `--version` and SARIF documents give it.
+pub const VERSION: &str = "0.1.0";

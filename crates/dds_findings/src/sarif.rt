@@ -9,6 +9,7 @@ ghost use Rattle.dds_findings.specs.Documents.{result_words, run_document, sarif
 
 use crate::block::{FileNames, file_name};
 use crate::finding::Finding;
+use dds_answers::VERSION;
 use dds_base::NoMemory;
 use dds_json::line_of;
 use serde_json::{Value, json};
@@ -104,7 +105,7 @@ fn results_array(alloc: Global, names: &FileNames, findings: &[Finding]) -> Resu
 fn driver_document(alloc: Global) -> Result<Value, NoMemory>
     ensures { IfOk result (λ v. view v ≡ driver_document) }
 {
-    json!(in alloc; {"name": "ddscheck", "version": "0.1.0"})
+    json!(in alloc; {"name": "ddscheck", "version": VERSION})
 }
 
 /// The tool that found them.

@@ -9,6 +9,7 @@ ghost use Rattle.dds_tool.specs.Command.{optional_file_rule, refuting, replaying
 ghost use Rattle.dds_tool.specs.Command.{seconds_rule, top_app, two_files, whole, wish_rule};
 
 use clap::{Arg, ArgAction, Command, value_parser};
+use dds_answers::VERSION;
 use dds_base::NoMemory;
 use std::alloc::Global;
 
@@ -18,13 +19,14 @@ const DEPLOYMENT: &str =
 
 /// What help says of the flag of a thorough search.
 const THOROUGH: &str =
-    "Searches by linear programming, for the least bounds, and tells which limit has no certificate";
+    "Searches by linear programming for the least bounds, and reports which limit has no certificate";
 
 /// What help says of the argument that names a certificate.
 const CERTIFICATE: &str = "A TOML file: rows of weights, and the bounds and totals that they show";
 
 /// What help says of the fates of packets.
-const FATES: &str = "What befalls packets, in a circle: pass, keep, last, lose, with commas";
+const FATES: &str =
+    "What happens to packets, in a circle: pass, keep, last, lose, with commas between them";
 
 /// What help says of the number of writes.
 const WRITES: &str = "How many samples each application writes";
@@ -43,33 +45,35 @@ const THOROUGH_SECONDS: &str = "How many seconds the thorough search may take";
 
 /// What help says of the flag of connections.
 const CONNECTIONS: &str =
-    "Prints the connections of all pairs that match, for a deployment file, in place of the pairs";
+    "Prints a table [[connections]] for each pair that matches, to paste into a deployment file";
 
 /// What help says of the flag of idle applications.
-const IDLE_OK: &str = "Ends with status 0 too where applications were idle";
+const IDLE_OK: &str = "Ends with status 0 also where applications were idle";
 
 /// What help says of the flag of an explained run.
-const EXPLAIN_RUN: &str = "Tells how full each reader was too, and what idle applications wait for";
+const EXPLAIN_RUN: &str =
+    "Also prints how full each reader was, and what idle applications wait for";
 
 /// What help says of the style of an answer.
 const STYLE: &str = "text or json";
 
 /// What help says of the flag of limits with their reasons.
-const REASONS: &str = "Tells by what weights, or by which firings without end, each line is so";
+const REASONS: &str =
+    "Also prints the reason for each line: its weights, or the firings that never end";
 
 /// What help says of the flag of an explained answer.
 const EXPLAIN: &str =
-    "Tells the reason too: the numbers behind a refusal, how near each bound is to its limit and \
-     what the yes leaves open, or where a file is no TOML";
+    "Also prints the reason: the numbers behind a no, how near each bound is to its limit and what a \
+     yes doesn't say, or where a file isn't TOML";
 
 /// What help says of the certificate of a picture.
 const DRAWN_CERTIFICATE: &str = "A certificate whose bounds are drawn";
 
 /// What help says of the flag of a certificate of limits.
-const CLAIM: &str = "Prints a certificate that shows these bounds, in place of them";
+const CLAIM: &str = "Prints a certificate that shows these bounds instead";
 
 /// What help says of the certificate of findings.
-const LINTED_CERTIFICATE: &str = "A certificate that is looked at too";
+const LINTED_CERTIFICATE: &str = "A certificate to check too";
 
 /// What help says of the form of findings.
 const FORM: &str = "text, json or sarif";
@@ -138,7 +142,7 @@ fn match_command<'a>(alloc: Global) -> Result<Command<'a>, NoMemory>
     let command = one_file_command(
         alloc,
         "match",
-        "Tells which writers and readers match, and why others don't",
+        "Prints which writers and readers match, and why others don't",
     )?
     .arg(flag(alloc, "connections", CONNECTIONS))?;
     styled(alloc, command)
@@ -266,7 +270,7 @@ fn replay_command<'a>(alloc: Global) -> Result<Command<'a>, NoMemory>
     let command = one_file_command(
         alloc,
         "replay",
-        "Makes the events of a file on a deployment, and prints what comes of each",
+        "Replays the events of a file on a deployment, and prints the reply to each",
     )?
     .arg(file(alloc, "events", EVENTS))?;
     styled(alloc, command)
@@ -279,7 +283,7 @@ fn conform_command<'a>(alloc: Global) -> Result<Command<'a>, NoMemory>
     let command = one_file_command(
         alloc,
         "conform",
-        "Tells whether a recorded trace keeps the rules of a deployment",
+        "Checks whether a recorded trace keeps the rules of a deployment",
     )?
     .arg(file(alloc, "trace", TRACE))?;
     styled(alloc, command)
@@ -292,7 +296,7 @@ fn limits_command<'a>(alloc: Global) -> Result<Command<'a>, NoMemory>
     let command = one_file_command(
         alloc,
         "limits",
-        "Tells how much room each reader and the history of each writer needs",
+        "Prints how much room each reader and each writer's history needs",
     )?
     .arg(flag(alloc, "certificate", CLAIM))?
     .arg(flag(alloc, "explain", REASONS))?
@@ -307,7 +311,7 @@ fn lint_command<'a>(alloc: Global) -> Result<Command<'a>, NoMemory>
     one_file_command(
         alloc,
         "lint",
-        "Looks for what is wrong with the files, and where",
+        "Finds what is wrong with the files, where it is and what would be right",
     )?
     .arg(optional_file(alloc, "certificate", LINTED_CERTIFICATE))?
     .arg(wish(alloc, "format", "FORMAT", "text", FORM))?
@@ -348,7 +352,7 @@ fn top_command<'a>(alloc: Global) -> Command<'a>
     ensures { app_of result ≡ top_app }
 {
     Command::new(alloc, "ddscheck")
-        .version("0.1.0")
+        .version(VERSION)
         .about("Shows before a launch that the bounds of a DDS deployment suffice")
         .subcommand_required(true)
 }

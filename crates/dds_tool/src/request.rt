@@ -41,7 +41,7 @@ const WRONG_FORMAT: &str = "error: the format is json or dds-xml\n";
 const WRONG_STYLE: &str = "error: the format is text or json\n";
 
 /// What is told of words that ask for connections as a document.
-const PLAIN_CONNECTIONS: &str = "error: connections are printed as text alone\n";
+const PLAIN_CONNECTIONS: &str = "error: --connections has no JSON format\n";
 
 /// What is told of a word that is no form of findings.
 const WRONG_FORM: &str = "error: the format is text, json or sarif\n";
