@@ -171,7 +171,7 @@ impl<A: App, N: Name> Player<A, N> {
         ensures { (self.new.app ≡ self.old.app) × (self.new.seat ≡ self.old.seat)
             × (self.new.counter ≡ self.old.counter) }
     {
-        match book.rest(rt, self.seen) {
+        match book.wait_arrival(rt, self.seen) {
             Ok(Some(seen)) => {
                 self.seen = seen;
                 self.idle = 0;

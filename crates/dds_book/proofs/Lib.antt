@@ -1,4 +1,5 @@
 pub mod PairSteps
+pub mod RoundLaws
 pub mod GaugeSteps
 pub mod GaugeCuts
 pub mod JournalLaws

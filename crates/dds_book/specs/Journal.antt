@@ -73,3 +73,8 @@ pub record IsCall (plan : Lists) (seat : ℕ) (old new : List Entry) (event : Ev
   pub between : List Entry
   pub none : calls_by seat between ≡ 0
   pub ends : new ≡ (old ++ between) ++ entry_of seat event reply ∷ []
+
+-- calls of a seat, one after another, and what came of each: they lead from its old front to its new one
+abbrev pub AreCalls : Lists → ℕ → (old new : List Entry) → List (Event × Reply) → Type 0
+AreCalls plan seat old new [] = new ≡ old
+AreCalls plan seat old new (m ∷ ms) = (next : List Entry) × IsCall plan seat old next m.0 m.1 × AreCalls plan seat next new ms

@@ -4,5 +4,6 @@ pub mod Halves
 pub mod Journal
 pub mod Kit
 pub mod Owning
+pub mod Round
 pub mod Seat
 pub mod State

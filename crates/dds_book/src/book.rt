@@ -1,16 +1,18 @@
 //! The book that threads share.
-ghost use Rattle.std.specs.Prelude.{◌≡◌, ◌<◌, true, length, map, All, IfOk, IfErr, IfSome, IfNone, OnErr};
+ghost use Rattle.std.specs.Prelude.{◌≡◌, ◌<◌, ◌≤◌, true, length, map, All, IfOk, IfErr, IfSome, OnErr};
 ghost use Rattle.std.specs.List.{range_with_len};
 ghost use Rattle.dds_book.specs.declared.fault.BookFault.TheVariants.{Closed};
 ghost use Rattle.dds_book.specs.Journal.{IsCall, IsFront, IsJournal};
 ghost use Rattle.dds_book.specs.Kit.{IsKitOf};
 ghost use Rattle.dds_book.specs.Owning.{is_participant};
+ghost use Rattle.dds_book.specs.Round.{GivesCalls};
 ghost use Rattle.dds_book.specs.Seat.{new_seat};
 
 use crate::entry::is_refused;
 use crate::fault::BookFault;
 use crate::journal::Journal;
 use crate::kit::{Kit, Name};
+use crate::round::{Pace, Round};
 use crate::seat::Seat;
 use crate::state::BookState;
 use dds_base::{Event, Fate, NoMemory, Reply};
@@ -18,12 +20,24 @@ use std::alloc::Global;
 use std::sync::{Condvar, Mutex, Wait};
 use std::time::{Clock, Duration};
 
-/// A book's state under a lock, and a bell that rings at each change and when the book is stopped. Whenever the lock is
-/// free the entries are a journal of the plan, and the domain stands for where it leads to.
+/// How many milliseconds a rest takes at most.
+const REST: u64 = 10;
+
+/// A book's state under a lock, and two bells. One rings at each change that may give a participant something to do, the
+/// other where packets were moved, which is what an application waits for; both ring when the book is stopped. Whenever
+/// the lock is free the entries are a journal of the plan, and the domain stands for where it leads to.
 #[derive(Drop)]
 pub struct Book<N: Name> {
     state: Mutex<BookState<N>>,
     changed: Condvar,
+    arrived: Condvar,
+}
+
+/// What the bells ring for: how many changes there were, and how many packets were moved.
+#[derive(Clone, Copy)]
+struct Mark {
+    changes: u64,
+    moved: usize,
 }
 
 impl<N: Name> Book<N> {
@@ -38,6 +52,7 @@ impl<N: Name> Book<N> {
         let book = Book {
             state: Mutex::new(state),
             changed: Condvar::new(),
+            arrived: Condvar::new(),
         };
         Ok((book, seats))
     }
@@ -55,54 +70,83 @@ impl<N: Name> Book<N> {
         ensures number { seat.new.number ≡ seat.old.number }
         ensures fault { OnErr result (seat.new ≡ seat.old) }
     {
+        let entered = event;
         let answer = self.state.lock(rt).enter(seat, event);
         if let Ok(reply) = &answer {
-            self.ring_after(reply);
+            self.ring_after(&entered, reply);
         }
         answer
     }
 
-    /// Enters what the seat's participant is to do in its turn, in one hold of the lock, and tells it. `None` where
-    /// there is nothing to do.
-    pub fn pump<R: Wait>(
+    // Rings where the count of changes grew, for those to whom the event may give something to do: what an application
+    // takes or fires concerns itself alone.
+    fn ring_after(&self, event: &Event, reply: &Reply) {
+        if is_refused(reply) {
+            return;
+        }
+        match event {
+            Event::Take { .. } | Event::Fire { .. } => {}
+            Event::Deliver { .. } => self.ring(),
+            _ => self.changed.notify_all(),
+        }
+    }
+
+    // Rings both bells.
+    fn ring(&self) {
+        self.changed.notify_all();
+        self.arrived.notify_all();
+    }
+
+    /// Makes turns of the seat's participant, one after another, in one hold of the lock, with the fates in a circle: as
+    /// long as there is something to do, fewer events than the limit and than 32 were entered, and nobody else is to act
+    /// first. The seat's new front is the journal as the last event left it. A fault ends the round too; what was
+    /// entered before stays.
+    pub fn turns<R: Wait>(
         &self,
         rt: &R,
         seat: &mut Seat<N>,
-        turn: u64,
-        fate: Fate,
-    ) -> Result<Option<(Event, Reply)>, BookFault>
-        requires { is_participant N.plan seat.old.number ≡ true }
-        ensures call { IfOk result
-            (λ told. IfSome told (λ m. IsCall N.plan seat.old.number seat.old.front seat.new.front m.0 m.1)) }
-        ensures none { IfOk result (λ told. IfNone told (seat.new ≡ seat.old)) }
+        pace: &mut Pace,
+        fates: &[Fate],
+        limit: u64,
+    ) -> Round
+        requires participant { is_participant N.plan seat.old.number ≡ true }
+        requires fates { 0 < length fates.now }
         ensures number { seat.new.number ≡ seat.old.number }
-        ensures fault { OnErr result (seat.new ≡ seat.old) }
+        ensures calls { GivesCalls N.plan seat.old seat.new result.entered }
+        ensures none { result.entered ≡ 0 → seat.new ≡ seat.old }
+        ensures limit { result.entered ≤ limit }
     {
-        let answer = self.state.lock(rt).pump(seat, turn, fate);
-        self.ring_after_turn(&answer);
-        answer
+        let moved = pace.moved;
+        let mut state = self.state.lock(rt);
+        let changes = state.changes();
+        let round = state.turns(seat, pace, fates, limit);
+        drop(state);
+        let before = Mark { changes, moved };
+        let now = Mark {
+            changes: round.changes,
+            moved: pace.moved,
+        };
+        self.ring_between(before, now);
+        round
     }
 
-    // Rings where an event was due, and changed something.
-    fn ring_after_turn(&self, told: &Result<Option<(Event, Reply)>, BookFault>) {
-        if let Ok(Some((_, reply))) = told {
-            self.ring_after(reply);
+    // Rings where the count of changes grew.
+    fn ring_between(&self, before: Mark, now: Mark) {
+        if before.changes == now.changes {
+            return;
         }
-    }
-
-    // Rings where the count of changes grew: a refusal is entered and changes nothing.
-    fn ring_after(&self, reply: &Reply) {
-        if !is_refused(reply) {
-            self.changed.notify_all();
+        self.changed.notify_all();
+        if before.moved != now.moved {
+            self.arrived.notify_all();
         }
     }
 
     /// Waits for at most 10 ms until more than so many entries are no refusals, and tells how many they are. It waits
-    /// as long for a stopped book.
+    /// as long for a stopped book. What an application takes or fires doesn't end the wait at once.
     pub fn wait_change<R: Wait + Clock>(&self, rt: &R, seen: u64) -> Option<u64>
         ensures { IfSome result (λ count. seen < count) }
     {
-        let limit = Duration::from_millis(10);
+        let limit = Duration::from_millis(REST);
         let (state, _) = self
             .changed
             .wait_timeout_while(rt, self.state.lock(rt), limit, |s| s.changes() <= seen);
@@ -111,25 +155,26 @@ impl<N: Name> Book<N> {
     }
 
     /// Waits as `wait_change` does, but no longer than until the book is stopped: then the answer is `Closed`, unless
-    /// more entries than so many are no refusals.
+    /// more entries than so many are no refusals. It's how a participant rests.
     pub fn rest<R: Wait + Clock>(&self, rt: &R, seen: u64) -> Result<Option<u64>, BookFault>
         ensures change { IfOk result (λ told. IfSome told (λ count. seen < count)) }
         ensures closed { IfErr result (λ f. f ≡ Closed) }
     {
-        self.wait_past(rt, seen, Duration::from_millis(10))
+        self.wait_past(rt, &self.changed, seen, Duration::from_millis(REST))
     }
 
-    /// Waits for at most 1 ms until more entries are no refusals than at the start of the call, and tells how many they
-    /// are: for a thread that has more to do, and gives way to the others first. `Closed` where the book is stopped.
-    pub fn give_way<R: Wait + Clock>(&self, rt: &R) -> Result<Option<u64>, BookFault>
-        ensures { IfErr result (λ f. f ≡ Closed) }
+    /// Waits as `rest` does, but once it waits only a moved packet or the stop of the book ends the wait at once. It's
+    /// how an application rests, which nothing else can give something to do.
+    pub fn wait_arrival<R: Wait + Clock>(&self, rt: &R, seen: u64) -> Result<Option<u64>, BookFault>
+        ensures change { IfOk result (λ told. IfSome told (λ count. seen < count)) }
+        ensures closed { IfErr result (λ f. f ≡ Closed) }
     {
-        let seen = self.state.lock(rt).changes();
-        self.wait_past(rt, seen, Duration::from_millis(1))
+        self.wait_past(rt, &self.arrived, seen, Duration::from_millis(REST))
     }
 
-    // Waits for at most so long until more than so many entries are no refusals, or the book is stopped.
-    fn wait_past<R: Wait + Clock>(
+    /// Waits as `rest` does, but for at most so long: for a participant that has more to do, and gives way to the others
+    /// first.
+    pub fn give_way<R: Wait + Clock>(
         &self,
         rt: &R,
         seen: u64,
@@ -138,11 +183,23 @@ impl<N: Name> Book<N> {
         ensures change { IfOk result (λ told. IfSome told (λ count. seen < count)) }
         ensures closed { IfErr result (λ f. f ≡ Closed) }
     {
-        let (state, _) = self
-            .changed
-            .wait_timeout_while(rt, self.state.lock(rt), limit, |s| {
-                s.changes() <= seen && !s.is_closed()
-            });
+        self.wait_past(rt, &self.changed, seen, limit)
+    }
+
+    // Waits for at most so long at a bell until more than so many entries are no refusals, or the book is stopped.
+    fn wait_past<R: Wait + Clock>(
+        &self,
+        rt: &R,
+        bell: &Condvar,
+        seen: u64,
+        limit: Duration,
+    ) -> Result<Option<u64>, BookFault>
+        ensures change { IfOk result (λ told. IfSome told (λ count. seen < count)) }
+        ensures closed { IfErr result (λ f. f ≡ Closed) }
+    {
+        let (state, _) = bell.wait_timeout_while(rt, self.state.lock(rt), limit, |s| {
+            s.changes() <= seen && !s.is_closed()
+        });
         let count = state.changes();
         if count > seen {
             Ok(Some(count))
@@ -156,7 +213,7 @@ impl<N: Name> Book<N> {
     /// From now on each event is refused as `Closed`, and whoever rests or gives way is woken.
     pub fn stop<R: Wait>(&self, rt: &R) {
         self.state.lock(rt).stop();
-        self.changed.notify_all();
+        self.ring();
     }
 
     /// The journal. It begins with the front of each of these seats and has no later entry of that seat: each of its
@@ -166,7 +223,11 @@ impl<N: Name> Book<N> {
         ensures journal { IsJournal N.plan result }
         ensures fronts { All (λ s. IsFront s.number s.front result) seats.items }
     {
-        let Book { state, changed: _ } = self;
+        let Book {
+            state,
+            changed: _,
+            arrived: _,
+        } = self;
         state.into_inner().close(seats)
     }
 }

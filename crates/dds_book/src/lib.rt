@@ -22,6 +22,7 @@ mod halves;
 mod journal;
 mod kit;
 mod owning;
+mod round;
 mod seat;
 mod state;
 
@@ -31,5 +32,6 @@ pub use fault::BookFault;
 pub use gauge::{Gauge, GaugeFull, GaugeSeat};
 pub use journal::Journal;
 pub use kit::{Kit, Name};
+pub use round::{Pace, Round, RoundEnd};
 pub use seat::Seat;
 pub use state::BookState;

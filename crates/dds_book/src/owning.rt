@@ -86,7 +86,7 @@ fn is_own(lists: &Deployment, seat: usize, event: &Event) -> bool
     }
 }
 
-// Whether the seat is that of the application that owns the writer.
+// Whether the seat belongs to the application that owns the writer.
 fn has_writer(lists: &Deployment, seat: usize, writer: WriterNo) -> bool
     ensures { result ≡ has_writer lists.now seat writer }
 {
@@ -99,7 +99,7 @@ fn has_writer(lists: &Deployment, seat: usize, writer: WriterNo) -> bool
         .contains(&writer)
 }
 
-// Whether the seat is that of the application that owns the reader.
+// Whether the seat belongs to the application that owns the reader.
 fn has_reader(lists: &Deployment, seat: usize, reader: ReaderNo) -> bool
     ensures { result ≡ has_reader lists.now seat reader }
 {
@@ -112,7 +112,7 @@ fn has_reader(lists: &Deployment, seat: usize, reader: ReaderNo) -> bool
         .contains(&reader)
 }
 
-// Whether the seat is that of the writer's participant.
+// Whether the seat is the writer's participant's.
 fn sends_of_writer(lists: &Deployment, seat: usize, writer: WriterNo) -> bool
     requires { writer < length lists.now.writers.entries }
     ensures { result ≡ sends_of_writer lists.now seat writer }
@@ -121,7 +121,7 @@ fn sends_of_writer(lists: &Deployment, seat: usize, writer: WriterNo) -> bool
     seat >= first && lists.writer(writer).participant.number() == seat - first
 }
 
-// Whether the seat is that of the reader's participant.
+// Whether the seat is the reader's participant's.
 fn sends_of_reader(lists: &Deployment, seat: usize, reader: ReaderNo) -> bool
     requires { reader < length lists.now.readers.entries }
     ensures { result ≡ sends_of_reader lists.now seat reader }

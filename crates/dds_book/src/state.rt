@@ -1,12 +1,13 @@
 //! What lies under the lock of a book: the domain, and the journal of what was done to it.
 ghost use Rattle.std.specs.Prelude.{◌≡◌, ◌+◌, ◌<◌, ◌≤◌, ◌^◌, true, false, Some, [], length, if◌then◌else◌, slice_get};
-ghost use Rattle.std.specs.Prelude.{slice_set, IfOk, IfErr, map, All};
+ghost use Rattle.std.specs.Prelude.{slice_set, IfOk, IfErr, map, min, All};
 ghost use Rattle.std.specs.List.{range_with_len};
 ghost use Rattle.std.specs.Vec.{vec_len, vec_capacity};
 ghost use Rattle.dds_book.specs.Halves.{HolderState, entries_by, half_of, holder_of};
 ghost use Rattle.dds_book.specs.Journal.{IsFront, IsJournal, changes_in, is_refused, most_entries, seat_of};
 ghost use Rattle.dds_book.specs.Kit.{IsKitOf, new_half};
 ghost use Rattle.dds_book.specs.Owning.{is_participant};
+ghost use Rattle.dds_book.specs.Round.{IsRound, IsTurn, most_events, pace_after};
 ghost use Rattle.dds_book.specs.Seat.{new_seat};
 ghost use Rattle.dds_book.specs.State.{Enters, Pumped, Refuses, due_at};
 
@@ -16,6 +17,7 @@ use crate::halves::{Half, Holder};
 use crate::journal::Journal;
 use crate::kit::{Kit, Name};
 use crate::owning::{is_participant, owns, participant_of};
+use crate::round::{MOST_EVENTS, Pace, QUIET_TURNS, Round, RoundEnd};
 use crate::seat::Seat;
 use dds_base::{Event, Fate, NoMemory, Reply};
 use dds_domain::Domain;
@@ -139,6 +141,77 @@ impl<N: Name> BookState<N> {
         Ok(Some((told, reply)))
     }
 
+    // Makes the participant's turn at this pace, and counts it and what was entered.
+    fn turn(
+        &mut self,
+        seat: &mut Seat<N>,
+        pace: &mut Pace,
+        fates: &[Fate],
+    ) -> Result<Option<(Event, Reply)>, BookFault>
+        requires participant { is_participant N.plan seat.old.number ≡ true }
+        requires fates { 0 < length fates.now }
+        ensures turn { IsTurn N.plan fates.now self.old self.new seat.old seat.new pace.old result }
+        ensures pace { pace.new ≡ pace_after pace.old result }
+    {
+        let fate = fates[pace.moved % fates.len()];
+        let answer = self.pump(seat, pace.turn, fate);
+        pace.turn();
+        if let Ok(Some((event, _))) = &answer {
+            pace.count(event);
+        }
+        answer
+    }
+
+    /// Makes turns of the seat's participant, one after another, each as `pump` makes it, with the fates in a circle:
+    /// as long as there is something to do, fewer events than the limit and than 32 were entered, and nobody else is to
+    /// act first. A fault ends the round too; what was entered before stays.
+    pub fn turns(
+        &mut self,
+        seat: &mut Seat<N>,
+        pace: &mut Pace,
+        fates: &[Fate],
+        limit: u64,
+    ) -> Round
+        requires participant { is_participant N.plan seat.old.number ≡ true }
+        requires fates { 0 < length fates.now }
+        ensures { IsRound N.plan fates.now (min limit most_events) self.old self.new seat.old seat.new pace.old pace.new
+            result }
+    {
+        let most = limit.min(MOST_EVENTS);
+        let mut entered = 0;
+        let mut quiet = 0;
+        while entered < most && quiet < QUIET_TURNS {
+            match self.turn(seat, pace, fates) {
+                Ok(None) => quiet += 1,
+                Ok(Some((event, _))) => {
+                    entered += 1;
+                    quiet = 0;
+                    if pace.is_excess(&event) {
+                        return self.round(entered, RoundEnd::GivesWay);
+                    }
+                }
+                Err(fault) => return self.round(entered, RoundEnd::Fault(fault)),
+            }
+        }
+        let end = if quiet < QUIET_TURNS {
+            RoundEnd::Full
+        } else {
+            RoundEnd::Quiet
+        };
+        self.round(entered, end)
+    }
+
+    // A round that ends now.
+    fn round(&self, entered: u64, end: RoundEnd) -> Round
+        ensures { result ≡ record { entered = entered; changes = changes_in self.now.entries; end = end } }
+    {
+        Round {
+            entered,
+            changes: self.changes,
+            end,
+        }
+    }
+
     /// From now on each event is refused as `Closed`.
     pub fn stop(&mut self)
         ensures { self.new ≡ record { closed = true; entries = self.old.entries } }
@@ -220,7 +293,7 @@ fn note(holders: &mut Vec<Holder<Entry>>, number: usize, half: &mut Half<Entry>,
     holder.advance(half, journal);
 }
 
-// The half's front is that of the other half of its pair.
+// The half's front is the front of the other half of its pair.
 fn same(holders: &mut Vec<Holder<Entry>>, number: usize, half: Half<Entry>)
     requires number { number < length holders.old.items }
     requires holder { (h : HolderState Entry) → slice_get holders.old.items number ≡ Some h → half.table ≡ h.table }

@@ -3,28 +3,27 @@ ghost use Rattle.std.specs.Prelude.{◌≡◌, true};
 ghost use Rattle.dds_book.specs.Owning.{is_participant};
 
 use crate::fates::Fates;
-use dds_base::{Event, Reply};
-use dds_book::{Book, BookFault, Name, Seat};
+use dds_base::Fate;
+use dds_book::{Book, BookFault, Name, Pace, RoundEnd, Seat};
+use rand_core::utils::NextWord;
+use rand_pcg::Pcg32;
 use std::sync::Wait;
-use std::time::Clock;
+use std::time::{Clock, Duration};
 
-/// After so many turns in a row without an event a participant waits for a change. In eight turns it has looked at each
-/// kind of packet.
-const QUIET_TURNS: u32 = 8;
-
-/// After so many HEARTBEATs in a row, with nothing else sent between them, a participant gives way after each: whoever
-/// is to answer may not have the processor, and the events that a participant may make would be used up meanwhile.
+/// After so many HEARTBEATs in a row, with nothing else sent between them, a participant gives way for longer after
+/// each: whoever is to answer may not have the processor, and the events that a participant may make would be used up
+/// meanwhile.
 const HEARTBEATS: u32 = 8;
+
+/// How many events a short round enters at most.
+const SHORT: u32 = 4;
 
 /// A participant's seat, and how far its thread has come.
 #[derive(Drop)]
 pub(crate) struct Carrier<N: Name> {
     seat: Seat<N>,
-    turn: u64,
-    moved: usize,
-    quiet: u32,
-    heartbeats: u32,
-    seen: u64,
+    pace: Pace,
+    random: Pcg32,
     events: u64,
     is_full: bool,
     ghost carries: { is_participant N.plan seat.number ≡ true },
@@ -34,13 +33,11 @@ impl<N: Name> Carrier<N> {
     pub(crate) fn new(seat: Seat<N>) -> Carrier<N>
         requires { is_participant N.plan seat.number ≡ true }
     {
+        let random = Pcg32::new(0, seat.number() as u64);
         Carrier {
             seat,
-            turn: 0,
-            moved: 0,
-            quiet: 0,
-            heartbeats: 0,
-            seen: 0,
+            pace: Pace::default(),
+            random,
             events: 0,
             is_full: false,
         }
@@ -53,72 +50,64 @@ impl<N: Name> Carrier<N> {
         self.is_full
     }
 
-    // Counts an event that it made, which is a change that it has seen unless it was refused. The next fate comes
-    // where a packet of the bus was moved.
-    fn count(&mut self, event: &Event, reply: &Reply) {
-        self.events = self.events.saturating_add(1);
-        if !matches!(reply, Reply::Refused(_)) {
-            self.seen = self.seen.saturating_add(1);
+    // After how many events the next round ends, if it's a short one. Where packets are lost, rounds that are all alike
+    // can lose the same packet each time, so that it never arrives: of these every other one is short, at random.
+    fn cut(&mut self, fates: &[Fate]) -> Option<u64> {
+        let word = self.random.next_word();
+        if word % 2 == 1 || !fates.contains(&Fate::Lose) {
+            return None;
         }
-        self.quiet = 0;
-        match event {
-            Event::Deliver { .. } | Event::Lose { .. } => {
-                self.moved = self.moved.wrapping_add(1);
-            }
-            Event::SendHeartbeat { .. } => self.heartbeats = self.heartbeats.saturating_add(1),
-            _ => self.heartbeats = 0,
-        }
+        Some(1 + u64::from(word / 2 % SHORT))
     }
 
-    // Waits for a short time for a change that another thread makes from now on, if it has sent HEARTBEATs alone and
-    // this is one more.
-    fn give_way<R: Wait + Clock>(&mut self, rt: &R, book: &Book<N>, event: &Event) {
-        if self.heartbeats <= HEARTBEATS || !matches!(event, Event::SendHeartbeat { .. }) {
-            return;
-        }
-        if let Ok(Some(seen)) = book.give_way(rt) {
-            self.seen = seen;
-        }
-    }
-
-    // Waits for a change, if there were enough turns in a row without an event.
-    fn rest<R: Wait + Clock>(&mut self, rt: &R, book: &Book<N>) {
-        self.quiet = self.quiet.saturating_add(1);
-        if self.quiet < QUIET_TURNS {
-            return;
-        }
-        self.quiet = 0;
-        if let Ok(Some(seen)) = book.rest(rt, self.seen) {
-            self.seen = seen;
-        }
-    }
-
-    // Makes one turn. It says whether the thread goes on.
-    fn turn<R: Wait + Clock>(&mut self, rt: &R, book: &Book<N>, fates: &Fates, pumps: u64) -> bool {
+    // Makes a round. It says whether the thread goes on.
+    fn round<R: Wait + Clock>(
+        &mut self,
+        rt: &R,
+        book: &Book<N>,
+        fates: &Fates,
+        pumps: u64,
+    ) -> bool {
         if self.events >= pumps {
             return false;
         }
-        let fate = fates.after(self.moved);
-        let answer = book.pump(rt, &mut self.seat, self.turn, fate);
-        self.turn = self.turn.wrapping_add(1);
-        match answer {
-            Ok(Some((event, reply))) => {
-                self.count(&event, &reply);
-                self.give_way(rt, book, &event);
+        let left = pumps - self.events;
+        let cut = self.cut(fates.as_slice());
+        let limit = cut.map_or(left, |cut| cut.min(left));
+        let round = book.turns(rt, &mut self.seat, &mut self.pace, fates.as_slice(), limit);
+        self.events += round.entered;
+        match round.end {
+            RoundEnd::Full => {
+                if cut.is_some() {
+                    let _ = book.give_way(rt, round.changes, self.patience());
+                }
                 true
             }
-            Ok(None) | Err(BookFault::NoMemory) => {
-                self.rest(rt, book);
+            RoundEnd::Quiet | RoundEnd::Fault(BookFault::NoMemory) => {
+                let _ = book.rest(rt, round.changes);
                 true
             }
-            Err(fault) => {
+            RoundEnd::GivesWay => {
+                let _ = book.give_way(rt, round.changes, self.patience());
+                true
+            }
+            RoundEnd::Fault(fault) => {
                 self.is_full = matches!(fault, BookFault::JournalFull);
                 false
             }
         }
     }
 
-    /// Enters what is due, until the book is stopped.
+    // For how long it gives way to the others.
+    fn patience(&self) -> Duration {
+        if self.pace.heartbeats > HEARTBEATS {
+            Duration::from_millis(1)
+        } else {
+            Duration::from_micros(100)
+        }
+    }
+
+    /// Makes rounds, until the book is stopped.
     pub(crate) fn carry<R: Wait + Clock>(
         self,
         rt: &R,
@@ -128,7 +117,7 @@ impl<N: Name> Carrier<N> {
     ) -> Carrier<N> {
         let mut carrier = self;
         for _ in rt.forever() {
-            if !carrier.turn(rt, book, fates, pumps) {
+            if !carrier.round(rt, book, fates, pumps) {
                 break;
             }
         }

@@ -1,5 +1,5 @@
 //! The fates of packets, in a circle.
-ghost use Rattle.std.specs.Prelude.{◌≡◌, ◌%◌, Some, length, IfSome, IfNone, slice_get};
+ghost use Rattle.std.specs.Prelude.{◌≡◌, ◌<◌, length, IfSome, IfNone};
 ghost use Rattle.dds_peers.specs.Fates.{AreFates};
 
 use dds_base::Fate;
@@ -45,10 +45,11 @@ impl Fates {
         })
     }
 
-    /// The fate after so many.
-    pub(crate) fn after(&self, count: usize) -> Fate
-        ensures { slice_get self.now (count % length self.now) ≡ Some result }
+    /// The fates, in order.
+    pub(crate) fn as_slice(&self) -> &[Fate]
+        ensures all { result.now ≡ self.now }
+        ensures some { 0 < length result.now }
     {
-        self.all[count % self.len]
+        &self.all[..self.len]
     }
 }

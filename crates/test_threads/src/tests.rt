@@ -7,6 +7,7 @@ mod kits;
 mod longest;
 mod meeting;
 mod plans;
+mod rounds;
 mod runs;
 mod scripts;
 mod seats;

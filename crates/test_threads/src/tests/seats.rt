@@ -11,7 +11,7 @@ use std::marker::Brand;
 use std::process::Abort;
 use std::sync::Wait;
 use std::test::Fail;
-use std::time::Clock;
+use std::time::{Clock, Duration};
 use test_model::worked::{Move, Told, event_of, told_of};
 
 fn told(answer: Result<Reply, BookFault>) -> Result<Told, BookFault> {
@@ -83,7 +83,15 @@ fn expect_book<N: Name, R: Wait + Clock + Abort>(rt: &R, alloc: Global, kit: Kit
     expect_equal(rt, book.wait_change(rt, 5), None, "no change");
     expect_equal(rt, book.rest(rt, 4), Ok(Some(5)), "a rest after a change");
     expect_equal(rt, book.rest(rt, 5), Ok(None), "a rest without a change");
-    expect_equal(rt, book.give_way(rt), Ok(None), "no change by another");
+    expect_equal(rt, book.wait_arrival(rt, 4), Ok(Some(5)), "a change before");
+    expect_equal(rt, book.wait_arrival(rt, 5), Ok(None), "no arrival");
+    let limit = Duration::from_millis(1);
+    expect_equal(
+        rt,
+        book.give_way(rt, 5, limit),
+        Ok(None),
+        "no change by another",
+    );
     book.stop(rt);
     expect_equal(
         rt,
@@ -99,7 +107,13 @@ fn expect_book<N: Name, R: Wait + Clock + Abort>(rt: &R, alloc: Global, kit: Kit
     );
     expect_equal(
         rt,
-        book.give_way(rt),
+        book.wait_arrival(rt, 5),
+        Err(BookFault::Closed),
+        "a stopped book",
+    );
+    expect_equal(
+        rt,
+        book.give_way(rt, 5, limit),
         Err(BookFault::Closed),
         "a stopped book",
     );
