@@ -23,9 +23,9 @@ use std::time::{Clock, Duration};
 /// How many milliseconds a rest takes at most.
 const REST: u64 = 10;
 
-/// A book's state under a lock, and two bells. One rings at each change that may give a participant something to do, the
-/// other where packets were moved, which is what an application waits for; both ring when the book is stopped. Whenever
-/// the lock is free the entries are a journal of the plan, and the domain stands for where it leads to.
+/// A book's state under a lock, and two bells. One rings at each change that may give a participant something to do,
+/// the other where packets were moved, which is what an application waits for; both ring when the book is stopped.
+/// Whenever the lock is free the entries are a journal of the plan, and the domain stands for where it leads to.
 #[derive(Drop)]
 pub struct Book<N: Name> {
     state: Mutex<BookState<N>>,
@@ -97,9 +97,9 @@ impl<N: Name> Book<N> {
         self.arrived.notify_all();
     }
 
-    /// Makes turns of the seat's participant, one after another, in one hold of the lock, with the fates in a circle: as
-    /// long as there is something to do, fewer events than the limit and than 32 were entered, and nobody else is to act
-    /// first. The seat's new front is the journal as the last event left it. A fault ends the round too; what was
+    /// Makes turns of the seat's participant, one after another, in one hold of the lock, with the fates in a circle,
+    /// as long as there is something to do, fewer events than the limit and than 32 were entered, and nobody else is to
+    /// act first. The seat's new front is the journal as the last event left it. A fault ends the round too; what was
     /// entered before stays.
     pub fn turns<R: Wait>(
         &self,
@@ -172,8 +172,8 @@ impl<N: Name> Book<N> {
         self.wait_past(rt, &self.arrived, seen, Duration::from_millis(REST))
     }
 
-    /// Waits as `rest` does, but for at most so long: for a participant that has more to do, and gives way to the others
-    /// first.
+    /// Waits as `rest` does, but for at most so long: for a participant that has more to do, and first gives way to the
+    /// others.
     pub fn give_way<R: Wait + Clock>(
         &self,
         rt: &R,
