@@ -1,5 +1,5 @@
 //! The book that threads share.
-ghost use Rattle.std.specs.Prelude.{◌≡◌, ◌<◌, ◌≤◌, true, length, map, All, IfOk, IfErr, IfSome, OnErr};
+ghost use Rattle.std.specs.Prelude.{◌≡◌, ◌<◌, ◌≤◌, true, length, map, All, IfOk, IfErr, IfSome, IfNone, OnErr};
 ghost use Rattle.std.specs.List.{range_with_len};
 ghost use Rattle.dds_book.specs.declared.fault.BookFault.TheVariants.{Closed};
 ghost use Rattle.dds_book.specs.Journal.{IsCall, IsFront, IsJournal};
@@ -76,6 +76,41 @@ impl<N: Name> Book<N> {
             self.ring_after(&entered, reply);
         }
         answer
+    }
+
+    /// Whether the seat is a participant's, which makes turns.
+    pub fn is_participant<R: Wait>(&self, rt: &R, seat: &Seat<N>) -> bool
+        ensures { result ≡ is_participant N.plan seat.now.number }
+    {
+        self.state.lock(rt).is_participant(seat)
+    }
+
+    /// Enters what the seat's participant is to do in its turn, in one hold of the lock, and gives it with its reply.
+    /// `None` where there is nothing to do.
+    pub fn pump<R: Wait>(
+        &self,
+        rt: &R,
+        seat: &mut Seat<N>,
+        turn: u64,
+        fate: Fate,
+    ) -> Result<Option<(Event, Reply)>, BookFault>
+        requires { is_participant N.plan seat.old.number ≡ true }
+        ensures call { IfOk result
+            (λ made. IfSome made (λ m. IsCall N.plan seat.old.number seat.old.front seat.new.front m.0 m.1)) }
+        ensures none { IfOk result (λ made. IfNone made (seat.new ≡ seat.old)) }
+        ensures number { seat.new.number ≡ seat.old.number }
+        ensures fault { OnErr result (seat.new ≡ seat.old) }
+    {
+        let answer = self.state.lock(rt).pump(seat, turn, fate);
+        self.ring_after_turn(&answer);
+        answer
+    }
+
+    // Rings where an event was due, as after a call.
+    fn ring_after_turn(&self, answer: &Result<Option<(Event, Reply)>, BookFault>) {
+        if let Ok(Some((event, reply))) = answer {
+            self.ring_after(event, reply);
+        }
     }
 
     // Rings where the count of changes grew, for those to whom the event may give something to do: what an application
