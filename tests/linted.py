@@ -51,7 +51,10 @@ def fault_case(case):
 
 
 def stretch_of(found, name, path):
-    """Where a fault of this name stands, by what was found in its file: a name that's too much, or the value that's wrong. `None` where that isn't clear."""
+    """Where a fault of this name stands, by what was found in its file: a name that's too much, or the value that's wrong. `None` where that isn't clear, as of the
+    empty path, which is that of the whole file and of a key `""`."""
+    if not path:
+        return None
     if name == "UnknownKey":
         return found[path][0] if path in found else None
     field = {"Qos": ".depth", "EndpointOwner": ".name"}.get(name, "")

@@ -3,7 +3,7 @@ use Rattle.std.specs.Prelude.{◌≡◌, Bool, true}
 use Rattle.dds_answers.specs.declared.fault.ToolFault.{ToolFault}
 use Rattle.dds_answers.specs.declared.fault.ToolFault.TheVariants as fault
 
--- the faults with which a command on files can end before anything is written: a flaw of a file, a file that is too large, want of memory, and a failed
+-- the faults with which a command on files can end before anything is written: a flaw of a file, a file that is too large, no memory, and a failed
 -- reading, but only where a file has failed
 abbrev pub IsFileFault : (file_failed : Bool) → ToolFault → Type 0
 IsFileFault file_failed (fault.Deployment flaw syntax) = Unit {0}

@@ -64,7 +64,7 @@ exit_of fault.Run = exit.Run
 abbrev pub fault_status : ToolFault → ℕ
 fault_status f = exit_status (exit_of f)
 
--- the faults that an answer to the bytes of files can end in: a flaw of a file, or want of memory
+-- the faults that an answer to the bytes of files can end in: a flaw of a file, or that memory ran out
 abbrev pub IsAnswerFault : ToolFault → Type 0
 IsAnswerFault (fault.Deployment flaw syntax) = Unit {0}
 IsAnswerFault (fault.Certificate flaw syntax) = Unit {0}

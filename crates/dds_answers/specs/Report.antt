@@ -33,7 +33,7 @@ abbrev pub outcome_of : Report → Outcome
 outcome_of (answer.Yes checked) = accepted checked.plan checked.certificate
 outcome_of (answer.Refused first lists cert) = refused first lists (certificate_view cert)
 
--- how the check ended that gave this report or fault; want of memory says nothing of it
+-- how the check ended that gave this report or fault; running out of memory says nothing about it
 abbrev pub Tells : Result Report ToolFault → Outcome → Type 0
 Tells (Ok report) end = end ≡ outcome_of report
 Tells (Err (fault.Deployment flaw syntax)) end = end ≡ bad_deployment (flaw.kind, string_bytes flaw.path)
@@ -117,7 +117,7 @@ abbrev pub IsDeploymentFault : ReadFault → ToolFault → Type 0
 IsDeploymentFault (unread.At flaw) told = told ≡ fault.Deployment flaw None
 IsDeploymentFault unread.NoMemory told = told ≡ fault.NoMemory
 
--- the fault with which a command ends that finds this flaw where it reads a deployment, or want of memory
+-- the fault with which a command ends that finds this flaw where it reads a deployment, or that memory ran out
 abbrev pub IsUnread : Read Lists → ToolFault → Type 0
 IsUnread read (fault.Deployment flaw syntax) = (read ≡ Err (flaw.kind, string_bytes flaw.path)) × (syntax ≡ None)
 IsUnread read fault.NoMemory = Unit {0}

@@ -34,7 +34,7 @@ use std::alloc::Global;
 pub struct Answer {
     pub text: String,
     pub is_yes: bool,
-    /// What the user is told besides, on standard error.
+    /// What goes to standard error besides.
     pub note: Option<String>,
 }
 
@@ -63,7 +63,7 @@ pub fn answered(text: Result<String, NoMemory>, is_yes: bool) -> Result<Answer, 
     }
 }
 
-/// The answer that tells a report, which is needed no longer: yes where the certificate is accepted. Its reason comes
+/// The answer for a report, which is needed no longer: yes where the certificate is accepted. Its reason comes
 /// after it where it is asked for.
 #[tactic(auto, unfolding(crate::specs::Report::status_of))]
 pub fn reported(alloc: Global, report: Report, detail: Detail) -> Result<Answer, ToolFault>
@@ -147,7 +147,7 @@ pub fn show_answer(alloc: Global, deployment: &[u8], format: Format) -> Result<A
     }
 }
 
-/// What the user is told of a text that commands read: that it's longer than a file may be, if it is.
+/// The line for a text that commands read: that it's longer than a file may be, if it is.
 fn length_note(alloc: Global, text: &str) -> Result<Option<String>, NoMemory>
     ensures { IfOk result (λ note. option_map string_bytes note ≡ length_note text.now) }
 {
@@ -161,7 +161,7 @@ fn length_note(alloc: Global, text: &str) -> Result<Option<String>, NoMemory>
     Ok(Some(note))
 }
 
-/// Yes with a text that commands read, if there was memory for it. The user is told where it's longer than a file may
+/// Yes with a text that commands read, if there was memory for it. A line says so where it's longer than a file may
 /// be.
 fn written(alloc: Global, text: Result<String, NoMemory>) -> Result<Answer, ToolFault>
     ensures answer { IfOk result (λ a. (a.is_yes ≡ true) × IfOk text (λ t. a.text ≡ t)) }
@@ -182,7 +182,7 @@ fn written(alloc: Global, text: Result<String, NoMemory>) -> Result<Answer, Tool
     }
 }
 
-/// The answer with the text of a certificate that was proposed. The user is told where it's longer than a file may be.
+/// The answer with the text of a certificate that was proposed. A line says so where it's longer than a file may be.
 #[tactic(auto, unfolding(crate::specs::Report::output_of, crate::specs::Report::status_of))]
 pub fn certified(alloc: Global, plan: &Plan, certificate: &Certificate) -> Result<Answer, ToolFault>
     ensures gives { Gives result (proposed plan.now (certificate_view certificate.now)) }
@@ -226,7 +226,7 @@ pub fn propose_answer(alloc: Global, deployment: &[u8]) -> Result<Answer, ToolFa
 }
 
 /// The answer of `migrate` to the bytes of a deployment of version 1: yes with a text of version 2 that stands for the
-/// same lists. The user is told where it's longer than a file may be.
+/// same lists. A line says so where it's longer than a file may be.
 pub fn migrate_answer(alloc: Global, deployment: &[u8]) -> Result<Answer, ToolFault>
     ensures gives { GivesOneOf (MayMigrate deployment.now (read_up_to 1 deployment.now)) result }
     ensures note { IfOk result (λ a. option_map string_bytes a.note ≡ length_note (string_bytes a.text)) }

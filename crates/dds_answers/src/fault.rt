@@ -1,4 +1,4 @@
-//! Why a command gave no answer, and what users are told of it.
+//! Why a command gave no answer, and the line that reports it.
 ghost use Rattle.std.specs.Prelude.{◌≡◌, ◌++◌, IfOk, string_bytes};
 ghost use Rattle.dds_answers.specs.Fault.{exit_of, fault_line, flaw_line, line_flaw, syntax_line};
 
@@ -11,7 +11,7 @@ use dds_events::EventsFaultKind;
 use dds_fields::fault::Fault;
 use std::alloc::Global;
 
-/// Why a command gave no answer. Users are told the numbers.
+/// Why a command gave no answer. Users see the numbers.
 #[derive(Debug, Drop)]
 pub enum ToolFault {
     /// 1: the words are no request. The text says what is wrong with them.
@@ -49,7 +49,7 @@ pub enum ToolFault {
     Run,
 }
 
-/// What is told of the flaw of a file: the number and the word of its kind, and where it is. An empty path is left out
+/// The words for the flaw of a file: the number and the word of its kind, and where it is. An empty path is left out
 /// with the blank before it.
 fn flaw_text(
     alloc: Global,
@@ -67,7 +67,7 @@ fn flaw_text(
     }
 }
 
-/// What is told of the flaw of a file, and after it what the parser says, where that is told.
+/// The words for the flaw of a file, and after them what the parser says, where that's there.
 fn file_text(alloc: Global, line: String, syntax: &Option<SyntaxError>) -> Result<String, NoMemory>
     ensures { IfOk result (λ text. string_bytes text ≡ string_bytes line ++ syntax_line syntax.now) }
 {
@@ -80,7 +80,7 @@ fn file_text(alloc: Global, line: String, syntax: &Option<SyntaxError>) -> Resul
     format!(in alloc; "{line}because line {row}, column {column}: {message}\n")
 }
 
-/// What is told of the flaw of a file of lines: the number and the word of its kind, and its line. A line 0 is left out
+/// The words for the flaw of a file of lines: the number and the word of its kind, and its line. A line 0 is left out
 /// with the words before it.
 fn line_text(
     alloc: Global,
@@ -98,7 +98,7 @@ fn line_text(
     }
 }
 
-/// The line that is told to users of a fault, and after it where a file is no TOML, if the fault tells that. `NoMemory`
+/// The line that reports a fault, and after it where a file is no TOML, if the fault says that. `NoMemory`
 /// is the only error.
 pub fn fault_text(alloc: Global, fault: &ToolFault) -> Result<String, NoMemory>
     ensures { IfOk result (λ text. string_bytes text ≡ fault_line fault.now) }
@@ -131,7 +131,7 @@ pub fn fault_text(alloc: Global, fault: &ToolFault) -> Result<String, NoMemory>
     }
 }
 
-/// The line that is told to users where memory ran out.
+/// The line that reports that memory ran out.
 pub const NO_MEMORY: &str = "ddscheck: 7 NoMemory\n";
 
 /// How a command ends with a fault.

@@ -1,4 +1,4 @@
-//! How an answer or a fault is told.
+//! How an answer or a fault is printed.
 ghost use Rattle.std.specs.Prelude.{◌≡◌, ◌≢◌, ◌≤◌, ◌⊎◌, true, false, OnOk, OnErr, IfNone, IfOk, IfErr, IfSome, Err};
 ghost use Rattle.std.specs.Prelude.{string_bytes};
 ghost use Rattle.std.specs.Io.KnownBytes.{Appends, Keeps};
@@ -26,7 +26,7 @@ pub fn print<O: Output>(out: &mut O, text: &str) -> Result<(), ToolFault>
     }
 }
 
-/// Writes a text to the error output. Where that does not take it, it is not told.
+/// Writes a text to the error output. Where that doesn't take it, it's lost.
 fn say<E: Output>(err: &mut E, text: &str)
     ensures { E.has_failed err.new ≡ false → Appends (E.contents err.old) (E.contents err.new) text.now }
 {
@@ -35,8 +35,8 @@ fn say<E: Output>(err: &mut E, text: &str)
     }
 }
 
-/// Writes the text of an answer to `out` and nothing else, and tells how the command ended: yes or no. Only a failed
-/// write can leave a part of the text written. What the answer has besides is told to `err`, which a fault leaves as it
+/// Writes the text of an answer to `out` and nothing else, and says how the command ended: yes or no. Only a failed
+/// write can leave a part of the text written. What the answer has besides goes to `err`, which a fault leaves as it
 /// is.
 pub fn give<O: Output, E: Output>(
     answer: Result<Answer, ToolFault>,
@@ -67,9 +67,8 @@ pub fn give<O: Output, E: Output>(
     }
 }
 
-/// Tells the user of a fault in a line of its own, and how the command ends with it. Where there is no memory for that
-/// line, users are told of that, and the command ends so. Where the error output does not take the line, it is not
-/// told.
+/// Prints a fault in a line of its own, and says how the command ends with it. Where there is no memory for that line,
+/// that is printed, and the command ends so. Where the error output doesn't take the line, it's lost.
 pub fn tell_fault<E: Output>(alloc: Global, err: &mut E, fault: &ToolFault) -> Exit
     ensures exit { (result ≡ exit_of fault.now) ⊎ (result ≡ Exit.NoMemory) }
     ensures told { E.has_failed err.new ≡ false → TellsFault result (E.contents err.old) (E.contents err.new) }

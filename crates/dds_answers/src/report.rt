@@ -26,13 +26,13 @@ use dds_verdict::{acceptance_text, refusal_text};
 use dds_weights::Certificate;
 use std::alloc::Global;
 
-/// How much is told of a report.
+/// How much of a report is printed.
 #[derive(Clone, Copy, Debug, PartialEq, Eq)]
 pub enum Detail {
     /// The answer.
     Plain,
-    /// The answer, and after it its reason: the numbers behind a refusal, or how near each bound is to its limit and what
-    /// the yes doesn't say.
+    /// The answer, and after it its reason: the numbers behind a refusal, or how near each bound is to its limit and
+    /// what the yes doesn't say.
     Explained,
 }
 

@@ -69,7 +69,7 @@ fn syntax_error(alloc: Global, bytes: &[u8]) -> Result<Option<SyntaxError>, NoMe
     }))
 }
 
-/// What is told of the syntax of a file: nothing where no reason is asked for, or the file's fault is another one.
+/// What is printed about the syntax of a file: nothing where no reason is asked for, or its fault is another one.
 /// `NoMemory` is the only error.
 pub(crate) fn syntax_told(
     alloc: Global,

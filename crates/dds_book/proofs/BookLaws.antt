@@ -1,6 +1,7 @@
 -- What a book keeps when it is opened and when an event is entered.
-use Rattle.std.proofs.Common.{◌≡◌, ◌≢◌, ℕ, zero, suc, ◌+◌, ◌<◌, Bool, Some, None, List, [], ◌∷◌, ◌++◌, length, get_or, set, true, false, nat_le, refl, sym, ap, ◌∙◌, subst, arith, length-set}
+use Rattle.std.proofs.Common.{◌≡◌, ◌≢◌, ℕ, zero, suc, ◌+◌, ◌<◌, Bool, Option, Some, None, List, [], ◌∷◌, ◌++◌, length, get_or, set, true, false, nat_le, refl, sym, ap, ◌∙◌, subst, arith, length-set}
 use Rattle.std.specs.List.{slice_get}
+use Rattle.std.specs.Prelude.{IfOk, IfSome, MatchBool, Result, Ok, Err}
 use Rattle.std.proofs.lemmas.Bool.Decides.{nat_tests}
 use Rattle.std.proofs.lemmas.Option.{slice_get_read, slice_get-get_or}
 use native.Mathlib.Decide.{ℕ_discrete}
@@ -19,10 +20,12 @@ use Rattle.dds_domain.specs.Standing.{DomainState, IsAt, IsGoodAt, StepsTo}
 use Rattle.dds_domain.specs.Standing as domain
 use Rattle.dds_book.specs.declared.entry.Entry.{Entry}
 use Rattle.dds_book.specs.Halves.{HolderState, holder_of}
+use Rattle.dds_book.specs.declared.fault.BookFault.{BookFault}
+use Rattle.dds_book.specs.declared.fault.BookFault.TheVariants.{Closed}
 use Rattle.dds_book.specs.Journal.{IsCall, IsFront, IsJournal, entry_of, is_refused, most_entries, notes_after, world_after}
 use Rattle.dds_book.specs.Owning.{owns}
-use Rattle.dds_book.specs.Seat.{no_table, table_at}
-use Rattle.dds_book.specs.State.{AreHolders, Enters, IsBook, IsHolder, first_fault}
+use Rattle.dds_book.specs.Seat.{SeatState, no_table, table_at}
+use Rattle.dds_book.specs.State.{AreHolders, BookContent, Enters, IsBook, IsHolder, Pumped, PumpsOpen, first_fault}
 use Rattle.dds_book.proofs.JournalLaws.{changes_push, front_more, front_whole, is_call, journal_push, notes_push, one_unless, world_push}
 
 -- ── elements of lists
@@ -148,3 +151,20 @@ enters plan tables closed es now seat front front' event reply old new holders c
       good = world_good plan es old event reply book.same_plan book.stands good;
       call = subst (λ (f : List Entry). IsCall plan seat front f event reply) (sym whole) (is_call plan seat front es now event reply is known journal);
     }
+
+-- what a pump tells was a call of the seat
+pub pumps_call : (plan : Lists) (old new : BookContent) (before after : SeatState) (event : Option Event) (result : Result (Option (Event × Reply)) BookFault) → Pumped plan old new before after event result
+    → IfOk result (λ told. IfSome told (λ m. IsCall plan before.number before.front after.front m.0 m.1))
+pumps_call plan old new before after event result = told old.closed event result
+  where
+    told : (closed : Bool) (event : Option Event) (result : Result (Option (Event × Reply)) BookFault)
+        → MatchBool closed ((result ≡ Err Closed) × (new ≡ old) × (after ≡ before)) (PumpsOpen plan old new before after event result)
+        → IfOk result (λ o. IfSome o (λ m. IsCall plan before.number before.front after.front m.0 m.1))
+    told true event (Ok o) h = absurd (let no = h.0 in cc)
+    told true event (Err f) h = tt
+    told false None (Ok None) h = tt
+    told false None (Ok (Some m)) h = absurd (let no = h.0 in cc)
+    told false None (Err f) h = tt
+    told false (Some e) (Ok (Some m)) h = subst (λ (x : Event). IsCall plan before.number before.front after.front x m.1) (sym h.0) h.1.call
+    told false (Some e) (Ok None) h = absurd h
+    told false (Some e) (Err f) h = tt

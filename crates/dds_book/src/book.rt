@@ -1,5 +1,5 @@
 //! The book that threads share.
-ghost use Rattle.std.specs.Prelude.{◌≡◌, ◌<◌, ◌≤◌, true, length, map, All, IfOk, IfErr, IfSome, OnErr};
+ghost use Rattle.std.specs.Prelude.{◌≡◌, ◌<◌, ◌≤◌, true, length, map, All, IfOk, IfErr, IfSome, IfNone, OnErr};
 ghost use Rattle.std.specs.List.{range_with_len};
 ghost use Rattle.dds_book.specs.declared.fault.BookFault.TheVariants.{Closed};
 ghost use Rattle.dds_book.specs.Journal.{IsCall, IsFront, IsJournal};
@@ -23,9 +23,9 @@ use std::time::{Clock, Duration};
 /// How many milliseconds a rest takes at most.
 const REST: u64 = 10;
 
-/// A book's state under a lock, and two bells. One rings at each change that may give a participant something to do, the
-/// other where packets were moved, which is what an application waits for; both ring when the book is stopped. Whenever
-/// the lock is free the entries are a journal of the plan, and the domain stands for where it leads to.
+/// A book's state under a lock, and two bells. One rings at each change that may give a participant something to do,
+/// the other where packets were moved, which is what an application waits for; both ring when the book is stopped.
+/// Whenever the lock is free the entries are a journal of the plan, and the domain stands for where it leads to.
 #[derive(Drop)]
 pub struct Book<N: Name> {
     state: Mutex<BookState<N>>,
@@ -78,6 +78,41 @@ impl<N: Name> Book<N> {
         answer
     }
 
+    /// Whether the seat is a participant's, which makes turns.
+    pub fn is_participant<R: Wait>(&self, rt: &R, seat: &Seat<N>) -> bool
+        ensures { result ≡ is_participant N.plan seat.now.number }
+    {
+        self.state.lock(rt).is_participant(seat)
+    }
+
+    /// Enters what the seat's participant is to do in its turn, in one hold of the lock, and gives it with its reply.
+    /// `None` where there is nothing to do.
+    pub fn pump<R: Wait>(
+        &self,
+        rt: &R,
+        seat: &mut Seat<N>,
+        turn: u64,
+        fate: Fate,
+    ) -> Result<Option<(Event, Reply)>, BookFault>
+        requires { is_participant N.plan seat.old.number ≡ true }
+        ensures call { IfOk result
+            (λ made. IfSome made (λ m. IsCall N.plan seat.old.number seat.old.front seat.new.front m.0 m.1)) }
+        ensures none { IfOk result (λ made. IfNone made (seat.new ≡ seat.old)) }
+        ensures number { seat.new.number ≡ seat.old.number }
+        ensures fault { OnErr result (seat.new ≡ seat.old) }
+    {
+        let answer = self.state.lock(rt).pump(seat, turn, fate);
+        self.ring_after_turn(&answer);
+        answer
+    }
+
+    // Rings where an event was due, as after a call.
+    fn ring_after_turn(&self, answer: &Result<Option<(Event, Reply)>, BookFault>) {
+        if let Ok(Some((event, reply))) = answer {
+            self.ring_after(event, reply);
+        }
+    }
+
     // Rings where the count of changes grew, for those to whom the event may give something to do: what an application
     // takes or fires concerns itself alone.
     fn ring_after(&self, event: &Event, reply: &Reply) {
@@ -97,9 +132,9 @@ impl<N: Name> Book<N> {
         self.arrived.notify_all();
     }
 
-    /// Makes turns of the seat's participant, one after another, in one hold of the lock, with the fates in a circle: as
-    /// long as there is something to do, fewer events than the limit and than 32 were entered, and nobody else is to act
-    /// first. The seat's new front is the journal as the last event left it. A fault ends the round too; what was
+    /// Makes turns of the seat's participant, one after another, in one hold of the lock, with the fates in a circle,
+    /// as long as there is something to do, fewer events than the limit and than 32 were entered, and nobody else is to
+    /// act first. The seat's new front is the journal as the last event left it. A fault ends the round too; what was
     /// entered before stays.
     pub fn turns<R: Wait>(
         &self,
@@ -172,8 +207,8 @@ impl<N: Name> Book<N> {
         self.wait_past(rt, &self.arrived, seen, Duration::from_millis(REST))
     }
 
-    /// Waits as `rest` does, but for at most so long: for a participant that has more to do, and gives way to the others
-    /// first.
+    /// Waits as `rest` does, but for at most so long: for a participant that has more to do, and first gives way to the
+    /// others.
     pub fn give_way<R: Wait + Clock>(
         &self,
         rt: &R,

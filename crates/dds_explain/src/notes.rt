@@ -170,7 +170,7 @@ fn lines_of(alloc: Global, plan: &Plan, certificate: &Certificate, notes: &[Note
     )
 }
 
-/// What a yes to a plan and a certificate doesn't say: a line for each note, in the order of `dds_lint::all_notes`. It's
+/// What a yes to a plan and a certificate doesn't say: a line for each note, in the order of `dds_lint::all_notes`,
 /// `note: ` and the words of `note_text`. `NoMemory` is the only error.
 #[tactic(auto, unfolding(crate::specs::Notes::note_lines))]
 pub fn note_lines(alloc: Global, plan: &Plan, certificate: &Certificate) -> TextResult

@@ -17,7 +17,7 @@ const NO: u32 = 1;
 
 const BAD_FILE: u32 = 2;
 
-/// Yes, no or a bad file, and what is told with it.
+/// Yes, no or a bad file, and the text that comes with it.
 #[derive(Drop)]
 struct Verdict {
     number: u32,
@@ -47,7 +47,7 @@ fn answer_of(alloc: Global, deployment: &[u8], certificate: &[u8]) -> Result<Ans
     check_answer(alloc, deployment, certificate, Detail::Plain)
 }
 
-/// The verdict that tells a fault of a file.
+/// The verdict for a fault of a file.
 fn refuse(alloc: Global, fault: &ToolFault) -> Result<Verdict, NoMemory>
     ensures text { IfOk result (λ v. (v.number ≡ 2) × (string_bytes v.text ≡ fault_line fault.now)) }
     ensures there { fault.now ≡ ToolFault.NoMemory → IfOk result (λ _. ⊥) }

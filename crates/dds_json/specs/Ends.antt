@@ -32,7 +32,7 @@ in_json (bad_events kind line) = bad_events kind line
 in_json (bad_trace kind line) = bad_trace kind line
 in_json too_large = too_large
 
--- this end, told in this style
+-- this end, in this style
 abbrev pub in_style : Style → Outcome → Outcome
 in_style Text end = end
 in_style Json end = in_json end

@@ -65,7 +65,7 @@ fn totals_array(alloc: Global, lists: &Deployment, totals: &[Total]) -> Result<V
     Ok(Value::Array(documents))
 }
 
-/// The document of an acceptance, with its reason where one is told.
+/// The document of an acceptance, with its reason where there is one.
 fn acceptance_document(
     alloc: Global,
     lists: &Deployment,
@@ -155,7 +155,7 @@ fn subject_document(
     }
 }
 
-/// The document of a refusal, with its reason where one is told.
+/// The document of a refusal, with its reason where there is one.
 pub(crate) fn refusal_document(
     alloc: Global,
     lists: &Deployment,
@@ -179,7 +179,7 @@ pub(crate) fn refusal_document(
     }
 }
 
-/// The document of a report, with its reason where one is told.
+/// The document of a report, with its reason where there is one.
 fn report_document(
     alloc: Global,
     report: &Report,
@@ -234,7 +234,7 @@ fn is_accepted(report: &Report) -> bool
     matches!(report, Report::Yes(_))
 }
 
-/// The answer that tells a report, which is needed no longer, as a document: yes where the certificate is accepted. Its
+/// The answer for a report, which is needed no longer, as a document: yes where the certificate is accepted. Its
 /// reason is a member of it where it is asked for.
 pub fn reported_in_json(alloc: Global, report: Report, detail: Detail) -> Result<Answer, ToolFault>
     ensures gives { Gives result (in_json (told detail (outcome_of report))) }

@@ -57,7 +57,7 @@ fn syntax_document(
     )
 }
 
-/// The flaw of a file, with what the parser says where that is told.
+/// The flaw of a file, with what the parser says where that's there.
 fn file_document(
     alloc: Global,
     file: &str,

@@ -46,7 +46,7 @@ fn proposed_line(alloc: Global, answer: &Answer) -> Result<String, NoMemory>
     line_of(alloc, &document)
 }
 
-/// An answer of `propose`, told as a document. What it has besides stays.
+/// An answer of `propose`, as a document. What it has besides stays.
 fn told_in_json(alloc: Global, answer: Answer) -> Result<Answer, ToolFault>
     ensures gives { (end : Outcome) → EndsProposal end → IsAnswer answer end
         → IfOk result (λ told. IsAnswer told (in_json end)) }
@@ -62,7 +62,7 @@ fn told_in_json(alloc: Global, answer: Answer) -> Result<Answer, ToolFault>
     }
 }
 
-/// What `propose` answers, told as a document. What an answer has besides stays, as does a fault. Its own only
+/// What `propose` answers, as a document. What an answer has besides stays, as does a fault. Its own only
 /// error is `NoMemory`.
 pub fn proposed_in_json(
     alloc: Global,

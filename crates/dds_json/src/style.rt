@@ -1,6 +1,6 @@
-//! The forms in which an answer is told.
+//! The forms in which an answer is printed.
 
-/// How an answer is told.
+/// How an answer is printed.
 #[derive(Clone, Copy, Debug, PartialEq, Eq)]
 pub enum Style {
     /// Lines of words.

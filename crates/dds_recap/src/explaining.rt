@@ -1,4 +1,4 @@
-//! A journal, event by event, and the lines that it comes to.
+//! A journal, event by event, and the lines that it comes down to.
 ghost use Rattle.std.specs.Prelude.{◌≡◌, ◌++◌, ℕ, IfOk, length, string_bytes};
 ghost use Rattle.dds_book.specs.Journal.{IsJournal, pairs_of, world_after};
 ghost use Rattle.dds_match.specs.Plan.{network_of};

@@ -1,4 +1,4 @@
-//! The lines that tell how full each reader was.
+//! The lines that say how full each reader was.
 ghost use Rattle.std.specs.Prelude.{◌≡◌, ◌<◌, IfOk, length, max, string_bytes};
 ghost use Rattle.dds_recap.specs.Held.{greatest};
 ghost use Rattle.dds_recap.specs.Lines.{fullest, limit_text, reader_line, reader_lines};

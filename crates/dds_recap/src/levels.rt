@@ -42,7 +42,7 @@ impl Levels {
         self.most.at(i, k)
     }
 
-    /// One comes to a pair.
+    /// Adds one to a pair.
     pub(crate) fn add(&mut self, i: usize, k: usize) -> Result<(), NoMemory>
         ensures came { OnOk result (IsMoreBy (only_at i k 1) self.old.came self.new.came) }
         ensures gone { self.new.gone ≡ self.old.gone }

@@ -1,4 +1,4 @@
-//! What the journal of a run tells of it afterwards: how full each reader was, and what an application waits for that
+//! What the journal of a run shows afterwards: how full each reader was, and what an application waits for that
 //! can do no more. Both are read off the world that the journal leads to, event by event; no other part of the run is
 //! looked at.
 #![tactic(auto)]

@@ -1,4 +1,4 @@
-//! The lines that tell what an application waits for that can do no more.
+//! The lines that say what an application waits for that can do no more.
 ghost use Rattle.std.specs.Prelude.{◌≡◌, ◌<◌, IfOk, length, string_bytes};
 ghost use Rattle.dds_match.specs.Plan.{network_of};
 ghost use Rattle.dds_recap.specs.Recap.{spare_at};

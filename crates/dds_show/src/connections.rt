@@ -75,9 +75,9 @@ fn connection_piece(
     format!(in alloc; "{start}{table}")
 }
 
-/// The tables `[[connections]]` of the pairs that match, by writer and then by reader, each in file order, with an empty
-/// line between two: a deployment file with them, and no other connections, is as intended. Names have no byte that
-/// TOML escapes. `NoMemory` is the only error.
+/// The tables `[[connections]]` of the pairs that match, by writer and then by reader, each in file order, with an
+/// empty line between two: a deployment file with them, and no other connections, is as intended. Names have no byte
+/// that TOML escapes. `NoMemory` is the only error.
 pub fn connections_text(alloc: Global, plan: &Plan) -> TextResult
     ensures { IfOk result (λ text. string_bytes text ≡ connections_text plan.now) }
 {

@@ -45,7 +45,7 @@ conformance_document d Kept = object (member (codes "answer") (string (codes "ye
 conformance_document d (NoPermit x) = refused_document d x
 conformance_document d Unknown = object (member (codes "answer") (string (codes "no")) (member (codes "unknown") (string (codes "budget")) no_members))
 
--- whether a trace keeps the rules, told in this style
+-- whether a trace keeps the rules, in this style
 abbrev pub told_conformance : Style → Lists → Conformance → List ℕ
 told_conformance Text d conformance = answer_text d conformance
 told_conformance Json d conformance = line_of (conformance_document d conformance)

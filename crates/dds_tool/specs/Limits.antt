@@ -28,7 +28,7 @@ use Rattle.dds_tool.specs.declared.needs.Need.{Need}
 use Rattle.dds_tool.specs.declared.reasons.Explained.{Explained}
 
 -- ── what is told
--- what is needed, told in this style
+-- what is needed, in this style
 abbrev pub needs_told : Style → Lists → List Need → List ℕ
 needs_told Text d needs = needs_lines d needs
 needs_told Json d needs = line_of (limits_document d needs)
@@ -38,12 +38,12 @@ abbrev pub reasons_told : Style → Lists → List Explained → List Need → L
 reasons_told Text d es needs = needs_lines d needs ++ flat_map (because_of d es) needs
 reasons_told Json d es needs = line_of (reasons_document d es needs)
 
--- the text of a certificate, told in this style
+-- the text of a certificate, in this style
 abbrev pub text_told : Style → List ℕ → Bool → List ℕ
 text_told Text text is_bounded = text
 text_told Json text is_bounded = line_of (claim_document text is_bounded)
 
--- that there is no certificate, told in this style
+-- that there is no certificate, in this style
 abbrev pub none_told : Style → List ℕ
 none_told Text = codes "none\n"
 none_told Json = line_of none_document

@@ -110,7 +110,7 @@ IsKnown lists (refutation.Structure cause) = structure_no lists ≡ Some cause
 IsKnown lists (refutation.Unsafe c) = IsCounterexample (network_of lists) c × ((cert : Certificate) → first_no lists cert ≢ None)
 IsKnown lists (refutation.Unknown why) = Unit {0}
 
--- what is known, told in this style
+-- what is known, in this style
 abbrev pub told_known : Style → Lists → Refutation → List ℕ
 told_known Text lists known = known_text lists known
 told_known Json lists known = line_of (known_document lists known)

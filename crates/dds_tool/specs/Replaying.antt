@@ -26,7 +26,7 @@ use Rattle.dds_answers.specs.Outcome.{MayIf, Outcome, bad_deployment, bad_events
 abbrev pub replay_document : Lists → List Event → List Reply → Data
 replay_document lists events replies = object (member (codes "answer") (string (codes "yes")) (member (codes "events") (string (lines_of lists events replies)) no_members))
 
--- events and replies, told in this style
+-- events and replies, in this style
 abbrev pub told_replay : Style → Lists → List Event → List Reply → List ℕ
 told_replay Text lists events replies = lines_of lists events replies
 told_replay Json lists events replies = line_of (replay_document lists events replies)

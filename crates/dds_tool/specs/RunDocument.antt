@@ -35,7 +35,7 @@ run_document is_yes None names journal ends =
 run_document is_yes (Some because) names journal ends =
     object (member (codes "answer") (string (answer_word is_yes)) (member (codes "applications") (app_documents names journal ends) (member (codes "because") (string because) no_members)))
 
--- a run, told in this style: yes or no, and what its journal comes to, where that is asked for
+-- a run, in this style: yes or no, and what its journal comes to, where that is asked for
 abbrev pub told_run : Style → Bool → Option (List ℕ) → List (List ℕ) → List Entry → List AppEnd → List ℕ
 told_run Text is_yes because names journal ends = run_lines names journal ends ++ unwrap_or because []
 told_run Json is_yes because names journal ends = line_of (run_document is_yes because names journal ends)

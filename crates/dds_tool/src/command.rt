@@ -126,7 +126,7 @@ fn wish<'a>(alloc: Global, id: &'a str, value: &'a str, default: &'a str, help: 
         .action(ArgAction::Set)
 }
 
-/// The command, told in lines where it isn't asked for a document.
+/// The command, with lines as its answer where no document is asked for.
 fn styled<'a>(alloc: Global, command: Command<'a>) -> Result<Command<'a>, NoMemory>
     requires local { (fields_of command).has_globals ≡ false }
     ensures app { IfOk result (λ c. app_of c ≡ styled (app_of command.entry)) }

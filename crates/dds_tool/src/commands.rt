@@ -139,8 +139,8 @@ fn conform_files<S: Sources>(
     conform_answer(alloc, deployment.as_slice(), trace.as_slice(), style)
 }
 
-/// What words that are no request come to: yes where help was asked for and written, else the fault of which the user
-/// is told.
+/// What words that are no request come to: yes where help was asked for and written, else the fault that is
+/// printed.
 fn explain<O: Output, E: Output>(alloc: Global, reason: NoRequest, out: &mut O, err: &mut E) -> Exit
     ensures fault { ¬ IsHelp reason → (result ≡ Exit.Usage) ⊎ (result ≡ Exit.NoMemory) }
     ensures memory { reason ≡ NoRequest.NoMemory → result ≡ Exit.NoMemory }
@@ -243,7 +243,7 @@ fn answer_of<R: Threads + Wait + Clock + Sync, S: Sources>(
     }
 }
 
-/// Does what a request asks for, and tells how the command ended: yes or no, or with a fault.
+/// Does what a request asks for, and says how the command ended: yes or no, or with a fault.
 fn run_request<R: Threads + Wait + Clock + Sync, S: Sources, O: Output, E: Output>(
     rt: &R,
     alloc: Global,
@@ -269,7 +269,7 @@ fn run_request<R: Threads + Wait + Clock + Sync, S: Sources, O: Output, E: Outpu
     give(answer_of(rt, alloc, request, files), out, err)
 }
 
-/// Does what a request asks for, and tells how the command ended and, where it ended with a fault, the fault.
+/// Does what a request asks for, and says how the command ended and, where it ended with a fault, the fault.
 fn obey<R: Threads + Wait + Clock + Sync, S: Sources, O: Output, E: Output>(
     rt: &R,
     alloc: Global,
@@ -301,7 +301,7 @@ fn obey<R: Threads + Wait + Clock + Sync, S: Sources, O: Output, E: Output>(
 }
 
 /// Does what the words ask for, of which the first is the program's name, and returns how the command ended. The answer
-/// goes to `out`, and a fault goes to `err`, as does why no certificate was found; where `err` fails, it isn't told.
+/// goes to `out`, and a fault goes to `err`, as does why no certificate was found; where `err` fails, it's lost.
 /// Where a JSON document is asked for, that of a fault goes to `out` too. The files are opened in the order of the
 /// words, each once; words that ask for nothing open none, nor do those that ask for help or the version, which end
 /// with `Yes`. A bad file ends the command with the line of the very fault that its bytes have. The command ends with

@@ -1,4 +1,4 @@
-//! What `match` answers: the pairs, told in lines or as a document, or the connections that those would be which match.
+//! What `match` answers: the pairs, in lines or as a document, or the connections that all matching pairs would be.
 ghost use Rattle.std.specs.Prelude.{◌≡◌, ℕ, List, [], ◌∷◌, Some, IfErr};
 ghost use Rattle.dds_answers.specs.Answers.{Gives};
 ghost use Rattle.dds_answers.specs.Causes.{IsFileFault};
@@ -14,7 +14,7 @@ use std::alloc::Global;
 pub enum Comparison {
     /// Each writer and each reader, with the reason where they don't match.
     Pairs,
-    /// The connections that the pairs would be which match.
+    /// The connections that all matching pairs would be.
     Connections,
 }
 

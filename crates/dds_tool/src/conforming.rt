@@ -16,7 +16,7 @@ use dds_json::Style;
 use dds_match::Plan;
 use std::alloc::Global;
 
-/// Whether a trace keeps the rules, told in this style.
+/// Whether a trace keeps the rules, in this style.
 fn tell_conformance(
     alloc: Global,
     plan: &Plan,
@@ -76,7 +76,7 @@ fn judge_trace(alloc: Global, plan: &Plan, trace: &[u8], style: Style) -> Result
     }
 }
 
-/// The answer of `conform` to the bytes of a deployment and of a trace, told in this style: yes with `kept` where
+/// The answer of `conform` to the bytes of a deployment and of a trace, in this style: yes with `kept` where
 /// firings of rules can be put between the lines so that each write has its permit and each firing its takes; no with
 /// the first line of a write that has none and what the rules lack there, or with `unknown`. Where no two rules give
 /// permits for the same writes, no firings make the lines up to that one keep the rules, and `unknown` comes only where

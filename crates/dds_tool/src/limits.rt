@@ -40,10 +40,10 @@ pub enum Finding {
     Certificate,
 }
 
-/// What the user is told where there is no certificate.
+/// The line that says that there is no certificate.
 const NO_ROWS: &str = "ddscheck: no 64 rows were found that show these bounds\n";
 
-/// What is needed, told in this style.
+/// What is needed, in this style.
 fn told_needs(
     alloc: Global,
     lists: &Deployment,
@@ -58,7 +58,7 @@ fn told_needs(
     }
 }
 
-/// The answer that tells what is needed by the sizes of a plan: yes where a bound is known of each need.
+/// The answer with what is needed by the sizes of a plan: yes where a bound is known of each need.
 fn tell_needs(alloc: Global, plan: &Plan, sizes: &[Size], style: Style) -> Result<Answer, ToolFault>
     ensures said { IfOk result
         (IsSaid (needs_told style plan.now (needs_of (network_of plan.now) sizes.now))
@@ -105,7 +105,7 @@ fn explained_text(
     format!(in alloc; "{lines}{reasons}")
 }
 
-/// What is needed and why, told in this style.
+/// What is needed and why, in this style.
 fn told_reasons(
     alloc: Global,
     plan: &Plan,
@@ -134,7 +134,7 @@ fn explained_needs(
     needs_of(alloc, plan, &sizes)
 }
 
-/// The answer that tells what is needed and why, by sizes of a plan that are explained: yes where a bound is known of
+/// The answer with what is needed and why, by sizes of a plan that are explained: yes where a bound is known of
 /// each need.
 fn tell_explained(
     alloc: Global,
@@ -172,7 +172,7 @@ fn tell_reasons<C: Clock>(
     tell_explained(alloc, plan, explained.as_slice(), style)
 }
 
-/// That there is no certificate, told in this style.
+/// That there is no certificate, in this style.
 fn none_text(alloc: Global, style: Style) -> Result<String, NoMemory>
     ensures { IfOk result (λ text. string_bytes text ≡ none_told style) }
 {
@@ -204,7 +204,7 @@ fn tell_none(
     }
 }
 
-/// The text of a certificate, told in this style.
+/// The text of a certificate, in this style.
 fn claim_text(
     alloc: Global,
     text: String,
@@ -220,7 +220,7 @@ fn claim_text(
 }
 
 /// The answer with a certificate, unless its text is longer than a file may be, so that `check` couldn't read it: then
-/// it is `none`, and the user is told why.
+/// it is `none`, and a line says why.
 fn tell_claim(
     alloc: Global,
     plan: &Plan,
@@ -318,7 +318,7 @@ fn tell_limits<C: Clock>(
     }
 }
 
-/// The answer of `limits` to the bytes of a deployment, told in this style: how much room each strict reader and each
+/// The answer of `limits` to the bytes of a deployment, in this style: how much room each strict reader and each
 /// writer with KEEP_LAST needs, beside its limits, with the reasons where they are asked for, or a certificate that
 /// shows as much, of at most 1,048,576 bytes. It is yes where a bound is known of each need.
 pub fn limits_answer<C: Clock>(

@@ -21,7 +21,7 @@ use dds_weights::naming::{name_at, reader_key, writer_key};
 use std::alloc::Global;
 use std::time::Clock;
 
-/// A size, and a line that tells why it is what it is.
+/// A size, and a line with the reason for it.
 #[derive(Drop)]
 pub struct Explained {
     pub size: Size,

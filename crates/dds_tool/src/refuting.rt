@@ -106,7 +106,7 @@ fn known_text(alloc: Global, plan: &Plan, refutation: &Refutation) -> Result<Str
     }
 }
 
-/// What is known of the runs of a plan, told in this style.
+/// What is known of the runs of a plan, in this style.
 fn told_known(
     alloc: Global,
     plan: &Plan,
@@ -143,7 +143,7 @@ fn refuted<C: Clock>(
     answer
 }
 
-/// The answer of `refute` to the bytes of a deployment, told in this style: yes with `safe` where a certificate is
+/// The answer of `refute` to the bytes of a deployment, in this style: yes with `safe` where a certificate is
 /// accepted, or no with a run that loses a sample, with a condition that fails whatever the certificate, or with
 /// `unknown`, which names what ran out where the searches were ended.
 pub fn refute_answer<C: Clock>(

@@ -69,7 +69,7 @@ fn replay_line(
     line_of(alloc, &document)
 }
 
-/// Events with their replies, told in this style.
+/// Events with their replies, in this style.
 fn told_replay(
     alloc: Global,
     lists: &Deployment,
@@ -146,7 +146,7 @@ fn lists_replayed(
     }
 }
 
-/// The answer of `replay` to the bytes of a deployment and of a file of events, told in this style: yes with the lines
+/// The answer of `replay` to the bytes of a deployment and of a file of events, in this style: yes with the lines
 /// of the events, each with its reply.
 pub fn replay_answer(
     alloc: Global,

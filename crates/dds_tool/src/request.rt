@@ -28,31 +28,31 @@ use dds_recap::GoodEnds;
 use std::alloc::Global;
 use std::convert::AsStr;
 
-/// What is told of words that leave out a file.
+/// The message for words that leave out a file.
 const MISSING: &str = "error: a file is missing\n";
 
-/// What is told of words that name standard input twice.
+/// The message for words that name standard input twice.
 const INPUT_TWICE: &str = "error: standard input can be read only once\n";
 
-/// What is told of a word that is no format.
+/// The message for a word that is no format.
 const WRONG_FORMAT: &str = "error: the format is json or dds-xml\n";
 
-/// What is told of a word that is no style.
+/// The message for a word that is no style.
 const WRONG_STYLE: &str = "error: the format is text or json\n";
 
-/// What is told of words that ask for connections as a document.
+/// The message for words that ask for connections as a document.
 const PLAIN_CONNECTIONS: &str = "error: --connections has no JSON format\n";
 
-/// What is told of a word that is no form of findings.
+/// The message for a word that is no form of findings.
 const WRONG_FORM: &str = "error: the format is text, json or sarif\n";
 
-/// What is told of a word that denies nothing.
+/// The message for a word that denies nothing.
 const WRONG_DENY: &str = "error: what is denied is errors or notes\n";
 
-/// What is told of seconds that are no number.
+/// The message for seconds that are no number.
 const WRONG_SECONDS: &str = "error: the seconds are a number\n";
 
-/// What is told of fates that are no list.
+/// The message for fates that are no list.
 const WRONG_FATES: &str =
     "error: the fates are 1 to 64 of the words pass, keep, last and lose, with commas between them\n";
 
@@ -138,7 +138,7 @@ pub enum Request<'a> {
     },
 }
 
-/// The style in which faults are told beside findings in this form.
+/// The style in which faults are printed beside findings in this form.
 fn style_of_form(form: LintStyle) -> Style
     ensures { result ≡ style_of_form form }
 {
@@ -149,7 +149,7 @@ fn style_of_form(form: LintStyle) -> Style
 }
 
 impl<'a> Request<'a> {
-    /// The style in which the answer is told: in lines where it has no other.
+    /// The style in which the answer is printed: lines where it has no other.
     pub fn style(&self) -> Style
         ensures { result ≡ style_of self.now }
     {
@@ -174,7 +174,7 @@ impl<'a> Request<'a> {
 pub enum NoRequest {
     /// Help or the version was asked for: its text.
     Help(String),
-    /// The words are no request: what to tell the user.
+    /// The words are no request: the message about them.
     Usage(String),
     /// Memory ran out.
     NoMemory,
@@ -190,7 +190,7 @@ fn usage(alloc: Global, text: &str) -> NoRequest
     }
 }
 
-/// What to tell the user of an error of the command line.
+/// The message about an error of the command line.
 fn told(alloc: Global, error: &clap::Error) -> NoRequest
     ensures memory { kind_of error.now ≡ ErrorKind.OutOfMemory → result ≡ NoRequest.NoMemory }
     ensures help { IsHelpKind (kind_of error.now) → IsHelp result ⊎ (result ≡ NoRequest.NoMemory) }
@@ -290,7 +290,7 @@ fn both_files<'a>(
     Ok((deployment, file))
 }
 
-/// How much a check or a run is asked to tell.
+/// How much a check or a run is asked to print.
 fn detail(matches: &ArgMatches) -> Detail
     ensures { result ≡ detail_of (rows_of (found_of matches.now)) }
 {

@@ -53,7 +53,7 @@ fn app_documents(
     Ok(documents)
 }
 
-/// The document of a run: yes or no, with each application, and what its journal comes to, if that is there.
+/// The document of a run: yes or no, with each application, and what its journal came to, if that's there.
 fn run_document(
     alloc: Global,
     is_yes: bool,

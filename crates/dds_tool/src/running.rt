@@ -1,6 +1,7 @@
 //! What `run` answers: the deployment is checked, and where the answer is yes it runs, with a steady application for
 //! each that it names.
-ghost use Rattle.std.specs.Prelude.{◌≡◌, ◌⊎◌, ◌++◌, [], IfErr, IfOk, Ok, length, map, option_map, string_bytes, unwrap_or};
+ghost use Rattle.std.specs.Prelude.{◌≡◌, ◌⊎◌, ◌++◌, [], IfErr, IfOk, Ok, length, map, option_map};
+ghost use Rattle.std.specs.Prelude.{string_bytes, unwrap_or};
 ghost use Rattle.std.specs.List.{count_by};
 ghost use Rattle.dds_book.specs.Journal.{IsJournal};
 ghost use Rattle.dds_deploy.specs.Document.{read as deployment_read};
@@ -134,7 +135,7 @@ fn run_text(
     Ok(text)
 }
 
-/// The lines of a run, with what its journal comes to after them, if that is there.
+/// The lines of a run, and after them what its journal came to, if that's there.
 fn explained_text(
     alloc: Global,
     because: &Option<String>,
@@ -155,7 +156,7 @@ fn explained_text(
     Ok(text)
 }
 
-/// A run, told in this style: whether all ends are good, and what its journal comes to, if that is there.
+/// A run, in this style: whether all ends are good, and what its journal came to, if that's there.
 fn told_run(
     alloc: Global,
     is_yes: bool,
@@ -177,7 +178,7 @@ fn told_run(
     }
 }
 
-/// What the journal of a run of a plan comes to.
+/// What the journal of a run of a plan came to.
 fn told_recap(
     alloc: Global,
     plan: &Plan,
@@ -195,7 +196,7 @@ fn told_recap(
     }
 }
 
-/// What the journal of a run of a deployment comes to. The run has used up its plan, so the deployment is read once
+/// What the journal of a run of a deployment came to. The run has used up its plan, so the deployment is read once
 /// more.
 fn explained(
     alloc: Global,
@@ -218,7 +219,7 @@ fn explained(
     told
 }
 
-/// What the journal of a run of a deployment comes to, where that is asked for.
+/// What the journal of a run of a deployment came to, where that is asked for.
 fn because_of(
     alloc: Global,
     deployment: &[u8],
@@ -325,7 +326,7 @@ fn ran<R: Threads + Wait + Clock + Sync>(
     perform(rt, alloc, checked, apps, wishes)
 }
 
-/// The answer that tells a run: yes where all ends of its applications' threads are good.
+/// The answer for a run: yes where all ends of its applications' threads are good.
 fn told_answer(
     alloc: Global,
     because: &Option<String>,
@@ -384,7 +385,7 @@ fn played<R: Threads + Wait + Clock + Sync>(
     )
 }
 
-/// The answer of a check that refuses, or accepts, told in this style.
+/// The answer of a check that refuses, or accepts, in this style.
 fn told_check(alloc: Global, report: Report, style: Style) -> Result<Answer, ToolFault>
     ensures gives { Gives result (in_style style (outcome_of report)) }
     ensures fault { IfErr result IsAnswerFault }
@@ -395,7 +396,7 @@ fn told_check(alloc: Global, report: Report, style: Style) -> Result<Answer, Too
     }
 }
 
-/// The answer of `run` to the bytes of a deployment and of a certificate, told in this style: a no of the checker as
+/// The answer of `run` to the bytes of a deployment and of a certificate, in this style: a no of the checker as
 /// `check` answers it, and else what the applications did: yes where all ends of their threads are good. `Run` comes
 /// where the journal became full or a thread couldn't be made.
 pub fn run_answer<R: Threads + Wait + Clock + Sync>(

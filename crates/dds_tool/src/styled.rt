@@ -1,4 +1,4 @@
-//! Answers to files, told in lines or as a document.
+//! Answers to files, in lines or as a document.
 ghost use Rattle.std.specs.Prelude.{◌≡◌, ◌⊎◌, ℕ, List, [], ◌∷◌, Some, IfErr, IsErrOf, OnOk};
 ghost use Rattle.dds_answers.specs.Answers.{Gives};
 ghost use Rattle.dds_answers.specs.Causes.{IsFileFault};
@@ -16,7 +16,7 @@ use dds_search::Budget;
 use std::alloc::Global;
 use std::time::Clock;
 
-/// The answer of `check` to two files, told in this style.
+/// The answer of `check` to two files, in this style.
 pub(crate) fn check_in_style<S: Sources>(
     alloc: Global,
     deployment: &str,
@@ -42,7 +42,7 @@ pub(crate) fn check_in_style<S: Sources>(
     }
 }
 
-/// The answer of a search for a certificate, told in this style.
+/// The answer of a search for a certificate, in this style.
 fn proposed_in_style(
     alloc: Global,
     answer: Result<Answer, ToolFault>,
@@ -57,7 +57,7 @@ fn proposed_in_style(
     }
 }
 
-/// The answer of `propose` to a file, told in this style.
+/// The answer of `propose` to a file, in this style.
 pub(crate) fn propose_in_style<S: Sources>(
     alloc: Global,
     deployment: &str,
@@ -72,7 +72,7 @@ pub(crate) fn propose_in_style<S: Sources>(
     proposed_in_style(alloc, propose_file(alloc, deployment, files), style)
 }
 
-/// The answer of `propose --thorough` to a file, told in this style.
+/// The answer of `propose --thorough` to a file, in this style.
 pub(crate) fn search_in_style<C: Clock, S: Sources>(
     alloc: Global,
     deployment: &str,

@@ -1,4 +1,4 @@
-//! How a fault of a command is told, in lines or as a document.
+//! How a fault of a command is printed, in lines or as a document.
 ghost use Rattle.std.specs.Prelude.{◌≡◌, ◌≢◌, ◌⊎◌, Err, IfErr, OnOk, false, true};
 ghost use Rattle.std.specs.Io.KnownBytes.{Appends};
 ghost use Rattle.dds_answers.specs.Exit.{exit_status};
@@ -30,7 +30,7 @@ fn print_fault<O: Output>(alloc: Global, fault: &ToolFault, out: &mut O) -> Resu
     }
 }
 
-/// Tells the user of a fault, in this style: where a document is asked for, it is written to the output too.
+/// Prints a fault, in this style: where a document is asked for, it goes to the output too.
 pub(crate) fn tell_in_style<O: Output, E: Output>(
     alloc: Global,
     fault: &ToolFault,

@@ -210,7 +210,7 @@ fn none_with(alloc: Global, note: Result<String, NoMemory>) -> Result<Answer, To
     }
 }
 
-/// The answer where no certificate was found: why is told to the user.
+/// The answer where no certificate was found, with a line that says why.
 fn unfound(alloc: Global, plan: &Plan, missing: Missing) -> Result<Answer, ToolFault>
     ensures gives { Gives result unproposed }
     ensures note { IfOk result
@@ -220,7 +220,7 @@ fn unfound(alloc: Global, plan: &Plan, missing: Missing) -> Result<Answer, ToolF
     none_with(alloc, missing_text(alloc, plan, missing))
 }
 
-/// What the user is told of a certificate whose text is longer than a file may be.
+/// The line for a certificate whose text is longer than a file may be.
 pub(crate) fn length_text(alloc: Global, length: usize) -> Result<String, NoMemory>
     ensures { IfOk result (λ text. string_bytes text ≡ length_line length) }
 {
@@ -230,7 +230,7 @@ pub(crate) fn length_text(alloc: Global, length: usize) -> Result<String, NoMemo
 }
 
 /// The answer with a certificate that is accepted, unless its text is longer than a file may be, so that `check`
-/// couldn't read it: then it is `none`, and the user is told why.
+/// couldn't read it: then it is `none`, and a line says why.
 fn found(alloc: Global, plan: &Plan, certificate: &Certificate) -> Result<Answer, ToolFault>
     requires fit { fits (network_of plan.now) (certificate_view certificate.now) ≡ true }
     requires accepted { first_no plan.now (certificate_view certificate.now) ≡ None }

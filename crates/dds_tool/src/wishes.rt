@@ -19,8 +19,8 @@ use dds_recap::GoodEnds;
 /// The most fates that a list has.
 const MOST: usize = 64;
 
-/// What befalls the packets of a run, how many samples each application writes and takes, which ends are good, and how
-/// much is told.
+/// What happens to the packets of a run, how many samples each application writes and takes, which ends are good, and
+/// how much is printed.
 #[derive(Drop)]
 pub struct Wishes {
     pub fates: Fates,

@@ -18,7 +18,7 @@ fn words<R: Env + AllocGlobal>(rt: &R) -> io::Result<Vec<String>> {
     Ok(env::args(rt)?.collect(rt.alloc())?)
 }
 
-/// What is told of words that ask for something else.
+/// The message for words that ask for something else.
 fn other_words(alloc: Global) -> ToolFault {
     match String::from_str(alloc, "error: these words need the built program\n") {
         Ok(text) => ToolFault::Usage(text),

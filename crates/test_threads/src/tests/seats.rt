@@ -4,7 +4,7 @@ ghost use Rattle.dds_book.specs.Kit.{IsKitOf};
 
 use crate::tests::expecting::expect_equal;
 use crate::tests::kits::{CALLS, ENTERED, empty_take, kit};
-use dds_base::Reply;
+use dds_base::{Fate, Reply};
 use dds_book::{Book, BookFault, Journal, Kit, Name, Seat};
 use std::alloc::Global;
 use std::marker::Brand;
@@ -54,6 +54,28 @@ fn expect_entries(rt: &impl Abort, journal: &Journal) {
     }
 }
 
+/// What comes of the turn of a participant.
+fn expect_turn<N: Name, R: Wait + Abort>(
+    rt: &R,
+    book: &Book<N>,
+    seats: &mut Vec<Seat<N>>,
+    turn: u64,
+    owed: Result<Option<Told>, BookFault>,
+) {
+    let Some(seat) = seats.get_mut(2) else {
+        panic!(rt; "no seat of a participant")
+    };
+    if !book.is_participant(rt, seat) {
+        panic!(rt; "not a participant's seat")
+    }
+    let made = match book.pump(rt, seat, turn, Fate::Pass) {
+        Ok(Some((_, reply))) => Ok(Some(told_of(&reply))),
+        Ok(None) => Ok(None),
+        Err(fault) => Err(fault),
+    };
+    expect_equal(rt, made, owed, "a turn");
+}
+
 /// A stopped book enters nothing of any seat.
 fn expect_closed<N: Name, R: Wait + Abort>(rt: &R, book: &Book<N>, seats: &mut Vec<Seat<N>>) {
     for seat in seats.iter_mut() {
@@ -79,6 +101,8 @@ fn expect_book<N: Name, R: Wait + Clock + Abort>(rt: &R, alloc: Global, kit: Kit
 {
     let (book, mut seats) = opened::<N>(rt, alloc, kit);
     expect_calls(rt, &book, &mut seats);
+    // In turn 0 a DATA would be due, and there's none.
+    expect_turn(rt, &book, &mut seats, 0, Ok(None));
     expect_equal(rt, book.wait_change(rt, 4), Some(5), "a change");
     expect_equal(rt, book.wait_change(rt, 5), None, "no change");
     expect_equal(rt, book.rest(rt, 4), Ok(Some(5)), "a rest after a change");
@@ -119,6 +143,8 @@ fn expect_book<N: Name, R: Wait + Clock + Abort>(rt: &R, alloc: Global, kit: Kit
     );
     expect_equal(rt, book.wait_change(rt, 5), None, "a wait in vain");
     expect_closed(rt, &book, &mut seats);
+    // In turn 4 a HEARTBEAT would be due.
+    expect_turn(rt, &book, &mut seats, 4, Err(BookFault::Closed));
     let journal = book.close(rt, seats);
     expect_entries(rt, &journal);
     drop(journal);
