@@ -73,7 +73,7 @@ impl<N: Name> Carrier<N> {
         }
         let left = pumps - self.events;
         let cut = self.cut(fates.as_slice());
-        let limit = cut.map_or(left, |cut| cut.min(left));
+        let limit = left.min(cut.unwrap_or(left));
         let round = book.turns(rt, &mut self.seat, &mut self.pace, fates.as_slice(), limit);
         self.events += round.entered;
         match round.end {
