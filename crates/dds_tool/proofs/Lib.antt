@@ -12,6 +12,7 @@ mod Refutes
 mod Replays
 mod Conforms
 mod NeedsLists
+mod Summaries
 mod LimitEnds
 mod Lints
 mod Openings

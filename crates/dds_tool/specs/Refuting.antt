@@ -72,10 +72,15 @@ unknown_document unknown.Exhausted = object (member (codes "answer") (string (co
 unknown_document (unknown.Budget shortage) =
     object (member (codes "answer") (string (codes "no")) (member (codes "spent") (string (shortage_word shortage)) (member (codes "unknown") (string (codes "budget")) no_members)))
 
--- the document of a counterexample: the reader, the key, the loss, what sums its run up, and the lines of its events with their replies
+-- the document of a run that loses a sample: the reader, the key, the loss, what sums the run up, and the lines of its events with their replies
+abbrev pub loss_document : (reader key loss summary events : List ℕ) → Data
+loss_document reader key loss summary events =
+    object (member (codes "answer") (string (codes "no")) (member (codes "events") (string events) (member (codes "key") (string key) (member (codes "loss") (string loss) (member (codes "reader") (string reader) (member (codes "summary") (string summary) no_members))))))
+
+-- the document of a counterexample
 abbrev pub unsafe_document : Lists → Counterexample → Data
 unsafe_document d c =
-    object (member (codes "answer") (string (codes "no")) (member (codes "events") (string (lines_of d c.events.items c.replies.items)) (member (codes "key") (string (reader_key d c.reader c.key)) (member (codes "loss") (string (loss_name c.loss)) (member (codes "reader") (string (name_at d.readers.names c.reader)) (member (codes "summary") (string (summary_text d c.events.items c.replies.items)) no_members))))))
+    loss_document (name_at d.readers.names c.reader) (reader_key d c.reader c.key) (loss_name c.loss) (summary_text d c.events.items c.replies.items) (lines_of d c.events.items c.replies.items)
 
 -- the document for what is known
 abbrev pub known_document : Lists → Refutation → Data

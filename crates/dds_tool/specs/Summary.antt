@@ -70,7 +70,7 @@ abbrev pub key_parts : Lists → Act → ℕ → List ℕ → ℕ → List (List
 key_parts d what e keys k = part_of d what e k (count_by (λ j. j == k) keys)
 
 -- the same of each key
-abbrev pub endpoint_parts : Lists → Act → List ℕ → ℕ → List (List ℕ)
+unfoldable pub endpoint_parts : Lists → Act → List ℕ → ℕ → List (List ℕ)
 endpoint_parts d what keys e = flat_map (key_parts d what e keys) (range_with_len 0 64)
 
 -- the same of each endpoint of a run

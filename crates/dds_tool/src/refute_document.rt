@@ -2,7 +2,7 @@
 ghost use Rattle.std.specs.Prelude.{◌≡◌, IfOk, string_bytes};
 ghost use Rattle.serde_json.specs.View.{view};
 ghost use Rattle.dds_json.specs.Line.{line_of};
-ghost use Rattle.dds_tool.specs.Refuting.{known_document, unknown_document, unsafe_document};
+ghost use Rattle.dds_tool.specs.Refuting.{known_document, loss_document, unknown_document, unsafe_document};
 
 use crate::refuting::{loss_name, shortage_word};
 use crate::summary::summary_text;
@@ -16,8 +16,24 @@ use dds_weights::naming::{name_at, reader_key};
 use serde_json::{Value, json};
 use std::alloc::Global;
 
-/// The document of a counterexample: the reader, the key, the loss, what sums its run up, and the lines of its events
-/// with their replies.
+/// The document of a run that loses a sample: the reader, the key, the loss, what sums the run up, and the lines of its
+/// events with their replies.
+fn loss_document(
+    alloc: Global,
+    reader: &str,
+    key: &str,
+    loss: &str,
+    summary: &str,
+    events: &str,
+) -> Result<Value, NoMemory>
+    ensures { IfOk result (λ v. view v ≡ loss_document reader.now key.now loss.now summary.now events.now) }
+{
+    json!(in alloc; {
+        "answer": "no", "reader": reader, "key": key, "loss": loss, "summary": summary, "events": events
+    })
+}
+
+/// The document of a counterexample.
 fn unsafe_document(
     alloc: Global,
     lists: &Deployment,
@@ -30,9 +46,7 @@ fn unsafe_document(
     let loss = loss_name(found.loss);
     let summary = summary_text(alloc, lists, &found.events, &found.replies)?;
     let events = lines_text(alloc, lists, &found.events, &found.replies)?;
-    json!(in alloc; {
-        "answer": "no", "reader": reader, "key": key, "loss": loss, "summary": summary, "events": events
-    })
+    loss_document(alloc, reader, key, loss, summary.as_str(), events.as_str())
 }
 
 /// The document where neither a certificate nor a run that loses a sample was found.

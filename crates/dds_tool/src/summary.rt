@@ -1,5 +1,5 @@
 //! What sums a run up: how often each writer writes each key, and how often each reader takes it.
-ghost use Rattle.std.specs.Prelude.{◌≡◌, ◌++◌, IfOk, codes, count_by, map, string_bytes};
+ghost use Rattle.std.specs.Prelude.{◌≡◌, ◌++◌, ◌==◌, IfOk, codes, count_by, flat_map, map, string_bytes};
 ghost use Rattle.std.specs.List.{filter_map, zip};
 ghost use Rattle.dds_tool.specs.Summary.{act_text, act_word, endpoint_count, endpoint_name, endpoint_parts, key_done};
 ghost use Rattle.dds_tool.specs.Summary.{key_name, key_parts, keys_done, list_text, none_word, part_text, parts_of};
@@ -151,9 +151,11 @@ fn push_key(
         ≡ map string_bytes parts.old.items ++ key_parts lists.now act endpoint keys.now key) }
 {
     let count = count_of(keys, key);
-    if 0 < count {
-        parts.push(part_text(alloc, lists, act, endpoint, key, count)?)?;
+    if count == 0 {
+        return Ok(());
     }
+    let part = part_text(alloc, lists, act, endpoint, key, count)?;
+    parts.push(part)?;
     Ok(())
 }
 
@@ -195,14 +197,35 @@ fn parts_of(
     Ok(parts)
 }
 
+/// A text after a comma.
+fn next_text(alloc: Global, text: &str) -> Result<String, NoMemory>
+    ensures { IfOk result (λ next. string_bytes next ≡ codes ", " ++ text.now) }
+{
+    format!(in alloc; ", {text}")
+}
+
+/// Texts, each after a comma.
+fn more_text(alloc: Global, parts: &[String]) -> Result<String, NoMemory>
+    ensures { IfOk result
+        (λ text. string_bytes text ≡ flat_map (λ t. codes ", " ++ t) (map string_bytes parts.now)) }
+{
+    text_of_each(
+        alloc,
+        parts,
+        |part|
+            ensures { IfOk result (λ next. string_bytes next ≡ codes ", " ++ string_bytes part.now) }
+        { next_text(alloc, part.as_str()) },
+    )
+}
+
 /// Texts with commas between them, or this one where there is none.
 fn list_text(alloc: Global, parts: &[String], none: &str) -> Result<String, NoMemory>
     ensures { IfOk result (λ text. string_bytes text ≡ list_text none.now (map string_bytes parts.now)) }
 {
     match parts.split_first() {
         Some((first, rest)) => {
-            let rest = text_of_each(alloc, rest, |part| format!(in alloc; ", {part}"))?;
-            format!(in alloc; "{first}{rest}")
+            let more = more_text(alloc, rest)?;
+            format!(in alloc; "{first}{more}")
         }
         None => String::from_str(alloc, none),
     }
