@@ -1,5 +1,5 @@
 -- A recap goes along with a journal, entry by entry.
-use Rattle.std.proofs.Common.{◌≡◌, ◌∙◌, ◌≤◌, ◌+◌, ◌-◌, ℕ, suc, zero, List, [], ◌∷◌, ◌++◌, drop, fun_ext, length, refl, sym, ap, subst, arith}
+use Rattle.std.proofs.Common.{◌≡◌, ◌∙◌, ◌≤◌, ◌+◌, ◌-◌, ℕ, suc, zero, List, [], ◌∷◌, ◌++◌, drop, length, refl, sym, ap, subst, arith}
 use Rattle.std.specs.Prelude.{max}
 use Rattle.dds_lists.specs.Lists.{Lists}
 use Rattle.dds_match.specs.Network.{Network}
@@ -103,9 +103,10 @@ pub explained : (d : Lists) (entries : List Entry) (ends : List AppEnd) (x : Rec
     → reader_lines d (most_at x.by_key) (most_in_all_at x.in_all) ++ wait_lines d (spare_at x) ends ≡ explanation d entries ends
 explained d entries ends x follows of_key of_all =
     let net = network_of d in
-    let keys : most_at x.by_key ≡ most_held net (pairs_of entries) = fun_ext (λ r. fun_ext (λ k. of_key r k)) in
-    let all : most_in_all_at x.in_all ≡ most_held_in_all net (pairs_of entries) = fun_ext (λ r. of_all r) in
-    let unspent : spare_at x ≡ spare net (world_after d entries) = fun_ext (λ r. fun_ext (λ k. let taken = follows.taken r k in let spent = follows.spent r k in omega (arith, taken, spent))) in
+    let keys : most_at x.by_key ≡ most_held net (pairs_of entries) = λ i r k. of_key r k i in
+    let all : most_in_all_at x.in_all ≡ most_held_in_all net (pairs_of entries) = λ i r. of_all r i in
+    let each : (r k : ℕ) → spare_at x r k ≡ spare net (world_after d entries) r k = λ r k. let taken = follows.taken r k in let spent = follows.spent r k in omega (arith, taken, spent) in
+    let unspent : spare_at x ≡ spare net (world_after d entries) = λ i r k. each r k i in
     ap (λ (f : ℕ → ℕ → ℕ). reader_lines d f (most_in_all_at x.in_all) ++ wait_lines d (spare_at x) ends) keys
     ∙ (ap (λ (f : ℕ → ℕ). reader_lines d (most_held net (pairs_of entries)) f ++ wait_lines d (spare_at x) ends) all
     ∙ ap (λ (f : ℕ → ℕ → ℕ). reader_lines d (most_held net (pairs_of entries)) (most_held_in_all net (pairs_of entries)) ++ wait_lines d f ends) unspent)

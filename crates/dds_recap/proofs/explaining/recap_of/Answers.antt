@@ -1,5 +1,5 @@
-use Rattle.std.proofs.Common.{◌≡◌, ◌+◌, ◌<◌, ◌∙◌, ◌∷◌, List, add-one, ap, drop, drop-cons, length, suc, subst, sym}
-use Rattle.std.proofs.lemmas.List.{drop_all}
+use Rattle.std.proofs.Common.{◌≡◌, ◌+◌, ◌<◌, ◌∙◌, ◌∷◌, List, ap, drop, length, subst, sym}
+use Rattle.std.proofs.lemmas.List.{drop_all, drop_more}
 use Rattle.dds_book.specs.declared.entry.Entry.{Entry}
 use Rattle.dds_match.specs.Plan.{network_of}
 use Rattle.dds_recap.proofs.Journeys.{Going, going_end, going_next, going_start}
@@ -14,7 +14,7 @@ loop-entry-preserved c =
     let i = c.loop-entry.entry-index in
     let es = c.args.entries.now in
     let within : i < length es = c.loop-entry-test.true in
-    let next : drop i es ≡ c.entry-item.result ∷ drop (i + 1) es = rw (add-one) (drop-cons es i c.entry-item.result ∙ ap (λ (e : Entry). e ∷ drop (suc i) es) (sym c.entry-item.is)) in
+    let next : drop i es ≡ c.entry-item.result ∷ drop (i + 1) es = drop_more es i c.entry-item.result within ∙ ap (λ (e : Entry). e ∷ drop (i + 1) es) (sym c.entry-item.is) in
     going_next (network_of c.args.plan.now) es c.entry-item.result (drop (i + 1) es) c.loop-entry.recap c.note.new.self
     (subst (λ (rest : List Entry). Going (network_of c.args.plan.now) es rest c.loop-entry.recap) next c.loop-entry.invariant) c.in_ok-note.ensures
 
