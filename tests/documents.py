@@ -4,7 +4,7 @@
   tests/documents.py
 
 Each row is a command over a deployment and a certificate, its status, and of its document the answer and the text at a place, as a JSON pointer (RFC 6901). Then
-a document that isn't written whole is told: an output takes 0, 1 or 5 bytes, by the system's limit on the size of a file. The last line is
+a document that isn't written whole is reported: an output takes 0, 1 or 5 bytes, by the system's limit on the size of a file. The last line is
 'N passed, M failed'; the status is 1 if one failed.
 """
 import json
@@ -74,7 +74,7 @@ def fault_of_document(room, words, deployment, certificate, status, answer, plac
 
 
 def fault_of_want(room, deployment, limit):
-    """What is wrong where a check can't write its document whole, which it has to tell."""
+    """What is wrong where a check can't write its document whole, which it has to report."""
     given = ran(room, ["check", "d", "c"], deployment, PING_CERT, limit)
     given = given[0], len(given[1]), given[2]
     return None if given == (3, limit, b"ddscheck: 6 Write\n") else f"{given}"

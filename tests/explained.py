@@ -214,7 +214,7 @@ def owed(deployment, certificate):
 
 
 def agrees(given, wanted):
-    """Whether this was given. Where the parser stopped in a file that is no TOML, and what it says, no second parser says: a line tells it."""
+    """Whether this was given. Where the parser stopped in a file that is no TOML, and what it says, no second parser says: a line has it."""
     out, err, status = wanted
     if not err.endswith(" 1 NotToml\n"):
         return given == wanted

@@ -117,7 +117,7 @@ class Tally:
         self.skipped = {}
 
     def check(self, is_well, what, why=""):
-        """Counts a result. A failure is told, with what failed and why."""
+        """Counts a result. A failure is printed, with what failed and why."""
         if is_well:
             self.passed += 1
         else:

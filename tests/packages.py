@@ -74,12 +74,12 @@ def refuse_unbuilt(tally, room):
 def compare_files(tally, root):
     """What an unpacked package has, beside what the tree has."""
     for name, path in FILES.items():
-        tally.check((root / name).read_bytes() == path.read_bytes(), f"{name} is that of the tree")
+        tally.check((root / name).read_bytes() == path.read_bytes(), f"{name} is the tree's")
     for name, path in PACKED.items():
-        tally.check(gzip.decompress((root / name).read_bytes()) == path.read_bytes(), f"{name} is that of the tree")
+        tally.check(gzip.decompress((root / name).read_bytes()) == path.read_bytes(), f"{name} is the tree's")
     names = set(documents())
     for name in sorted(names):
-        tally.check((root / DOCUMENTS / name).is_file() and (root / DOCUMENTS / name).read_bytes() == (ROOT / name).read_bytes(), f"{name} is that of the tree")
+        tally.check((root / DOCUMENTS / name).is_file() and (root / DOCUMENTS / name).read_bytes() == (ROOT / name).read_bytes(), f"{name} is the tree's")
     every = {str(path.relative_to(root)) for path in root.rglob("*") if path.is_file()}
     tally.check(every == {*FILES, *PACKED, *(f"{DOCUMENTS}/{name}" for name in names)}, "no other file", sorted(every)[:80])
 

@@ -1,5 +1,5 @@
 #!/bin/sh
-# Runs the built program with each of its allocations refused in turn. Each run has to answer as with ample memory, or to tell of want of memory:
+# Runs the built program with each of its allocations refused in turn. Each run has to answer as with ample memory, or to report `NoMemory`:
 # nothing on standard output, 'ddscheck: 7 NoMemory' on standard error, status 3. Words that allocate nothing fail. The last line is 'N passed, M failed'; the status is 1 if one failed.
 here=$(CDPATH='' cd -- "$(dirname -- "$0")/.." && pwd)
 program=$here/crates/ddscheck/out/ddscheck

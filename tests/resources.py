@@ -1,5 +1,5 @@
 #!/usr/bin/env python3
-"""Holds the built program to the stack that docs/HOSTILE.md says, and has it tell where memory runs out.
+"""Holds the built program to the stack that docs/HOSTILE.md says, and sees that it reports where memory runs out.
 
   tests/resources.py            # every command but `run`, whose threads may do less on a loaded machine
   tests/resources.py NAME ..    # these commands
@@ -140,7 +140,7 @@ def try_stack(tally, room, name, owed):
 
 
 def is_want_of_memory(name, given):
-    """Whether memory ran out, and that is what was told. An application of a run may be the one to meet it."""
+    """Whether memory ran out, and that was reported. An application of a run may be the one to meet it."""
     if (given.status, given.out) == (3, "") and given.err in ("ddscheck: 7 NoMemory\n",) + ("ddscheck: 8 Run\n",) * (name == "run"):
         return True
     return name == "run" and given.status == 1 and " memory" in given.out and given.err == ""

@@ -53,7 +53,7 @@ def has_short_rules(document):
 
 
 def answers(folder, words, errors):
-    """The files that a command line reads, each with its kind and the name of its fault; None where nothing is told of it."""
+    """The files that a command line reads, each with its kind and the name of its fault; None where nothing is said about it."""
     files = [word for word in words[1:] if not word.startswith("-")]
     if not words or words[0] not in ("check", "match", "propose", "run", "migrate") or not files:
         return

@@ -2,7 +2,7 @@
 """Makes the completions for bash, zsh and fish and the man page from the program's own help.
 
   tools/completions.py           # writes docs/completions/ddscheck.{bash,zsh,fish} and docs/man/ddscheck.1
-  tools/completions.py --check   # tells which of these files fall behind; the last line is 'N passed, M failed'
+  tools/completions.py --check   # prints which of these files fall behind; the last line is 'N passed, M failed'
 
 The help is read from tests/commands/help.txt, which tests/commands.py holds equal to what the program prints.
 """

@@ -1,9 +1,9 @@
 #!/usr/bin/env python3
-"""Tells what the merge gate costs: processor seconds by crate, for its proof, its tests, its wrong bodies and its builds.
+"""Prints what the merge gate costs: processor seconds by crate, for its proof, its tests, its wrong bodies and its builds.
 
   tools/gate-cost.py $$ & rt ci; kill $!; wait $!
 
-It looks twice a second at the processes below the one with this number, until it is told to end (SIGTERM) or that one is gone, and then prints what it saw. So
+It looks twice a second at the processes below the one with this number, until it's asked to end (SIGTERM) or that one is gone, and then prints what it saw. So
 each figure lacks what a process did in its last half second. What else the machine does makes processors slower, so figures of two runs compare only where
 both had the machine for themselves.
 """

@@ -185,7 +185,7 @@ static void wait_for_acks(const struct cyclone *system, int64_t until)
     }
 }
 
-// Tells of the participants that have not ended and were not heard of since a time. True where there are some.
+// Reports the participants that haven't ended and weren't heard of since a time. True where there are some.
 static bool are_silent(const struct meeting *meeting, int64_t since)
 {
     const struct deployment *lists = meeting->system->lists;

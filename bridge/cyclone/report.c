@@ -19,7 +19,7 @@ bool report_matches(const struct cyclone *system)
     return as_intended;
 }
 
-// Tells of pairs that match and were not meant to. True where there are none.
+// Reports pairs that match and weren't meant to. True where there are none.
 static bool none_unintended(const struct cyclone *system)
 {
     const struct deployment *lists = system->lists;

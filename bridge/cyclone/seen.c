@@ -187,7 +187,7 @@ static void take_all(struct seen *seen, const struct listening *listening, const
         }
     } while (count > 0);
     if (count < 0) {
-        fail(STATUS_DDS, "what discovery told can't be taken: %s", dds_strretcode(-count));
+        fail(STATUS_DDS, "what discovery announces can't be taken: %s", dds_strretcode(-count));
     }
 }
 
@@ -202,7 +202,7 @@ static void open_ears(uint32_t domain, struct ear *ears)
     for (int kind = PARTICIPANTS; kind <= READERS; kind++) {
         ears[kind] = (struct ear){.kind = (enum kind)kind, .domain = domain, .self = self, .reader = dds_create_reader(participant, TOPICS[kind], NULL, NULL)};
         if (ears[kind].reader < 0) {
-            fail(STATUS_DDS, "Cyclone makes no reader of what discovery tells: %s", dds_strretcode(-ears[kind].reader));
+            fail(STATUS_DDS, "Cyclone makes no reader of what discovery announces: %s", dds_strretcode(-ears[kind].reader));
         }
     }
 }

@@ -3,7 +3,7 @@
 
   ./ddscheck show DEPLOYMENT | tools/dds-xml/export.py
 
-The text is that of `ddscheck show --format dds-xml`, which the test beside holds against this second reading. It reads what
+The text is what `ddscheck show --format dds-xml` prints, which the test beside holds against this second reading. It reads what
 `ddscheck show` prints: types, a QoS profile for each endpoint, topics, participants with their endpoints, and applications, in
 the order of the deployment. Rules and connections have no place in DDS-XML and are left out. The type of a topic is a struct
 of a key and 32 bytes, in a module of the topic's name; the enum beside it has the topic's keys. No name has a character that

@@ -10,7 +10,7 @@ MAX_TEXT = 1_048_576
 NOTES = """
 # XML has no rules: write here, as [[rules]], what each application may write at first and after which takes.
 
-# XML has no connections: write here, as [[connections]], which pairs are meant to match. `ddscheck match` tells which do.
+# XML has no connections: write here, as [[connections]], which pairs are meant to match. `ddscheck match --connections` prints them for all pairs that do.
 """
 
 

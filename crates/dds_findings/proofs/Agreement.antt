@@ -1,5 +1,5 @@
 -- Errors are found exactly where the check doesn't say yes.
-use Rattle.std.proofs.Common.{ℕ, ◌≡◌, ◌<◌, ◌∙◌, ◌||◌, ◌&&◌, Bool, true, false, not, List, [], ◌∷◌, ◌++◌, length, map, slice_get, Option, Some, None, is_some, Result, Ok, Err, IfOk, refl, sym, ap, ap₂, arith, cond, ◌==◌}
+use Rattle.std.proofs.Common.{ℕ, ◌≡◌, ◌∙◌, ◌||◌, ◌&&◌, Bool, true, false, not, List, [], ◌∷◌, ◌++◌, map, slice_get, Option, Some, None, is_some, Result, Ok, Err, IfOk, refl, sym, ap, ap₂, arith, cond, ◌==◌}
 use Rattle.std.specs.List.{list_all, list_any}
 use Rattle.std.proofs.lemmas.List.Folds.{list_any-append, sum_by-zero}
 use Rattle.dds_fields.specs.Reading.{Read}
@@ -10,10 +10,10 @@ use Rattle.dds_weights.specs.Lists.{Certificate}
 use Rattle.dds_cert.specs.Document as certificate
 use Rattle.dds_check.specs.declared.verdict.No.{No}
 use Rattle.dds_check.specs.Accepts.{first_no}
-use Rattle.dds_lint.specs.Conditions.{all_nos, bare_nos, bounds_nos, depths_nos, instances_nos, limits_nos, pairs_nos, profile_nos, rows_nos, shown_nos, written_nos}
+use Rattle.dds_lint.specs.Conditions.{all_nos, bare_nos, bounds_nos, depths_nos, instances_nos, pairs_nos, profile_nos, rows_nos, shown_nos, written_nos}
 use Rattle.dds_lint.specs.declared.notes.Note.{Note}
 use Rattle.dds_lint.proofs.FirstOfAll.{first_of_all}
-use Rattle.dds_answers.specs.Outcome.{Outcome, judged, outcome, planned, verdict}
+use Rattle.dds_answers.specs.Outcome.{judged, outcome, planned, verdict}
 use Rattle.dds_answers.specs.declared.answer.Answer.{Answer}
 use Rattle.dds_findings.specs.Agreement.{AgreesWithCheck, AnswersAsCheck, has_error, says_yes}
 use Rattle.dds_findings.specs.Answers.{IsLintAnswer, is_clean}
@@ -32,7 +32,7 @@ has_one nos = is_some (slice_get nos 0)
 
 conditions_errors : (nos : List No) → list_any is_error (map about.Condition nos) ≡ is_some (slice_get nos 0)
 conditions_errors [] = refl
-conditions_errors (no ∷ nos) = refl
+conditions_errors (refused ∷ nos) = refl
 
 notes_errors : (notes : List Note) → list_any is_error (map about.Note notes) ≡ false
 notes_errors [] = refl
@@ -59,7 +59,7 @@ faults_errors (one ∷ found) (some, all) = fault_error one (list_any is_error f
 -- ── the check of what was read
 verdict_says : (o : Option No) (d : Lists) (cert : Certificate) → is_some o ≡ not (says_yes (verdict o d cert))
 verdict_says None d cert = refl
-verdict_says (Some no) d cert = refl
+verdict_says (Some refused) d cert = refl
 
 judged_agrees : (d : Lists) (read : Read Certificate) (found : List About) → IsJudged d read found → has_error found ≡ not (says_yes (judged d read))
 judged_agrees d (Ok cert) found (notes, are, same) =
@@ -105,7 +105,7 @@ bare_fails d cert some =
 
 verdict_refuses : (o : Option No) (d : Lists) (cert : Certificate) → is_some o ≡ true → says_yes (verdict o d cert) ≡ false
 verdict_refuses None d cert some = cc
-verdict_refuses (Some no) d cert some = refl
+verdict_refuses (Some refused) d cert some = refl
 
 bare_refuses : (d : Lists) (read : Read Certificate) → is_some (slice_get (bare_nos d) 0) ≡ true → says_yes (judged d read) ≡ false
 unfolding has_one
@@ -168,7 +168,7 @@ as_check : (denied : Deny) (d : List ℕ) (c : Option (List ℕ)) (answer : Answ
 as_check deny.Errors d (Some c) answer findings lint clean =
     clean ∙ (none_counted findings ∙ (ap not (lint_agrees d (Some c) (abouts findings) lint) ∙ not_not (says_yes (outcome d c))))
 as_check deny.Errors d None answer findings lint clean =
-    λ no c. lint_agrees d None (abouts findings) lint (not_false (has_error (abouts findings)) (sym (clean ∙ none_counted findings) ∙ no)) c
+    λ denies c. lint_agrees d None (abouts findings) lint (not_false (has_error (abouts findings)) (sym (clean ∙ none_counted findings) ∙ denies)) c
 as_check deny.Notes d (Some c) answer findings lint clean =
     λ yes. not_false (says_yes (outcome d c))
     (sym (lint_agrees d (Some c) (abouts findings) lint)

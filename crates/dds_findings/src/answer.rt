@@ -79,11 +79,9 @@ fn names_of<'a>(deployment: &Named<'a>, certificate: Option<Named<'a>>) -> FileN
     }
 }
 
-/// The answer of `lint` to the bytes of a deployment and of a certificate, if there is one: everything that `lint`
-/// finds, in this form. It is yes where there are none of the findings that are denied: of two files, where errors
-/// alone are denied, exactly where the check of them says yes. Its only fault is `NoMemory`.
-#[tactic(auto, using(crate::proofs::Agreement::answered_as_check))]
-pub fn lint_answer(
+/// The answer that says everything that `lint` finds, in this form, and is yes where there are none of the findings
+/// that are denied.
+fn findings_answer(
     alloc: Global,
     deployment: &Named,
     certificate: Option<Named>,
@@ -93,8 +91,6 @@ pub fn lint_answer(
     ensures said { IfOk result (IsLintAnswer style deny
         (names_of deployment.now.name.now (option_map (λ c. c.name.now) certificate.entry)) deployment.now.bytes.now
         (option_map (λ c. c.bytes.now) certificate.entry)) }
-    ensures agrees { IfOk result
-        (AnswersAsCheck deny deployment.now.bytes.now (option_map (λ c. c.bytes.now) certificate.entry)) }
     ensures memory { IfErr result (λ e. e ≡ ToolFault.NoMemory) }
 {
     let bytes = match certificate {
@@ -110,4 +106,24 @@ pub fn lint_answer(
         findings_text(alloc, &names, &findings, style, is_yes),
         is_yes,
     )
+}
+
+/// The answer of `lint` to the bytes of a deployment and of a certificate, if there is one: everything that `lint`
+/// finds, in this form. It is yes where there are none of the findings that are denied: of two files, where errors
+/// alone are denied, exactly where the check of them says yes. Its only fault is `NoMemory`.
+pub fn lint_answer(
+    alloc: Global,
+    deployment: &Named,
+    certificate: Option<Named>,
+    style: LintStyle,
+    deny: Deny,
+) -> Result<Answer, ToolFault>
+    ensures said { IfOk result (IsLintAnswer style deny
+        (names_of deployment.now.name.now (option_map (λ c. c.name.now) certificate.entry)) deployment.now.bytes.now
+        (option_map (λ c. c.bytes.now) certificate.entry)) }
+    ensures agrees { IfOk result
+        (AnswersAsCheck deny deployment.now.bytes.now (option_map (λ c. c.bytes.now) certificate.entry)) }
+    ensures memory { IfErr result (λ e. e ≡ ToolFault.NoMemory) }
+{
+    findings_answer(alloc, deployment, certificate, style, deny)
 }

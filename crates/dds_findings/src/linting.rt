@@ -333,7 +333,6 @@ fn file_findings(
 /// without a certificate, or where it has a fault, the conditions that ask for none. So an error is found of two files
 /// exactly where the check of them doesn't say yes, and of a deployment alone only where the check says yes to no
 /// certificate of it. `NoMemory` is the only error.
-#[tactic(auto, using(crate::proofs::Agreement::found_as_check))]
 pub fn lint(
     alloc: Global,
     deployment: &[u8],

@@ -68,12 +68,12 @@ impl<N: Name> Carrier<N> {
         fates: &Fates,
         pumps: u64,
     ) -> bool {
+        let cut = self.cut(fates.as_slice());
         if self.events >= pumps {
             return false;
         }
         let left = pumps - self.events;
-        let cut = self.cut(fates.as_slice());
-        let limit = cut.map_or(left, |cut| cut.min(left));
+        let limit = left.min(cut.unwrap_or(left));
         let round = book.turns(rt, &mut self.seat, &mut self.pace, fates.as_slice(), limit);
         self.events += round.entered;
         match round.end {
