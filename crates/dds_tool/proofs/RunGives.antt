@@ -105,7 +105,7 @@ accepted_read d c lists cert is = by_read (read d) is
   where
     by_verdict : (first : Option No) (plan : Lists) (found : Certificate) → verdict first plan found ≡ accepted lists cert → plan ≡ lists
     by_verdict None plan found same = cc
-    by_verdict (Some no) plan found same = absurd (let wrong : refused no plan found ≡ accepted lists cert = same in cc)
+    by_verdict (Some why) plan found same = absurd (let wrong : refused why plan found ≡ accepted lists cert = same in cc)
 
     by_judged : (plan : Lists) (found : Read Certificate) → judged plan found ≡ accepted lists cert → plan ≡ lists
     by_judged plan (Ok found) same = by_verdict (first_no plan found) plan found same
@@ -128,6 +128,6 @@ pub answered_run : (wishes : Wishes) (style : Style) (d : Lists) (c : Certificat
     → IsJournal d journal → length ends ≡ length d.applications.entries → r ≡ Ok d → IfOk r (λ lists. because ≡ because_of wishes.detail lists journal ends) → names ≡ app_names d
     → IfOk answer (λ a. string_bytes a.text ≡ told_run style (all_good wishes.good ends) because names journal ends) → IfOk answer (λ a. a.is_yes ≡ all_good wishes.good ends)
     → IfErr answer (λ e. e ≡ fault.NoMemory) → GivesRun wishes style (accepted d c) answer
-answered_run wishes style d c r journal ends because names (Ok a) is count at told are text yes memory =
-    ran_gives wishes style d c journal ends a is count (told_lines style (all_good wishes.good ends) r d wishes.detail journal ends because names (string_bytes a.text) at told are text) yes
-answered_run wishes style d c r journal ends because names (Err e) is count at told are text yes memory = inr (inl (subst SaysNothing (sym memory) tt))
+answered_run wishes style d c r journal ends because names (Ok a) is count at told are text good memory =
+    ran_gives wishes style d c journal ends a is count (told_lines style (all_good wishes.good ends) r d wishes.detail journal ends because names (string_bytes a.text) at told are text) good
+answered_run wishes style d c r journal ends because names (Err e) is count at told are text good memory = inr (inl (subst SaysNothing (sym memory) tt))

@@ -364,7 +364,7 @@ fn played<R: Threads + Wait + Clock + Sync>(
     wishes: &Wishes,
     style: Style,
 ) -> Result<Answer, ToolFault>
-    requires { deployment_read deployment.now ≡ Ok checked.plan }
+    requires plan { deployment_read deployment.now ≡ Ok checked.plan }
     ensures gives { GivesRun wishes.now style (accepted checked.plan checked.certificate) result }
     ensures fault { IfErr result (λ e. (e ≡ ToolFault.Run) ⊎ (e ≡ ToolFault.NoMemory)) }
 {

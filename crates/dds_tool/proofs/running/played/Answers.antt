@@ -10,9 +10,9 @@ use Rattle.dds_tool.specs.Running.{app_names, because_of}
 use Rattle.dds_tool.proofs.RunGives.{answered_run, names_len}
 use Rattle.dds_tool.proofs.running.played.Goals as goal
 
-pub because_of-because-requires : goal.because_of-because-requires
-because_of-because-requires g c =
-    subst (λ (r : Read _). IfOk r (λ d. IsJournal d c.in_ok-journal.journal × (length c.as_slice.result.now ≡ length d.applications.entries))) (sym c.requires)
+pub because_of-requires : goal.because_of-requires
+because_of-requires g c =
+    subst (λ (r : Read _). IfOk r (λ d. IsJournal d c.in_ok-journal.journal × (length c.as_slice.result.now ≡ length d.applications.entries))) (sym c.requires.plan)
     (c.in_ok-journal.ensures.journal, ap length c.as_slice.ensures.value ∙ c.in_ok-journal.ensures.ends)
 
 pub told_answer-requires : goal.told_answer-requires
@@ -34,4 +34,4 @@ returns-clause-gives g c =
     c.as_slice-3.ensures.value c.told_answer.ensures.text in
     let yes = subst (λ (ends : List AppEnd). IfOk c.told_answer.result (λ a. a.is_yes ≡ all_good good ends)) c.as_slice-3.ensures.value c.told_answer.ensures.yes in
     answered_run c.args.wishes.now c.args.style c.args.checked.plan c.args.checked.certificate (read c.args.deployment.now) journal c.in_ok-journal.ends.items because
-    (map string_bytes c.as_slice-2.result.now) c.told_answer.result c.in_ok-journal.ensures.journal c.in_ok-journal.ensures.ends c.requires told names text yes c.told_answer.ensures.fault
+    (map string_bytes c.as_slice-2.result.now) c.told_answer.result c.in_ok-journal.ensures.journal c.in_ok-journal.ensures.ends c.requires.plan told names text yes c.told_answer.ensures.fault
