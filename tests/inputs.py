@@ -88,6 +88,28 @@ connections = [{{ writer = "w", reader = "r" }}]
 """
 
 
+def backward_rules(shared=15):
+    """A deployment with an empty certificate in which each rule waits for the one behind it in the file, so what can ever come grows by one rule at a time. Each
+    rule takes from 16 readers and writes at 16 writers, as many as it may; `shared` of the readers hear what the last rule writes at the opening."""
+    names = [f"e{number}" for number in range(ENDPOINTS)]
+    stages = names[shared:]
+    last = len(stages) - 1
+    lines = ["version = 3", 'participants = [{ name = "p", domain = 0 }]']
+    for section, kind in (("topics", 'type = "T", keys = ["k"]'), ("writers", 'participant = "p", history = "KEEP_ALL", topic ='), ("readers", 'participant = "p", topic =')):
+        entries = [f'{{ name = "{name}", {kind}' + (f' "{name}"' if kind.endswith("=") else "") + " }" for name in names]
+        lines.append(f"{section} = [{', '.join(entries)}]")
+    owned = ", ".join(f'"{name}"' for name in names)
+    lines.append(f'applications = [{{ name = "a", participant = "p", writers = [{owned}], readers = [{owned}] }}]')
+    lines.append("connections = [" + ", ".join(f'{{ writer = "{name}", reader = "{name}" }}' for name in names) + "]")
+    for stage in range(len(stages)):
+        takes = [] if stage == last else names[:shared] + [stages[stage]]
+        writes = names[:shared] if stage == last else stages[stage : stage + 15]
+        writes = writes + stages[stage - 1 : stage] if stage else writes
+        lines += ["[[rules]]", f'name = "u{stage}"', 'application = "a"', f"start = {int(stage == last)}"]
+        lines += [f"{side} = [" + ", ".join(f'{{ {end} = "{name}", key = "k", count = 1 }}' for name in among) + "]" for side, end, among in (("takes", "reader", takes), ("writes", "writer", writes))]
+    return "\n".join(lines) + "\n", "version = 1\n"
+
+
 def gaps_deployment():
     """A writer of two keys, whose reader hears one of them alone: a GAP from a number on leads past all samples of the other key."""
     return f"""version = 1

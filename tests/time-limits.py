@@ -50,11 +50,12 @@ INPUTS = {
     "limited keys": lambda: (inputs.keyed_deployment(limit=16), "", ""),
     "ring": lambda: (inputs.limited_ring(255, 64), "", ""),
     "crowd": lambda: (inputs.crowded_pair(65535), "", ""),
+    "backward": lambda: (*inputs.backward_rules(), ""),
 }
 # words on the files d, c and e of each input
 LARGEST = {
     "check": ("check d c", ("largest", "keyed")),
-    "check --explain": ("check d c --explain", ("largest", "keyed")),
+    "check --explain": ("check d c --explain", ("largest", "keyed", "backward")),
     "match": ("match d --format json", ("largest", "keyed")),
     "propose": ("propose d", ("largest", "keyed", "ring")),
     "propose --thorough": (f"propose d --thorough --seconds {SEARCH}", ("largest", "limited keys", "ring")),
@@ -64,7 +65,7 @@ LARGEST = {
     "migrate": ("migrate d", ("largest",)),
     "show": ("show d", ("largest", "keyed")),
     "draw": ("draw d c", ("largest", "keyed")),
-    "lint": ("lint d c", ("largest", "keyed")),
+    "lint": ("lint d c", ("largest", "keyed", "backward")),
 }
 
 

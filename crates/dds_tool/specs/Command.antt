@@ -53,15 +53,14 @@ checking = styled (with_rule (two_files (codes "check")) (flag_rule (codes "expl
 abbrev pub count_rule : Text → Rule
 count_rule id = record (wish_rule id (codes "10")) { parser = Some (Signed (pos 0) (pos 65535)) }
 
--- the command that runs a deployment
+-- the command that runs a deployment, with the arguments that say what the run is like
+abbrev pub wishing : App
+wishing =
+    with_rule (with_rule (with_rule (two_files (codes "run")) (wish_rule (codes "fates") (codes "pass"))) (count_rule (codes "writes"))) (count_rule (codes "takes"))
+
+-- the whole command that runs a deployment
 abbrev pub running : App
-running =
-    styled
-    (with_rule
-    (with_rule
-    (with_rule (with_rule (with_rule (two_files (codes "run")) (wish_rule (codes "fates") (codes "pass"))) (count_rule (codes "writes"))) (count_rule (codes "takes")))
-    (flag_rule (codes "idle-ok")))
-    (flag_rule (codes "explain")))
+running = styled (with_rule (with_rule wishing (flag_rule (codes "idle-ok"))) (flag_rule (codes "explain")))
 
 -- the command that shows a deployment in a format
 abbrev pub showing : App

@@ -6,7 +6,7 @@ ghost use Rattle.dds_tool.specs.Command.{checking, conforming, count_rule, drawi
 ghost use Rattle.dds_tool.specs.Command.{linting};
 ghost use Rattle.dds_tool.specs.Command.{matching, one_file};
 ghost use Rattle.dds_tool.specs.Command.{optional_file_rule, refuting, replaying, running, searching, showing, styled};
-ghost use Rattle.dds_tool.specs.Command.{seconds_rule, top_app, two_files, whole, wish_rule};
+ghost use Rattle.dds_tool.specs.Command.{seconds_rule, top_app, two_files, whole, wish_rule, wishing};
 
 use clap::{Arg, ArgAction, Command, value_parser};
 use dds_answers::VERSION;
@@ -209,20 +209,28 @@ fn seconds<'a>(alloc: Global, help: &'a str) -> Arg<'a>
     wish(alloc, "seconds", "N", "60", help).value_parser(value_parser!(u16))
 }
 
-fn run_command<'a>(alloc: Global) -> Result<Command<'a>, NoMemory>
-    ensures app { IfOk result (λ c. app_of c ≡ running) }
+/// The command that runs a deployment, with the arguments that say what the run is like.
+fn wishing_command<'a>(alloc: Global) -> Result<Command<'a>, NoMemory>
+    ensures app { IfOk result (λ c. app_of c ≡ wishing) }
     ensures local { IfOk result (λ c. (fields_of c).has_globals ≡ false) }
 {
-    let command = two_files_command(
+    two_files_command(
         alloc,
         "run",
         "Runs a deployment that a certificate shows to be safe",
     )?
     .arg(wish(alloc, "fates", "LIST", "pass", FATES))?
     .arg(count(alloc, "writes", WRITES))?
-    .arg(count(alloc, "takes", TAKES))?
-    .arg(flag(alloc, "idle-ok", IDLE_OK))?
-    .arg(flag(alloc, "explain", EXPLAIN_RUN))?;
+    .arg(count(alloc, "takes", TAKES))
+}
+
+fn run_command<'a>(alloc: Global) -> Result<Command<'a>, NoMemory>
+    ensures app { IfOk result (λ c. app_of c ≡ running) }
+    ensures local { IfOk result (λ c. (fields_of c).has_globals ≡ false) }
+{
+    let command = wishing_command(alloc)?
+        .arg(flag(alloc, "idle-ok", IDLE_OK))?
+        .arg(flag(alloc, "explain", EXPLAIN_RUN))?;
     styled(alloc, command)
 }
 
