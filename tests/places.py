@@ -12,6 +12,10 @@ SCALAR = re.compile(r"[^\s,\]}#]+(?: \d\d:[^\s,\]}#]+)?")
 STRINGS = [re.compile(it, re.DOTALL) for it in (r'"""(?:\\.|[^\\])*?"""', r"'''.*?'''", r'"(?:\\.|[^"\\])*"', r"'[^']*'")]
 
 
+# how many bytes of a stretch a place has at most
+MOST = 200
+
+
 class NotRead(Exception):
     """The text isn't one that this reading knows."""
 
@@ -148,8 +152,9 @@ def places(text):
 
 
 def spot(text, stretch):
-    """The line of a stretch, its column and the column behind its last character in that line, each from 1."""
+    """The line of a stretch, its column and the column behind its last character in that line, each from 1. Of a long one `lint` gives the first 200 bytes."""
     start, end = stretch
+    end = min(end, start + MOST)
     line_start = text.rfind("\n", 0, start) + 1
     line_end = text.find("\n", start)
     stop = min(end, len(text) if line_end < 0 else line_end)
