@@ -13,7 +13,7 @@ use Rattle.dds_check.specs.declared.verdict.No.{No}
 use Rattle.dds_events.specs.declared.fault.EventsFaultKind.{EventsFaultKind}
 use Rattle.dds_conform.specs.declared.fault.TraceFaultKind.{TraceFaultKind}
 
--- the certificate is accepted, or a condition fails, and either may be told with its reason, or the endpoints are compared, or a certificate is proposed or
+-- the certificate is accepted, or a condition fails, and either may be printed with its reason, or the endpoints are compared, or a certificate is proposed or
 -- none is found, or a deployment is migrated to this text, or it is shown in a format, or it is drawn, with its certificate if there is one, or these
 -- lines are said, with a yes or a no, or a file has a flaw, or a file has too many bytes
 pub data Outcome : Type 0 where
@@ -90,7 +90,7 @@ MayOfFiles d c May end = MayIf (nat_le (length d) 1048576 && nat_le (length c) 1
 unfoldable pub file_outcome : List ℕ → List ℕ → Outcome
 file_outcome d c = of_files d c (outcome d c)
 
--- how it is told
+-- how it is printed
 unfoldable pub check_file_outcome : Detail → List ℕ → List ℕ → Outcome
 check_file_outcome detail d c = of_files d c (told detail (outcome d c))
 

@@ -24,7 +24,7 @@ pub record IsAvailableAt (samples : Samples) (writers : List Released) (key t : 
 abbrev pub NoneAvailable : Samples → List Released → ℕ → Type 0
 NoneAvailable samples writers key = (t : ℕ) (x : Sample) → IsAvailableAt samples writers key t x → ⊥
 
--- the ticket is that of an available sample of the key, and none has a lesser number
+-- the ticket belongs to an available sample of the key, and none has a lesser number
 abbrev pub IsLeastAt : Samples → List Released → ℕ → ℕ → Type 0
 IsLeastAt samples writers key t =
     (x : Sample) × IsAvailableAt samples writers key t x × ((s : ℕ) (y : Sample) → IsAvailableAt samples writers key s y → x.sn ≤ y.sn)

@@ -32,7 +32,7 @@ has_key k (Some x) = x.key == k
 abbrev pub IsBelow : Samples → ℕ → Type 0
 IsBelow samples next = (t : ℕ) (x : Sample) → at samples t ≡ Some x → t < next
 
--- a key's tickets are those of its samples
+-- a key's tickets are its samples' tickets
 abbrev pub IsIndexed : Samples → Tickets → Type 0
 IsIndexed samples tickets = (k t : ℕ) → is_listed tickets k t ≡ has_key k (at samples t)
 
@@ -40,7 +40,7 @@ IsIndexed samples tickets = (k t : ℕ) → is_listed tickets k t ≡ has_key k 
 abbrev pub NoneOf : Samples → ℕ → Type 0
 NoneOf samples key = (t : ℕ) → has_key key (at samples t) ≡ false
 
--- the ticket is that of the key's sample that was admitted first
+-- the ticket belongs to the key's sample that was admitted first
 pub record IsFirstOf (samples : Samples) (key t : ℕ) : Type 0 where
   pub here : has_key key (at samples t) ≡ true
   pub first : (s : ℕ) → has_key key (at samples s) ≡ true → t ≤ s

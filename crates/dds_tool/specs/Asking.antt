@@ -104,11 +104,11 @@ Replays words deployment events style = (rows : List Row) × (subcommand_of whol
 abbrev pub Conforms : List Text → Text → Text → Style → Type 0
 Conforms words deployment trace style = (rows : List Row) × (subcommand_of whole words ≡ Some (codes "conform", rows)) × NamesBoth (codes "trace") rows deployment trace × IsStyled rows style
 
--- how much a check or a run is asked to tell
+-- how much a check or a run is asked to print
 abbrev pub detail_of : List Row → Detail
 detail_of rows = if is_set rows (codes "explain") then Explained else Plain
 
--- the words check the deployment with this name, by the certificate with that name, and ask for so much to be told, in this style
+-- the words check the deployment with this name, by the certificate with that name, and ask for so much to be printed, in this style
 abbrev pub Checks : List Text → Text → Text → Detail → Style → Type 0
 Checks words deployment certificate detail style =
     (rows : List Row) × (subcommand_of whole words ≡ Some (codes "check", rows)) × NamesBoth (codes "certificate") rows deployment certificate × (detail_of rows ≡ detail) × IsStyled rows style
@@ -215,13 +215,13 @@ paths_of (asked.Lint d c form denied) = d.now ∷ option_map_or (λ path. path.n
 paths_of (asked.Check d c detail style) = d.now ∷ c.now ∷ []
 paths_of (asked.Run d c wishes style) = d.now ∷ c.now ∷ []
 
--- the style in which faults are told beside findings in this form
+-- the style in which faults are printed beside findings in this form
 abbrev pub style_of_form : LintStyle → Style
 style_of_form form.Text = style.Text
 style_of_form form.Json = style.Json
 style_of_form form.Sarif = style.Text
 
--- the style in which the answer to a request is told: in lines where it has no other
+-- the style in which the answer to a request is printed: in lines where it has no other
 abbrev pub style_of : Request → Style
 style_of (asked.Match d what style) = style
 style_of (asked.Propose d style) = style
@@ -256,7 +256,7 @@ IsHelp (none.Help text) = Unit {0}
 IsHelp (none.Usage text) = ⊥
 IsHelp none.NoMemory = ⊥
 
--- what a request is answered whose files hold bytes that are known; a fault of a check tells of their syntax what it has to
+-- what a request is answered whose files hold bytes that are known; a fault of a check says about their syntax what it has to
 abbrev pub GivesTo : (List ℕ → Option (List ℕ)) → Request → Result Answer ToolFault → Type 0
 GivesTo holds (asked.Check d c detail style) result =
     (x y : List ℕ) → holds d.now ≡ Some x → holds c.now ≡ Some y → Gives result (in_style style (check_file_outcome detail x y)) × IfErr result (IsFaultTold detail x y)
@@ -276,7 +276,7 @@ GivesTo holds (asked.Lint d (Some c) form denied) result =
     (x y : List ℕ) → holds d.now ≡ Some x → holds c.now ≡ Some y → GivesOneOf (MayLintFiles form denied d.now c.now x y) result
 GivesTo holds (asked.Run d c wishes style) result = (x y : List ℕ) → holds d.now ≡ Some x → holds c.now ≡ Some y → GivesRun wishes style (file_outcome x y) result
 
--- the status and what is added to the output are those of this end, or memory or a device failed, and the status is 3
+-- the status and what is added to the output belong to this end, or memory or a device failed, and the status is 3
 abbrev pub Said : Outcome → ℕ → Option (List ℕ) → Option (List ℕ) → Type 0
 Said end status old new = ((status ≡ status_of end) × Appends old new (output_of end)) ⊎ (status ≡ 3)
 
@@ -322,6 +322,6 @@ IsAcceptedRun holds _ = ⊥
 abbrev pub TellsBadFile : (List ℕ → Option (List ℕ)) → Request → (old new : Option (List ℕ)) → Type 0
 TellsBadFile holds request old new = (fault : ToolFault) × GivesTo holds request (Err fault) × (exit_of fault ≡ exit.BadFile) × Appends old new (fault_line fault)
 
--- what a command says that ends with this status: its answer; a bad file has none, and only where a document is asked for one that tells the fault
+-- what a command says that ends with this status: its answer; a bad file has none, and only where a document is asked for one that reports the fault
 abbrev pub Tells : (List ℕ → Option (List ℕ)) → Request → ℕ → Option (List ℕ) → Option (List ℕ) → Type 0
 Tells holds request status old new = ((style_of request ≡ style.Json → status ≢ 2) × Answers holds request status old new) ⊎ TellsInJson holds request status old new

@@ -11,7 +11,7 @@ abbrev pub IsRun : Request → Type 0
 IsRun (asked.Run d c wishes style) = Unit {0}
 IsRun _ = ⊥
 
--- the faults with which a request can end before anything is written: those of commands on files, and of a run that it came to no end of its own
+-- the faults with which a request can end before anything is written: those of commands on files, and for a run that it didn't end by itself
 abbrev pub IsRequestFault : (file_failed : Bool) → Request → ToolFault → Type 0
 IsRequestFault file_failed request e = (IsRun request × (e ≡ fault.Run)) ⊎ IsFileFault file_failed e
 

@@ -29,7 +29,7 @@ wish_rule id default = record (new_rule id) { long = Some id; value_names = 1; d
 abbrev pub seconds_rule : Rule
 seconds_rule = record (wish_rule (codes "seconds") (codes "60")) { parser = Some (Signed (pos 0) (pos 65535)) }
 
--- a command that is told in lines where it isn't asked for a document
+-- a command that answers in lines where it isn't asked for a document
 abbrev pub styled : App → App
 styled command = with_rule command (wish_rule (codes "format") (codes "text"))
 
@@ -75,16 +75,16 @@ drawing = with_rule (one_file (codes "draw")) (optional_file_rule (codes "certif
 abbrev pub refuting : App
 refuting = styled (with_rule (one_file (codes "refute")) seconds_rule)
 
--- the command that makes the events of a file again
+-- the command that replays the events of a file
 abbrev pub replaying : App
 replaying = styled (with_rule (one_file (codes "replay")) (file_rule (codes "events")))
 
--- the command that tells which limits are needed, with the reasons or by the certificate that shows them where their flags are given
+-- the command that says which limits are needed, with the reasons or by the certificate that shows them where their flags are given
 abbrev pub limiting : App
 limiting =
     styled (with_rule (with_rule (with_rule (one_file (codes "limits")) (flag_rule (codes "certificate"))) (flag_rule (codes "explain"))) seconds_rule)
 
--- the command that tells whether a trace keeps the rules
+-- the command that says whether a trace keeps the rules
 abbrev pub conforming : App
 conforming = styled (with_rule (one_file (codes "conform")) (file_rule (codes "trace")))
 
@@ -93,7 +93,7 @@ abbrev pub linting : App
 linting =
     with_rule (with_rule (with_rule (one_file (codes "lint")) (optional_file_rule (codes "certificate"))) (wish_rule (codes "format") (codes "text"))) (wish_rule (codes "deny") (codes "errors"))
 
--- the command by itself: it has a version, and wants a subcommand
+-- the command by itself: it has a version, and needs a subcommand
 abbrev pub top_app : App
 top_app = on_top (λ s. record s { subcommand_required = true; has_version = true }) (new_app (codes "ddscheck"))
 

@@ -27,13 +27,13 @@ use Rattle.dds_tool.specs.declared.limits.Finding.TheVariants.{Bounds, Reasons, 
 use Rattle.dds_tool.specs.declared.needs.Need.{Need}
 use Rattle.dds_tool.specs.declared.reasons.Explained.{Explained}
 
--- ── what is told
+-- ── what is printed
 -- what is needed, in this style
 abbrev pub needs_told : Style → Lists → List Need → List ℕ
 needs_told Text d needs = needs_lines d needs
 needs_told Json d needs = line_of (limits_document d needs)
 
--- the same with a line for each need that tells why
+-- the same with a line for each need that says why
 abbrev pub reasons_told : Style → Lists → List Explained → List Need → List ℕ
 reasons_told Text d es needs = needs_lines d needs ++ flat_map (because_of d es) needs
 reasons_told Json d es needs = line_of (reasons_document d es needs)
@@ -59,7 +59,7 @@ is_claimed is_bounded (Some cert) = is_bounded
 is_claimed is_bounded None = false
 
 -- ── which answers may be
--- what is needed by some sizes is told, each of which weights show
+-- what some sizes need is printed, each of which weights show
 abbrev pub MayTellNeeds : Style → Lists → Outcome → Type 0
 MayTellNeeds style d end =
     (sizes : List Size) × AreSizes (network_of d) sizes
@@ -77,7 +77,7 @@ abbrev pub IsClaim : Lists → List Size → lists.Certificate → Type 0
 IsClaim d sizes cert =
     (fits (network_of d) cert ≡ true) × IsShown (network_of d) (certificate_of cert) × (claims_all cert sizes ≡ true) × (length (certificate_text d cert) ≤ 1048576)
 
--- a certificate of some sizes is told, each of which weights show, or that there is none
+-- a certificate of some sizes is printed, each of which weights show, or that there is none
 abbrev pub MayTellClaim : Style → Lists → Outcome → Type 0
 MayTellClaim style d end =
     (sizes : List Size) × (cert : Option lists.Certificate) × AreSizes (network_of d) sizes × IfSome cert (IsClaim d sizes)
@@ -89,7 +89,7 @@ MayLimitLists Bounds style d end = MayTellNeeds style d end
 MayLimitLists Reasons style d end = MayTellReasons style d end
 MayLimitLists Certificate style d end = MayTellClaim style d end
 
--- a flaw of the deployment is told
+-- a flaw of the deployment is reported
 abbrev pub MayLimit : Finding → Style → Read Lists → Outcome → Type 0
 MayLimit what style (Ok d) end = MayLimitLists what style d end
 MayLimit what style (Err flaw) end = end ≡ bad_deployment flaw
@@ -103,7 +103,7 @@ MayLimitFor what style d end = MayOfFile d (MayLimit what style (deployment.read
 abbrev pub IsSaid : List ℕ → Bool → Answer → Type 0
 IsSaid text is_yes answer = (string_bytes answer.text ≡ text) × (answer.is_yes ≡ is_yes)
 
--- it tells the certificate, whose text is no longer than a file may be, or that there is none
+-- it prints the certificate, whose text is no longer than a file may be, or that there is none
 abbrev pub TellsClaim : Style → Lists → Bool → lists.Certificate → Answer → Type 0
 TellsClaim style d is_bounded cert answer =
     (IsSaid (text_told style (certificate_text d cert) is_bounded) is_bounded answer × (length (certificate_text d cert) ≤ 1048576)) ⊎ IsSaid (none_told style) false answer

@@ -1,4 +1,4 @@
--- The documents that tell needs, and a certificate that shows them.
+-- The documents that list needs, and a certificate that shows them.
 use Rattle.std.specs.Prelude.{ℕ, Bool, List, codes, map, Option, Some, None}
 use Rattle.serde_json.specs.Data.{Data, array, boolean, member, no_members, number, object, string, unsigned}
 use Rattle.serde_json.specs.View.{items_of}

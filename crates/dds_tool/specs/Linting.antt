@@ -21,7 +21,7 @@ abbrev pub deny_word : Deny → List ℕ
 deny_word deny.Errors = codes "errors"
 deny_word deny.Notes = codes "notes"
 
--- everything that is found in files with these names and bytes is told in this form: a yes where none of it is denied
+-- everything that is found in files with these names and bytes is printed in this form: a yes where none of it is denied
 abbrev pub MayLint : LintStyle → Deny → FileNames → (deployment : List ℕ) → (certificate : Option (List ℕ)) → Outcome → Type 0
 MayLint form denied names d c end =
     (fs : List Finding) × IsLint d c (abouts fs) × (end ≡ said (findings_text form names fs (is_clean denied fs)) (is_clean denied fs))

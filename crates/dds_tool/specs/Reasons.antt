@@ -81,7 +81,7 @@ reason_line d size (Weights cert) = margins d (certificate_view cert)
 reason_line d size (Growth ray) = unshown_line d size (codes "by " ++ (deeds d ray.firings.items ray.writes.items ++ codes " again and again"))
 reason_line d size Nothing = unshown_line d size (codes "the numbers became too large or the search too long")
 
--- the text tells a reason that the size has
+-- the text gives a reason that the size has
 abbrev pub IsExplained : Lists → Explained → Type 0
 IsExplained d e = (reason : Reason) × IsReason (network_of d) e.size.target e.size.least reason × (string_bytes e.because ≡ reason_line d e.size reason)
 

@@ -1,4 +1,4 @@
--- The document that tells needs and why they are there.
+-- The document that lists needs and says why they are there.
 use Rattle.std.specs.Prelude.{ℕ, List, codes, map, Option, Some, None}
 use Rattle.serde_json.specs.Data.{Data, array, member, no_members, object, string}
 use Rattle.serde_json.specs.View.{items_of}

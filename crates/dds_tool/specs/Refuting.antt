@@ -115,11 +115,11 @@ abbrev pub told_known : Style → Lists → Refutation → List ℕ
 told_known Text lists known = known_text lists known
 told_known Json lists known = line_of (known_document lists known)
 
--- of a deployment that can be read something is told that is known, in this style
+-- of a deployment that can be read something is printed that is known, in this style
 abbrev pub MayRefuteLists : Style → Lists → Outcome → Type 0
 MayRefuteLists style lists end = (known : Refutation) × IsKnown lists known × (end ≡ said (told_known style lists known) (is_safe known))
 
--- a flaw of the deployment is told
+-- a flaw of the deployment is reported
 abbrev pub MayRefute : Style → Read Lists → Outcome → Type 0
 MayRefute style (Ok lists) end = MayRefuteLists style lists end
 MayRefute style (Err flaw) end = end ≡ bad_deployment flaw

@@ -22,8 +22,8 @@ abbrev pub ran : Wishes → Style → Lists → List Entry → List AppEnd → O
 ran wishes style d journal ends =
     let is_yes = all_good wishes.good ends in said (told_run style is_yes (because_of wishes.detail d journal ends) (app_names d) journal ends) is_yes
 
--- what a run of files may come to whose check ends so, in this style: where the certificate is accepted, the deployment ran, by a journal of its plan,
--- and the thread of each application ended; every other end is that of the check
+-- how a run of files may end whose check ends so, in this style: where the certificate is accepted, the deployment ran, by a journal of its plan,
+-- and the thread of each application ended; every other end is the check's
 abbrev pub MayRun : Wishes → Style → Outcome → Outcome → Type 0
 MayRun wishes style (accepted d c) end =
     (journal : List Entry) × (ends : List AppEnd) × IsJournal d journal × (length ends ≡ length d.applications.entries) × (end ≡ ran wishes style d journal ends)

@@ -1,4 +1,4 @@
--- The words for formats and styles, and for what befalls packets.
+-- The words for formats and styles, and for what happens to packets.
 use Rattle.std.specs.Prelude.{ℕ, List, codes}
 use Rattle.std.specs.List.{join_by}
 use Rattle.dds_answers.specs.declared.format.Format.{Format}
