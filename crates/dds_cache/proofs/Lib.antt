@@ -7,3 +7,4 @@ pub mod LeastLaws
 pub mod ReleasedLaws
 pub mod StoredLaws
 pub mod TakeLaws
+pub mod TicketLaws

@@ -1,5 +1,6 @@
 -- A map after a change at one key, and maps whose keys are pairs of something and a number: the pairs of one first part stand together, in order of number.
 use Rattle.std.proofs.Common.{◌≡◌, ℕ, ◌≤◌, true, false, ◌&&◌, List, ◌∷◌, Option, None, Some, IsSome, IfSome, refl, sym, subst, ap, ◌∙◌, arith, inl, inr, ◌⊎◌, slice_get, Ordering, Less, Equal, Greater}
+use Rattle.std.specs.Prelude.{⊤, is_some}
 use Rattle.std.specs.Ordering.{nat_cmp, ordering_then, is_gt, is_eq}
 use Rattle.std.specs.BTreeMap.{BTreeMap, UpdatesBy, is_at}
 use Rattle.std.specs.BTreeMap as tree
@@ -7,9 +8,7 @@ use Rattle.std.specs.Cmp.{unsigned_tied, nat_cmp_is, nat_cmp_total}
 use Rattle.std.proofs.lemmas.Cmp.{tied_itself}
 use Rattle.std.proofs.lemmas.Map.Keys.{le_from_not_gt}
 use Rattle.std.proofs.lemmas.Bool.{cases_lt, cases_Bool, eqb-true, and_parts, both_ways}
-use Rattle.dds_base.specs.declared.sample.Sample.{Sample}
-use Rattle.dds_cache.specs.Order.{Samples, pair_cmp, at}
-use Rattle.dds_cache.specs.Queues.{place_cmp}
+use Rattle.dds_cache.specs.Order.{pair_cmp, place_cmp}
 
 -- nothing is not something
 pub none_some : {A : Type 0} {o : Option A} {x : A} → o ≡ None → o ≡ Some x → ⊥
@@ -88,39 +87,39 @@ not_gt_from_le a b le = elim (cases_lt a b) [
   | inr ge ↦ ap is_gt (sym (nat_cmp_is a b Equal (omega arith)))
 ]
 
--- the pair is within the range from (k, 0) to (k, top)
-abbrev pub IsWithin : {A : Type 0} → (A → A → Ordering) → A → ℕ → A × ℕ → Type 0
-IsWithin cmp k top p = (is_gt (by_pair cmp (k, 0) p) ≡ false) × (is_gt (by_pair cmp p (k, top)) ≡ false)
+-- a pair is not before that of its first part with the number 0
+pub from_zero : {A : Type 0} (cmp : A → A → Ordering) → IsExact cmp → (k : A) (n : ℕ) → is_gt (by_pair cmp (k, 0) (k, n)) ≡ false
+from_zero cmp exact k n = ap is_gt (same_first cmp exact k 0 n) ∙ not_gt_from_le 0 n (omega arith)
 
--- a pair of that first part with a number up to the top is
-within : {A : Type 0} (cmp : A → A → Ordering) → IsExact cmp → (k : A) (top n : ℕ) → n ≤ top → IsWithin cmp k top (k, n)
-within cmp exact k top n le = (
-  ap is_gt (same_first cmp exact k 0 n) ∙ not_gt_from_le 0 n (omega arith),
-  ap is_gt (same_first cmp exact k n top) ∙ not_gt_from_le n top le,
-)
-
--- the first entry of such a range has the first part, and the least number of those that the map has with it
-pub first_is : {A V : Type 0} (cmp : A → A → Ordering) → IsExact cmp → (m : BTreeMap (A × ℕ) V) (k : A) (top : ℕ) (r t : List ((A × ℕ) × V)) (e : (A × ℕ) × V)
+-- the first entry from the number 0 of a first part on is the map's, has that part where the map has any of it, and the least number of those
+pub first_from : {A V : Type 0} (cmp : A → A → Ordering) → IsExact cmp → (m : BTreeMap (A × ℕ) V) (k : A) (r t : List ((A × ℕ) × V)) (e : (A × ℕ) × V)
     → r ≡ e ∷ t
-    → IfSome (slice_get r 0) (λ e. IsWithin cmp k top e.0 × (tree.get (by_pair cmp) m e.0 ≡ Some e.1))
-    → ((q : A × ℕ) → IsWithin cmp k top q → IsSome (tree.get (by_pair cmp) m q) → IfSome (slice_get r 0) (λ e. is_gt (by_pair cmp e.0 q) ≡ false))
-    → (e.0.1 ≤ top) × (tree.get (by_pair cmp) m (k, e.0.1) ≡ Some e.1) × ((s : ℕ) → s ≤ top → IsSome (tree.get (by_pair cmp) m (k, s)) → e.0.1 ≤ s)
-first_is {A} {V} cmp exact m k top r t e eq hd ls =
-    let here = subst (λ (l : List ((A × ℕ) × V)). IfSome (slice_get l 0) (λ e. IsWithin cmp k top e.0 × (tree.get (by_pair cmp) m e.0 ≡ Some e.1))) eq hd in
-    let same : k ≡ e.0.0 =
-    exact.squeezed k e.0.0 (first_not_gt (cmp k e.0.0) (nat_cmp 0 e.0.1) here.0.0) (first_not_gt (cmp e.0.0 k) (nat_cmp e.0.1 top) here.0.1) in (
-      numbers_le cmp exact e.0.0 k e.0.1 top (sym same) here.0.1,
-      ap (λ (a : A). tree.get (by_pair cmp) m (a, e.0.1)) same ∙ here.1,
-      λ s le there.
+    → IfSome (slice_get r 0) (λ e. ((is_gt (by_pair cmp (k, 0) e.0) ≡ false) × ⊤) × (tree.get (by_pair cmp) m e.0 ≡ Some e.1))
+    → ((q : A × ℕ) → (is_gt (by_pair cmp (k, 0) q) ≡ false) × ⊤ → IsSome (tree.get (by_pair cmp) m q) → IfSome (slice_get r 0) (λ e. is_gt (by_pair cmp e.0 q) ≡ false))
+    → (tree.get (by_pair cmp) m e.0 ≡ Some e.1) × ((s : ℕ) → IsSome (tree.get (by_pair cmp) m (k, s)) → (e.0.0 ≡ k) × (e.0.1 ≤ s))
+first_from {A} {V} cmp exact m k r t e eq hd ls =
+    let here = subst (λ (l : List ((A × ℕ) × V)). IfSome (slice_get l 0) (λ e. ((is_gt (by_pair cmp (k, 0) e.0) ≡ false) × ⊤) × (tree.get (by_pair cmp) m e.0 ≡ Some e.1))) eq hd in (
+      here.1,
+      λ s there.
           let up = subst (λ (l : List ((A × ℕ) × V)). IfSome (slice_get l 0) (λ e. is_gt (by_pair cmp e.0 (k, s)) ≡ false)) eq
-          (ls (k, s) (within cmp exact k top s le) there) in
-          numbers_le cmp exact e.0.0 k e.0.1 s (sym same) up,
+          (ls (k, s) (from_zero cmp exact k s, tt) there) in
+          let same : k ≡ e.0.0 =
+          exact.squeezed k e.0.0 (first_not_gt (cmp k e.0.0) (nat_cmp 0 e.0.1) here.0.0) (first_not_gt (cmp e.0.0 k) (nat_cmp e.0.1 s) up) in
+          (sym same, numbers_le cmp exact e.0.0 k e.0.1 s (sym same) up),
     )
 
--- where such a range is empty the map has no number up to its top with the first part
-pub none_is : {A V : Type 0} (cmp : A → A → Ordering) → IsExact cmp → (m : BTreeMap (A × ℕ) V) (k : A) (top : ℕ)
-    → ((q : A × ℕ) → IsWithin cmp k top q → tree.get (by_pair cmp) m q ≡ None) → (s : ℕ) → s ≤ top → tree.get (by_pair cmp) m (k, s) ≡ None
-none_is cmp exact m k top h s le = h (k, s) (within cmp exact k top s le)
+-- so where that entry is none of the first part up to a top the map has none
+pub none_from : {A V : Type 0} (cmp : A → A → Ordering) (m : BTreeMap (A × ℕ) V) (k : A) (top : ℕ) (p : A × ℕ)
+    → ((s : ℕ) → IsSome (tree.get (by_pair cmp) m (k, s)) → (p.0 ≡ k) × (p.1 ≤ s))
+    → (p.0 ≡ k → p.1 ≤ top → ⊥) → (s : ℕ) → s ≤ top → tree.get (by_pair cmp) m (k, s) ≡ None
+none_from {A} {V} cmp m k top p first not s le = go (tree.get (by_pair cmp) m (k, s)) refl
+  where
+    go : (o : Option V) → tree.get (by_pair cmp) m (k, s) ≡ o → o ≡ None
+    go None is = refl
+    go (Some v) is =
+        let f = first s (ap is_some is) in
+        let less : p.1 ≤ s = f.1 in
+        absurd (not f.0 (omega (arith, less, le)))
 
 -- a change at one key: there the new value, at each other key the old one
 pub changed : {A V : Type 0} (cmp : A → A → Ordering) → IsExact cmp → (m n : BTreeMap A V) (p : A) (w : Option V) → UpdatesBy cmp (cmp p) m n w → (q : A)
@@ -129,8 +128,3 @@ changed {A} cmp exact m n p w u q = elim (cases_Bool (is_at (cmp p) q)) [
   | inl hit ↦ (let e = exact.same p q hit in inl (e, ap (λ (a : A). tree.get cmp n a) (sym e) ∙ u.1))
   | inr miss ↦ inr (λ e. both_ways (is_at (cmp p) q) miss (ap (λ (a : A). is_at (cmp p) a) (sym e) ∙ ap is_eq (exact.tied p)), u.2 q miss)
 ]
-
--- a sample with a ticket after a change at a ticket
-pub at_after : (m n : Samples) (t : ℕ) (w : Option Sample) → UpdatesBy nat_cmp (nat_cmp t) m n w → (s : ℕ)
-    → ((t ≡ s) × (at n s ≡ w)) ⊎ ((t ≡ s → ⊥) × (at n s ≡ at m s))
-at_after m n t w u s = changed nat_cmp exact_nat m n t w u s

@@ -68,7 +68,7 @@ impl Cache {
         let rising = are_rising(&listed);
         Ok(Cache {
             limits,
-            contents: Contents::new(alloc),
+            contents: Contents::new(alloc, limits.keep_last.is_some()),
             writers: listed,
             rising,
         })
@@ -93,7 +93,7 @@ impl Cache {
     pub fn unread(&self, key: KeyNo) -> usize
         ensures { result ≡ in_instance key self.now.stored }
     {
-        self.contents.unread(key)
+        self.contents.count(key).unwrap_or(0)
     }
 
     /// What `admit` would answer on the sample, memory aside. It changes nothing: a caller that needs memory of its own
@@ -101,12 +101,12 @@ impl Cache {
     pub fn admission(&self, sample: &Sample) -> Admit
         ensures { result ≡ admission self.now.limits self.now.stored self.now.keys sample.now }
     {
+        let count = self.contents.count(sample.key);
         let full = is_reached(self.limits.max_instances, self.instances());
-        let known = self.knows(sample.key);
-        if full && !known {
+        if full && count.is_none() {
             return Admit::Rejected(Rejection::InstancesLimit);
         }
-        let unread = self.unread(sample.key);
+        let unread = count.unwrap_or(0);
         if is_reached(self.limits.keep_last, unread) {
             return Admit::Overwrote(self.contents.oldest(sample));
         }
@@ -169,13 +169,7 @@ impl Cache {
         ensures state { MatchOption result (self.new ≡ self.old)
             (λ x. self.new ≡ record self.old { stored = without x self.old.stored }) }
     {
-        let ticket = self.contents.least(&self.writers, key)?;
-        self.contents.remove(ticket)
-    }
-
-    fn knows(&self, key: KeyNo) -> bool
-        ensures { result ≡ set.contains self.now.keys key }
-    {
-        self.contents.knows(key)
+        let place = self.contents.least(&self.writers, key)?;
+        self.contents.remove(place)
     }
 }

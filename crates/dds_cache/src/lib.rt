@@ -6,11 +6,11 @@
 //! call changes what its contract names and nothing else; a call that answers `Err` found no memory, and changed
 //! nothing.
 //!
-//! The samples stand in a map by the ticket of their admission, and beside it the tickets of each key, for each key and
-//! writer the numbers in order, and for each key ever stored how many samples it has. So no call walks over the stored
-//! samples: each takes a few steps in such maps, `take` a few for each writer, and `new` walks over the writers alone.
-//! `release` finds its writer by halving where the writers stand in order of their numbers, and walks over them where
-//! they don't.
+//! The samples stand in one map, by key, writer and number, each with the ticket of its admission; under KEEP_LAST a
+//! second one has the tickets of each key. A small one has for each key ever stored how many samples it has. So no call
+//! walks over the stored samples: one that is stored goes into one map, under KEEP_LAST into two, and one that is taken
+//! or replaced leaves as many. `take` looks once for each writer, and `new` walks over the writers alone. `release`
+//! finds its writer by halving where the writers stand in order of their numbers, and walks over them where they don't.
 #![tactic(auto)]
 
 pub mod cache;

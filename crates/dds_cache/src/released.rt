@@ -23,7 +23,7 @@ impl Numbered for Released {
 }
 
 // Makes one writer's samples up to a number available. A number below what is released already changes nothing. Where
-// the writers stand in order of their numbers, which `rising` tells, the one is found by halving.
+// the writers stand in order of their numbers, which `rising` says, the one is found by halving.
 pub(crate) fn raise(writers: &mut [Released], rising: bool, writer: WriterNo, upto: u64)
     requires { IsTrue rising → AreRising (λ r. r.writer) writers.old }
     ensures { writers.new ≡ raised writer upto writers.old }

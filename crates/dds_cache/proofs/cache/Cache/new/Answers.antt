@@ -1,4 +1,5 @@
 use Rattle.std.proofs.Common.{◌≡◌, ◌∙◌, ap, subst, sym, ℕ, List, rules}
+use Rattle.std.specs.Map.{values_of}
 use Rattle.std.proofs.lemmas.List.{take_all}
 use Rattle.std.proofs.lemmas.List.Elements.{All-nil}
 use Rattle.dds_base.specs.declared.sample.Sample.{Sample}
@@ -14,6 +15,7 @@ invariant_of-result c =
     c.loop-writer.invariant.0 ∙ ap (λ (l : List ℕ). opened l) (take_all c.loop-writer.writer-index c.args.writers.now c.loop-writer-test.false) in
     record {
       uniform = subst (λ (l : List Released). IsUniform l) (sym is) (uniform_opened c.args.writers.now);
-      listed = subst (λ (l : List Sample). AreListed l c.loop-writer.listed.items) (sym c.new.ensures.stored) (All-nil _);
+      listed = subst (λ (l : List Sample). AreListed l c.loop-writer.listed.items) (sym (ap (λ es. values_of es) c.new.ensures.stored)) (All-nil _);
       rising = search rules;
+      aged = search rules;
     }

@@ -6,5 +6,5 @@ use Rattle.dds_cache.proofs.order.Order.first_of.Goals as goal
 pub returns : goal.returns
 returns c =
     let s = c.args.self.now in
-    first_of_tickets s.samples s.tickets s.next c.args.key c.first_in.result s.indexed s.below s.small
+    first_of_tickets s.places s.tickets c.args.key c.first_in.result s.ordered (s.indexed c.requires)
     (subst (λ (k : ℕ). IsFirstIn s.tickets k c.first_in.result) c.number.ensures c.first_in.ensures)

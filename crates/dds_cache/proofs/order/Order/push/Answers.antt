@@ -1,39 +1,64 @@
-use Rattle.std.proofs.Common.{◌≡◌, ◌∙◌, sym, ap, refl, arith, rules}
-use Rattle.std.specs.Ordering.{nat_cmp}
-use Rattle.std.specs.BTreeMap.{is_at}
-use Rattle.std.specs.Map.{lookup}
-use Rattle.dds_cache.specs.Order.{at, has_key}
-use Rattle.dds_cache.proofs.PairLaws.{next_free, indexed_push, indexed_undo, below_push}
-use Rattle.dds_cache.proofs.PlaceLaws.{pushed_entries}
+use Rattle.std.proofs.Common.{◌≡◌, ◌∙◌, ◌+◌, ◌<◌, List, Some, get_or, sym, ap, subst, arith, rules}
+use Rattle.std.specs.List.{All}
+use Rattle.std.specs.Map.{values_of, remove_entry}
+use Rattle.std.specs.BTreeMap.{insert_entry, is_at}
+use Rattle.std.proofs.lemmas.Map.Views.{All-values-insert_entry}
+use Rattle.dds_cache.specs.Order.{Place, Held, Samples, place_cmp, place_of, are_apart, by_ticket, samples_of}
+use Rattle.dds_cache.proofs.PairLaws.{indexed_push, indexed_same, past_none}
+use Rattle.dds_cache.proofs.TicketLaws.{Changes, came, apart_came, changes_last, out_of_places}
 use Rattle.dds_cache.proofs.order.Order.push.Goals as goal
+
+pub returns-in-Err-clause-err : goal.returns-in-Err-clause-err
+returns-in-Err-clause-err c =
+    let s = c.args.self.now in
+    let x = c.args.sample.now in
+    let h : Held = (s.next, x.payload) in
+    let in_places : c.insert.new.self.entries ≡ insert_entry place_cmp s.places.entries (place_of x) h = search rules in
+    let out : c.remove.new.self.entries ≡ remove_entry (is_at (place_cmp (place_of x))) c.insert.new.self.entries = search rules in
+    out ∙ ap (λ es. remove_entry (is_at (place_cmp (place_of x))) es) in_places ∙ out_of_places s.places.entries (place_of x) h c.requires
 
 pub invariant_of-self-in-Err : goal.invariant_of-self-in-Err
 invariant_of-self-in-Err c =
     let s = c.args.self.now in
-    let none = next_free s.samples s.next s.below (at s.samples s.next) refl in
-    let same : c.insert-2.new.self.entries ≡ s.samples.entries = search rules in record {
-      ordered = c.insert-2.ensures.ordered;
-      small = s.small;
-      below = λ t x there. s.below t x (ap (λ es. lookup (is_at (nat_cmp t)) es) (sym same) ∙ there);
-      indexed = λ k t.
-          indexed_undo s.samples s.tickets c.insert.new.self c.remove.new.self c.number-key.result s.next s.indexed none (search rules) (search rules) k t
-          ∙ ap (λ es. has_key k (lookup (is_at (nat_cmp t)) es)) (sym same);
+    let x = c.args.sample.now in
+    let h : Held = (s.next, x.payload) in
+    let in_places : c.insert.new.self.entries ≡ insert_entry place_cmp s.places.entries (place_of x) h = search rules in
+    let out : c.remove.new.self.entries ≡ remove_entry (is_at (place_cmp (place_of x))) c.insert.new.self.entries = search rules in
+    let back : c.remove.new.self.entries ≡ s.places.entries =
+    out ∙ ap (λ es. remove_entry (is_at (place_cmp (place_of x))) es) in_places ∙ out_of_places s.places.entries (place_of x) h c.requires in
+    record {
+      ordered = c.remove.ensures.ordered;
+      below = subst (λ (es : List (Place × Held)). All (λ (g : Held). g.0 < s.next) (values_of es)) (sym back) s.below;
+      apart = ap (λ es. are_apart es) back ∙ s.apart;
+      indexed = λ on. indexed_same (samples_of s.places) (samples_of c.remove.new.self) s.tickets c.list.new.tickets (s.indexed on)
+          (ap (λ es. by_ticket es) back) (search rules);
     }
+
+pub returns-clause-samples : goal.returns-clause-samples
+returns-clause-samples c =
+    let s = c.args.self.now in
+    let x = c.args.sample.now in
+    let h : Held = (s.next, x.payload) in
+    let in_places : c.insert.new.self.entries ≡ insert_entry place_cmp s.places.entries (place_of x) h = search rules in
+    ap (λ es. by_ticket es) in_places ∙ came s.places.entries (place_of x) h c.requires s.below
 
 pub invariant_of-self-2 : goal.invariant_of-self-2
 invariant_of-self-2 c =
     let s = c.args.self.now in
-    let none = next_free s.samples s.next s.below (at s.samples s.next) refl in
+    let x = c.args.sample.now in
+    let h : Held = (s.next, x.payload) in
+    let m = samples_of s.places in
+    let n = samples_of c.insert.new.self in
+    let in_places : c.insert.new.self.entries ≡ insert_entry place_cmp s.places.entries (place_of x) h = search rules in
+    let none = past_none s.places s.next s.next s.below (omega arith) in
+    let grown = ap (λ es. by_ticket es) in_places ∙ came s.places.entries (place_of x) h c.requires s.below in
+    let less : (g : Held) → g.0 < s.next → g.0 < s.next + 1 = λ g lt. omega (arith, lt) in
     record {
-      ordered = c.insert-2.ensures.ordered;
-      small = omega arith;
-      below = below_push s.samples c.insert-2.new.self s.next c.args.sample.now s.below (search rules);
-      indexed = indexed_push s.samples c.insert-2.new.self s.tickets c.insert.new.self s.next c.args.sample.now s.indexed none
-          (search rules)
-          (search rules);
+      ordered = c.insert.ensures.ordered;
+      below = subst (λ (es : List (Place × Held)). All (λ (g : Held). g.0 < s.next + 1) (values_of es)) (sym in_places)
+          (All-values-insert_entry place_cmp (place_of x) h (λ (g : Held). g.0 < s.next + 1) s.places.entries
+          (λ k d lt. less (get_or (values_of s.places.entries) k d) (s.below k d lt)) (omega arith));
+      apart = ap (λ es. are_apart es) in_places ∙ apart_came s.places.entries (place_of x) h c.requires s.below s.apart;
+      indexed = λ on. indexed_push m n s.tickets c.list.new.tickets s.next x (s.indexed on) none (search rules)
+          (subst (λ (l : Samples). Changes m l s.next (Some x)) (sym grown) (changes_last m s.next x none));
     }
-
-pub returns-clause-entries : goal.returns-clause-entries
-returns-clause-entries c =
-    let s = c.args.self.now in
-    search rules ∙ pushed_entries s.samples s.next c.args.sample.now s.ordered s.below
