@@ -41,12 +41,12 @@ reading_fault fault.Write is = absurd is
 reading_fault fault.Run is = absurd is
 
 -- the bytes of two files are few enough, or those of one aren't
-few : (d c : List ℕ) → length d ≤ 1048576 → length c ≤ 1048576 → (nat_le (length d) 1048576 && nat_le (length c) 1048576) ≡ true
-few d c one other = rw (le-leb (length d) 1048576 one, le-leb (length c) 1048576 other) refl
+pub few : (most : ℕ) (d c : List ℕ) → length d ≤ 1048576 → length c ≤ most → (nat_le (length d) 1048576 && nat_le (length c) most) ≡ true
+few most d c one other = rw (le-leb (length d) 1048576 one, le-leb (length c) most other) refl
 
-many : (d c : List ℕ) → (1048576 < length d) ⊎ (1048576 < length c) → (nat_le (length d) 1048576 && nat_le (length c) 1048576) ≡ false
-many d c (inl more) = rw (lt-leb (length d) 1048576 more) refl
-many d c (inr more) = rw (lt-leb (length c) 1048576 more) (either (nat_le (length d) 1048576))
+many : (most : ℕ) (d c : List ℕ) → (1048576 < length d) ⊎ (most < length c) → (nat_le (length d) 1048576 && nat_le (length c) most) ≡ false
+many most d c (inl more) = rw (lt-leb (length d) 1048576 more) refl
+many most d c (inr more) = rw (lt-leb (length c) most more) (either (nat_le (length d) 1048576))
   where
     either : (b : Bool) → (b && false) ≡ false
     either true = refl
@@ -54,16 +54,16 @@ many d c (inr more) = rw (lt-leb (length c) 1048576 more) (either (nat_le (lengt
 
 -- so a command on them ends as on their bytes, or since one is too large
 pub few_of_files : (d c : List ℕ) (end : Outcome) → length d ≤ 1048576 → length c ≤ 1048576 → of_files d c end ≡ end
-few_of_files d c end one other = rw (few d c one other) refl
+few_of_files d c end one other = rw (few 1048576 d c one other) refl
 
 pub large_of_files : (d c : List ℕ) (end : Outcome) → (1048576 < length d) ⊎ (1048576 < length c) → of_files d c end ≡ too_large
-large_of_files d c end more = rw (many d c more) refl
+large_of_files d c end more = rw (many 1048576 d c more) refl
 
 pub large_of_file : (May : Outcome → Type 0) (d : List ℕ) → 1048576 < length d → MayOfFile d May too_large
 large_of_file May d more = rw (lt-leb (length d) 1048576 more) refl
 
-pub large_of_two : (May : Outcome → Type 0) (d c : List ℕ) → (1048576 < length d) ⊎ (1048576 < length c) → MayOfFiles d c May too_large
-large_of_two May d c more = rw (many d c more) refl
+pub large_of_two : (May : Outcome → Type 0) (most : ℕ) (d c : List ℕ) → (1048576 < length d) ⊎ (most < length c) → MayOfFiles most d c May too_large
+large_of_two May most d c more = rw (many most d c more) refl
 
 -- one of the ends that may be of bytes that are few enough
 pub few_gives : (b : Bool) (May : Outcome → Type 0) (r : Result Answer ToolFault) → b ≡ true → GivesOneOf May r → GivesOneOf (MayIf b May) r
@@ -73,10 +73,6 @@ few_gives b May (Err e) is (inr (end, may, ends)) = inr (end, rw is may, ends)
 
 pub file_gives : (May : Outcome → Type 0) (d : List ℕ) (r : Result Answer ToolFault) → length d ≤ 1048576 → GivesOneOf May r → GivesOneOf (MayOfFile d May) r
 file_gives May d r small gives = few_gives (nat_le (length d) 1048576) May r (le-leb (length d) 1048576 small) gives
-
-pub files_give : (May : Outcome → Type 0) (d c : List ℕ) (r : Result Answer ToolFault) → length d ≤ 1048576 → length c ≤ 1048576 → GivesOneOf May r
-    → GivesOneOf (MayOfFiles d c May) r
-files_give May d c r one other gives = few_gives (nat_le (length d) 1048576 && nat_le (length c) 1048576) May r (few d c one other) gives
 
 -- what is given of an end that may be
 pub one_of : (May : Outcome → Type 0) (end : Outcome) (r : Result Answer ToolFault) → May end → Gives r end → GivesOneOf May r

@@ -1,5 +1,5 @@
 -- How a search for a certificate ends.
-use Rattle.std.proofs.Common.{◌≡◌, ◌<◌, ℕ, Bool, true, false, List, length, nat_le, Result, Ok, Err, refl, inl, inr, string_bytes}
+use Rattle.std.proofs.Common.{◌≡◌, Result, Ok, Err, refl, inl, string_bytes}
 use Rattle.std.specs.Result.{IsErrAnd}
 use Rattle.dds_fields.specs.Reading.{Read}
 use Rattle.dds_lists.specs.Lists.{Lists}
@@ -8,11 +8,9 @@ use Rattle.dds_answers.specs.declared.answer.Answer.{Answer}
 use Rattle.dds_answers.specs.declared.fault.ToolFault.{ToolFault}
 use Rattle.dds_answers.specs.declared.fault.ToolFault.TheVariants as fault
 use Rattle.dds_answers.specs.Answers.{Gives}
-use Rattle.dds_answers.specs.Outcome.{MayIf, MayOfFile, Outcome, bad_deployment, too_large, unproposed}
+use Rattle.dds_answers.specs.Outcome.{Outcome, bad_deployment, unproposed}
 use Rattle.dds_answers.specs.Proposals.{MaySeek}
-use Rattle.dds_answers.specs.Reading.{IsReadingFault}
-use Rattle.dds_answers.specs.Report.{Ends, IsUnread}
-use Rattle.dds_answers.proofs.FileEnds.{any_end, large_of_file, reading_fault}
+use Rattle.dds_answers.specs.Report.{IsUnread}
 use Rattle.dds_answers.proofs.Unread.{by_fault}
 
 -- a search for a certificate always has some end
@@ -36,16 +34,3 @@ unread_seeks IsSought read (Ok answer) f same is = absurd same
 unread_seeks IsSought read (Err g) f same is =
     rw same (by_fault read (λ e. (end : Outcome) × MaySeek IsSought read end × Gives (Err e) end)
     (λ flaw syntax bad. rw bad (bad_deployment (flaw.kind, string_bytes flaw.path), refl, refl)) (memory_ends IsSought read) f is)
-
--- the same of a file
-some_end_if : (IsSought : Lists → Certificate → Type 0) (few : Bool) (read : Read Lists) → (end : Outcome) × MayIf few (MaySeek IsSought read) end
-some_end_if IsSought true read = some_end IsSought read
-some_end_if IsSought false read = (too_large, refl)
-
--- the fault of a file that could not be read is one that the search can end with
-pub unread_file_seeks : (IsSought : Lists → Certificate → Type 0) (d : List ℕ) (read : Read Lists) (f : ToolFault) → IsReadingFault f → (f ≡ fault.TooLarge → 1048576 < length d)
-    → (end : Outcome) × MayOfFile d (MaySeek IsSought read) end × Ends f end
-unread_file_seeks IsSought d read f is large = elim (reading_fault f is) [
-  | inl same ↦ rw same (too_large, large_of_file (MaySeek IsSought read) d (large same), refl)
-  | inr nothing ↦ let e = some_end_if IsSought (nat_le (length d) 1048576) read in (e.0, e.1, any_end f e.0 nothing)
-]

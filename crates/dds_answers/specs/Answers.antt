@@ -17,7 +17,7 @@ answer_exit is_yes = if is_yes then exit.Yes else exit.No
 abbrev pub answer_status : Bool → ℕ
 answer_status is_yes = exit_status (answer_exit is_yes)
 
--- the text and the status are those of this end
+-- the text and the status belong to this end
 abbrev pub IsAnswer : Answer → Outcome → Type 0
 IsAnswer answer end = (string_bytes answer.text ≡ output_of end) × (answer_status answer.is_yes ≡ status_of end)
 

@@ -6,7 +6,7 @@ use Rattle.dds_lists.specs.Lists.{Lists}
 use Rattle.dds_match.specs.Plan.{network_of}
 use Rattle.dds_show.specs.Connections.{connections_text}
 use Rattle.dds_answers.specs.Matches.{is_as_intended}
-use Rattle.dds_answers.specs.Outcome.{Outcome, bad_deployment, of_file, said}
+use Rattle.dds_answers.specs.Outcome.{Outcome, bad_deployment, said}
 
 -- the tables of the pairs that match, and yes where exactly these are the connections
 abbrev pub connected : Lists → Outcome
@@ -20,7 +20,3 @@ connecting (Err flaw) = bad_deployment flaw
 -- how that ends for a deployment with these bytes
 unfoldable pub connections_outcome : List ℕ → Outcome
 connections_outcome d = connecting (deployment.read d)
-
--- how that ends for a file with these bytes
-unfoldable pub connections_file_outcome : List ℕ → Outcome
-connections_file_outcome d = of_file d (connections_outcome d)

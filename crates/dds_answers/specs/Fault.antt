@@ -1,4 +1,4 @@
--- What users are told of a fault.
+-- The lines that report a fault.
 use Rattle.std.specs.Prelude.{ℕ, List, [], Option, Some, None, ◌++◌, length, codes, string_bytes, ◌==◌, if◌then◌else◌}
 use Rattle.std.specs.Fmt.{decimal}
 use Rattle.dds_fields.specs.FaultTable as deployment
@@ -26,13 +26,13 @@ line_flaw file number name line =
     then codes "ddscheck: " ++ (file ++ (codes " " ++ (decimal number ++ (codes " " ++ (name ++ codes "\n")))))
     else codes "ddscheck: " ++ (file ++ (codes " " ++ (decimal number ++ (codes " " ++ (name ++ (codes " line " ++ (decimal line ++ codes "\n")))))))
 
--- what the parser says of a file that is no TOML, where that is told
+-- what the parser says of a file that is no TOML, where that is printed
 abbrev pub syntax_line : Option SyntaxError → List ℕ
 syntax_line None = []
 syntax_line (Some e) =
     codes "because line " ++ (decimal e.line ++ (codes ", column " ++ (decimal e.column ++ (codes ": " ++ (string_bytes e.message ++ codes "\n")))))
 
--- the line that is told of a fault, and after it where a file is no TOML, if that is told
+-- the line that reports a fault, and after it where a file is no TOML, if that is printed
 abbrev pub fault_line : ToolFault → List ℕ
 fault_line (fault.Usage text) = string_bytes text
 fault_line (fault.Deployment flaw syntax) =

@@ -1,4 +1,4 @@
--- The lines that tell which endpoints match, and whether these are the connections.
+-- The lines that say which endpoints match, and whether these are the connections.
 use Rattle.std.specs.Prelude.{ℕ, Bool, not, if◌then◌else◌, List, ◌++◌, codes, Option, Some, None}
 use Rattle.dds_lists.specs.Lists.{Lists}
 use Rattle.dds_match.specs.Matching.{why_not}

@@ -1,8 +1,8 @@
--- What is told beside an answer, on the error output.
+-- What goes to the error output beside an answer.
 use Rattle.std.specs.Prelude.{ℕ, List, ◌++◌, codes, length, nat_le, Option, Some, None, if◌then◌else◌}
 use Rattle.std.specs.Fmt.{decimal}
 
--- a text that is longer than a file may be is told with its length
+-- a text that is longer than a file may be is reported with its length
 abbrev pub length_note : List ℕ → Option (List ℕ)
 length_note text =
     if nat_le (length text) 1048576 then None

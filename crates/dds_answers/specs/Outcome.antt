@@ -13,7 +13,7 @@ use Rattle.dds_check.specs.declared.verdict.No.{No}
 use Rattle.dds_events.specs.declared.fault.EventsFaultKind.{EventsFaultKind}
 use Rattle.dds_conform.specs.declared.fault.TraceFaultKind.{TraceFaultKind}
 
--- the certificate is accepted, or a condition fails, and either may be told with its reason, or the endpoints are compared, or a certificate is proposed or
+-- the certificate is accepted, or a condition fails, and either may be printed with its reason, or the endpoints are compared, or a certificate is proposed or
 -- none is found, or a deployment is migrated to this text, or it is shown in a format, or it is drawn, with its certificate if there is one, or these
 -- lines are said, with a yes or a no, or a file has a flaw, or a file has too many bytes
 pub data Outcome : Type 0 where
@@ -65,10 +65,6 @@ abbrev pub told : Detail → Outcome → Outcome
 told Plain end = end
 told Explained end = because end
 
--- this end of a command on a file with these bytes, if it isn't too large: it is read whole before it is parsed
-abbrev pub of_file : List ℕ → Outcome → Outcome
-of_file d end = if nat_le (length d) 1048576 then end else too_large
-
 -- this end of a command on two files with these bytes, if neither is too large: both are read whole before either is parsed
 abbrev pub of_files : List ℕ → List ℕ → Outcome → Outcome
 of_files d c end = if nat_le (length d) 1048576 && nat_le (length c) 1048576 then end else too_large
@@ -82,15 +78,16 @@ MayIf false May end = end ≡ too_large
 abbrev pub MayOfFile : List ℕ → (Outcome → Type 0) → Outcome → Type 0
 MayOfFile d May end = MayIf (nat_le (length d) 1048576) May end
 
--- an end that may be of a command on two files with these bytes, if neither is too large: both are read whole before either is parsed
-abbrev pub MayOfFiles : List ℕ → List ℕ → (Outcome → Type 0) → Outcome → Type 0
-MayOfFiles d c May end = MayIf (nat_le (length d) 1048576 && nat_le (length c) 1048576) May end
+-- an end that may be of a command on two files with these bytes, if neither is too large: the second may have so many bytes, and both are read whole before
+-- either is parsed
+abbrev pub MayOfFiles : (most : ℕ) → List ℕ → List ℕ → (Outcome → Type 0) → Outcome → Type 0
+MayOfFiles most d c May end = MayIf (nat_le (length d) 1048576 && nat_le (length c) most) May end
 
 -- how a check of two files with these bytes ends
 unfoldable pub file_outcome : List ℕ → List ℕ → Outcome
 file_outcome d c = of_files d c (outcome d c)
 
--- how it is told
+-- how it is printed
 unfoldable pub check_file_outcome : Detail → List ℕ → List ℕ → Outcome
 check_file_outcome detail d c = of_files d c (told detail (outcome d c))
 
@@ -103,10 +100,6 @@ comparison (Err flaw) = bad_deployment flaw
 unfoldable pub match_outcome : List ℕ → Outcome
 match_outcome d = comparison (deployment.read d)
 
--- how a comparison of the endpoints of a file with these bytes ends
-unfoldable pub match_file_outcome : List ℕ → Outcome
-match_file_outcome d = of_file d (match_outcome d)
-
 -- a deployment is shown, if the bytes are one
 abbrev pub showing : Format → Read Lists → Outcome
 showing format (Ok lists) = shown format lists
@@ -115,10 +108,6 @@ showing format (Err flaw) = bad_deployment flaw
 -- how a showing of a deployment with these bytes ends
 unfoldable pub show_outcome : Format → List ℕ → Outcome
 show_outcome format d = showing format (deployment.read d)
-
--- how a showing of a file with these bytes ends
-unfoldable pub show_file_outcome : Format → List ℕ → Outcome
-show_file_outcome format d = of_file d (show_outcome format d)
 
 -- a deployment is drawn with its certificate, if it is one for these lists
 abbrev pub drawing_with : Lists → Read Certificate → Outcome
@@ -134,8 +123,3 @@ drawing (Err flaw) c = bad_deployment flaw
 -- how a drawing of a deployment with these bytes ends
 unfoldable pub draw_outcome : List ℕ → Option (List ℕ) → Outcome
 draw_outcome d c = drawing (deployment.read d) c
-
--- how a drawing of a file with these bytes, and of a second one if there is one, ends
-unfoldable pub draw_file_outcome : List ℕ → Option (List ℕ) → Outcome
-draw_file_outcome d None = of_file d (draw_outcome d None)
-draw_file_outcome d (Some c) = of_files d c (draw_outcome d (Some c))

@@ -14,7 +14,7 @@ use Rattle.dds_answers.specs.Outcome.{MayOfFile, Outcome, bad_deployment, propos
 abbrev pub IsProposed : Lists → Certificate → Type 0
 IsProposed lists cert = (fits (network_of lists) cert ≡ true) × (first_no lists cert ≡ None) × IsProposal (network_of lists) cert
 
--- of a deployment that can be read a certificate is proposed that is one of those that are looked for, or none; a flaw of the deployment is told
+-- of a deployment that can be read a certificate is proposed that is one of those that are looked for, or none; a flaw of the deployment is reported
 abbrev pub MaySeek : (Lists → Certificate → Type 0) → Read Lists → Outcome → Type 0
 MaySeek IsSought (Ok lists) end = (end ≡ unproposed) ⊎ ((cert : Certificate) × IsSought lists cert × (end ≡ proposed lists cert))
 MaySeek IsSought (Err flaw) end = end ≡ bad_deployment flaw
@@ -22,7 +22,3 @@ MaySeek IsSought (Err flaw) end = end ≡ bad_deployment flaw
 -- the certificate of the rounds, which is accepted, or none
 abbrev pub MayPropose : Read Lists → Outcome → Type 0
 MayPropose read end = MaySeek IsProposed read end
-
--- the same of a file with these bytes
-abbrev pub MayProposeFor : List ℕ → Outcome → Type 0
-MayProposeFor d end = MayOfFile d (MayPropose (deployment.read d)) end

@@ -23,7 +23,7 @@ begins_character byte = not (is_between 128 191 byte)
 abbrev pub column_after : List ℕ → ℕ
 column_after before = 1 + length (filter begins_character (take_while (λ byte. not (byte == 10)) (reverse before)))
 
--- the line and the column are those of a place of the text
+-- the line and the column point at a place of the text
 abbrev pub IsPlaced : List ℕ → SyntaxError → Type 0
 IsPlaced bytes error = (n : ℕ) × (n ≤ length bytes) × (error.line ≡ line_after (take n bytes)) × (error.column ≡ column_after (take n bytes))
 
@@ -32,7 +32,7 @@ abbrev pub IsSyntaxOf : List ℕ → Option SyntaxError → Type 0
 IsSyntaxOf bytes None = IsSome (document bytes)
 IsSyntaxOf bytes (Some error) = (document bytes ≡ None) × IsPlaced bytes error
 
--- what is told of the syntax of a file: what is said of its bytes where a reason is asked for and they were no TOML, else nothing
+-- what is reported of the syntax of a file: what the parser says of its bytes where a reason is asked for and they were no TOML, else nothing
 abbrev pub IsSyntaxTold : Detail → (is_not_toml : Bool) → List ℕ → Option SyntaxError → Type 0
 IsSyntaxTold Plain is_not_toml bytes syntax = syntax ≡ None
 IsSyntaxTold Explained false bytes syntax = syntax ≡ None
@@ -43,7 +43,7 @@ abbrev pub is_not_toml : FaultKind → Bool
 is_not_toml NotToml = true
 is_not_toml kind = false
 
--- what a fault of a check tells of the syntax of the deployment or of the certificate
+-- what a fault of a check says about the syntax of the deployment or of the certificate
 abbrev pub IsFaultTold : Detail → (d c : List ℕ) → ToolFault → Type 0
 IsFaultTold detail d c (fault.Deployment flaw syntax) = IsSyntaxTold detail (is_not_toml flaw.kind) d syntax
 IsFaultTold detail d c (fault.Certificate flaw syntax) = IsSyntaxTold detail (is_not_toml (kind_of flaw.kind)) c syntax

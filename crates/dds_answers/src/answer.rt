@@ -48,7 +48,7 @@ impl Answer {
 }
 
 /// The answer with a text, if there was memory for it.
-pub fn answered(text: Result<String, NoMemory>, is_yes: bool) -> Result<Answer, ToolFault>
+pub fn answer_with(text: Result<String, NoMemory>, is_yes: bool) -> Result<Answer, ToolFault>
     ensures answer { IfOk result (λ a. (a.is_yes ≡ is_yes) × IfOk text (λ t. a.text ≡ t)) }
     ensures text { OnOk result (IsOk text) }
     ensures memory { IfErr result (λ e. e ≡ ToolFault.NoMemory) }
@@ -66,13 +66,13 @@ pub fn answered(text: Result<String, NoMemory>, is_yes: bool) -> Result<Answer, 
 /// The answer for a report, which is needed no longer: yes where the certificate is accepted. Its reason comes
 /// after it where it is asked for.
 #[tactic(auto, unfolding(crate::specs::Report::status_of))]
-pub fn reported(alloc: Global, report: Report, detail: Detail) -> Result<Answer, ToolFault>
+pub fn answer_report(alloc: Global, report: Report, detail: Detail) -> Result<Answer, ToolFault>
     ensures gives { Gives result (told detail (outcome_of report)) }
     ensures fault { IfErr result IsAnswerFault }
     ensures memory { IfErr result (λ e. e ≡ ToolFault.NoMemory) }
 {
     let is_yes = matches!(&report, Report::Yes(_));
-    let answer = answered(detailed_text(alloc, &report, detail), is_yes);
+    let answer = answer_with(detailed_text(alloc, &report, detail), is_yes);
     drop(report);
     answer
 }
@@ -90,18 +90,18 @@ pub fn check_answer(
     ensures told { IfErr result (IsFaultTold detail deployment.now certificate.now) }
 {
     match detailed_check(alloc, deployment, certificate, detail) {
-        Ok(report) => reported(alloc, report, detail),
+        Ok(report) => answer_report(alloc, report, detail),
         Err(fault) => Err(fault),
     }
 }
 
 /// The answer to which endpoints of a plan match, which is needed no longer.
 #[tactic(auto, unfolding(crate::specs::Report::output_of, crate::specs::Report::status_of))]
-fn compared(alloc: Global, plan: Plan) -> Result<Answer, ToolFault>
+fn answer_pairs(alloc: Global, plan: Plan) -> Result<Answer, ToolFault>
     ensures gives { Gives result (compared plan) }
     ensures fault { IfErr result IsAnswerFault }
 {
-    let answer = answered(match_text(alloc, &plan), is_as_intended(&plan));
+    let answer = answer_with(match_text(alloc, &plan), is_as_intended(&plan));
     drop(plan);
     answer
 }
@@ -112,11 +112,11 @@ pub fn match_answer(alloc: Global, deployment: &[u8]) -> Result<Answer, ToolFaul
     ensures fault { IfErr result IsAnswerFault }
 {
     let plan = read_plan(alloc, deployment)?;
-    compared(alloc, plan)
+    answer_pairs(alloc, plan)
 }
 
 /// A deployment in a format.
-fn shown_text(alloc: Global, lists: &Deployment, format: Format) -> Result<String, NoMemory>
+fn lists_text(alloc: Global, lists: &Deployment, format: Format) -> Result<String, NoMemory>
     ensures { IfOk result (λ text. string_bytes text ≡ shown_text format lists.now) }
 {
     match format {
@@ -127,11 +127,11 @@ fn shown_text(alloc: Global, lists: &Deployment, format: Format) -> Result<Strin
 
 /// The answer that shows a deployment, which is needed no longer.
 #[tactic(auto, unfolding(crate::specs::Report::output_of, crate::specs::Report::status_of))]
-fn shown(alloc: Global, lists: Deployment, format: Format) -> Result<Answer, ToolFault>
+fn answer_lists(alloc: Global, lists: Deployment, format: Format) -> Result<Answer, ToolFault>
     ensures gives { Gives result (shown format lists) }
     ensures fault { IfErr result IsAnswerFault }
 {
-    let answer = answered(shown_text(alloc, &lists, format), true);
+    let answer = answer_with(lists_text(alloc, &lists, format), true);
     drop(lists);
     answer
 }
@@ -142,7 +142,7 @@ pub fn show_answer(alloc: Global, deployment: &[u8], format: Format) -> Result<A
     ensures fault { IfErr result IsAnswerFault }
 {
     match read_deployment(alloc, deployment) {
-        Ok(lists) => shown(alloc, lists, format),
+        Ok(lists) => answer_lists(alloc, lists, format),
         Err(fault) => Err(deployment_fault(fault)),
     }
 }
@@ -163,7 +163,7 @@ fn length_note(alloc: Global, text: &str) -> Result<Option<String>, NoMemory>
 
 /// Yes with a text that commands read, if there was memory for it. A line says so where it's longer than a file may
 /// be.
-fn written(alloc: Global, text: Result<String, NoMemory>) -> Result<Answer, ToolFault>
+fn answer_file(alloc: Global, text: Result<String, NoMemory>) -> Result<Answer, ToolFault>
     ensures answer { IfOk result (λ a. (a.is_yes ≡ true) × IfOk text (λ t. a.text ≡ t)) }
     ensures text { OnOk result (IsOk text) }
     ensures note { IfOk result (λ a. option_map string_bytes a.note ≡ length_note (string_bytes a.text)) }
@@ -184,31 +184,35 @@ fn written(alloc: Global, text: Result<String, NoMemory>) -> Result<Answer, Tool
 
 /// The answer with the text of a certificate that was proposed. A line says so where it's longer than a file may be.
 #[tactic(auto, unfolding(crate::specs::Report::output_of, crate::specs::Report::status_of))]
-pub fn certified(alloc: Global, plan: &Plan, certificate: &Certificate) -> Result<Answer, ToolFault>
+pub fn answer_certificate(
+    alloc: Global,
+    plan: &Plan,
+    certificate: &Certificate,
+) -> Result<Answer, ToolFault>
     ensures gives { Gives result (proposed plan.now (certificate_view certificate.now)) }
     ensures note { IfOk result (λ a. option_map string_bytes a.note ≡ length_note (string_bytes a.text)) }
     ensures fault { IfErr result IsAnswerFault }
 {
-    written(alloc, certificate_text(alloc, plan, certificate))
+    answer_file(alloc, certificate_text(alloc, plan, certificate))
 }
 
 /// The answer where no certificate was found.
 #[tactic(auto, unfolding(crate::specs::Report::output_of, crate::specs::Report::status_of))]
-fn unproposed(alloc: Global) -> Result<Answer, ToolFault>
+fn answer_none(alloc: Global) -> Result<Answer, ToolFault>
     ensures gives { Gives result unproposed }
     ensures fault { IfErr result IsAnswerFault }
 {
-    answered(String::from_str(alloc, "none\n"), false)
+    answer_with(String::from_str(alloc, "none\n"), false)
 }
 
 /// The answer to what is proposed for a plan.
-fn sought(alloc: Global, plan: &Plan) -> Result<Answer, ToolFault>
+fn answer_proposal(alloc: Global, plan: &Plan) -> Result<Answer, ToolFault>
     ensures gives { (end : Outcome) × MayPropose (Ok plan.now) end × Gives result end }
     ensures fault { IfErr result IsAnswerFault }
 {
     match propose(alloc, plan) {
-        Ok(Some(certificate)) => certified(alloc, plan, &certificate),
-        Ok(None) => unproposed(alloc),
+        Ok(Some(certificate)) => answer_certificate(alloc, plan, &certificate),
+        Ok(None) => answer_none(alloc),
         Err(_) => Err(ToolFault::NoMemory),
     }
 }
@@ -220,7 +224,7 @@ pub fn propose_answer(alloc: Global, deployment: &[u8]) -> Result<Answer, ToolFa
     ensures fault { IfErr result IsAnswerFault }
 {
     let plan = read_plan(alloc, deployment)?;
-    let answer = sought(alloc, &plan);
+    let answer = answer_proposal(alloc, &plan);
     drop(plan);
     answer
 }
@@ -233,7 +237,7 @@ pub fn migrate_answer(alloc: Global, deployment: &[u8]) -> Result<Answer, ToolFa
     ensures fault { IfErr result IsAnswerFault }
 {
     match migrate(alloc, deployment) {
-        Ok(text) => written(alloc, Ok(text)),
+        Ok(text) => answer_file(alloc, Ok(text)),
         Err(fault) => Err(deployment_fault(fault)),
     }
 }

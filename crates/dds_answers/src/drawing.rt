@@ -6,7 +6,7 @@ ghost use Rattle.dds_answers.specs.Answers.{Gives};
 ghost use Rattle.dds_answers.specs.Fault.{IsAnswerFault};
 ghost use Rattle.dds_answers.specs.Outcome.{draw_outcome, drawing, drawing_with, drawn};
 
-use crate::answer::{Answer, answered};
+use crate::answer::{Answer, answer_with};
 use crate::fault::ToolFault;
 use crate::planning::read_plan;
 use crate::report::certificate_fault;
@@ -18,22 +18,26 @@ use std::alloc::Global;
 
 /// The answer with the picture of a plan, which is needed no longer.
 #[tactic(auto, unfolding(crate::specs::Report::output_of, crate::specs::Report::status_of))]
-fn drawn(alloc: Global, plan: Plan, certificate: Option<&Certificate>) -> Result<Answer, ToolFault>
+fn answer_picture(
+    alloc: Global,
+    plan: Plan,
+    certificate: Option<&Certificate>,
+) -> Result<Answer, ToolFault>
     ensures gives { Gives result (drawn plan (option_map (λ c. certificate_view c.now) certificate.entry)) }
     ensures fault { IfErr result IsAnswerFault }
 {
-    let answer = answered(drawing(alloc, &plan, certificate), true);
+    let answer = answer_with(drawing(alloc, &plan, certificate), true);
     drop(plan);
     answer
 }
 
 /// The answer with the picture of a plan and of the bytes of its certificate.
-fn drawn_with(alloc: Global, plan: Plan, certificate: &[u8]) -> Result<Answer, ToolFault>
+fn answer_picture_with(alloc: Global, plan: Plan, certificate: &[u8]) -> Result<Answer, ToolFault>
     ensures gives { Gives result (drawing_with plan (certificate_read plan certificate.now)) }
     ensures fault { IfErr result IsAnswerFault }
 {
     match read_certificate(alloc, &plan, certificate) {
-        Ok(certificate) => drawn(alloc, plan, Some(&certificate)),
+        Ok(certificate) => answer_picture(alloc, plan, Some(&certificate)),
         Err(fault) => {
             drop(plan);
             Err(certificate_fault(fault))
@@ -42,13 +46,13 @@ fn drawn_with(alloc: Global, plan: Plan, certificate: &[u8]) -> Result<Answer, T
 }
 
 /// The answer with the picture of a plan, and of the bytes of its certificate if one is given.
-fn plan_drawn(alloc: Global, plan: Plan, certificate: Option<&[u8]>) -> Result<Answer, ToolFault>
+fn draw_plan(alloc: Global, plan: Plan, certificate: Option<&[u8]>) -> Result<Answer, ToolFault>
     ensures gives { Gives result (drawing (Ok plan) (option_map (λ c. c.now) certificate.entry)) }
     ensures fault { IfErr result IsAnswerFault }
 {
     match certificate {
-        Some(bytes) => drawn_with(alloc, plan, bytes),
-        None => drawn(alloc, plan, None),
+        Some(bytes) => answer_picture_with(alloc, plan, bytes),
+        None => answer_picture(alloc, plan, None),
     }
 }
 
@@ -63,5 +67,5 @@ pub fn draw_answer(
     ensures fault { IfErr result IsAnswerFault }
 {
     let plan = read_plan(alloc, deployment)?;
-    plan_drawn(alloc, plan, certificate)
+    draw_plan(alloc, plan, certificate)
 }

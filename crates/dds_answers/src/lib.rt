@@ -24,19 +24,16 @@ mod structure;
 mod syntax;
 
 pub use answer::{
-    Answer, answered, certified, check_answer, match_answer, migrate_answer, propose_answer,
-    reported, show_answer,
+    Answer, answer_certificate, answer_report, answer_with, check_answer, match_answer,
+    migrate_answer, propose_answer, show_answer,
 };
-pub use connecting::{connections_answer, connections_file};
+pub use connecting::connections_answer;
 pub use counted::Counted;
 pub use disk::Disk;
 pub use drawing::draw_answer;
 pub use exit::Exit;
 pub use fault::{ToolFault, exit_of, fault_text};
-pub use files::{
-    check_files, draw_file, draw_files, match_file, migrate_file, propose_file, read_file,
-    read_file_up_to, read_files, show_file,
-};
+pub use files::{read_file, read_file_up_to, read_files};
 pub use format::Format;
 pub use giving::{give, print, tell_fault};
 pub use matches::{is_as_intended, match_text};

@@ -14,7 +14,7 @@ ghost use Rattle.dds_answers.specs.Syntax.{IsFaultTold};
 
 use crate::fault::ToolFault;
 use crate::planning::read_plan;
-use crate::syntax::syntax_told;
+use crate::syntax::explain_syntax;
 use dds_base::NoMemory;
 use dds_cert::{CertFault, CertKind, read_certificate};
 use dds_check::{Checked, No, check};
@@ -120,14 +120,14 @@ fn detailed_fault(
     match fault {
         ToolFault::Deployment { flaw, .. } => {
             let is_not_toml = matches!(flaw.kind, FaultKind::NotToml);
-            match syntax_told(alloc, detail, is_not_toml, deployment) {
+            match explain_syntax(alloc, detail, is_not_toml, deployment) {
                 Ok(syntax) => ToolFault::Deployment { flaw, syntax },
                 Err(_) => ToolFault::NoMemory,
             }
         }
         ToolFault::Certificate { flaw, .. } => {
             let is_not_toml = matches!(flaw.kind, CertKind::NotToml);
-            match syntax_told(alloc, detail, is_not_toml, certificate) {
+            match explain_syntax(alloc, detail, is_not_toml, certificate) {
                 Ok(syntax) => ToolFault::Certificate { flaw, syntax },
                 Err(_) => ToolFault::NoMemory,
             }

@@ -71,7 +71,7 @@ fn syntax_error(alloc: Global, bytes: &[u8]) -> Result<Option<SyntaxError>, NoMe
 
 /// What is printed about the syntax of a file: nothing where no reason is asked for, or its fault is another one.
 /// `NoMemory` is the only error.
-pub(crate) fn syntax_told(
+pub(crate) fn explain_syntax(
     alloc: Global,
     detail: Detail,
     is_not_toml: bool,

@@ -26,7 +26,7 @@ findings_text style.Sarif names findings is_yes = line_of (sarif_document names 
 abbrev pub names_of : (deployment : List ℕ) → (certificate : Option (List ℕ)) → FileNames
 names_of deployment certificate = (deployment, unwrap_or certificate [])
 
--- the answer tells in this form what lint finds in files with these names and bytes, and is yes where none of it is denied
+-- the answer says in this form what lint finds in files with these names and bytes, and is yes where none of it is denied
 abbrev pub IsLintAnswer : LintStyle → Deny → FileNames → (deployment : List ℕ) → (certificate : Option (List ℕ)) → Answer → Type 0
 IsLintAnswer form denied names d c answer =
     (fs : List Finding) × IsLint d c (abouts fs) × (string_bytes answer.text ≡ findings_text form names fs (is_clean denied fs)) × (answer.is_yes ≡ is_clean denied fs)

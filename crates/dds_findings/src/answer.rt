@@ -8,7 +8,7 @@ use crate::document::findings_line;
 use crate::finding::Finding;
 use crate::linting::lint;
 use crate::sarif::sarif_line;
-use dds_answers::{Answer, ToolFault, answered};
+use dds_answers::{Answer, ToolFault, answer_with};
 use dds_base::NoMemory;
 use std::alloc::Global;
 
@@ -102,7 +102,7 @@ fn findings_answer(
     };
     let names = names_of(deployment, certificate);
     let is_yes = is_clean(deny, &findings);
-    answered(
+    answer_with(
         findings_text(alloc, &names, &findings, style, is_yes),
         is_yes,
     )

@@ -17,7 +17,9 @@ use Rattle.dds_match.specs.Plan.{network_of}
 use Rattle.dds_answers.specs.Report.{Ends, outcome_of, output_of, status_of}
 use Rattle.dds_json.specs.Checking.{is_accepted, reason_of, report_document}
 use Rattle.dds_json.specs.Matching.{match_document}
-use Rattle.dds_json.specs.Ends.{EndsProposal, in_json}
+use Rattle.dds_json.specs.Ends.{EndsProposal, in_json, in_style}
+use Rattle.dds_json.specs.declared.style.Style.{Style}
+use Rattle.dds_json.specs.declared.style.Style.TheVariants.{Text, Json}
 use Rattle.dds_json.specs.Line.{line_of}
 use Rattle.dds_json.specs.Proposing.{none_document, proposal_document, proposed_document}
 
@@ -43,6 +45,11 @@ ends_in_json fault.Write end is = tt
 ends_in_json fault.NoMemory end is = tt
 ends_in_json (fault.Usage text) end is = absurd is
 ends_in_json fault.Run end is = absurd is
+
+-- so it does in either style
+pub ends_in_style : (style : Style) (e : ToolFault) (end : Outcome) → Ends e end → Ends e (in_style style end)
+ends_in_style Text e end is = is
+ends_in_style Json e end is = ends_in_json e end is
 
 -- a report's document is said
 report_said : (report : Report) (detail : Detail) → in_json (told detail (outcome_of report)) ≡ said (line_of (report_document report (reason_of report detail))) (is_accepted report)

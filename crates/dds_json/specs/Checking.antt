@@ -19,7 +19,7 @@ use Rattle.dds_answers.specs.declared.report.Detail.TheVariants.{Plain, Explaine
 use Rattle.dds_answers.specs.declared.report.Report.{Report}
 use Rattle.dds_answers.specs.declared.report.Report.TheVariants as answer
 
--- the answer, and its reason where it is told
+-- the answer, and its reason where it is printed
 abbrev pub answered : List ℕ → Option (List ℕ) → Members → Members
 answered answer None members = member (codes "answer") (string answer) members
 answered answer (Some because) members = member (codes "answer") (string answer) (member (codes "because") (string because) members)
@@ -62,7 +62,7 @@ abbrev pub refusal_document : Lists → Certificate → No → Option (List ℕ)
 refusal_document d c first because =
     object (answered (codes "no") because (member (codes "name") (string (name_of first.number)) (member (codes "number") (number (unsigned (number_of first.number))) (member (codes "subject") (subject_document d c first.subject) no_members))))
 
--- the document of a report, with its reason where it is told
+-- the document of a report, with its reason where it is printed
 abbrev pub report_document : Report → Option (List ℕ) → Data
 report_document (answer.Yes checked) because = acceptance_document checked.plan checked.certificate because
 report_document (answer.Refused first lists cert) because = refusal_document lists (certificate_view cert) first because

@@ -1,4 +1,4 @@
--- How a command ends whose answer is told in JSON.
+-- How a command ends whose answer is printed as JSON.
 use Rattle.std.specs.Prelude.{true, false, Some, None, ◌++◌}
 use Rattle.dds_match.specs.Plan.{network_of}
 use Rattle.dds_weights.specs.Text.{certificate_text}

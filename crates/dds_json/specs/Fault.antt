@@ -25,7 +25,7 @@ syntax_document file n name path e =
     (member (codes "line") (number (unsigned e.line)) (member (codes "message") (string (string_bytes e.message)) (member (codes "name") (string name)
     (member (codes "number") (number (unsigned n)) (member (codes "path") (string path) no_members))))))))
 
--- a flaw of a file, with what the parser says where that is told
+-- a flaw of a file, with what the parser says where that is printed
 abbrev pub file_document : List ℕ → ℕ → List ℕ → List ℕ → Option SyntaxError → Data
 file_document file n name path None = flaw_document file n name path
 file_document file n name path (Some e) = syntax_document file n name path e

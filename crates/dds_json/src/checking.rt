@@ -6,9 +6,8 @@ ghost use Rattle.serde_json.specs.Written.{has_float};
 ghost use Rattle.dds_weights.specs.Views.{certificate_view};
 ghost use Rattle.dds_answers.specs.Answers.{Gives};
 ghost use Rattle.dds_answers.specs.Fault.{IsAnswerFault};
-ghost use Rattle.dds_answers.specs.Outcome.{outcome, told};
+ghost use Rattle.dds_answers.specs.Outcome.{told};
 ghost use Rattle.dds_answers.specs.Report.{because_lines, outcome_of};
-ghost use Rattle.dds_answers.specs.Syntax.{IsFaultTold};
 ghost use Rattle.dds_json.specs.Checking.{acceptance_document, bound_document, is_accepted, pair_key_document};
 ghost use Rattle.dds_json.specs.Checking.{reason_of, refusal_document, report_document, subject_document};
 ghost use Rattle.dds_json.specs.Checking.{total_document};
@@ -16,7 +15,7 @@ ghost use Rattle.dds_json.specs.Ends.{in_json};
 ghost use Rattle.dds_json.specs.Line.{line_of};
 
 use crate::line::line_of;
-use dds_answers::{Answer, Detail, Report, ToolFault, answered, because_text, detailed_check};
+use dds_answers::{Answer, Detail, Report, ToolFault, answer_with, because_text};
 use dds_base::{KeyNo, NoMemory, ReaderNo, WriterNo};
 use dds_check::{No, Subject};
 use dds_events::rule_text;
@@ -236,29 +235,16 @@ fn is_accepted(report: &Report) -> bool
 
 /// The answer for a report, which is needed no longer, as a document: yes where the certificate is accepted. Its
 /// reason is a member of it where it is asked for.
-pub fn reported_in_json(alloc: Global, report: Report, detail: Detail) -> Result<Answer, ToolFault>
+pub(crate) fn answer_report_in_json(
+    alloc: Global,
+    report: Report,
+    detail: Detail,
+) -> Result<Answer, ToolFault>
     ensures gives { Gives result (in_json (told detail (outcome_of report))) }
     ensures fault { IfErr result IsAnswerFault }
     ensures memory { IfErr result (λ e. e ≡ ToolFault.NoMemory) }
 {
-    let answer = answered(report_line(alloc, &report, detail), is_accepted(&report));
+    let answer = answer_with(report_line(alloc, &report, detail), is_accepted(&report));
     drop(report);
     answer
-}
-
-/// The answer of `check` to the bytes of a deployment and of a certificate, as a document.
-pub(crate) fn check_answer_in_json(
-    alloc: Global,
-    deployment: &[u8],
-    certificate: &[u8],
-    detail: Detail,
-) -> Result<Answer, ToolFault>
-    ensures gives { Gives result (in_json (told detail (outcome deployment.now certificate.now))) }
-    ensures fault { IfErr result IsAnswerFault }
-    ensures told { IfErr result (IsFaultTold detail deployment.now certificate.now) }
-{
-    match detailed_check(alloc, deployment, certificate, detail) {
-        Ok(report) => reported_in_json(alloc, report, detail),
-        Err(fault) => Err(fault),
-    }
 }

@@ -11,7 +11,7 @@ ghost use Rattle.dds_json.specs.Line.{line_of};
 ghost use Rattle.dds_json.specs.Matching.{answer_word, match_document, named_pair, pair_document, pairs, writer_pairs};
 
 use crate::line::line_of;
-use dds_answers::{Answer, ToolFault, answered, is_as_intended, read_plan};
+use dds_answers::{Answer, ToolFault, answer_with, is_as_intended, read_plan};
 use dds_base::{NoMemory, ReaderNo, WriterNo};
 use dds_match::{Plan, WhyNot};
 use dds_show::reasons::reason_text;
@@ -114,11 +114,11 @@ fn match_line(alloc: Global, plan: &Plan) -> Result<String, NoMemory>
 }
 
 /// The answer to which endpoints of a plan match, which is needed no longer.
-fn compared_in_json(alloc: Global, plan: Plan) -> Result<Answer, ToolFault>
+fn answer_pairs_in_json(alloc: Global, plan: Plan) -> Result<Answer, ToolFault>
     ensures gives { Gives result (in_json (compared plan)) }
     ensures fault { IfErr result IsAnswerFault }
 {
-    let answer = answered(match_line(alloc, &plan), is_as_intended(&plan));
+    let answer = answer_with(match_line(alloc, &plan), is_as_intended(&plan));
     drop(plan);
     answer
 }
@@ -129,5 +129,5 @@ pub(crate) fn match_answer_in_json(alloc: Global, deployment: &[u8]) -> Result<A
     ensures fault { IfErr result IsAnswerFault }
 {
     let plan = read_plan(alloc, deployment)?;
-    compared_in_json(alloc, plan)
+    answer_pairs_in_json(alloc, plan)
 }

@@ -47,7 +47,7 @@ fn proposed_line(alloc: Global, answer: &Answer) -> Result<String, NoMemory>
 }
 
 /// An answer of `propose`, as a document. What it has besides stays.
-fn told_in_json(alloc: Global, answer: Answer) -> Result<Answer, ToolFault>
+fn restate_in_json(alloc: Global, answer: Answer) -> Result<Answer, ToolFault>
     ensures gives { (end : Outcome) → EndsProposal end → IsAnswer answer end
         → IfOk result (λ told. IsAnswer told (in_json end)) }
     ensures fault { IfErr result (λ e. e ≡ ToolFault.NoMemory) }
@@ -64,7 +64,7 @@ fn told_in_json(alloc: Global, answer: Answer) -> Result<Answer, ToolFault>
 
 /// What `propose` answers, as a document. What an answer has besides stays, as does a fault. Its own only
 /// error is `NoMemory`.
-pub fn proposed_in_json(
+pub(crate) fn answer_proposal_in_json(
     alloc: Global,
     answer: Result<Answer, ToolFault>,
 ) -> Result<Answer, ToolFault>
@@ -72,7 +72,7 @@ pub fn proposed_in_json(
     ensures fault { IfErr result (λ e. (e ≡ ToolFault.NoMemory) ⊎ IsErrOf answer e) }
 {
     match answer {
-        Ok(answer) => told_in_json(alloc, answer),
+        Ok(answer) => restate_in_json(alloc, answer),
         Err(fault) => Err(fault),
     }
 }

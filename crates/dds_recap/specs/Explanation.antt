@@ -1,4 +1,4 @@
--- What a run comes to, by its journal: how full each reader was, and what the idle applications wait for.
+-- What a run's journal shows: how full each reader was, and what the idle applications wait for.
 use Rattle.std.specs.Prelude.{ℕ, List, ◌++◌}
 use Rattle.dds_lists.specs.Lists.{Lists}
 use Rattle.dds_match.specs.Plan.{network_of}

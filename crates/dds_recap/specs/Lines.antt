@@ -1,4 +1,4 @@
--- The lines that tell how full the readers of a run were.
+-- The lines that say how full the readers of a run were.
 use Rattle.std.specs.Prelude.{ℕ, is_some, List, [], ◌++◌, codes, length, Option, Some, None, if◌then◌else◌}
 use Rattle.std.specs.Fmt.{decimal}
 use Rattle.dds_qos.specs.declared.limits.ReaderLimits.{ReaderLimits}

@@ -36,7 +36,7 @@ fn recap_of(alloc: Global, plan: &Plan, entries: &[Entry]) -> Result<Recap, NoMe
 }
 
 /// The lines of a recap.
-fn recapped_text(alloc: Global, plan: &Plan, recap: &Recap, ends: &[AppEnd]) -> TextResult
+fn recap_text(alloc: Global, plan: &Plan, recap: &Recap, ends: &[AppEnd]) -> TextResult
     requires { length ends.now ≡ length plan.now.applications.entries }
     ensures { IfOk result (λ text. string_bytes text
         ≡ reader_lines plan.now (most_at recap.now.by_key) (most_in_all_at recap.now.in_all)
@@ -58,5 +58,5 @@ pub fn explain_run(alloc: Global, plan: &Plan, journal: &[Entry], ends: &[AppEnd
     ensures { IfOk result (λ text. string_bytes text ≡ explanation plan.now journal.now ends.now) }
 {
     let recap = recap_of(alloc, plan, journal)?;
-    recapped_text(alloc, plan, &recap, ends)
+    recap_text(alloc, plan, &recap, ends)
 }

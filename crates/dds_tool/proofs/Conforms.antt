@@ -24,8 +24,7 @@ use Rattle.dds_json.specs.declared.style.Style.{Style}
 use Rattle.dds_json.proofs.Documents.{no_fractions}
 use Rattle.dds_json.proofs.Ends.{says}
 use Rattle.serde_json.specs.Written.{has_float}
-use Rattle.dds_tool.specs.Conforming.{IsJudged, IsTraceFault, MayConform, MayConformFor, MayConformLists, conformance_document, is_kept, shortage_document, told_conformance}
-use Rattle.dds_tool.proofs.Replays.{few_and_few, many}
+use Rattle.dds_tool.specs.Conforming.{IsJudged, IsTraceFault, MayConform, MayConformLists, conformance_document, is_kept, shortage_document, told_conformance}
 
 -- an answer with a text that tells whether the entries keep the rules, if there was memory for it
 pub judged : {E : Type 0} (style : Style) (lists : Lists) (entries : List Entry) (conformance : Conformance) (text : Result (String Global) E) (r : Result Answer ToolFault) (b : Bool)
@@ -47,15 +46,6 @@ entries_give style lists bytes entries (Err e) text are is memory = rw memory (i
 pub untold_ends : (style : Style) (lists : Lists) (bytes : List ℕ) (f : TraceFault) (t : ToolFault) → IsFaultOf lists bytes f → IsTraceFault f t → GivesOneOf (MayConformLists style lists bytes) (Err t)
 untold_ends style lists bytes (untold.At kind line) t faulty is = rw is (inr (bad_trace kind line, inr (kind, line, faulty, refl), refl))
 untold_ends style lists bytes untold.NoMemory t faulty is = rw is (inl tt)
-
--- files that aren't too large give what their bytes give
-pub files_conformed : (style : Style) (d t : List ℕ) (r : Result Answer ToolFault) → length d ≤ 1048576 → length t ≤ 67108864 → GivesOneOf (MayConform style (read d) t) r
-    → GivesOneOf (MayConformFor style d t) r
-files_conformed style d t r one other gives = few_gives (nat_le (length d) 1048576 && nat_le (length t) 67108864) (MayConform style (read d) t) r (few_and_few d t one other) gives
-
--- of a file that is too large that is told
-pub large_trace : (style : Style) (d t : List ℕ) → (1048576 < length d) ⊎ (67108864 < length t) → MayConformFor style d t too_large
-large_trace style d t more = rw (many d t more) refl
 
 -- ── documents without fractions
 shortage_plain : (d : Lists) (s : Shortage) → has_float (shortage_document d s) ≡ false

@@ -21,7 +21,7 @@ use Rattle.dds_answers.specs.Outcome.{bad_events, said, too_large}
 use Rattle.dds_answers.proofs.FileEnds.{few_gives}
 use Rattle.dds_json.specs.declared.style.Style.{Style}
 use Rattle.dds_json.proofs.Ends.{says}
-use Rattle.dds_tool.specs.Replaying.{IsEventsFault, IsReplayed, MayReplay, MayReplayFor, MayReplayLists, told_replay}
+use Rattle.dds_tool.specs.Replaying.{IsEventsFault, IsReplayed, MayReplay, MayReplayLists, told_replay}
 
 -- what goes on from the opening is a run
 pub run_of : (plan : Lists) (old new : PartsState) (ms : List (Event × Reply)) → StandsAfter [] old → GoesOn old ms new → new.plan ≡ plan → IsRun (network_of plan) ms
@@ -47,23 +47,3 @@ unsaid_ends style lists bytes unsaid.NoMemory t faulty is = rw is (inl tt)
 -- the same of a deployment that was read
 pub read_replayed : (style : Style) (read : Read Lists) (lists : Lists) (e : List ℕ) (r : Result Answer ToolFault) → read ≡ Ok lists → GivesOneOf (MayReplayLists style lists e) r → GivesOneOf (MayReplay style read e) r
 read_replayed style read lists e r is gives = rw is gives
-
--- files that aren't too large give what their bytes give
-pub few_and_few : (d e : List ℕ) → length d ≤ 1048576 → length e ≤ 67108864 → (nat_le (length d) 1048576 && nat_le (length e) 67108864) ≡ true
-few_and_few d e one other = rw (le-leb (length d) 1048576 one, le-leb (length e) 67108864 other) refl
-
-pub files_replayed : (style : Style) (d e : List ℕ) (r : Result Answer ToolFault) → length d ≤ 1048576 → length e ≤ 67108864 → GivesOneOf (MayReplay style (read d) e) r
-    → GivesOneOf (MayReplayFor style d e) r
-files_replayed style d e r one other gives = few_gives (nat_le (length d) 1048576 && nat_le (length e) 67108864) (MayReplay style (read d) e) r (few_and_few d e one other) gives
-
--- of a file that is too large that is told
-pub many : (d e : List ℕ) → (1048576 < length d) ⊎ (67108864 < length e) → (nat_le (length d) 1048576 && nat_le (length e) 67108864) ≡ false
-many d e (inl more) = rw (lt-leb (length d) 1048576 more) refl
-many d e (inr more) = rw (lt-leb (length e) 67108864 more) (none (nat_le (length d) 1048576))
-  where
-    none : (b : Bool) → (b && false) ≡ false
-    none true = refl
-    none false = refl
-
-pub large_replay : (style : Style) (d e : List ℕ) → (1048576 < length d) ⊎ (67108864 < length e) → MayReplayFor style d e too_large
-large_replay style d e more = rw (many d e more) refl

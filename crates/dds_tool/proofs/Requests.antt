@@ -1,30 +1,20 @@
 -- What is said of a request whose answer was written, or that met a fault.
 use Rattle.std.proofs.Common.{◌≡◌, ◌⊎◌, Bool, true, OnOk, subst, ℕ, List, [], Option, Some, None, Result, Ok, Err, IfOk, IfErr, inl, inr, refl, ap, sym, ◌∙◌, append-nil, arith}
 use Rattle.std.specs.Io.KnownBytes.{Appends, Keeps}
+use Rattle.dds_answers.specs.declared.answer.Answer.{Answer}
+use Rattle.dds_answers.specs.declared.exit.Exit.{Exit}
 use Rattle.dds_answers.specs.declared.fault.ToolFault.{ToolFault}
 use Rattle.dds_answers.specs.declared.fault.ToolFault.TheVariants as fault
-use Rattle.dds_tool.specs.declared.request.Request.{Request}
-use Rattle.dds_tool.specs.declared.request.Request.TheVariants as asked
-use Rattle.dds_tool.specs.declared.wishes.Wishes.{Wishes}
-use Rattle.dds_answers.specs.declared.answer.Answer.{Answer}
 use Rattle.dds_answers.specs.Answers.{Gives, GivesOneOf}
-use Rattle.dds_tool.specs.Asking.{Answers, GivesTo, Said}
 use Rattle.dds_answers.specs.Exit.{exit_status}
 use Rattle.dds_answers.specs.Fault.{fault_status}
-use Rattle.dds_answers.specs.declared.exit.Exit.{Exit}
-use Rattle.dds_answers.specs.Migrations.{MayMigrateFor}
-use Rattle.dds_answers.specs.Outcome.{Outcome, check_file_outcome, draw_file_outcome, file_outcome, show_file_outcome, too_large, unproposed}
+use Rattle.dds_answers.specs.Outcome.{Outcome, file_outcome, too_large, unproposed}
 use Rattle.dds_answers.specs.Report.{Ends, output_of, status_of}
 use Rattle.dds_answers.proofs.FileEnds.{any_end}
-use Rattle.dds_tool.specs.Comparing.{compared_file}
-use Rattle.dds_tool.specs.Limits.{MayLimitFor}
-use Rattle.dds_tool.specs.Linting.{MayLintFile, MayLintFiles}
-use Rattle.dds_tool.specs.Refuting.{MayRefuteFor}
-use Rattle.dds_tool.specs.Replaying.{MayReplayFor}
-use Rattle.dds_tool.specs.Conforming.{MayConformFor}
-use Rattle.dds_tool.specs.RunEnds.{GivesRun, MayRun}
-use Rattle.dds_json.specs.Ends.{in_style}
-use Rattle.dds_json.specs.declared.style.Style.{Style}
+use Rattle.dds_request.specs.declared.request.Request.{Request}
+use Rattle.dds_request.specs.declared.request.Request.TheVariants as asked
+use Rattle.dds_tool.specs.Commands.{Answers, GivesTo, MayBreakOff, MayEndFile, MayEndFiles, SaysOneOf}
+use Rattle.dds_tool.specs.RunEnds.{GivesUnless}
 
 -- known bytes that stay grow by nothing
 appends_nothing : (old new : Option (List ℕ)) → Keeps old new → Appends old new []
@@ -44,8 +34,12 @@ bad f status old new other (inl write) told = absurd (other write)
 bad f status old new other (inr keeps) (inl two) = inl (two, appends_nothing old new keeps)
 bad f status old new other (inr keeps) (inr h) = inr h
 
+-- what is said of an end by its status
+abbrev Said : Outcome → ℕ → Option (List ℕ) → Option (List ℕ) → Type 0
+Said end status old new = (status ≡ status_of end) × Appends old new (output_of end)
+
 fault_said : (end : Outcome) (f : ToolFault) (status : ℕ) (old new : Option (List ℕ)) → Ends f end → (f ≡ fault.Write) ⊎ Keeps old new
-    → (status ≡ fault_status f) ⊎ (status ≡ 3) → Said end status old new
+    → (status ≡ fault_status f) ⊎ (status ≡ 3) → Said end status old new ⊎ (status ≡ 3)
 unfolding output_of status_of
 fault_said end (fault.Deployment flaw syntax) status old new is nothing told = rw is (bad (fault.Deployment flaw syntax) status old new (λ e. cc) nothing told)
 fault_said end (fault.Certificate flaw syntax) status old new is nothing told = rw is (bad (fault.Certificate flaw syntax) status old new (λ e. cc) nothing told)
@@ -74,21 +68,27 @@ every_end fault.Run a b = absurd a
 -- one of the ends that may be was said, or memory or a device failed
 one_said : (May : Outcome → Type 0) (given : Result Answer ToolFault) (status : ℕ) (old new : Option (List ℕ)) → GivesOneOf May given
     → ((end : Outcome) → Gives given end → (status ≡ status_of end) × Appends old new (output_of end))
-    → (status ≡ 3) ⊎ ((end : Outcome) × May end × Said end status old new)
+    → (status ≡ 3) ⊎ SaysOneOf May status old new
 unfolding status_of
-one_said May (Ok answer) status old new (end, may, is) written = inr (end, may, inl (written end is))
-one_said May (Err e) status old new (inr (end, may, ends)) written = inr (end, may, inl (written end ends))
+one_said May (Ok answer) status old new (end, may, is) written = let said = written end is in inr (end, may, said.0, said.1)
+one_said May (Err e) status old new (inr (end, may, ends)) written = let said = written end ends in inr (end, may, said.0, said.1)
 one_said May (Err e) status old new (inl failed) written =
     let two : status ≡ 2 = (written too_large (any_end e too_large failed)).0 in
     let one : status ≡ 1 = (written unproposed (any_end e unproposed failed)).0 in
     absurd (omega (arith, one, two))
 
+-- a fault of an end that may be says so, or that memory or a device failed
+end_faulted : (May : Outcome → Type 0) (end : Outcome) (f : ToolFault) (status : ℕ) (old new : Option (List ℕ)) → May end → Ends f end → (f ≡ fault.Write) ⊎ Keeps old new
+    → (status ≡ fault_status f) ⊎ (status ≡ 3) → (status ≡ 3) ⊎ SaysOneOf May status old new
+end_faulted May end f status old new may ends nothing told =
+    elim (fault_said end f status old new ends nothing told) [ inl said ↦ inr (end, may, said.0, said.1) | inr three ↦ inl three ]
+
 -- a fault is said of one of the ends that may be, or of memory or of a device
 one_faulted : (May : Outcome → Type 0) (given : Result Answer ToolFault) (f : ToolFault) (status : ℕ) (old new : Option (List ℕ)) → GivesOneOf May given
     → ((end : Outcome) → Gives given end → Ends f end) → (f ≡ fault.Write) ⊎ Keeps old new → (status ≡ fault_status f) ⊎ (status ≡ 3)
-    → (status ≡ 3) ⊎ ((end : Outcome) × May end × Said end status old new)
-one_faulted May (Ok answer) f status old new (end, may, is) ends nothing told = inr (end, may, fault_said end f status old new (ends end is) nothing told)
-one_faulted May (Err e) f status old new (inr (end, may, is)) ends nothing told = inr (end, may, fault_said end f status old new (ends end is) nothing told)
+    → (status ≡ 3) ⊎ SaysOneOf May status old new
+one_faulted May (Ok answer) f status old new (end, may, is) ends nothing told = end_faulted May end f status old new may (ends end is) nothing told
+one_faulted May (Err e) f status old new (inr (end, may, is)) ends nothing told = end_faulted May end f status old new may (ends end is) nothing told
 one_faulted May (Err e) f status old new (inl failed) ends nothing told =
     let all = every_end f (ends too_large (any_end e too_large failed)) (ends unproposed (any_end e unproposed failed)) in
     inl (elim told [ inl h ↦ h ∙ all | inr h ↦ h ])
@@ -105,21 +105,19 @@ same_fault (Err e) f passed = cc
 no_fault : (exit : Exit) (e : ToolFault) → Passes (Err e) (Ok exit) → ⊥
 no_fault exit e passed = cc
 
--- an end that a run may come to was said, where a fault is passed on
-run_said : (wishes : Wishes) (style : Style) (checked : Outcome) (given : Result Answer ToolFault) (exit : Exit) (old new : Option (List ℕ)) → GivesRun wishes style checked given
+-- the same where a run may be broken off, which isn't said with an answer
+unless_said : (Breaks : Type 0) (May : Outcome → Type 0) (given : Result Answer ToolFault) (exit : Exit) (old new : Option (List ℕ)) → GivesUnless Breaks May given
     → ((end : Outcome) → Gives given end → (exit_status exit ≡ status_of end) × Appends old new (output_of end))
-    → Passes given (Ok exit)
-    → (exit_status exit ≡ 3) ⊎ ((end : Outcome) × MayRun wishes style checked end × Said end (exit_status exit) old new)
-run_said wishes style checked (Ok answer) exit old new (end, may, is) written passed = inr (end, may, inl (written end is))
-run_said wishes style checked (Err e) exit old new gives written passed = absurd (no_fault exit e passed)
+    → Passes given (Ok exit) → (exit_status exit ≡ 3) ⊎ SaysOneOf May (exit_status exit) old new
+unless_said Breaks May (Ok answer) exit old new gives written passed = one_said May (Ok answer) (exit_status exit) old new gives written
+unless_said Breaks May (Err e) exit old new gives written passed = absurd (no_fault exit e passed)
 
--- a fault is said of one of the ends that a run may come to, or of the run, of memory or of a device
-run_faulted : (wishes : Wishes) (style : Style) (checked : Outcome) (given : Result Answer ToolFault) (f : ToolFault) (status : ℕ) (old new : Option (List ℕ)) → GivesRun wishes style checked given
+unless_faulted : (Breaks : Type 0) (May : Outcome → Type 0) (given : Result Answer ToolFault) (f : ToolFault) (status : ℕ) (old new : Option (List ℕ)) → GivesUnless Breaks May given
     → ((end : Outcome) → Gives given end → Ends f end) → (f ≡ fault.Write) ⊎ Keeps old new → IfErr given (λ e. f ≡ e)
-    → (status ≡ fault_status f) ⊎ (status ≡ 3) → (status ≡ 3) ⊎ ((end : Outcome) × MayRun wishes style checked end × Said end status old new)
-run_faulted wishes style checked (Ok answer) f status old new gives ends nothing passed told = one_faulted (MayRun wishes style checked) (Ok answer) f status old new gives ends nothing told
-run_faulted wishes style checked (Err e) f status old new (inr gives) ends nothing passed told = one_faulted (MayRun wishes style checked) (Err e) f status old new gives ends nothing told
-run_faulted wishes style checked (Err e) f status old new (inl run) ends nothing passed told = inl (elim told [ inl h ↦ h ∙ ap fault_status (passed ∙ run.1) | inr h ↦ h ])
+    → (status ≡ fault_status f) ⊎ (status ≡ 3) → (status ≡ 3) ⊎ SaysOneOf May status old new
+unless_faulted Breaks May (Ok answer) f status old new gives ends nothing passed told = one_faulted May (Ok answer) f status old new gives ends nothing told
+unless_faulted Breaks May (Err e) f status old new (inr gives) ends nothing passed told = one_faulted May (Err e) f status old new gives ends nothing told
+unless_faulted Breaks May (Err e) f status old new (inl run) ends nothing passed told = inl (elim told [ inl h ↦ h ∙ ap fault_status (passed ∙ run.1) | inr h ↦ h ])
 
 -- an answer that was written is what is said of the request
 pub answered : (holds : List ℕ → Option (List ℕ)) (request : Request) (given : Result Answer ToolFault) (r : Result Exit ToolFault) (old new : Option (List ℕ))
@@ -127,41 +125,11 @@ pub answered : (holds : List ℕ → Option (List ℕ)) (request : Request) (giv
     → ((end : Outcome) → Gives given end → IfOk r (λ exit. (exit_status exit ≡ status_of end) × Appends old new (output_of end)))
     → Passes given r
     → IfOk r (λ exit. Answers holds request (exit_status exit) old new)
-answered holds (asked.Check d b detail style) given (Ok exit) old new gives written passed =
-    λ x y hx hy. inl (written (in_style style (check_file_outcome detail x y)) (gives x y hx hy).0)
-answered holds (asked.Match d what style) given (Ok exit) old new gives written passed = λ x hx. inl (written (compared_file what style x) (gives x hx))
-answered holds (asked.Propose d style) given (Ok exit) old new gives written passed = λ x hx. let g = gives x hx in (g.0, g.1, inl (written (in_style style g.0) g.2))
-answered holds (asked.ProposeThoroughly d seconds style) given (Ok exit) old new gives written passed = λ x hx. let g = gives x hx in (g.0, g.1, inl (written (in_style style g.0) g.2))
-answered holds (asked.Migrate d) given (Ok exit) old new gives written passed = λ x hx. one_said (MayMigrateFor x) given (exit_status exit) old new (gives x hx) written
-answered holds (asked.Refute d seconds style) given (Ok exit) old new gives written passed = λ x hx. one_said (MayRefuteFor style x) given (exit_status exit) old new (gives x hx) written
-answered holds (asked.Limits d what seconds style) given (Ok exit) old new gives written passed = λ x hx. one_said (MayLimitFor what style x) given (exit_status exit) old new (gives x hx) written
-answered holds (asked.Replay d e style) given (Ok exit) old new gives written passed =
-    λ x y hx hy. one_said (MayReplayFor style x y) given (exit_status exit) old new (gives x y hx hy) written
-answered holds (asked.Conform d t style) given (Ok exit) old new gives written passed =
-    λ x y hx hy. one_said (MayConformFor style x y) given (exit_status exit) old new (gives x y hx hy) written
-answered holds (asked.Show d format) given (Ok exit) old new gives written passed = λ x hx. inl (written (show_file_outcome format x) (gives x hx))
-answered holds (asked.Draw d None) given (Ok exit) old new gives written passed = λ x hx. inl (written (draw_file_outcome x None) (gives x hx))
-answered holds (asked.Draw d (Some c)) given (Ok exit) old new gives written passed =
-    λ x y hx hy. inl (written (draw_file_outcome x (Some y)) (gives x y hx hy))
-answered holds (asked.Lint d None form denied) given (Ok exit) old new gives written passed =
-    λ x hx. one_said (MayLintFile form denied d.now x) given (exit_status exit) old new (gives x hx) written
-answered holds (asked.Lint d (Some c) form denied) given (Ok exit) old new gives written passed =
-    λ x y hx hy. one_said (MayLintFiles form denied d.now c.now x y) given (exit_status exit) old new (gives x y hx hy) written
-answered holds (asked.Run d b wishes style) given (Ok exit) old new gives written passed =
-    λ x y hx hy. run_said wishes style (file_outcome x y) given exit old new (gives x y hx hy) written passed
-answered holds (asked.Check d b detail style) given (Err f) old new gives written passed = tt
-answered holds (asked.Match d what style) given (Err f) old new gives written passed = tt
-answered holds (asked.Propose d style) given (Err f) old new gives written passed = tt
-answered holds (asked.ProposeThoroughly d seconds style) given (Err f) old new gives written passed = tt
-answered holds (asked.Migrate d) given (Err f) old new gives written passed = tt
-answered holds (asked.Refute d seconds style) given (Err f) old new gives written passed = tt
-answered holds (asked.Limits d what seconds style) given (Err f) old new gives written passed = tt
-answered holds (asked.Replay d e style) given (Err f) old new gives written passed = tt
-answered holds (asked.Conform d t style) given (Err f) old new gives written passed = tt
-answered holds (asked.Show d format) given (Err f) old new gives written passed = tt
-answered holds (asked.Draw d c) given (Err f) old new gives written passed = tt
-answered holds (asked.Lint d c form denied) given (Err f) old new gives written passed = tt
-answered holds (asked.Run d b wishes style) given (Err f) old new gives written passed = tt
+answered holds request given (Err f) old new gives written passed = tt
+answered holds (asked.One d asks) given (Ok exit) old new gives written passed =
+    λ x hx. one_said (MayEndFile asks d.now x) given (exit_status exit) old new (gives x hx) written
+answered holds (asked.Two d s asks) given (Ok exit) old new gives written passed =
+    λ x y hx hy. unless_said (MayBreakOff asks (file_outcome x y)) (MayEndFiles asks d.now s.now x y) given exit old new (gives x y hx hy).0 written passed
 
 -- a fault is said of the request by its status, or by 3
 pub faulted : (holds : List ℕ → Option (List ℕ)) (request : Request) (given : Result Answer ToolFault) (r : Result Exit ToolFault) (old new : Option (List ℕ))
@@ -170,49 +138,12 @@ pub faulted : (holds : List ℕ → Option (List ℕ)) (request : Request) (give
     → IfErr r (λ f. (f ≡ fault.Write) ⊎ Keeps old new)
     → Passes given r
     → IfErr r (λ f. (status : ℕ) → (status ≡ fault_status f) ⊎ (status ≡ 3) → Answers holds request status old new)
-faulted holds (asked.Check d b detail style) given (Err f) old new gives ends nothing passed =
-    λ status told x y hx hy. fault_said (in_style style (check_file_outcome detail x y)) f status old new (ends (in_style style (check_file_outcome detail x y)) (gives x y hx hy).0) nothing told
-faulted holds (asked.Match d what style) given (Err f) old new gives ends nothing passed =
-    λ status told x hx. fault_said (compared_file what style x) f status old new (ends (compared_file what style x) (gives x hx)) nothing told
-faulted holds (asked.Propose d style) given (Err f) old new gives ends nothing passed =
-    λ status told x hx. let g = gives x hx in (g.0, g.1, fault_said (in_style style g.0) f status old new (ends (in_style style g.0) g.2) nothing told)
-faulted holds (asked.ProposeThoroughly d seconds style) given (Err f) old new gives ends nothing passed =
-    λ status told x hx. let g = gives x hx in (g.0, g.1, fault_said (in_style style g.0) f status old new (ends (in_style style g.0) g.2) nothing told)
-faulted holds (asked.Migrate d) given (Err f) old new gives ends nothing passed =
-    λ status told x hx. one_faulted (MayMigrateFor x) given f status old new (gives x hx) ends nothing told
-faulted holds (asked.Refute d seconds style) given (Err f) old new gives ends nothing passed =
-    λ status told x hx. one_faulted (MayRefuteFor style x) given f status old new (gives x hx) ends nothing told
-faulted holds (asked.Limits d what seconds style) given (Err f) old new gives ends nothing passed =
-    λ status told x hx. one_faulted (MayLimitFor what style x) given f status old new (gives x hx) ends nothing told
-faulted holds (asked.Replay d e style) given (Err f) old new gives ends nothing passed =
-    λ status told x y hx hy. one_faulted (MayReplayFor style x y) given f status old new (gives x y hx hy) ends nothing told
-faulted holds (asked.Conform d t style) given (Err f) old new gives ends nothing passed =
-    λ status told x y hx hy. one_faulted (MayConformFor style x y) given f status old new (gives x y hx hy) ends nothing told
-faulted holds (asked.Show d format) given (Err f) old new gives ends nothing passed =
-    λ status told x hx. fault_said (show_file_outcome format x) f status old new (ends (show_file_outcome format x) (gives x hx)) nothing told
-faulted holds (asked.Draw d None) given (Err f) old new gives ends nothing passed =
-    λ status told x hx. fault_said (draw_file_outcome x None) f status old new (ends (draw_file_outcome x None) (gives x hx)) nothing told
-faulted holds (asked.Draw d (Some c)) given (Err f) old new gives ends nothing passed =
-    λ status told x y hx hy. fault_said (draw_file_outcome x (Some y)) f status old new (ends (draw_file_outcome x (Some y)) (gives x y hx hy)) nothing told
-faulted holds (asked.Lint d None form denied) given (Err f) old new gives ends nothing passed =
-    λ status told x hx. one_faulted (MayLintFile form denied d.now x) given f status old new (gives x hx) ends nothing told
-faulted holds (asked.Lint d (Some c) form denied) given (Err f) old new gives ends nothing passed =
-    λ status told x y hx hy. one_faulted (MayLintFiles form denied d.now c.now x y) given f status old new (gives x y hx hy) ends nothing told
-faulted holds (asked.Run d b wishes style) given (Err f) old new gives ends nothing passed =
-    λ status told x y hx hy. run_faulted wishes style (file_outcome x y) given f status old new (gives x y hx hy) ends nothing (same_fault given f passed) told
-faulted holds (asked.Check d b detail style) given (Ok exit) old new gives ends nothing passed = tt
-faulted holds (asked.Match d what style) given (Ok exit) old new gives ends nothing passed = tt
-faulted holds (asked.Propose d style) given (Ok exit) old new gives ends nothing passed = tt
-faulted holds (asked.ProposeThoroughly d seconds style) given (Ok exit) old new gives ends nothing passed = tt
-faulted holds (asked.Migrate d) given (Ok exit) old new gives ends nothing passed = tt
-faulted holds (asked.Refute d seconds style) given (Ok exit) old new gives ends nothing passed = tt
-faulted holds (asked.Limits d what seconds style) given (Ok exit) old new gives ends nothing passed = tt
-faulted holds (asked.Replay d e style) given (Ok exit) old new gives ends nothing passed = tt
-faulted holds (asked.Conform d t style) given (Ok exit) old new gives ends nothing passed = tt
-faulted holds (asked.Show d format) given (Ok exit) old new gives ends nothing passed = tt
-faulted holds (asked.Draw d c) given (Ok exit) old new gives ends nothing passed = tt
-faulted holds (asked.Lint d c form denied) given (Ok exit) old new gives ends nothing passed = tt
-faulted holds (asked.Run d b wishes style) given (Ok exit) old new gives ends nothing passed = tt
+faulted holds request given (Ok exit) old new gives ends nothing passed = tt
+faulted holds (asked.One d asks) given (Err f) old new gives ends nothing passed =
+    λ status told x hx. one_faulted (MayEndFile asks d.now x) given f status old new (gives x hx) ends nothing told
+faulted holds (asked.Two d s asks) given (Err f) old new gives ends nothing passed =
+    λ status told x y hx hy.
+    unless_faulted (MayBreakOff asks (file_outcome x y)) (MayEndFiles asks d.now s.now x y) given f status old new (gives x y hx hy).0 ends nothing (same_fault given f passed) told
 
 -- a fault that is passed on is one with which the request may end
 pub ends_given : (holds : List ℕ → Option (List ℕ)) (request : Request) (given : Result Answer ToolFault) (r : Result Exit ToolFault) (failed : Bool) → GivesTo holds request given

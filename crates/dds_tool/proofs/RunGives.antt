@@ -1,6 +1,5 @@
 -- What a run of files gives.
 use Rattle.std.proofs.Common.{Bool, IfErr, IfOk, ◌≡◌, ◌≤◌, ◌<◌, ◌⊎◌, ◌∙◌, ℕ, List, length, map, Option, Some, None, Result, Ok, Err, refl, sym, ap, inl, inr, string_bytes, subst}
-use Rattle.std.specs.Result.{IsErrAnd}
 use Rattle.std.proofs.lemmas.List.{length-map}
 use Rattle.std.proofs.lemmas.List.FromFn.{length-map-range_with_len}
 use Rattle.dds_fields.specs.Reading.{Flaw, Read}
@@ -20,11 +19,9 @@ use Rattle.dds_answers.specs.declared.report.Detail.{Detail}
 use Rattle.dds_answers.specs.declared.fault.ToolFault.{ToolFault}
 use Rattle.dds_answers.specs.declared.fault.ToolFault.TheVariants as fault
 use Rattle.dds_answers.specs.Answers.{Gives, SaysNothing}
-use Rattle.dds_answers.specs.Outcome.{Outcome, accepted, bad_certificate, bad_deployment, file_outcome, judged, outcome, planned, refused, said, too_large, verdict}
-use Rattle.dds_answers.specs.Reading.{IsReadingFault}
+use Rattle.dds_answers.specs.Outcome.{Outcome, accepted, bad_certificate, bad_deployment, judged, outcome, planned, refused, said, verdict}
 use Rattle.dds_answers.specs.Report.{Tells}
-use Rattle.dds_answers.proofs.FileEnds.{few_of_files, large_of_files, unread_gives_one}
-use Rattle.dds_tool.specs.RunEnds.{GivesRun, MayRun}
+use Rattle.dds_tool.specs.RunEnds.{GivesRun}
 use Rattle.dds_tool.specs.Running.{app_names, because_of}
 use Rattle.dds_recap.specs.Ends.{all_good}
 use Rattle.dds_json.proofs.Ends.{says}
@@ -32,7 +29,7 @@ use Rattle.dds_json.specs.Ends.{in_style}
 use Rattle.dds_json.specs.declared.style.Style.{Style}
 use Rattle.dds_json.specs.declared.style.Style.TheVariants.{Text, Json}
 use Rattle.dds_tool.specs.RunDocument.{told_run}
-use Rattle.dds_tool.specs.declared.wishes.Wishes.{Wishes}
+use Rattle.dds_request.specs.declared.wishes.Wishes.{Wishes}
 
 -- there is a name for each application
 pub names_len : {X : Type 0} (text : X → List ℕ) (names : List X) (d : Lists) → map text names ≡ app_names d → length names ≡ length d.applications.entries
@@ -62,10 +59,6 @@ bad_certificate_styled : (style : Style) (flaw : Flaw) → bad_certificate flaw 
 bad_certificate_styled Text flaw = refl
 bad_certificate_styled Json flaw = refl
 
-too_large_styled : (style : Style) → too_large ≡ in_style style too_large
-too_large_styled Text = refl
-too_large_styled Json = refl
-
 -- a fault that a check tells is one that a run gives
 pub told_gives : (wishes : Wishes) (style : Style) (checked : Outcome) (e : ToolFault) → Tells (Err e) checked → GivesRun wishes style checked (Err e)
 told_gives wishes style checked (fault.Deployment flaw syntax) tells =
@@ -82,21 +75,6 @@ told_gives wishes style checked fault.TooLarge tells = absurd tells
 told_gives wishes style checked fault.Read tells = absurd tells
 told_gives wishes style checked fault.Write tells = absurd tells
 told_gives wishes style checked fault.Run tells = absurd tells
-
--- the fault of a file that could not be read is one that the run gives, where it is passed on
-pub passed_gives : (wishes : Wishes) (style : Style) (d c : List ℕ) (r : Result Answer ToolFault) (e : ToolFault) → IsErrAnd r (λ f. f ≡ e) → IsReadingFault e
-    → (e ≡ fault.TooLarge → (1048576 < length d) ⊎ (1048576 < length c)) → GivesRun wishes style (file_outcome d c) r
-unfolding file_outcome
-passed_gives wishes style d c (Ok answer) e same is large = absurd same
-passed_gives wishes style d c (Err f) e same is large =
-    inr (unread_gives_one (MayRun wishes style (file_outcome d c)) (Err f) e same is
-    (λ largest. subst (λ (checked : Outcome). MayRun wishes style checked too_large) (sym (large_of_files d c (outcome d c) (large largest))) (too_large_styled style)))
-
--- files that are not too large give what their bytes give
-pub run_gives : (wishes : Wishes) (style : Style) (d c : List ℕ) (r : Result Answer ToolFault) → length d ≤ 1048576 → length c ≤ 1048576 → GivesRun wishes style (outcome d c) r
-    → GivesRun wishes style (file_outcome d c) r
-unfolding file_outcome
-run_gives wishes style d c r few small gives = subst (λ (checked : Outcome). GivesRun wishes style checked r) (sym (few_of_files d c (outcome d c) few small)) gives
 
 -- where a certificate is accepted, the deployment is read as its plan
 pub accepted_read : (d c : List ℕ) (lists : Lists) (cert : Certificate) → outcome d c ≡ accepted lists cert → read d ≡ Ok lists

@@ -14,12 +14,13 @@ use Rattle.dds_json.specs.Fault.{fault_document}
 use Rattle.dds_json.specs.Line.{line_of}
 use Rattle.dds_json.specs.declared.style.Style.{Style}
 use Rattle.dds_json.specs.declared.style.Style.TheVariants.{Text, Json}
-use Rattle.dds_tool.specs.Asking.{Answers, GivesTo, IsAcceptedRun, Tells, TellsBadFile, style_of}
+use Rattle.dds_request.specs.Request.{style_of}
+use Rattle.dds_tool.specs.Commands.{Answers, GivesTo, IsAcceptedRun, MayEndFiles, Tells, TellsBadFile}
 use Rattle.dds_tool.specs.Causes.{IsCaused, IsRun}
-use Rattle.dds_tool.specs.RunEnds.{GivesRun, IsAccepted}
-use Rattle.dds_tool.specs.declared.request.Request.{Request}
-use Rattle.dds_tool.specs.declared.wishes.Wishes.{Wishes}
-use Rattle.dds_tool.specs.declared.request.Request.TheVariants as asked
+use Rattle.dds_tool.specs.RunEnds.{GivesUnless, IsAccepted}
+use Rattle.dds_request.specs.declared.request.PairTask.TheVariants as pair
+use Rattle.dds_request.specs.declared.request.Request.{Request}
+use Rattle.dds_request.specs.declared.request.Request.TheVariants as asked
 
 -- how a command ends that tells this fault
 abbrev pub EndsTold : ToolFault → Bool → Exit → Type 0
@@ -80,12 +81,6 @@ pub answer_tells : (holds : List ℕ → Option (List ℕ)) (request : Request) 
     → Tells holds request (exit_status e) old new
 answer_tells holds request e old new few answers = inl ((λ json two. omega (arith, two, few)), answers)
 
--- a fault of a proposal that is told in a style is one of its own, or want of memory
-pub styled_causes : (failed : Bool) (answer r : Result Answer ToolFault) → IfErr r (λ e. (e ≡ fault.NoMemory) ⊎ IsErrOf answer e) → IfErr answer (IsFileFault failed) → IfErr r (IsFileFault failed)
-styled_causes failed answer (Ok a) is causes = tt
-styled_causes failed answer (Err e) (inl memory) causes = subst (IsFileFault failed) (sym memory) tt
-styled_causes failed answer (Err e) (inr same) causes = subst (λ (a : Result Answer ToolFault). IfErr a (IsFileFault failed)) same causes
-
 -- a command ends like this only with that fault
 run_fault : (f : ToolFault) → exit_of f ≡ exit.Run → f ≡ fault.Run
 run_fault (fault.Usage text) is = absurd (let no : exit.Usage ≡ exit.Run = is in cc)
@@ -104,26 +99,22 @@ told_run f failed e (inl is) run = run_fault f (sym is ∙ run)
 told_run f failed e (inr (inl is)) run = absurd (let no : exit.NoMemory ≡ exit.Run = sym is ∙ run in cc)
 told_run f failed e (inr (inr is)) run = absurd (let no : exit.Device ≡ exit.Run = sym is.0 ∙ run in cc)
 
--- a run that gives that fault was accepted
-given_run : (wishes : Wishes) (style : Style) (checked : Outcome) → GivesRun wishes style checked (Err fault.Run) → IsAccepted checked
-given_run wishes style checked (inl run) = run.0
-given_run wishes style checked (inr (inl nothing)) = absurd nothing
-given_run wishes style checked (inr (inr (end, may, ends))) = absurd ends
+-- what gives that fault may be broken off
+given_run : (Breaks : Type 0) (May : Outcome → Type 0) → GivesUnless Breaks May (Err fault.Run) → Breaks
+given_run Breaks May (inl run) = run.0
+given_run Breaks May (inr (inl nothing)) = absurd nothing
+given_run Breaks May (inr (inr (end, may, ends))) = absurd ends
 
+-- so a run that gives it was accepted
 accepted_run : (holds : List ℕ → Option (List ℕ)) (request : Request) → IsRun request → GivesTo holds request (Err fault.Run) → IsAcceptedRun holds request
-accepted_run holds (asked.Run d c wishes style) run gives = λ x y hx hy. given_run wishes style (file_outcome x y) (gives x y hx hy)
-accepted_run holds (asked.Match d what style) run gives = absurd run
-accepted_run holds (asked.Propose d style) run gives = absurd run
-accepted_run holds (asked.ProposeThoroughly d seconds style) run gives = absurd run
-accepted_run holds (asked.Migrate d) run gives = absurd run
-accepted_run holds (asked.Refute d seconds style) run gives = absurd run
-accepted_run holds (asked.Limits d what seconds style) run gives = absurd run
-accepted_run holds (asked.Replay d e style) run gives = absurd run
-accepted_run holds (asked.Conform d t style) run gives = absurd run
-accepted_run holds (asked.Show d format) run gives = absurd run
-accepted_run holds (asked.Draw d c) run gives = absurd run
-accepted_run holds (asked.Lint d c form denied) run gives = absurd run
-accepted_run holds (asked.Check d c detail style) run gives = absurd run
+accepted_run holds (asked.One d asks) run gives = absurd run
+accepted_run holds (asked.Two d s (pair.Run wishes style)) run gives = λ x y hx hy.
+    given_run (IsAccepted (file_outcome x y)) (MayEndFiles (pair.Run wishes style) d.now s.now x y) (gives x y hx hy).0
+accepted_run holds (asked.Two d s (pair.Check detail style)) run gives = absurd run
+accepted_run holds (asked.Two d s (pair.Replay style)) run gives = absurd run
+accepted_run holds (asked.Two d s (pair.Conform style)) run gives = absurd run
+accepted_run holds (asked.Two d s pair.Draw) run gives = absurd run
+accepted_run holds (asked.Two d s (pair.Lint form denied)) run gives = absurd run
 
 asked_run : (file_failed output_failed : Bool) (request : Request) → IsCaused file_failed output_failed request fault.Run → IsRun request
 asked_run file_failed output_failed request (inl write) = absurd (let no : fault.Run ≡ fault.Write = write.0 in cc)

@@ -55,28 +55,24 @@ abbrev pub is_kept : Conformance → Bool
 is_kept Kept = true
 is_kept _ = false
 
--- the bytes are UTF-8, their lines tell entries, and it is told in this style whether these keep the rules: the answer is so of the deployment's network
+-- the bytes are UTF-8, their lines stand for entries, and the answer says in this style whether these keep the rules: the answer is so of the deployment's network
 abbrev pub IsConformance : Style → Lists → List ℕ → Outcome → Type 0
 IsConformance style lists bytes end =
     IsUtf8 bytes × (entries : List Entry) × (conformance : Conformance) × AreEntries lists (lines bytes) entries × judging.IsAnswer (network_of lists) entries conformance
     × (end ≡ said (told_conformance style lists conformance) (is_kept conformance))
 
--- of a deployment that can be read: the trace is judged, or a flaw of it is told
+-- of a deployment that can be read: the trace is judged, or a flaw of it is reported
 abbrev pub MayConformLists : Style → Lists → List ℕ → Outcome → Type 0
 MayConformLists style lists bytes end =
     IsConformance style lists bytes end ⊎ ((kind : TraceFaultKind) × (line : ℕ) × IsFaultOf lists bytes (At kind line) × (end ≡ bad_trace kind line))
 
--- a flaw of the deployment is told
+-- a flaw of the deployment is reported
 abbrev pub MayConform : Style → Read Lists → List ℕ → Outcome → Type 0
 MayConform style (Ok lists) bytes end = MayConformLists style lists bytes end
 MayConform style (Err flaw) bytes end = end ≡ bad_deployment flaw
 
--- the same of two files with these bytes, if neither is too large: a trace may have 64 MiB
-abbrev pub MayConformFor : Style → List ℕ → List ℕ → Outcome → Type 0
-MayConformFor style d t end = MayIf (nat_le (length d) 1048576 && nat_le (length t) 67108864) (MayConform style (deployment.read d) t) end
-
 -- ── for the parts of an answer
--- the answer tells in this style whether the entries keep the rules, and it is so
+-- the answer says in this style whether the entries keep the rules, and it is so
 abbrev pub IsJudged : Style → Lists → List Entry → Answer → Type 0
 IsJudged style lists entries answer =
     (conformance : Conformance) × judging.IsAnswer (network_of lists) entries conformance × (string_bytes answer.text ≡ told_conformance style lists conformance)

@@ -20,13 +20,12 @@ use Rattle.dds_search.specs.declared.loss.Loss.{Loss}
 use Rattle.dds_search.specs.declared.loss.Loss.TheVariants as lost
 use Rattle.dds_search.specs.declared.loss.refuting.Refutation.{Refutation}
 use Rattle.dds_search.specs.declared.loss.refuting.Refutation.TheVariants as refutation
-use Rattle.dds_search.specs.declared.budget.Shortage.{Shortage}
-use Rattle.dds_search.specs.declared.budget.Shortage.TheVariants as short
 use Rattle.dds_search.specs.declared.loss.refuting.Unknown.{Unknown}
 use Rattle.dds_search.specs.declared.loss.refuting.Unknown.TheVariants as unknown
 use Rattle.dds_search.specs.Refutations.{IsCounterexample}
+use Rattle.dds_sizing.specs.Shortages.{shortage_word}
 use Rattle.dds_tool.specs.Summary.{summary_line, summary_text}
-use Rattle.dds_answers.specs.Outcome.{MayOfFile, Outcome, bad_deployment, said}
+use Rattle.dds_answers.specs.Outcome.{Outcome, bad_deployment, said}
 use Rattle.dds_answers.specs.Structure.{nothing}
 use Rattle.dds_verdict.specs.Refusal.{refusal_line}
 use Rattle.serde_json.specs.Data.{Data, member, no_members, object, string}
@@ -50,16 +49,6 @@ unsafe_line d c =
 -- the line, that which sums the run up, and those of its events with their replies
 abbrev pub refuted_text : Lists → Counterexample → List ℕ
 refuted_text d c = unsafe_line d c ++ (summary_line d c.events.items c.replies.items ++ lines_of d c.events.items c.replies.items)
-
--- the word for what a search ran out of
-abbrev pub shortage_word : Shortage → List ℕ
-shortage_word short.Seconds = codes "seconds"
-shortage_word short.Pivots = codes "pivots"
-shortage_word short.Markings = codes "markings"
-shortage_word short.Events = codes "events"
-shortage_word short.Bits = codes "bits"
-shortage_word short.Rows = codes "rows"
-shortage_word short.Ways = codes "ways"
 
 -- the line where neither a certificate nor such a run was found
 abbrev pub unknown_line : Unknown → List ℕ
@@ -115,15 +104,11 @@ abbrev pub told_known : Style → Lists → Refutation → List ℕ
 told_known Text lists known = known_text lists known
 told_known Json lists known = line_of (known_document lists known)
 
--- of a deployment that can be read something is told that is known, in this style
+-- of a deployment that can be read something is printed that is known, in this style
 abbrev pub MayRefuteLists : Style → Lists → Outcome → Type 0
 MayRefuteLists style lists end = (known : Refutation) × IsKnown lists known × (end ≡ said (told_known style lists known) (is_safe known))
 
--- a flaw of the deployment is told
+-- a flaw of the deployment is reported
 abbrev pub MayRefute : Style → Read Lists → Outcome → Type 0
 MayRefute style (Ok lists) end = MayRefuteLists style lists end
 MayRefute style (Err flaw) end = end ≡ bad_deployment flaw
-
--- the same of a file with these bytes
-abbrev pub MayRefuteFor : Style → List ℕ → Outcome → Type 0
-MayRefuteFor style d end = MayOfFile d (MayRefute style (deployment.read d)) end

@@ -31,28 +31,24 @@ abbrev pub told_replay : Style → Lists → List Event → List Reply → List 
 told_replay Text lists events replies = lines_of lists events replies
 told_replay Json lists events replies = line_of (replay_document lists events replies)
 
--- the bytes are UTF-8, and the events that they say are made, with replies that make them a run of the deployment, and both are told in this style
+-- the bytes are UTF-8, and the events that they say are replayed, with replies that make them a run of the deployment, and both are printed in this style
 abbrev pub IsReplay : Style → Lists → List ℕ → Outcome → Type 0
 IsReplay style lists bytes end =
     IsUtf8 bytes × (events : List Event) × (replies : List Reply) × (map (event_text lists) events ≡ said_of bytes) × (length replies ≡ length events)
     × IsRun (network_of lists) (paired events replies) × (end ≡ said (told_replay style lists events replies) true)
 
--- of a deployment that can be read: its events are made, or a flaw of theirs is told
+-- of a deployment that can be read: its events are replayed, or a flaw of theirs is reported
 abbrev pub MayReplayLists : Style → Lists → List ℕ → Outcome → Type 0
 MayReplayLists style lists bytes end =
     IsReplay style lists bytes end ⊎ ((kind : EventsFaultKind) × (line : ℕ) × IsFaultOf lists bytes (At kind line) × (end ≡ bad_events kind line))
 
--- a flaw of the deployment is told
+-- a flaw of the deployment is reported
 abbrev pub MayReplay : Style → Read Lists → List ℕ → Outcome → Type 0
 MayReplay style (Ok lists) bytes end = MayReplayLists style lists bytes end
 MayReplay style (Err flaw) bytes end = end ≡ bad_deployment flaw
 
--- the same of two files with these bytes, if neither is too large: a file of events may have 64 MiB
-abbrev pub MayReplayFor : Style → List ℕ → List ℕ → Outcome → Type 0
-MayReplayFor style d e end = MayIf (nat_le (length d) 1048576 && nat_le (length e) 67108864) (MayReplay style (deployment.read d) e) end
-
 -- ── for the parts of an answer
--- the answer tells the events in this style, with replies that make them a run of the plan
+-- the answer gives the events in this style, with replies that make them a run of the plan
 abbrev pub IsReplayed : Style → Lists → List Event → Answer → Type 0
 IsReplayed style lists events answer =
     (replies : List Reply) × (length replies ≡ length events) × IsRun (network_of lists) (paired events replies)

@@ -1,4 +1,4 @@
--- The document that tells of a run.
+-- The document that reports a run.
 use Rattle.std.specs.Prelude.{ℕ, Bool, List, [], ◌++◌, codes, length, map, Option, Some, None, unwrap_or}
 use Rattle.std.specs.List.{count_by, range_with_len, slice_index_or}
 use Rattle.serde_json.specs.Data.{Data, array, member, no_members, number, object, string, unsigned}
@@ -28,14 +28,14 @@ document_at names journal ends app = app_document (slice_index_or names app []) 
 abbrev pub app_documents : List (List ℕ) → List Entry → List AppEnd → Data
 app_documents names journal ends = array (items_of (map (document_at names journal ends) (range_with_len 0 (length names))))
 
--- yes or no, with each application, and what the journal comes to, where that is asked for
+-- yes or no, with each application, and what the journal shows, where that is asked for
 abbrev pub run_document : Bool → Option (List ℕ) → List (List ℕ) → List Entry → List AppEnd → Data
 run_document is_yes None names journal ends =
     object (member (codes "answer") (string (answer_word is_yes)) (member (codes "applications") (app_documents names journal ends) no_members))
 run_document is_yes (Some because) names journal ends =
     object (member (codes "answer") (string (answer_word is_yes)) (member (codes "applications") (app_documents names journal ends) (member (codes "because") (string because) no_members)))
 
--- a run, in this style: yes or no, and what its journal comes to, where that is asked for
+-- a run, in this style: yes or no, and what its journal shows, where that is asked for
 abbrev pub told_run : Style → Bool → Option (List ℕ) → List (List ℕ) → List Entry → List AppEnd → List ℕ
 told_run Text is_yes because names journal ends = run_lines names journal ends ++ unwrap_or because []
 told_run Json is_yes because names journal ends = line_of (run_document is_yes because names journal ends)

@@ -15,15 +15,15 @@ use Rattle.dds_tool.specs.RunDocument.{told_run}
 use Rattle.dds_lists.specs.Lists.{Lists}
 use Rattle.dds_tool.specs.Running.{app_names, because_of}
 use Rattle.dds_recap.specs.Ends.{all_good}
-use Rattle.dds_tool.specs.declared.wishes.Wishes.{Wishes}
+use Rattle.dds_request.specs.declared.wishes.Wishes.{Wishes}
 
 -- what is said of a run by its journal and the ends of its applications' threads
 abbrev pub ran : Wishes → Style → Lists → List Entry → List AppEnd → Outcome
 ran wishes style d journal ends =
     let is_yes = all_good wishes.good ends in said (told_run style is_yes (because_of wishes.detail d journal ends) (app_names d) journal ends) is_yes
 
--- what a run of files may come to whose check ends so, in this style: where the certificate is accepted, the deployment ran, by a journal of its plan,
--- and the thread of each application ended; every other end is that of the check
+-- how a run of files may end whose check ends so, in this style: where the certificate is accepted, the deployment ran, by a journal of its plan,
+-- and the thread of each application ended; every other end is the check's
 abbrev pub MayRun : Wishes → Style → Outcome → Outcome → Type 0
 MayRun wishes style (accepted d c) end =
     (journal : List Entry) × (ends : List AppEnd) × IsJournal d journal × (length ends ≡ length d.applications.entries) × (end ≡ ran wishes style d journal ends)
@@ -34,8 +34,12 @@ abbrev pub IsAccepted : Outcome → Type 0
 IsAccepted (accepted d c) = Unit {0}
 IsAccepted _ = ⊥
 
--- what is given for a run of files whose check ends so: the answer of an end that may be, or the fault with which one that may be ends, or a
--- fault of memory or of a device, or, but only where the certificate is accepted, that of the run
+-- what is given where one of these ends may be: its answer, or the fault with which it ends, or a fault of memory or of a device, or that of a run, but only
+-- where it may be broken off
+abbrev pub GivesUnless : (Breaks : Type 0) → (Outcome → Type 0) → Result Answer ToolFault → Type 0
+GivesUnless Breaks May (Ok answer) = (end : Outcome) × May end × IsAnswer answer end
+GivesUnless Breaks May (Err e) = (Breaks × (e ≡ fault.Run)) ⊎ (SaysNothing e ⊎ ((end : Outcome) × May end × Ends e end))
+
+-- what is given for a run of files whose check ends so; it may be broken off where the certificate is accepted
 abbrev pub GivesRun : Wishes → Style → Outcome → Result Answer ToolFault → Type 0
-GivesRun wishes style checked (Ok answer) = (end : Outcome) × MayRun wishes style checked end × IsAnswer answer end
-GivesRun wishes style checked (Err e) = (IsAccepted checked × (e ≡ fault.Run)) ⊎ (SaysNothing e ⊎ ((end : Outcome) × MayRun wishes style checked end × Ends e end))
+GivesRun wishes style checked result = GivesUnless (IsAccepted checked) (MayRun wishes style checked) result

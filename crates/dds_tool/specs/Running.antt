@@ -1,4 +1,4 @@
--- The lines that tell of a run.
+-- The lines that report a run.
 use Rattle.std.specs.Prelude.{ℕ, Bool, true, false, List, [], ◌++◌, codes, length, map, Option, Some, None}
 use Rattle.std.specs.Fmt.{decimal}
 use Rattle.std.specs.List.{count_by, range_with_len, slice_index_or}
@@ -16,12 +16,12 @@ use Rattle.dds_answers.specs.declared.report.Detail.{Detail}
 use Rattle.dds_answers.specs.declared.report.Detail.TheVariants.{Plain, Explained}
 use Rattle.dds_recap.specs.Explanation.{explanation}
 
--- the reply tells of a sample that was written
+-- the reply reports a sample that was written
 abbrev pub tells_of_write : Reply → Bool
 tells_of_write (Written n) = true
 tells_of_write _ = false
 
--- the reply tells of a sample that was taken
+-- the reply reports a sample that was taken
 abbrev pub tells_of_take : Reply → Bool
 tells_of_take (Took s) = true
 tells_of_take _ = false
@@ -61,7 +61,7 @@ line_at names journal ends app = app_line (slice_index_or names app []) (entries
 abbrev pub run_lines : List (List ℕ) → List Entry → List AppEnd → List ℕ
 run_lines names journal ends = each_below (length names) (line_at names journal ends)
 
--- what the journal of a run comes to, where that is asked for
+-- what the journal of a run shows, where that is asked for
 abbrev pub because_of : Detail → Lists → List Entry → List AppEnd → Option (List ℕ)
 because_of Plain d journal ends = None
 because_of Explained d journal ends = Some (explanation d journal ends)

@@ -1,142 +1,202 @@
 //! The commands, over any files and any two outputs.
 ghost use Rattle.std.specs.Prelude.{◌≡◌, ◌≢◌, ℕ, List, [], ◌∷◌, ◌≤◌, ◌⊎◌, Some, true, false, map, IfOk, IfErr, OnOk};
-ghost use Rattle.std.specs.Prelude.{OnErr};
-ghost use Rattle.std.specs.Io.KnownBytes.{Keeps};
+ghost use Rattle.std.specs.Prelude.{OnErr, Err};
+ghost use Rattle.std.specs.Io.KnownBytes.{Appends, Keeps};
 ghost use Rattle.clap.specs.Words.{takes};
 ghost use Rattle.dds_json.specs.declared.style.Style.TheVariants.{Json};
-ghost use Rattle.dds_tool.specs.Asking.{Answers, AreRefused, AskForHelp, Asks, GivesTo, IsAcceptedRun, IsHelp, Tells};
-ghost use Rattle.dds_tool.specs.Asking.{TellsBadFile, paths_of, style_of};
-ghost use Rattle.dds_tool.specs.Command.{whole};
+ghost use Rattle.dds_request.specs.Asking.{AreRefused, AskForHelp, Asks, IsHelp};
+ghost use Rattle.dds_request.specs.Command.{whole};
+ghost use Rattle.dds_request.specs.Request.{paths_of, style_of};
 ghost use Rattle.dds_answers.specs.Answers.{GivesOneOf};
 ghost use Rattle.dds_answers.specs.Causes.{IsFileFault};
 ghost use Rattle.dds_answers.specs.Exit.{exit_status};
-ghost use Rattle.dds_answers.specs.Fault.{fault_status};
+ghost use Rattle.dds_answers.specs.Fault.{IsAnswerFault, fault_status};
 ghost use Rattle.dds_answers.specs.Opened.{Opens, OpensAll};
-ghost use Rattle.dds_answers.specs.Outcome.{file_outcome};
+ghost use Rattle.dds_answers.specs.Outcome.{file_outcome, outcome};
 ghost use Rattle.dds_answers.specs.Telling.{TellsFault};
-ghost use Rattle.dds_tool.specs.Causes.{IsCaused, IsRequestFault};
-ghost use Rattle.dds_tool.specs.Refuting.{MayRefuteFor};
-ghost use Rattle.dds_tool.specs.Replaying.{MayReplayFor};
-ghost use Rattle.dds_tool.specs.Conforming.{MayConformFor};
-ghost use Rattle.dds_tool.specs.RunEnds.{GivesRun};
+ghost use Rattle.dds_tool.specs.Causes.{IsCaused, IsPairFault, IsRequestFault, IsRunTask};
+ghost use Rattle.dds_tool.specs.Commands.{Answers, GivesTo, IsAcceptedRun, IsToldOf, MayBreakOff, MayEnd};
+ghost use Rattle.dds_tool.specs.Commands.{MayEndFile, MayEndFiles, MayEndPair, Tells, TellsBadFile, most_of};
+ghost use Rattle.dds_tool.specs.RunEnds.{GivesUnless};
 
-use crate::comparing::compare_file;
 use crate::conforming::conform_answer;
-use crate::limits::limits_file;
-use crate::linting::{lint_file, lint_files};
 use crate::refuting::refute_answer;
 use crate::replaying::replay_answer;
-use crate::request::{NoRequest, Request, read_request};
 use crate::running::run_answer;
-use crate::styled::{check_in_style, propose_in_style, search_in_style};
 use crate::telling::tell_in_style;
-use crate::wishes::Wishes;
 use dds_answers::{
-    Answer, Exit, Output, Sources, ToolFault, draw_file, draw_files, give, migrate_file, print,
-    read_file, read_file_up_to, read_files, show_file, tell_fault,
+    Answer, Exit, MAX_FILE, Output, Sources, ToolFault, connections_answer, draw_answer, give,
+    migrate_answer, print, propose_answer, read_file, read_files, show_answer, tell_fault,
 };
-use dds_json::Style;
+use dds_findings::{Named, lint_answer};
+use dds_json::{check_in_style, match_in_style, proposal_in_style};
+use dds_request::{Comparison, NoRequest, PairTask, Request, Task, read_request};
 use dds_search::Budget;
+use dds_sizing::{limits_answer, thorough_answer};
 use std::alloc::Global;
 use std::convert::AsStr;
 use std::sync::Wait;
 use std::thread::Threads;
 use std::time::Clock;
 
-/// The answer of `run` to two files. Both are read whole, the deployment first, before either is parsed.
-fn run_files<R: Threads + Wait + Clock + Sync, S: Sources>(
-    rt: &R,
+/// The most bytes that a file of events or a trace may have: 64 MiB. The longest run that `refute` prints has fewer.
+const MAX_LINES: usize = 67_108_864;
+
+/// The answer to what is asked for of the bytes of a deployment.
+fn answer_task<C: Clock>(
+    rt: &C,
     alloc: Global,
-    deployment: &str,
-    certificate: &str,
-    wishes: &Wishes,
-    style: Style,
-    files: &mut S,
+    file: &Named,
+    task: Task,
 ) -> Result<Answer, ToolFault>
-    ensures gives { (d c : List ℕ) → S.holds files.old deployment.now ≡ Some d
-        → S.holds files.old certificate.now ≡ Some c
-        → GivesRun wishes.now style (file_outcome d c) result }
-    ensures causes { IfErr result (λ e. (e ≡ ToolFault.Run) ⊎ IsFileFault (S.has_failed files.new) e) }
-    ensures opened { Opens (S.opened files.old) (S.opened files.new) (deployment.now ∷ certificate.now ∷ []) }
-    ensures all_opened { OnOk result (OpensAll (S.opened files.old) (S.opened files.new)
-        (deployment.now ∷ certificate.now ∷ [])) }
+    ensures gives { GivesOneOf (MayEnd task file.now.name.now file.now.bytes.now) result }
+    ensures fault { IfErr result IsAnswerFault }
 {
-    let (deployment, certificate) = read_files(alloc, files, deployment, certificate)?;
-    run_answer(
-        rt,
-        alloc,
-        deployment.as_slice(),
-        certificate.as_slice(),
-        wishes,
-        style,
-    )
+    let bytes = file.bytes;
+    match task {
+        Task::Match { what, style } => match what {
+            Comparison::Pairs => match_in_style(alloc, bytes, style),
+            Comparison::Connections => connections_answer(alloc, bytes),
+        },
+        Task::Propose { style } => proposal_in_style(alloc, propose_answer(alloc, bytes), style),
+        Task::ProposeThoroughly { seconds, style } => {
+            let answer = thorough_answer(alloc, bytes, Budget::new(rt, seconds));
+            proposal_in_style(alloc, answer, style)
+        }
+        Task::Migrate => migrate_answer(alloc, bytes),
+        Task::Refute { seconds, style } => {
+            refute_answer(alloc, bytes, style, Budget::new(rt, seconds))
+        }
+        Task::Limits {
+            what,
+            seconds,
+            style,
+        } => limits_answer(alloc, bytes, what, style, Budget::new(rt, seconds)),
+        Task::Show { format } => show_answer(alloc, bytes, format),
+        Task::Draw => draw_answer(alloc, bytes, None),
+        Task::Lint { form, deny } => lint_answer(alloc, file, None, form, deny),
+    }
 }
 
-/// The answer of `refute` to a file, which is read whole before it is parsed.
-fn refute_file<C: Clock, S: Sources>(
+/// The answer to what is asked for of the bytes of a deployment and of a second file.
+fn answer_pair<R: Threads + Wait + Clock + Sync>(
+    rt: &R,
+    alloc: Global,
+    deployment: &Named,
+    second: Named,
+    task: PairTask,
+) -> Result<Answer, ToolFault>
+    ensures gives { GivesUnless
+        (MayBreakOff task (outcome deployment.now.bytes.now second.entry.bytes.now))
+        (MayEndPair task deployment.now.name.now second.entry.name.now deployment.now.bytes.now
+        second.entry.bytes.now) result }
+    ensures told { IfErr result (IsToldOf task deployment.now.bytes.now second.entry.bytes.now) }
+    ensures fault { IfErr result (IsPairFault task) }
+{
+    let given = deployment.bytes;
+    let bytes = second.bytes;
+    match task {
+        PairTask::Check { detail, style } => check_in_style(alloc, given, bytes, detail, style),
+        PairTask::Run { wishes, style } => run_answer(rt, alloc, given, bytes, &wishes, style),
+        PairTask::Replay { style } => replay_answer(alloc, given, bytes, style),
+        PairTask::Conform { style } => conform_answer(alloc, given, bytes, style),
+        PairTask::Draw => draw_answer(alloc, given, Some(bytes)),
+        PairTask::Lint { form, deny } => lint_answer(alloc, deployment, Some(second), form, deny),
+    }
+}
+
+/// The most bytes that the second file of a command may have.
+fn most_of(task: &PairTask) -> usize
+    ensures { result ≡ most_of task.now }
+{
+    match task {
+        PairTask::Replay { .. } | PairTask::Conform { .. } => MAX_LINES,
+        PairTask::Check { .. } | PairTask::Run { .. } | PairTask::Draw | PairTask::Lint { .. } =>
+            MAX_FILE,
+    }
+}
+
+/// The answer to what is asked for of a deployment alone, which is read whole before it is parsed.
+fn answer_one<C: Clock, S: Sources>(
+    rt: &C,
     alloc: Global,
     deployment: &str,
-    style: Style,
-    budget: Budget<C>,
+    task: Task,
     files: &mut S,
 ) -> Result<Answer, ToolFault>
-    ensures gives { (d : List ℕ) → S.holds files.old deployment.now ≡ Some d
-        → GivesOneOf (MayRefuteFor style d) result }
+    ensures gives { (x : List ℕ) → S.holds files.old deployment.now ≡ Some x
+        → GivesOneOf (MayEndFile task deployment.now x) result }
     ensures causes { IfErr result (IsFileFault (S.has_failed files.new)) }
     ensures opened { OpensAll (S.opened files.old) (S.opened files.new) (deployment.now ∷ []) }
 {
     match read_file(alloc, files, deployment) {
-        Ok(bytes) => refute_answer(alloc, bytes.as_slice(), style, budget),
+        Ok(bytes) => {
+            let file = Named {
+                name: deployment,
+                bytes: bytes.as_slice(),
+            };
+            answer_task(rt, alloc, &file, task)
+        }
         Err(fault) => Err(fault),
     }
 }
 
-/// The most bytes that a file of events may have: 64 MiB. The longest run that `refute` prints has fewer.
-const MAX_EVENTS: usize = 67_108_864;
-
-/// The answer of `replay` to two files. Both are read whole, the deployment first, before either is parsed.
-#[tactic(auto, using(dds_answers::proofs::Opened::both_open))]
-fn replay_files<S: Sources>(
+/// The answer to what is asked for of a deployment and a second file. Both are read whole, the deployment first, before
+/// either is parsed.
+fn answer_two<R: Threads + Wait + Clock + Sync, S: Sources>(
+    rt: &R,
     alloc: Global,
     deployment: &str,
-    events: &str,
-    style: Style,
+    second: &str,
+    task: PairTask,
     files: &mut S,
 ) -> Result<Answer, ToolFault>
-    ensures gives { (d e : List ℕ) → S.holds files.old deployment.now ≡ Some d → S.holds files.old events.now ≡ Some e
-        → GivesOneOf (MayReplayFor style d e) result }
-    ensures causes { IfErr result (IsFileFault (S.has_failed files.new)) }
-    ensures opened { Opens (S.opened files.old) (S.opened files.new) (deployment.now ∷ events.now ∷ []) }
+    ensures gives { (x y : List ℕ) → S.holds files.old deployment.now ≡ Some x → S.holds files.old second.now ≡ Some y
+        → GivesUnless (MayBreakOff task (file_outcome x y))
+        (MayEndFiles task deployment.now second.now x y) result
+        × IfErr result (IsToldOf task x y) }
+    ensures causes { IfErr result (λ e. (IsRunTask task × (e ≡ ToolFault.Run))
+        ⊎ IsFileFault (S.has_failed files.new) e) }
+    ensures opened { Opens (S.opened files.old) (S.opened files.new) (deployment.now ∷ second.now ∷ []) }
     ensures all_opened { OnOk result (OpensAll (S.opened files.old) (S.opened files.new)
-        (deployment.now ∷ events.now ∷ [])) }
+        (deployment.now ∷ second.now ∷ [])) }
 {
-    let deployment = read_file(alloc, files, deployment)?;
-    let events = read_file_up_to(alloc, files, events, MAX_EVENTS)?;
-    replay_answer(alloc, deployment.as_slice(), events.as_slice(), style)
+    match read_files(alloc, files, deployment, second, most_of(&task)) {
+        Ok((given, bytes)) => {
+            let file = Named {
+                name: deployment,
+                bytes: given.as_slice(),
+            };
+            let other = Named {
+                name: second,
+                bytes: bytes.as_slice(),
+            };
+            answer_pair(rt, alloc, &file, other, task)
+        }
+        Err(fault) => Err(fault),
+    }
 }
 
-/// The most bytes that a trace may have: 64 MiB.
-const MAX_TRACE: usize = 67_108_864;
-
-/// The answer of `conform` to two files. Both are read whole, the deployment first, before either is parsed.
-#[tactic(auto, using(dds_answers::proofs::Opened::both_open))]
-fn conform_files<S: Sources>(
+/// The answer to a request, whose files are read whole, in the order of the words, before any is parsed.
+fn answer_of<R: Threads + Wait + Clock + Sync, S: Sources>(
+    rt: &R,
     alloc: Global,
-    deployment: &str,
-    trace: &str,
-    style: Style,
+    request: Request,
     files: &mut S,
 ) -> Result<Answer, ToolFault>
-    ensures gives { (d t : List ℕ) → S.holds files.old deployment.now ≡ Some d → S.holds files.old trace.now ≡ Some t
-        → GivesOneOf (MayConformFor style d t) result }
-    ensures causes { IfErr result (IsFileFault (S.has_failed files.new)) }
-    ensures opened { Opens (S.opened files.old) (S.opened files.new) (deployment.now ∷ trace.now ∷ []) }
-    ensures all_opened { OnOk result (OpensAll (S.opened files.old) (S.opened files.new)
-        (deployment.now ∷ trace.now ∷ [])) }
+    ensures gives { GivesTo (S.holds files.old) request.entry result }
+    ensures causes { IfErr result (IsRequestFault (S.has_failed files.new) request.entry) }
+    ensures opened { Opens (S.opened files.old) (S.opened files.new) (paths_of request.entry) }
+    ensures all_opened { OnOk result (OpensAll (S.opened files.old) (S.opened files.new) (paths_of request.entry)) }
 {
-    let deployment = read_file(alloc, files, deployment)?;
-    let trace = read_file_up_to(alloc, files, trace, MAX_TRACE)?;
-    conform_answer(alloc, deployment.as_slice(), trace.as_slice(), style)
+    match request {
+        Request::One { deployment, task } => answer_one(rt, alloc, deployment, task, files),
+        Request::Two {
+            deployment,
+            second,
+            task,
+        } => answer_two(rt, alloc, deployment, second, task, files),
+    }
 }
 
 /// What words that are no request come to: yes where help was asked for and written, else the fault that is
@@ -159,87 +219,6 @@ fn explain<O: Output, E: Output>(alloc: Global, reason: NoRequest, out: &mut O, 
         },
         NoRequest::Usage(text) => tell_fault(alloc, err, &ToolFault::Usage(text)),
         NoRequest::NoMemory => tell_fault(alloc, err, &ToolFault::NoMemory),
-    }
-}
-
-/// The answer to a request.
-fn answer_of<R: Threads + Wait + Clock + Sync, S: Sources>(
-    rt: &R,
-    alloc: Global,
-    request: Request,
-    files: &mut S,
-) -> Result<Answer, ToolFault>
-    ensures gives { GivesTo (S.holds files.old) request.entry result }
-    ensures causes { IfErr result (IsRequestFault (S.has_failed files.new) request.entry) }
-    ensures opened { Opens (S.opened files.old) (S.opened files.new) (paths_of request.entry) }
-    ensures all_opened { OnOk result (OpensAll (S.opened files.old) (S.opened files.new) (paths_of request.entry)) }
-{
-    match request {
-        Request::Check {
-            deployment,
-            certificate,
-            detail,
-            style,
-        } => check_in_style(alloc, deployment, certificate, detail, style, files),
-        Request::Match {
-            deployment,
-            what,
-            style,
-        } => compare_file(alloc, deployment, what, style, files),
-        Request::Propose { deployment, style } => propose_in_style(alloc, deployment, style, files),
-        Request::ProposeThoroughly {
-            deployment,
-            seconds,
-            style,
-        } => search_in_style(alloc, deployment, style, Budget::new(rt, seconds), files),
-        Request::Migrate { deployment } => migrate_file(alloc, deployment, files),
-        Request::Show { deployment, format } => show_file(alloc, deployment, format, files),
-        Request::Draw {
-            deployment,
-            certificate,
-        } => match certificate {
-            None => draw_file(alloc, deployment, files),
-            Some(certificate) => draw_files(alloc, deployment, certificate, files),
-        },
-        Request::Refute {
-            deployment,
-            seconds,
-            style,
-        } => refute_file(alloc, deployment, style, Budget::new(rt, seconds), files),
-        Request::Limits {
-            deployment,
-            what,
-            seconds,
-            style,
-        } => {
-            let budget = Budget::new(rt, seconds);
-            limits_file(alloc, deployment, what, style, budget, files)
-        }
-        Request::Replay {
-            deployment,
-            events,
-            style,
-        } => replay_files(alloc, deployment, events, style, files),
-        Request::Conform {
-            deployment,
-            trace,
-            style,
-        } => conform_files(alloc, deployment, trace, style, files),
-        Request::Lint {
-            deployment,
-            certificate,
-            form,
-            deny,
-        } => match certificate {
-            None => lint_file(alloc, deployment, form, deny, files),
-            Some(certificate) => lint_files(alloc, deployment, certificate, form, deny, files),
-        },
-        Request::Run {
-            deployment,
-            certificate,
-            wishes,
-            style,
-        } => run_files(rt, alloc, deployment, certificate, &wishes, style, files),
     }
 }
 

@@ -9,7 +9,7 @@ ghost use Rattle.dds_tool.specs.Conforming.{IsJudged, IsTraceFault, MayConform, 
 ghost use Rattle.dds_tool.specs.Conforming.{told_conformance};
 
 use crate::conformance_document::conformance_line;
-use dds_answers::{Answer, ToolFault, answered, read_plan};
+use dds_answers::{Answer, ToolFault, answer_with, read_plan};
 use dds_base::NoMemory;
 use dds_conform::{Conformance, Entry, TraceFault, answer_text, conform, read_trace};
 use dds_json::Style;
@@ -47,7 +47,7 @@ fn judge(alloc: Global, plan: &Plan, entries: &[Entry], style: Style) -> Result<
     let Ok(conformance) = conform(alloc, plan, entries) else {
         return Err(ToolFault::NoMemory);
     };
-    let answer = answered(
+    let answer = answer_with(
         tell_conformance(alloc, plan, &conformance, style),
         is_kept(&conformance),
     );

@@ -4,7 +4,7 @@ ghost use Rattle.serde_json.specs.View.{view};
 ghost use Rattle.dds_json.specs.Line.{line_of};
 ghost use Rattle.dds_tool.specs.Refuting.{known_document, loss_document, unknown_document, unsafe_document};
 
-use crate::refuting::{loss_name, shortage_word};
+use crate::refuting::loss_name;
 use crate::summary::summary_text;
 use dds_base::NoMemory;
 use dds_events::lines_text;
@@ -12,6 +12,7 @@ use dds_json::{line_of, structure_document};
 use dds_lists::Deployment;
 use dds_match::Plan;
 use dds_search::{Counterexample, Refutation, Unknown};
+use dds_sizing::shortage_word;
 use dds_weights::naming::{name_at, reader_key};
 use serde_json::{Value, json};
 use std::alloc::Global;

@@ -4,17 +4,18 @@ ghost use Rattle.dds_answers.specs.Answers.{GivesOneOf};
 ghost use Rattle.dds_answers.specs.Fault.{IsAnswerFault};
 ghost use Rattle.dds_deploy.specs.Document.{read as deployment_read};
 ghost use Rattle.dds_tool.specs.Refuting.{MayRefute, is_safe, known_text, loss_name, refuted_text, told_known};
-ghost use Rattle.dds_tool.specs.Refuting.{shortage_word, unknown_line, unsafe_line};
+ghost use Rattle.dds_tool.specs.Refuting.{unknown_line, unsafe_line};
 
 use crate::refute_document::known_line;
 use crate::summary::summary_line;
-use dds_answers::{Answer, ToolFault, answered, read_plan, structure_text};
+use dds_answers::{Answer, ToolFault, answer_with, read_plan, structure_text};
 use dds_base::NoMemory;
 use dds_events::{lines_text, rejection_name};
 use dds_json::Style;
 use dds_lists::Deployment;
 use dds_match::Plan;
-use dds_search::{Budget, Counterexample, Loss, Refutation, Shortage, Unknown, refute};
+use dds_search::{Budget, Counterexample, Loss, Refutation, Unknown, refute};
+use dds_sizing::shortage_word;
 use dds_weights::naming::{name_at, reader_key};
 use std::alloc::Global;
 use std::time::Clock;
@@ -59,21 +60,6 @@ fn refuted_text(
     format!(in alloc; "{line}{summary}{lines}")
 }
 
-/// The word for what a search ran out of.
-pub(crate) fn shortage_word(shortage: Shortage) -> &'static str
-    ensures { result.now ≡ shortage_word shortage }
-{
-    match shortage {
-        Shortage::Seconds => "seconds",
-        Shortage::Pivots => "pivots",
-        Shortage::Markings => "markings",
-        Shortage::Events => "events",
-        Shortage::Bits => "bits",
-        Shortage::Rows => "rows",
-        Shortage::Ways => "ways",
-    }
-}
-
 /// The line where neither a certificate nor a run that loses a sample was found.
 fn unknown_line(alloc: Global, why: Unknown) -> Result<String, NoMemory>
     ensures { IfOk result (λ text. string_bytes text ≡ unknown_line why) }
@@ -107,7 +93,7 @@ fn known_text(alloc: Global, plan: &Plan, refutation: &Refutation) -> Result<Str
 }
 
 /// What is known of the runs of a plan, in this style.
-fn told_known(
+fn known_in_style(
     alloc: Global,
     plan: &Plan,
     refutation: &Refutation,
@@ -122,7 +108,7 @@ fn told_known(
 }
 
 /// The answer to a plan, which is needed no longer.
-fn refuted<C: Clock>(
+fn refute_plan<C: Clock>(
     alloc: Global,
     plan: Plan,
     style: Style,
@@ -134,8 +120,8 @@ fn refuted<C: Clock>(
     let Ok((refutation, plan)) = refute(alloc, plan, budget) else {
         return Err(ToolFault::NoMemory);
     };
-    let answer = answered(
-        told_known(alloc, &plan, &refutation, style),
+    let answer = answer_with(
+        known_in_style(alloc, &plan, &refutation, style),
         is_safe(&refutation),
     );
     drop(plan);
@@ -156,5 +142,5 @@ pub fn refute_answer<C: Clock>(
     ensures fault { IfErr result IsAnswerFault }
 {
     let plan = read_plan(alloc, deployment)?;
-    refuted(alloc, plan, style, budget)
+    refute_plan(alloc, plan, style, budget)
 }

@@ -70,7 +70,7 @@ fn replay_line(
 }
 
 /// Events with their replies, in this style.
-fn told_replay(
+fn replay_in_style(
     alloc: Global,
     lists: &Deployment,
     events: &[Event],
@@ -86,7 +86,7 @@ fn told_replay(
 }
 
 /// The answer to events that are made on a plan.
-fn replayed(
+fn replay_on_plan(
     alloc: Global,
     plan: Plan,
     events: Vec<Event>,
@@ -98,7 +98,7 @@ fn replayed(
     let Ok((replies, plan)) = replies_of(alloc, plan, &events) else {
         return Err(ToolFault::NoMemory);
     };
-    let text = told_replay(alloc, plan.lists(), &events, &replies, style);
+    let text = replay_in_style(alloc, plan.lists(), &events, &replies, style);
     drop(plan);
     match text {
         Ok(text) => Ok(Answer {
@@ -121,7 +121,7 @@ fn events_fault(fault: EventsFault) -> ToolFault
 }
 
 /// The answer to the events that bytes say, on the lists of a deployment.
-fn lists_replayed(
+fn replay_on_lists(
     alloc: Global,
     lists: Deployment,
     events: &[u8],
@@ -138,7 +138,7 @@ fn lists_replayed(
         }
     };
     match plan(alloc, lists) {
-        Ok(plan) => replayed(alloc, plan, events, style),
+        Ok(plan) => replay_on_plan(alloc, plan, events, style),
         Err((_, lists)) => {
             drop(lists);
             Err(ToolFault::NoMemory)
@@ -158,7 +158,7 @@ pub fn replay_answer(
     ensures fault { IfErr result IsAnswerFault }
 {
     match read_deployment(alloc, deployment) {
-        Ok(lists) => lists_replayed(alloc, lists, events, style),
+        Ok(lists) => replay_on_lists(alloc, lists, events, style),
         Err(fault) => Err(deployment_fault(fault)),
     }
 }

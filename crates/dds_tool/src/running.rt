@@ -6,11 +6,8 @@ ghost use Rattle.std.specs.List.{count_by};
 ghost use Rattle.dds_book.specs.Journal.{IsJournal};
 ghost use Rattle.dds_deploy.specs.Document.{read as deployment_read};
 ghost use Rattle.dds_apps.specs.Kept.{entries_of};
-ghost use Rattle.dds_answers.specs.Answers.{Gives};
 ghost use Rattle.dds_answers.specs.Fault.{IsAnswerFault};
 ghost use Rattle.dds_answers.specs.Outcome.{accepted, outcome};
-ghost use Rattle.dds_answers.specs.Report.{outcome_of};
-ghost use Rattle.dds_json.specs.Ends.{in_style};
 ghost use Rattle.dds_tool.specs.RunDocument.{told_run};
 ghost use Rattle.dds_tool.specs.RunEnds.{GivesRun};
 ghost use Rattle.dds_tool.specs.Running.{app_line, app_names, because_of, end_word};
@@ -19,16 +16,16 @@ ghost use Rattle.dds_recap.specs.Explanation.{explanation};
 ghost use Rattle.dds_tool.specs.Running.{is_taken, is_written, run_lines};
 
 use crate::run_document::run_line;
-use crate::wishes::Wishes;
-use dds_answers::{Answer, Detail, Report, ToolFault, answer_check, read_plan, reported};
+use dds_answers::{Answer, Detail, Report, ToolFault, answer_check, read_plan};
 use dds_base::{AppNo, NoMemory, Reply};
 use dds_book::{Entry, Journal};
 use dds_check::Checked;
-use dds_json::{Style, reported_in_json};
+use dds_json::{Style, report_in_style};
 use dds_lists::Deployment;
 use dds_match::Plan;
 use dds_peers::{App, AppEnd, Gate, Limits, Outcome, RunFault, Steady, gauge_of, run_peers};
 use dds_recap::{GoodEnds, all_good, explain_run};
+use dds_request::Wishes;
 use dds_weights::naming::name_at;
 use std::alloc::Global;
 use std::sync::Wait;
@@ -157,7 +154,7 @@ fn explained_text(
 }
 
 /// A run, in this style: whether all ends are good, and what its journal came to, if that's there.
-fn told_run(
+fn run_in_style(
     alloc: Global,
     is_yes: bool,
     because: &Option<String>,
@@ -179,7 +176,7 @@ fn told_run(
 }
 
 /// What the journal of a run of a plan came to.
-fn told_recap(
+fn recap_plan(
     alloc: Global,
     plan: &Plan,
     journal: &Journal,
@@ -198,7 +195,7 @@ fn told_recap(
 
 /// What the journal of a run of a deployment came to. The run has used up its plan, so the deployment is read once
 /// more.
-fn explained(
+fn explain_journal(
     alloc: Global,
     deployment: &[u8],
     journal: &Journal,
@@ -214,7 +211,7 @@ fn explained(
     let Ok(plan) = read_plan(alloc, deployment) else {
         return Err(ToolFault::NoMemory);
     };
-    let told = told_recap(alloc, &plan, journal, ends);
+    let told = recap_plan(alloc, &plan, journal, ends);
     drop(plan);
     told
 }
@@ -236,7 +233,7 @@ fn because_of(
 {
     match detail {
         Detail::Plain => Ok(None),
-        Detail::Explained => match explained(alloc, deployment, journal, ends) {
+        Detail::Explained => match explain_journal(alloc, deployment, journal, ends) {
             Ok(text) => Ok(Some(text)),
             Err(fault) => Err(fault),
         },
@@ -298,7 +295,7 @@ fn perform<R: Threads + Wait + Clock + Sync>(
 }
 
 /// Runs a checked plan with steady applications. It gives the journal, and how the thread of each ended.
-fn ran<R: Threads + Wait + Clock + Sync>(
+fn run_steadies<R: Threads + Wait + Clock + Sync>(
     rt: &R,
     alloc: Global,
     checked: Checked,
@@ -327,7 +324,7 @@ fn ran<R: Threads + Wait + Clock + Sync>(
 }
 
 /// The answer for a run: yes where all ends of its applications' threads are good.
-fn told_answer(
+fn answer_run(
     alloc: Global,
     because: &Option<String>,
     names: &[String],
@@ -345,7 +342,7 @@ fn told_answer(
     ensures fault { IfErr result (λ e. e ≡ ToolFault.NoMemory) }
 {
     let is_yes = all_good(good, ends);
-    match told_run(alloc, is_yes, because, names, journal, ends, style) {
+    match run_in_style(alloc, is_yes, because, names, journal, ends, style) {
         Ok(text) => Ok(Answer {
             text,
             is_yes,
@@ -356,7 +353,7 @@ fn told_answer(
 }
 
 /// The answer of a run of the checked plan of a deployment: yes where all ends of its applications' threads are good.
-fn played<R: Threads + Wait + Clock + Sync>(
+fn play<R: Threads + Wait + Clock + Sync>(
     rt: &R,
     alloc: Global,
     deployment: &[u8],
@@ -372,9 +369,9 @@ fn played<R: Threads + Wait + Clock + Sync>(
         drop(checked);
         return Err(ToolFault::NoMemory);
     };
-    let (journal, ends) = ran(rt, alloc, checked, wishes)?;
+    let (journal, ends) = run_steadies(rt, alloc, checked, wishes)?;
     let because = because_of(alloc, deployment, &journal, ends.as_slice(), wishes.detail)?;
-    told_answer(
+    answer_run(
         alloc,
         &because,
         names.as_slice(),
@@ -383,17 +380,6 @@ fn played<R: Threads + Wait + Clock + Sync>(
         wishes.good,
         style,
     )
-}
-
-/// The answer of a check that refuses, or accepts, in this style.
-fn told_check(alloc: Global, report: Report, style: Style) -> Result<Answer, ToolFault>
-    ensures gives { Gives result (in_style style (outcome_of report)) }
-    ensures fault { IfErr result IsAnswerFault }
-{
-    match style {
-        Style::Text => reported(alloc, report, Detail::Plain),
-        Style::Json => reported_in_json(alloc, report, Detail::Plain),
-    }
 }
 
 /// The answer of `run` to the bytes of a deployment and of a certificate, in this style: a no of the checker as
@@ -411,8 +397,8 @@ pub fn run_answer<R: Threads + Wait + Clock + Sync>(
     ensures fault { IfErr result (λ e. (e ≡ ToolFault.Run) ⊎ IsAnswerFault e) }
 {
     match answer_check(alloc, deployment, certificate) {
-        Ok(Report::Yes(checked)) => played(rt, alloc, deployment, checked, wishes, style),
-        Ok(refused) => told_check(alloc, refused, style),
+        Ok(Report::Yes(checked)) => play(rt, alloc, deployment, checked, wishes, style),
+        Ok(refused) => report_in_style(alloc, refused, Detail::Plain, style),
         Err(fault) => Err(fault),
     }
 }

@@ -5,8 +5,8 @@
 #![tactic(auto)]
 
 use dds_answers::{
-    Answer, Disk, Report, Sources, Stream, ToolFault, answer_check, answered, give, match_file,
-    migrate_file, propose_file, read_files, report_text, tell_fault,
+    Answer, Disk, MAX_FILE, Report, Sources, Stream, ToolFault, answer_check, answer_with, give,
+    match_answer, migrate_answer, propose_answer, read_file, read_files, report_text, tell_fault,
 };
 use std::alloc::Global;
 use std::env::{self, Env};
@@ -33,11 +33,14 @@ fn answer_to_one<S: Sources>(
     deployment: &str,
     files: &mut S,
 ) -> Result<Answer, ToolFault> {
+    if !matches!(command, "match" | "propose" | "migrate") {
+        return Err(other_words(alloc));
+    }
+    let bytes = read_file(alloc, files, deployment)?;
     match command {
-        "match" => match_file(alloc, deployment, files),
-        "propose" => propose_file(alloc, deployment, files),
-        "migrate" => migrate_file(alloc, deployment, files),
-        _ => Err(other_words(alloc)),
+        "match" => match_answer(alloc, bytes.as_slice()),
+        "propose" => propose_answer(alloc, bytes.as_slice()),
+        _ => migrate_answer(alloc, bytes.as_slice()),
     }
 }
 
@@ -48,10 +51,10 @@ fn check<S: Sources>(
     certificate: &str,
     files: &mut S,
 ) -> Result<Answer, ToolFault> {
-    let (deployment, certificate) = read_files(alloc, files, deployment, certificate)?;
+    let (deployment, certificate) = read_files(alloc, files, deployment, certificate, MAX_FILE)?;
     let report = answer_check(alloc, deployment.as_slice(), certificate.as_slice())?;
     let is_yes = matches!(&report, Report::Yes(_));
-    let answer = answered(report_text(alloc, &report), is_yes);
+    let answer = answer_with(report_text(alloc, &report), is_yes);
     drop(report);
     answer
 }

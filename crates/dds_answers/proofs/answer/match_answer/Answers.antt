@@ -7,7 +7,7 @@ use Rattle.dds_answers.proofs.answer.match_answer.Goals as goal
 
 pub returns-clause-gives : goal.returns-clause-gives
 unfolding match_outcome
-returns-clause-gives c = subst (Gives c.compared.result) (sym (ap comparison c.in_ok-plan.ensures.plan)) c.compared.ensures.gives
+returns-clause-gives c = subst (Gives c.answer_pairs.result) (sym (ap comparison c.in_ok-plan.ensures.plan)) c.answer_pairs.ensures.gives
 
 pub returns-in_err-plan-clause-gives : goal.returns-in_err-plan-clause-gives
 unfolding match_outcome

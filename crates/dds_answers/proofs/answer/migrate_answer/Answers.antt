@@ -6,7 +6,7 @@ use Rattle.dds_answers.proofs.Unread.{is_unread, unread_one}
 use Rattle.dds_answers.proofs.answer.migrate_answer.Goals as goal
 
 pub returns-in-Ok-clause-gives : goal.returns-in-Ok-clause-gives
-returns-in-Ok-clause-gives c = written_gives c.args.deployment.now c.in-Ok.text c.written.result c.in-Ok.ensures.text c.written.ensures.answer c.written.ensures.memory
+returns-in-Ok-clause-gives c = written_gives c.args.deployment.now c.in-Ok.text c.answer_file.result c.in-Ok.ensures.text c.answer_file.ensures.answer c.answer_file.ensures.memory
 
 pub returns-in-Err-clause-gives : goal.returns-in-Err-clause-gives
 returns-in-Err-clause-gives c =

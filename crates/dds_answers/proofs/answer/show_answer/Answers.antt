@@ -7,7 +7,7 @@ use Rattle.dds_answers.proofs.answer.show_answer.Goals as goal
 
 pub returns-in-Ok-clause-gives : goal.returns-in-Ok-clause-gives
 unfolding show_outcome
-returns-in-Ok-clause-gives c = subst (Gives c.shown.result) (sym (ap (showing c.args.format) c.in-Ok.ensures)) c.shown.ensures.gives
+returns-in-Ok-clause-gives c = subst (Gives c.answer_lists.result) (sym (ap (showing c.args.format) c.in-Ok.ensures)) c.answer_lists.ensures.gives
 
 pub returns-in-Err-clause-gives : goal.returns-in-Err-clause-gives
 unfolding show_outcome

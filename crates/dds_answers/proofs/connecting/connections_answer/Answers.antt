@@ -7,7 +7,7 @@ use Rattle.dds_answers.proofs.connecting.connections_answer.Goals as goal
 
 pub returns-clause-gives : goal.returns-clause-gives
 unfolding connections_outcome
-returns-clause-gives c = subst (Gives c.connected.result) (sym (ap connecting c.in_ok-plan.ensures.plan)) c.connected.ensures.gives
+returns-clause-gives c = subst (Gives c.answer_connections.result) (sym (ap connecting c.in_ok-plan.ensures.plan)) c.answer_connections.ensures.gives
 
 pub returns-in_err-plan-clause-gives : goal.returns-in_err-plan-clause-gives
 unfolding connections_outcome

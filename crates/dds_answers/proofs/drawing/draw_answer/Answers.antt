@@ -8,7 +8,7 @@ use Rattle.dds_answers.proofs.drawing.draw_answer.Goals as goal
 pub returns-clause-gives : goal.returns-clause-gives
 unfolding draw_outcome
 returns-clause-gives c =
-    subst (Gives c.plan_drawn.result) (sym (ap (λ d. drawing d (option_map (λ x. x.now) c.args.certificate)) c.in_ok-plan.ensures.plan)) c.plan_drawn.ensures.gives
+    subst (Gives c.draw_plan.result) (sym (ap (λ d. drawing d (option_map (λ x. x.now) c.args.certificate)) c.in_ok-plan.ensures.plan)) c.draw_plan.ensures.gives
 
 pub returns-in_err-plan-clause-gives : goal.returns-in_err-plan-clause-gives
 unfolding draw_outcome

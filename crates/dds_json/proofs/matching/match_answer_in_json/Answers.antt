@@ -8,7 +8,7 @@ use Rattle.dds_json.proofs.matching.match_answer_in_json.Goals as goal
 
 pub returns-clause-gives : goal.returns-clause-gives
 unfolding match_outcome
-returns-clause-gives c = subst (λ (end : Outcome). Gives c.compared_in_json.result (in_json end)) (sym (ap comparison c.in_ok-plan.ensures.plan)) c.compared_in_json.ensures.gives
+returns-clause-gives c = subst (λ (end : Outcome). Gives c.answer_pairs_in_json.result (in_json end)) (sym (ap comparison c.in_ok-plan.ensures.plan)) c.answer_pairs_in_json.ensures.gives
 
 pub returns-in_err-plan-clause-gives : goal.returns-in_err-plan-clause-gives
 unfolding match_outcome

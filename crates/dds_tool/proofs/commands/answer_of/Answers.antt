@@ -1,39 +1,31 @@
-use Rattle.dds_tool.proofs.Openings.{one_opens}
+use Rattle.std.proofs.Common.{[], ◌∷◌}
+use Rattle.dds_answers.specs.Opened.{OpensAll}
+use Rattle.dds_tool.proofs.Ending.{if_answered, one_causes, one_opens}
 use Rattle.dds_tool.proofs.commands.answer_of.Goals as goal
 
-pub returns-in-Check-clause-gives : goal.returns-in-Check-clause-gives
-returns-in-Check-clause-gives g c = rw c.in-Check.is (λ x y hx hy. (c.check_in_style.ensures.gives x y hx hy, c.check_in_style.ensures.told x y hx hy))
+pub returns-in-One-clause-gives : goal.returns-in-One-clause-gives
+returns-in-One-clause-gives g c = rw c.in-One.is c.answer_one.ensures.gives
 
-pub returns-in-Propose-clause-opened : goal.returns-in-Propose-clause-opened
-returns-in-Propose-clause-opened g c =
-    rw c.in-Propose.is (one_opens (g.S.Sources.opened c.args.files.now) (g.S.Sources.opened c.propose_in_style.new.files) c.in-Propose.deployment.now c.propose_in_style.ensures.opened)
+pub returns-in-One-clause-causes : goal.returns-in-One-clause-causes
+returns-in-One-clause-causes g c = one_causes (g.S.Sources.has_failed c.answer_one.new.files) c.args.request c.answer_one.result c.answer_one.ensures.causes
 
-pub returns-in-ProposeThoroughly-clause-opened : goal.returns-in-ProposeThoroughly-clause-opened
-returns-in-ProposeThoroughly-clause-opened g c =
-    rw c.in-ProposeThoroughly.is (one_opens (g.S.Sources.opened c.args.files.now) (g.S.Sources.opened c.search_in_style.new.files) c.in-ProposeThoroughly.deployment.now c.search_in_style.ensures.opened)
+pub returns-in-One-clause-opened : goal.returns-in-One-clause-opened
+returns-in-One-clause-opened g c =
+    rw c.in-One.is (one_opens (g.S.Sources.opened c.args.files.now) (g.S.Sources.opened c.answer_one.new.files) c.in-One.deployment.now c.answer_one.ensures.opened)
 
-pub returns-in-Migrate-clause-opened : goal.returns-in-Migrate-clause-opened
-returns-in-Migrate-clause-opened g c =
-    rw c.in-Migrate.is (one_opens (g.S.Sources.opened c.args.files.now) (g.S.Sources.opened c.migrate_file.new.files) c.in-Migrate.deployment.now c.migrate_file.ensures.opened)
+pub returns-in-One-clause-all_opened : goal.returns-in-One-clause-all_opened
+returns-in-One-clause-all_opened g c =
+    rw c.in-One.is
+    (if_answered (OpensAll (g.S.Sources.opened c.args.files.now) (g.S.Sources.opened c.answer_one.new.files) (c.in-One.deployment.now ∷ [])) c.answer_one.result c.answer_one.ensures.opened)
 
-pub returns-in-Show-clause-opened : goal.returns-in-Show-clause-opened
-returns-in-Show-clause-opened g c =
-    rw c.in-Show.is (one_opens (g.S.Sources.opened c.args.files.now) (g.S.Sources.opened c.show_file.new.files) c.in-Show.deployment.now c.show_file.ensures.opened)
+pub returns-in-Two-clause-gives : goal.returns-in-Two-clause-gives
+returns-in-Two-clause-gives g c = rw c.in-Two.is c.answer_two.ensures.gives
 
-pub returns-in-Refute-clause-opened : goal.returns-in-Refute-clause-opened
-returns-in-Refute-clause-opened g c =
-    rw c.in-Refute.is (one_opens (g.S.Sources.opened c.args.files.now) (g.S.Sources.opened c.refute_file.new.files) c.in-Refute.deployment.now c.refute_file.ensures.opened)
+pub returns-in-Two-clause-causes : goal.returns-in-Two-clause-causes
+returns-in-Two-clause-causes g c = rw c.in-Two.is c.answer_two.ensures.causes
 
-pub returns-in-Limits-clause-opened : goal.returns-in-Limits-clause-opened
-returns-in-Limits-clause-opened g c =
-    rw c.in-Limits.is (one_opens (g.S.Sources.opened c.args.files.now) (g.S.Sources.opened c.limits_file.new.files) c.in-Limits.deployment.now c.limits_file.ensures.opened)
+pub returns-in-Two-clause-opened : goal.returns-in-Two-clause-opened
+returns-in-Two-clause-opened g c = rw c.in-Two.is c.answer_two.ensures.opened
 
-pub returns-in-None-clause-opened : goal.returns-in-None-clause-opened
-returns-in-None-clause-opened g c =
-    rw c.in-Draw.is
-    (rw c.in-None.is (one_opens (g.S.Sources.opened c.args.files.now) (g.S.Sources.opened c.draw_file.new.files) c.in-Draw.deployment.now c.draw_file.ensures.opened))
-
-pub returns-in-None-certificate-clause-opened : goal.returns-in-None-certificate-clause-opened
-returns-in-None-certificate-clause-opened g c =
-    rw c.in-Lint.is
-    (rw c.in-None-certificate.is (one_opens (g.S.Sources.opened c.args.files.now) (g.S.Sources.opened c.lint_file.new.files) c.in-Lint.deployment.now c.lint_file.ensures.opened))
+pub returns-in-Two-clause-all_opened : goal.returns-in-Two-clause-all_opened
+returns-in-Two-clause-all_opened g c = rw c.in-Two.is c.answer_two.ensures.all_opened

@@ -8,7 +8,7 @@ use Rattle.dds_tool.specs.Refuting.{MayRefute}
 use Rattle.dds_tool.proofs.refuting.refute_answer.Goals as goal
 
 pub returns-clause-gives : goal.returns-clause-gives
-returns-clause-gives g c = subst (λ (d : Read Lists). GivesOneOf (MayRefute c.args.style d) c.refuted.result) (sym c.in_ok-plan.ensures.plan) c.refuted.ensures.gives
+returns-clause-gives g c = subst (λ (d : Read Lists). GivesOneOf (MayRefute c.args.style d) c.refute_plan.result) (sym c.in_ok-plan.ensures.plan) c.refute_plan.ensures.gives
 
 pub returns-in_err-plan-clause-gives : goal.returns-in_err-plan-clause-gives
 returns-in_err-plan-clause-gives g c =

@@ -8,7 +8,7 @@ use Rattle.dds_tool.proofs.Replays.{read_replayed}
 use Rattle.dds_tool.proofs.replaying.replay_answer.Goals as goal
 
 pub returns-in-Ok-clause-gives : goal.returns-in-Ok-clause-gives
-returns-in-Ok-clause-gives c = read_replayed c.args.style (read c.args.deployment.now) c.in-Ok.lists c.args.events.now c.lists_replayed.result c.in-Ok.ensures c.lists_replayed.ensures.gives
+returns-in-Ok-clause-gives c = read_replayed c.args.style (read c.args.deployment.now) c.in-Ok.lists c.args.events.now c.replay_on_lists.result c.in-Ok.ensures c.replay_on_lists.ensures.gives
 
 pub returns-in-Err-clause-gives : goal.returns-in-Err-clause-gives
 returns-in-Err-clause-gives c =

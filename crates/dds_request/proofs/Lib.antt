@@ -1,0 +1,4 @@
+mod FateLists
+mod Helps
+mod Numbers
+mod Requested

@@ -1,0 +1,6 @@
+use Rattle.clap.specs.Words.{found_of, rows_of}
+use Rattle.dds_request.proofs.Requested.{runs_both}
+use Rattle.dds_request.proofs.reading.run_request.Goals as goal
+
+pub returns-in_err-deployment-clause-unasked : goal.returns-in_err-deployment-clause-unasked
+returns-in_err-deployment-clause-unasked c = λ r named asks. absurd (runs_both (rows_of (found_of c.args.matches.now)) r named asks c.in_err-deployment.ensures.none)

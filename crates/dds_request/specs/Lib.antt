@@ -1,0 +1,4 @@
+pub mod Wishes
+pub mod Command
+pub mod Request
+pub mod Asking

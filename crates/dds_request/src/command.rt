@@ -1,0 +1,383 @@
+//! The command, its subcommands and their arguments, as `clap` knows them.
+ghost use Rattle.std.specs.Prelude.{◌≡◌, IfOk, IsOk, OnOk, codes, false};
+ghost use Rattle.clap.specs.Words.{app_of, rule_of, with_subcommand};
+ghost use Rattle.clap.specs.declared.builder.command.Command.TheViews.{out-Command as fields_of};
+ghost use Rattle.dds_request.specs.Command.{checking, conforming, count_rule, drawing, file_rule, flag_rule, limiting};
+ghost use Rattle.dds_request.specs.Command.{linting, matching, one_file, optional_file_rule, refuting, replaying};
+ghost use Rattle.dds_request.specs.Command.{running, searching, seconds_rule, showing, styled, top_app, two_files};
+ghost use Rattle.dds_request.specs.Command.{whole, wish_rule, wishing};
+
+use clap::{Arg, ArgAction, Command, value_parser};
+use dds_answers::VERSION;
+use dds_base::NoMemory;
+use std::alloc::Global;
+
+/// What help says of the argument that names a deployment.
+const DEPLOYMENT: &str =
+    "A TOML file: participants, topics, writers, readers, applications, rules, connections";
+
+/// What help says of the flag of a thorough search.
+const THOROUGH: &str =
+    "Searches by linear programming for the least bounds, and reports which limit has no certificate";
+
+/// What help says of the argument that names a certificate.
+const CERTIFICATE: &str = "A TOML file: rows of weights, and the bounds and totals that they show";
+
+/// What help says of the fates of packets.
+const FATES: &str =
+    "What happens to packets, in a circle: pass, keep, last, lose, with commas between them";
+
+/// What help says of the number of writes.
+const WRITES: &str = "How many samples each application writes";
+
+/// What help says of the number of takes.
+const TAKES: &str = "How many samples each application takes";
+
+/// What help says of the format.
+const FORMAT: &str = "json or dds-xml";
+
+/// What help says of the seconds of a search.
+const SECONDS: &str = "How many seconds a search may take";
+
+/// What help says of the seconds of a search that is made with a flag.
+const THOROUGH_SECONDS: &str = "How many seconds the thorough search may take";
+
+/// What help says of the flag of connections.
+const CONNECTIONS: &str =
+    "Prints a table [[connections]] for each pair that matches, to paste into a deployment file";
+
+/// What help says of the flag of idle applications.
+const IDLE_OK: &str = "Ends with status 0 also where applications were idle";
+
+/// What help says of the flag of an explained run.
+const EXPLAIN_RUN: &str =
+    "Also prints how full each reader was, and what idle applications wait for";
+
+/// What help says of the style of an answer.
+const STYLE: &str = "text or json";
+
+/// What help says of the flag of limits with their reasons.
+const REASONS: &str =
+    "Also prints the reason for each line: its weights, or the firings that never end";
+
+/// What help says of the flag of an explained answer.
+const EXPLAIN: &str =
+    "Also prints the reason: the numbers behind a no, how near each bound is to its limit and what a \
+     yes doesn't say, or where a file isn't TOML";
+
+/// What help says of the certificate of a picture.
+const DRAWN_CERTIFICATE: &str = "A certificate whose bounds are drawn";
+
+/// What help says of the flag of a certificate of limits.
+const CLAIM: &str = "Prints a certificate that shows these bounds instead";
+
+/// What help says of the certificate of findings.
+const LINTED_CERTIFICATE: &str = "A certificate to check too";
+
+/// What help says of the form of findings.
+const FORM: &str = "text, json or sarif";
+
+/// What help says of what is denied.
+const DENY: &str = "What makes the answer no: errors or notes";
+
+/// What help says of the argument that names a file of events.
+const EVENTS: &str = "Events, a line each, as refute prints them";
+
+/// What help says of the argument that names a trace.
+const TRACE: &str = "Writes and takes, a line each, as run-on-cyclone --trace records them";
+
+fn file<'a>(alloc: Global, id: &'a str, help: &'a str) -> Arg<'a>
+    ensures rule { rule_of result ≡ file_rule id.entry.now }
+    ensures local { result.global ≡ false }
+{
+    Arg::new(alloc, id)
+        .help(help)
+        .required(true)
+        .action(ArgAction::Set)
+}
+
+fn optional_file<'a>(alloc: Global, id: &'a str, help: &'a str) -> Arg<'a>
+    ensures rule { rule_of result ≡ optional_file_rule id.entry.now }
+    ensures local { result.global ≡ false }
+{
+    Arg::new(alloc, id).help(help).action(ArgAction::Set)
+}
+
+fn flag<'a>(alloc: Global, id: &'a str, help: &'a str) -> Arg<'a>
+    ensures rule { rule_of result ≡ flag_rule id.entry.now }
+    ensures local { result.global ≡ false }
+{
+    Arg::new(alloc, id)
+        .long(id)
+        .help(help)
+        .action(ArgAction::SetTrue)
+}
+
+fn wish<'a>(alloc: Global, id: &'a str, value: &'a str, default: &'a str, help: &'a str) -> Arg<'a>
+    ensures rule { rule_of result ≡ wish_rule id.entry.now default.entry.now }
+    ensures local { result.global ≡ false }
+{
+    Arg::new(alloc, id)
+        .long(id)
+        .value_name(value)
+        .default_value(default)
+        .help(help)
+        .action(ArgAction::Set)
+}
+
+/// The command, with lines as its answer where no document is asked for.
+fn styled<'a>(alloc: Global, command: Command<'a>) -> Result<Command<'a>, NoMemory>
+    requires local { (fields_of command).has_globals ≡ false }
+    ensures app { IfOk result (λ c. app_of c ≡ styled (app_of command.entry)) }
+    ensures local { IfOk result (λ c. (fields_of c).has_globals ≡ false) }
+{
+    command.arg(wish(alloc, "format", "FORMAT", "text", STYLE))
+}
+
+fn match_command<'a>(alloc: Global) -> Result<Command<'a>, NoMemory>
+    ensures app { IfOk result (λ c. app_of c ≡ matching) }
+    ensures local { IfOk result (λ c. (fields_of c).has_globals ≡ false) }
+{
+    let command = one_file_command(
+        alloc,
+        "match",
+        "Prints which writers and readers match, and why others don't",
+    )?
+    .arg(flag(alloc, "connections", CONNECTIONS))?;
+    styled(alloc, command)
+}
+
+fn propose_command<'a>(alloc: Global) -> Result<Command<'a>, NoMemory>
+    ensures app { IfOk result (λ c. app_of c ≡ searching) }
+    ensures local { IfOk result (λ c. (fields_of c).has_globals ≡ false) }
+{
+    let command = one_file_command(alloc, "propose", "Looks for a certificate of a deployment")?
+        .arg(flag(alloc, "thorough", THOROUGH))?
+        .arg(seconds(alloc, THOROUGH_SECONDS))?;
+    styled(alloc, command)
+}
+
+fn one_file_command<'a>(
+    alloc: Global,
+    name: &'a str,
+    about: &'a str,
+) -> Result<Command<'a>, NoMemory>
+    ensures app { IfOk result (λ c. app_of c ≡ one_file name.entry.now) }
+    ensures local { IfOk result (λ c. (fields_of c).has_globals ≡ false) }
+{
+    Command::new(alloc, name)
+        .about(about)
+        .arg(file(alloc, "deployment", DEPLOYMENT))
+}
+
+fn two_files_command<'a>(
+    alloc: Global,
+    name: &'a str,
+    about: &'a str,
+) -> Result<Command<'a>, NoMemory>
+    ensures app { IfOk result (λ c. app_of c ≡ two_files name.entry.now) }
+    ensures local { IfOk result (λ c. (fields_of c).has_globals ≡ false) }
+{
+    Command::new(alloc, name)
+        .about(about)
+        .arg(file(alloc, "deployment", DEPLOYMENT))?
+        .arg(file(alloc, "certificate", CERTIFICATE))
+}
+
+fn check_command<'a>(alloc: Global) -> Result<Command<'a>, NoMemory>
+    ensures app { IfOk result (λ c. app_of c ≡ checking) }
+    ensures local { IfOk result (λ c. (fields_of c).has_globals ≡ false) }
+{
+    let command = two_files_command(alloc, "check", "Checks a certificate of a deployment")?.arg(
+        flag(alloc, "explain", EXPLAIN),
+    )?;
+    styled(alloc, command)
+}
+
+fn count<'a>(alloc: Global, id: &'a str, help: &'a str) -> Arg<'a>
+    ensures rule { rule_of result ≡ count_rule id.entry.now }
+    ensures local { result.global ≡ false }
+{
+    wish(alloc, id, "N", "10", help).value_parser(value_parser!(u16))
+}
+
+fn seconds<'a>(alloc: Global, help: &'a str) -> Arg<'a>
+    ensures rule { rule_of result ≡ seconds_rule }
+    ensures local { result.global ≡ false }
+{
+    wish(alloc, "seconds", "N", "60", help).value_parser(value_parser!(u16))
+}
+
+/// The command that runs a deployment, with the arguments that say what the run is like.
+fn wishing_command<'a>(alloc: Global) -> Result<Command<'a>, NoMemory>
+    ensures app { IfOk result (λ c. app_of c ≡ wishing) }
+    ensures local { IfOk result (λ c. (fields_of c).has_globals ≡ false) }
+{
+    two_files_command(
+        alloc,
+        "run",
+        "Runs a deployment that a certificate shows to be safe",
+    )?
+    .arg(wish(alloc, "fates", "LIST", "pass", FATES))?
+    .arg(count(alloc, "writes", WRITES))?
+    .arg(count(alloc, "takes", TAKES))
+}
+
+fn run_command<'a>(alloc: Global) -> Result<Command<'a>, NoMemory>
+    ensures app { IfOk result (λ c. app_of c ≡ running) }
+    ensures local { IfOk result (λ c. (fields_of c).has_globals ≡ false) }
+{
+    let command = wishing_command(alloc)?
+        .arg(flag(alloc, "idle-ok", IDLE_OK))?
+        .arg(flag(alloc, "explain", EXPLAIN_RUN))?;
+    styled(alloc, command)
+}
+
+fn show_command<'a>(alloc: Global) -> Result<Command<'a>, NoMemory>
+    ensures app { IfOk result (λ c. app_of c ≡ showing) }
+    ensures local { IfOk result (λ c. (fields_of c).has_globals ≡ false) }
+{
+    one_file_command(
+        alloc,
+        "show",
+        "Prints a deployment as it was read, with every field",
+    )?
+    .arg(wish(alloc, "format", "FORMAT", "json", FORMAT))
+}
+
+fn draw_command<'a>(alloc: Global) -> Result<Command<'a>, NoMemory>
+    ensures app { IfOk result (λ c. app_of c ≡ drawing) }
+    ensures local { IfOk result (λ c. (fields_of c).has_globals ≡ false) }
+{
+    one_file_command(
+        alloc,
+        "draw",
+        "Prints a picture of a deployment, for Graphviz",
+    )?
+    .arg(optional_file(alloc, "certificate", DRAWN_CERTIFICATE))
+}
+
+fn refute_command<'a>(alloc: Global) -> Result<Command<'a>, NoMemory>
+    ensures app { IfOk result (λ c. app_of c ≡ refuting) }
+    ensures local { IfOk result (λ c. (fields_of c).has_globals ≡ false) }
+{
+    let command = one_file_command(
+        alloc,
+        "refute",
+        "Looks for a run of a deployment that loses a sample",
+    )?
+    .arg(seconds(alloc, SECONDS))?;
+    styled(alloc, command)
+}
+
+fn replay_command<'a>(alloc: Global) -> Result<Command<'a>, NoMemory>
+    ensures app { IfOk result (λ c. app_of c ≡ replaying) }
+    ensures local { IfOk result (λ c. (fields_of c).has_globals ≡ false) }
+{
+    let command = one_file_command(
+        alloc,
+        "replay",
+        "Replays the events of a file on a deployment, and prints the reply to each",
+    )?
+    .arg(file(alloc, "events", EVENTS))?;
+    styled(alloc, command)
+}
+
+fn conform_command<'a>(alloc: Global) -> Result<Command<'a>, NoMemory>
+    ensures app { IfOk result (λ c. app_of c ≡ conforming) }
+    ensures local { IfOk result (λ c. (fields_of c).has_globals ≡ false) }
+{
+    let command = one_file_command(
+        alloc,
+        "conform",
+        "Checks whether a recorded trace keeps the rules of a deployment",
+    )?
+    .arg(file(alloc, "trace", TRACE))?;
+    styled(alloc, command)
+}
+
+fn limits_command<'a>(alloc: Global) -> Result<Command<'a>, NoMemory>
+    ensures app { IfOk result (λ c. app_of c ≡ limiting) }
+    ensures local { IfOk result (λ c. (fields_of c).has_globals ≡ false) }
+{
+    let command = one_file_command(
+        alloc,
+        "limits",
+        "Prints how much room each reader and each writer's history needs",
+    )?
+    .arg(flag(alloc, "certificate", CLAIM))?
+    .arg(flag(alloc, "explain", REASONS))?
+    .arg(seconds(alloc, SECONDS))?;
+    styled(alloc, command)
+}
+
+fn lint_command<'a>(alloc: Global) -> Result<Command<'a>, NoMemory>
+    ensures app { IfOk result (λ c. app_of c ≡ linting) }
+    ensures local { IfOk result (λ c. (fields_of c).has_globals ≡ false) }
+{
+    one_file_command(
+        alloc,
+        "lint",
+        "Finds what is wrong with the files, where it is and what would be right",
+    )?
+    .arg(optional_file(alloc, "certificate", LINTED_CERTIFICATE))?
+    .arg(wish(alloc, "format", "FORMAT", "text", FORM))?
+    .arg(wish(alloc, "deny", "WHAT", "errors", DENY))
+}
+
+fn migrate_command<'a>(alloc: Global) -> Result<Command<'a>, NoMemory>
+    ensures app { IfOk result (λ c. app_of c ≡ one_file (codes "migrate")) }
+    ensures local { IfOk result (λ c. (fields_of c).has_globals ≡ false) }
+{
+    one_file_command(
+        alloc,
+        "migrate",
+        "Prints a deployment file of version 1 as one of version 2",
+    )
+}
+
+/// The command, and a subcommand more that has no global argument.
+fn with_command<'a>(
+    command: Command<'a>,
+    below: Result<Command<'a>, NoMemory>,
+) -> Result<Command<'a>, NoMemory>
+    requires below { IfOk below (λ b. (fields_of b).has_globals ≡ false) }
+    ensures app { IfOk result
+        (λ c. IfOk below.entry (λ b. app_of c ≡ with_subcommand (app_of command.entry) (app_of b).top)) }
+    ensures below { OnOk result (IsOk below.entry) }
+{
+    match below {
+        Ok(below) => command.subcommand(below),
+        Err(refused) => {
+            drop(command);
+            Err(refused)
+        }
+    }
+}
+
+fn top_command<'a>(alloc: Global) -> Command<'a>
+    ensures { app_of result ≡ top_app }
+{
+    Command::new(alloc, "ddscheck")
+        .version(VERSION)
+        .about("Shows before a launch that the bounds of a DDS deployment suffice")
+        .subcommand_required(true)
+}
+
+/// The whole command. `NoMemory` is the only error.
+pub(crate) fn whole_command<'a>(alloc: Global) -> Result<Command<'a>, NoMemory>
+    ensures { IfOk result (λ c. app_of c ≡ whole) }
+{
+    let command = with_command(top_command(alloc), match_command(alloc))?;
+    let command = with_command(command, check_command(alloc))?;
+    let command = with_command(command, propose_command(alloc))?;
+    let command = with_command(command, run_command(alloc))?;
+    let command = with_command(command, migrate_command(alloc))?;
+    let command = with_command(command, show_command(alloc))?;
+    let command = with_command(command, draw_command(alloc))?;
+    let command = with_command(command, refute_command(alloc))?;
+    let command = with_command(command, replay_command(alloc))?;
+    let command = with_command(command, limits_command(alloc))?;
+    let command = with_command(command, conform_command(alloc))?;
+    with_command(command, lint_command(alloc))
+}

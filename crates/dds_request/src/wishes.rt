@@ -1,0 +1,110 @@
+//! How a deployment is to be shown, and how it is to run.
+ghost use Rattle.std.specs.Prelude.{◌≡◌, ◌≢◌, List, IfNone, IfSome};
+ghost use Rattle.dds_base.specs.declared.events.Fate.{Fate};
+ghost use Rattle.dds_peers.specs.Fates.{AreFates};
+ghost use Rattle.dds_answers.specs.declared.format.Format.{Format};
+ghost use Rattle.dds_json.specs.declared.style.Style.{Style};
+ghost use Rattle.dds_findings.specs.declared.answer.Deny.{Deny};
+ghost use Rattle.dds_findings.specs.declared.answer.LintStyle.{LintStyle};
+ghost use Rattle.dds_request.specs.Wishes.{deny_word, fate_word, fates_text, form_word, format_word, style_word};
+
+use dds_answers::{Detail, Format};
+use dds_base::Fate;
+use dds_findings::{Deny, LintStyle};
+use dds_json::Style;
+use dds_peers::Fates;
+use dds_recap::GoodEnds;
+
+/// The most fates that a list has.
+const MOST: usize = 64;
+
+/// What happens to the packets of a run, how many samples each application writes and takes, which ends are good, and
+/// how much is printed.
+#[derive(Drop)]
+pub struct Wishes {
+    pub fates: Fates,
+    pub writes: u16,
+    pub takes: u16,
+    pub good: GoodEnds,
+    pub detail: Detail,
+}
+
+/// The format for which a word stands, or `None` where it stands for none.
+pub(crate) fn read_format(word: &str) -> Option<Format>
+    ensures some { IfSome result (λ format. word.now ≡ format_word format) }
+    ensures none { IfNone result ((format : Format) → word.now ≢ format_word format) }
+{
+    match word {
+        "json" => Some(Format::Json),
+        "dds-xml" => Some(Format::DdsXml),
+        _ => None,
+    }
+}
+
+/// The style for which a word stands, or `None` where it stands for none.
+pub(crate) fn read_style(word: &str) -> Option<Style>
+    ensures some { IfSome result (λ style. word.now ≡ style_word style) }
+    ensures none { IfNone result ((style : Style) → word.now ≢ style_word style) }
+{
+    match word {
+        "text" => Some(Style::Text),
+        "json" => Some(Style::Json),
+        _ => None,
+    }
+}
+
+/// The form of findings for which a word stands, or `None` where it stands for none.
+pub(crate) fn read_form(word: &str) -> Option<LintStyle>
+    ensures some { IfSome result (λ form. word.now ≡ form_word form) }
+    ensures none { IfNone result ((form : LintStyle) → word.now ≢ form_word form) }
+{
+    match word {
+        "text" => Some(LintStyle::Text),
+        "json" => Some(LintStyle::Json),
+        "sarif" => Some(LintStyle::Sarif),
+        _ => None,
+    }
+}
+
+/// What is denied by a word, or `None` where it stands for nothing.
+pub(crate) fn read_deny(word: &str) -> Option<Deny>
+    ensures some { IfSome result (λ deny. word.now ≡ deny_word deny) }
+    ensures none { IfNone result ((deny : Deny) → word.now ≢ deny_word deny) }
+{
+    match word {
+        "errors" => Some(Deny::Errors),
+        "notes" => Some(Deny::Notes),
+        _ => None,
+    }
+}
+
+/// The fate for which a word stands.
+fn fate_of(word: &str) -> Option<Fate>
+    ensures some { IfSome result (λ fate. word.now ≡ fate_word fate) }
+    ensures none { IfNone result ((fate : Fate) → word.now ≢ fate_word fate) }
+{
+    match word {
+        "pass" => Some(Fate::Pass),
+        "keep" => Some(Fate::Keep),
+        "last" => Some(Fate::Last),
+        "lose" => Some(Fate::Lose),
+        _ => None,
+    }
+}
+
+/// The fates of 1 to 64 words with commas between them, or `None` where the text is no such list.
+pub(crate) fn read_fates(text: &str) -> Option<Fates>
+    ensures some { IfSome result (λ fates. AreFates fates × (text.now ≡ fates_text fates)) }
+    ensures none { IfNone result ((fates : List Fate) → AreFates fates → text.now ≢ fates_text fates) }
+{
+    let mut fates = [Fate::Pass; MOST];
+    let mut count = 0;
+    for word in text.split(',') {
+        if count == MOST {
+            return None;
+        }
+        fates[count] = fate_of(word)?;
+        count += 1;
+    }
+    Fates::new(&fates[..count])
+}

@@ -1,0 +1,4 @@
+mod NeedsLists
+mod LimitEnds
+mod Explanations
+mod Founds

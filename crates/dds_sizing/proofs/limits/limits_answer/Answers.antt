@@ -1,0 +1,16 @@
+use Rattle.std.proofs.Common.{refl, subst, sym}
+use Rattle.dds_lists.specs.Lists.{Lists}
+use Rattle.dds_deploy.specs.Document.{read}
+use Rattle.dds_fields.specs.Reading.{Read}
+use Rattle.dds_answers.specs.Answers.{GivesOneOf}
+use Rattle.dds_answers.proofs.Unread.{unread_gives_one}
+use Rattle.dds_sizing.specs.Limits.{MayLimit}
+use Rattle.dds_sizing.proofs.limits.limits_answer.Goals as goal
+
+pub returns-clause-gives : goal.returns-clause-gives
+returns-clause-gives g c = subst (λ (d : Read Lists). GivesOneOf (MayLimit c.args.what c.args.style d) c.tell_limits-answer.result) (sym c.in_ok-plan.ensures.plan) c.tell_limits-answer.ensures.gives
+
+pub returns-in_err-plan-clause-gives : goal.returns-in_err-plan-clause-gives
+returns-in_err-plan-clause-gives g c =
+    unread_gives_one (MayLimit c.args.what c.args.style) (λ flaw. refl) (read c.args.deployment.now) c.from_residual.result c.in_err-plan.field-0.0 c.from_residual.ensures.1
+    c.in_err-plan.ensures.fault

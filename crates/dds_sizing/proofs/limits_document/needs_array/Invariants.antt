@@ -1,0 +1,8 @@
+use Rattle.std.proofs.Common.{◌≡◌, map, take}
+use Rattle.serde_json.specs.View.{view}
+use Rattle.dds_sizing.specs.LimitsDocument.{need_document}
+use Rattle.dds_sizing.proofs.limits_document.needs_array.Given as goal
+
+-- the documents of the needs so far
+abbrev pub invariant-loop-need : goal.invariant-loop-need
+invariant-loop-need l = map view l.documents.items ≡ map (need_document l.lists) (take l.need-index l.needs)

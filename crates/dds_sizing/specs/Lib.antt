@@ -1,0 +1,9 @@
+pub mod Shortages
+pub mod Missing
+pub mod Searches
+pub mod Needs
+pub mod NeedsText
+pub mod LimitsDocument
+pub mod Reasons
+pub mod ReasonsDocument
+pub mod Limits

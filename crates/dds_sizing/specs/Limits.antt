@@ -1,0 +1,110 @@
+-- What is answered to which limits a deployment needs.
+use Rattle.std.specs.Prelude.{ℕ, ◌≡◌, ◌≤◌, ◌⊎◌, Bool, true, false, List, ◌++◌, flat_map, length, Option, Some, None, IfSome, Ok, Err, codes, string_bytes}
+use Rattle.dds_fields.specs.Reading.{Read}
+use Rattle.dds_lists.specs.Lists.{Lists}
+use Rattle.dds_deploy.specs.Document as deployment
+use Rattle.dds_match.specs.Plan.{network_of}
+use Rattle.dds_weights.specs.Fits.{fits}
+use Rattle.dds_weights.specs.Lists as lists
+use Rattle.dds_weights.specs.Text.{certificate_text}
+use Rattle.dds_runs.specs.Accepted.{certificate_of}
+use Rattle.dds_claims.specs.Claims.{IsShown}
+use Rattle.dds_search.specs.Sizes.{AreSizes, claims_all}
+use Rattle.dds_search.specs.declared.certificate.sizes.Size.{Size}
+use Rattle.dds_answers.specs.declared.answer.Answer.{Answer}
+use Rattle.dds_answers.specs.Outcome.{Outcome, bad_deployment, said}
+use Rattle.dds_json.specs.Line.{line_of}
+use Rattle.dds_json.specs.Proposing.{none_document}
+use Rattle.dds_json.specs.declared.style.Style.{Style}
+use Rattle.dds_json.specs.declared.style.Style.TheVariants.{Text, Json}
+use Rattle.dds_sizing.specs.LimitsDocument.{claim_document, limits_document}
+use Rattle.dds_sizing.specs.Needs.{are_bounded, needs_of}
+use Rattle.dds_sizing.specs.NeedsText.{needs_lines}
+use Rattle.dds_sizing.specs.Reasons.{AreExplained, because_of, sizes_of}
+use Rattle.dds_sizing.specs.ReasonsDocument.{reasons_document}
+use Rattle.dds_request.specs.declared.request.Sizing.{Sizing}
+use Rattle.dds_request.specs.declared.request.Sizing.TheVariants.{Bounds, Reasons, Certificate}
+use Rattle.dds_sizing.specs.declared.needs.Need.{Need}
+use Rattle.dds_sizing.specs.declared.reasons.Explained.{Explained}
+
+-- ── what is printed
+-- what is needed, in this style
+abbrev pub needs_told : Style → Lists → List Need → List ℕ
+needs_told Text d needs = needs_lines d needs
+needs_told Json d needs = line_of (limits_document d needs)
+
+-- the same with a line for each need that says why
+abbrev pub reasons_told : Style → Lists → List Explained → List Need → List ℕ
+reasons_told Text d es needs = needs_lines d needs ++ flat_map (because_of d es) needs
+reasons_told Json d es needs = line_of (reasons_document d es needs)
+
+-- the text of a certificate, in this style
+abbrev pub text_told : Style → List ℕ → Bool → List ℕ
+text_told Text text is_bounded = text
+text_told Json text is_bounded = line_of (claim_document text is_bounded)
+
+-- that there is no certificate, in this style
+abbrev pub none_told : Style → List ℕ
+none_told Text = codes "none\n"
+none_told Json = line_of none_document
+
+-- a certificate, if there is one
+abbrev pub claim_told : Style → Lists → Bool → Option lists.Certificate → List ℕ
+claim_told style d is_bounded (Some cert) = text_told style (certificate_text d cert) is_bounded
+claim_told style d is_bounded None = none_told style
+
+-- there is one, and a bound is known of each need
+abbrev pub is_claimed : Bool → Option lists.Certificate → Bool
+is_claimed is_bounded (Some cert) = is_bounded
+is_claimed is_bounded None = false
+
+-- ── which answers may be
+-- what some sizes need is printed, each of which weights show
+abbrev pub MayTellNeeds : Style → Lists → Outcome → Type 0
+MayTellNeeds style d end =
+    (sizes : List Size) × AreSizes (network_of d) sizes
+    × (end ≡ said (needs_told style d (needs_of (network_of d) sizes)) (are_bounded (needs_of (network_of d) sizes)))
+
+-- the same where each size is explained
+abbrev pub MayTellReasons : Style → Lists → Outcome → Type 0
+MayTellReasons style d end =
+    (es : List Explained) × AreExplained d es
+    × (end ≡ said (reasons_told style d es (needs_of (network_of d) (sizes_of es))) (are_bounded (needs_of (network_of d) (sizes_of es))))
+
+-- the certificate fits the deployment, no event raises the weighted sum of any of its rows, they show its bounds, it has all bounds of the sizes, and its text is
+-- no longer than a file may be
+abbrev pub IsClaim : Lists → List Size → lists.Certificate → Type 0
+IsClaim d sizes cert =
+    (fits (network_of d) cert ≡ true) × IsShown (network_of d) (certificate_of cert) × (claims_all cert sizes ≡ true) × (length (certificate_text d cert) ≤ 1048576)
+
+-- a certificate of some sizes is printed, each of which weights show, or that there is none
+abbrev pub MayTellClaim : Style → Lists → Outcome → Type 0
+MayTellClaim style d end =
+    (sizes : List Size) × (cert : Option lists.Certificate) × AreSizes (network_of d) sizes × IfSome cert (IsClaim d sizes)
+    × (end ≡ said (claim_told style d (are_bounded (needs_of (network_of d) sizes)) cert) (is_claimed (are_bounded (needs_of (network_of d) sizes)) cert))
+
+-- of a deployment that can be read, as it is asked for
+abbrev pub MayLimitLists : Sizing → Style → Lists → Outcome → Type 0
+MayLimitLists Bounds style d end = MayTellNeeds style d end
+MayLimitLists Reasons style d end = MayTellReasons style d end
+MayLimitLists Certificate style d end = MayTellClaim style d end
+
+-- a flaw of the deployment is reported
+abbrev pub MayLimit : Sizing → Style → Read Lists → Outcome → Type 0
+MayLimit what style (Ok d) end = MayLimitLists what style d end
+MayLimit what style (Err flaw) end = end ≡ bad_deployment flaw
+
+-- ── for the parts of an answer
+-- the answer has this text, and is a yes or a no
+abbrev pub IsSaid : List ℕ → Bool → Answer → Type 0
+IsSaid text is_yes answer = (string_bytes answer.text ≡ text) × (answer.is_yes ≡ is_yes)
+
+-- it prints the certificate, whose text is no longer than a file may be, or that there is none
+abbrev pub TellsClaim : Style → Lists → Bool → lists.Certificate → Answer → Type 0
+TellsClaim style d is_bounded cert answer =
+    (IsSaid (text_told style (certificate_text d cert) is_bounded) is_bounded answer × (length (certificate_text d cert) ≤ 1048576)) ⊎ IsSaid (none_told style) false answer
+
+-- the same of a certificate that may be there
+abbrev pub TellsFound : Style → Lists → Bool → Option lists.Certificate → Answer → Type 0
+TellsFound style d is_bounded (Some cert) answer = TellsClaim style d is_bounded cert answer
+TellsFound style d is_bounded None answer = IsSaid (none_told style) false answer

@@ -1,0 +1,127 @@
+-- How much room each strict reader needs, and how deep the history of each writer with KEEP_LAST has to be.
+use Rattle.std.specs.Prelude.{ℕ, ◌==◌, ◌&&◌, Bool, true, false, nat_lt, max, List, [], ◌∷◌, ◌++◌, Option, Some, None, flat_map, map, if◌then◌else◌}
+use Rattle.std.specs.List.{list_all, range_with_len}
+use Rattle.dds_qos.specs.declared.limits.ReaderLimits.{ReaderLimits}
+use Rattle.dds_match.specs.Network.{Network, is_written}
+use Rattle.dds_propose.specs.declared.targets.Target.{Target}
+use Rattle.dds_propose.specs.declared.targets.Target.TheVariants as target
+use Rattle.dds_search.specs.Sizes.{total_of}
+use Rattle.dds_search.specs.declared.answer.Least.{Least}
+use Rattle.dds_search.specs.declared.answer.Least.TheVariants.{Shown, Unbounded, Unknown}
+use Rattle.dds_search.specs.declared.certificate.sizes.Size.{Size}
+use Rattle.dds_sizing.specs.declared.needs.Limit.{Limit}
+use Rattle.dds_sizing.specs.declared.needs.Need.{Need}
+use Rattle.dds_sizing.specs.declared.needs.Need.TheVariants as need
+use Rattle.dds_sizing.specs.declared.needs.Policy.{Policy}
+use Rattle.dds_sizing.specs.declared.needs.Policy.TheVariants.{Depth, MaxSamplesPerInstance, MaxSamples}
+use Rattle.dds_sizing.specs.declared.needs.Room.{Room}
+
+-- ── limits
+-- the limit of a policy, if it is finite
+abbrev pub limit_by : Policy → Option ℕ → Option Limit
+limit_by policy (Some most) = Some (record { policy = policy; most = most })
+limit_by policy None = None
+
+-- the depth, if there is one, else the other limit
+abbrev pub depth_or : Option ℕ → Option ℕ → Option Limit
+depth_or (Some depth) most = limit_by Depth (Some depth)
+depth_or None most = limit_by MaxSamplesPerInstance most
+
+-- what limits a key of a reader: its depth by KEEP_LAST, else max_samples_per_instance (DDS 1.4, clause 2.2.3.18)
+abbrev pub key_limit : ReaderLimits → Option Limit
+key_limit limits = depth_or limits.keep_last limits.max_samples_per_instance
+
+-- the same of the reader with this number
+abbrev pub limit_of_key : Network → ℕ → Option Limit
+limit_of_key net r = if nat_lt r net.readers then key_limit (net.reader_limits r) else None
+
+-- what limits all samples of the reader with this number together
+abbrev pub limit_of_total : Network → ℕ → Option Limit
+limit_of_total net r = if nat_lt r net.readers then limit_by MaxSamples (net.reader_limits r).max_samples else None
+
+-- ── readers
+-- what a reader needs by the size of this target: of a key its bound, of all samples together the lesser of what one row shows and of the sum of the bounds of
+-- its keys
+abbrev pub need_for : Network → List Size → Target → Least → Need
+need_for net sizes (target.Instance r k) least = need.Key r k (record { least = least; limit = limit_of_key net r })
+need_for net sizes (target.Reader r) least = need.Reader r (record { least = total_of sizes r least; limit = limit_of_total net r })
+
+abbrev pub need_of : Network → List Size → Size → Need
+need_of net sizes size = need_for net sizes size.target size.least
+
+-- ── writers
+-- the greater of two needs: one without a bound is greater than any, and beside one of which nothing is known nothing is known
+abbrev pub greater : Least → Least → Least
+greater (Shown n) (Shown m) = Shown (max n m)
+greater (Shown n) Unbounded = Unbounded
+greater (Shown n) Unknown = Unknown
+greater Unbounded other = Unbounded
+greater Unknown (Shown m) = Unknown
+greater Unknown Unbounded = Unbounded
+greater Unknown Unknown = Unknown
+
+-- the greatest of some needs, if there are any, and one more
+abbrev pub with_least : Option Least → Least → Least
+with_least (Some greatest) least = greater greatest least
+with_least None least = least
+
+-- the target is of the key at a reader that the writer matches
+abbrev pub is_for : Network → ℕ → ℕ → Target → Bool
+is_for net w k (target.Instance r other) = (other == k) && net.matched w r
+is_for net w k (target.Reader r) = false
+
+-- the greatest of some needs and one more, if it is of the key at a reader that the writer matches
+abbrev pub with_size : Network → ℕ → ℕ → Option Least → Size → Option Least
+with_size net w k greatest size = if is_for net w k size.target then Some (with_least greatest size.least) else greatest
+
+-- with those of a list of sizes
+unfoldable pub greatest_of : Network → ℕ → ℕ → Option Least → List Size → Option Least
+greatest_of net w k greatest [] = greatest
+greatest_of net w k greatest (size ∷ sizes) = greatest_of net w k (with_size net w k greatest size) sizes
+
+-- what a writer with this depth needs of a key, if a strict reader takes it
+abbrev pub need_at : ℕ → ℕ → ℕ → Option Least → Option Need
+need_at w k depth (Some least) = Some (need.Writer w k (record { least = least; limit = limit_by Depth (Some depth) }))
+need_at w k depth None = None
+
+-- the same of a writer with KEEP_LAST, where some rule writes the key
+abbrev pub kept_need : Network → List Size → ℕ → ℕ → Option ℕ → Option Need
+kept_need net sizes w k (Some depth) = if is_written net w k then need_at w k depth (greatest_of net w k None sizes) else None
+kept_need net sizes w k None = None
+
+-- what the writer with this number needs of a key: the greatest bound of its strict readers
+abbrev pub depth_need : Network → List Size → ℕ → ℕ → Option Need
+depth_need net sizes w k = kept_need net sizes w k (net.writer_limits w).keep_last
+
+-- the need, if it is there
+abbrev pub list_of : Option Need → List Need
+list_of (Some one) = one ∷ []
+list_of None = []
+
+-- what the writer needs, in the order of its keys
+unfoldable pub writer_needs : Network → List Size → ℕ → List Need
+writer_needs net sizes w = flat_map (λ k. list_of (depth_need net sizes w k)) (range_with_len 0 net.keys)
+
+-- ── both
+-- what readers need, in the order of the sizes, and then what writers need, in file order
+unfoldable pub needs_of : Network → List Size → List Need
+needs_of net sizes = map (need_of net sizes) sizes ++ flat_map (writer_needs net sizes) (range_with_len 0 net.writers)
+
+-- a bound is known
+abbrev pub is_shown : Least → Bool
+is_shown (Shown n) = true
+is_shown Unbounded = false
+is_shown Unknown = false
+
+-- how much room is needed
+abbrev pub room_of : Need → Room
+room_of (need.Key r k room) = room
+room_of (need.Reader r room) = room
+room_of (need.Writer w k room) = room
+
+abbrev pub is_bounded : Need → Bool
+is_bounded one = is_shown (room_of one).least
+
+-- a bound is known of each need
+unfoldable pub are_bounded : List Need → Bool
+are_bounded needs = list_all is_bounded needs

@@ -1,0 +1,137 @@
+-- Why a deployment needs what it needs.
+use Rattle.std.specs.Prelude.{ℕ, ◌≡◌, ◌==◌, ◌&&◌, Bool, true, false, List, [], ◌∷◌, ◌++◌, codes, find, flat_map, map, string_bytes, Option, Some, None, if◌then◌else◌}
+use Rattle.std.specs.Fmt.{decimal}
+use Rattle.std.specs.List.{All}
+use Rattle.std.specs.Option.{option_map_or}
+use Rattle.dds_lists.specs.Lists.{Lists}
+use Rattle.dds_match.specs.Network.{Network}
+use Rattle.dds_match.specs.Plan.{network_of}
+use Rattle.dds_weights.specs.Naming.{name_at, reader_key, writer_key}
+use Rattle.dds_weights.specs.Views.{certificate_view}
+use Rattle.dds_propose.specs.declared.targets.Target.{Target}
+use Rattle.dds_propose.specs.declared.targets.Target.TheVariants as target
+use Rattle.dds_search.specs.Reasons.{IsReason}
+use Rattle.dds_search.specs.Sizes.{every_target}
+use Rattle.dds_search.specs.declared.answer.Least.{Least}
+use Rattle.dds_search.specs.declared.answer.Least.TheVariants.{Shown, Unbounded, Unknown}
+use Rattle.dds_search.specs.declared.certificate.rays.Firings.{Firings}
+use Rattle.dds_search.specs.declared.certificate.rays.Writes.{Writes}
+use Rattle.dds_search.specs.declared.certificate.reasons.Reason.{Reason}
+use Rattle.dds_search.specs.declared.certificate.reasons.Reason.TheVariants.{Weights, Growth, Nothing}
+use Rattle.dds_search.specs.declared.certificate.sizes.Size.{Size}
+use Rattle.dds_events.specs.Naming.{rule_text}
+use Rattle.dds_explain.specs.Explanation.{margins}
+use Rattle.dds_sizing.specs.Needs.{is_for, limit_of_key, limit_of_total}
+use Rattle.dds_sizing.specs.NeedsText.{least_word, policy_word}
+use Rattle.dds_sizing.specs.declared.needs.Limit.{Limit}
+use Rattle.dds_sizing.specs.declared.needs.Need.{Need}
+use Rattle.dds_sizing.specs.declared.needs.Need.TheVariants as need
+use Rattle.dds_sizing.specs.declared.needs.Room.{Room}
+use Rattle.dds_sizing.specs.declared.reasons.Explained.{Explained}
+
+-- ── lines
+-- a limit with the name of its policy, or that there is none
+abbrev pub limit_or_none : Option Limit → List ℕ
+limit_or_none (Some limit) = policy_word limit.policy ++ (codes " " ++ decimal limit.most)
+limit_or_none None = codes "no limit"
+
+-- who needs how much, of which limit, and why
+abbrev pub because_line : List ℕ → Room → List ℕ → List ℕ
+because_line who room why =
+    codes "because " ++ (who ++ (codes " " ++ (least_word room.least ++ (codes " of " ++ (limit_or_none room.limit ++ (codes ": " ++ (why ++ codes "\n")))))))
+
+-- the reader, and the key, if only its samples count
+abbrev pub target_words : Lists → Target → List ℕ
+target_words d (target.Instance r k) = name_at d.readers.names r ++ (codes " " ++ reader_key d r k)
+target_words d (target.Reader r) = name_at d.readers.names r
+
+-- ── rays
+-- the words for each of a list, with commas between them
+abbrev pub listed : {A : Type 0} → (A → List ℕ) → List A → List ℕ
+listed words [] = []
+listed words (x ∷ xs) = words x ++ flat_map (λ y. codes ", " ++ words y) xs
+
+-- a rule, and how often it fires
+abbrev pub firings_words : Lists → Firings → List ℕ
+firings_words d f = rule_text d f.rule ++ (codes " " ++ decimal f.count)
+
+-- a writer, a key, and how often it is written
+abbrev pub writes_words : Lists → Writes → List ℕ
+writes_words d w = name_at d.writers.names w.writer ++ (codes " " ++ (writer_key d w.writer w.key ++ (codes " " ++ decimal w.count)))
+
+-- all that is done: the firings, the writes that need no permit, or both
+abbrev pub deeds : Lists → List Firings → List Writes → List ℕ
+deeds d [] ws = codes "writing " ++ listed (writes_words d) ws
+deeds d (f ∷ fs) [] = codes "firing " ++ listed (firings_words d) (f ∷ fs)
+deeds d (f ∷ fs) (w ∷ ws) = codes "firing " ++ (listed (firings_words d) (f ∷ fs) ++ (codes " and writing " ++ listed (writes_words d) (w ∷ ws)))
+
+-- ── sizes
+-- the limit for what counts for the target, if it is finite
+abbrev pub limit_of_target : Network → Target → Option Limit
+limit_of_target net (target.Instance r k) = limit_of_key net r
+limit_of_target net (target.Reader r) = limit_of_total net r
+
+-- the line for a size that no weights show, or of which nothing is known
+abbrev pub unshown_line : Lists → Size → List ℕ → List ℕ
+unshown_line d size why = because_line (target_words d size.target) (record { least = size.least; limit = limit_of_target (network_of d) size.target }) why
+
+-- why a size is what it is: a bound by what its row weighs
+abbrev pub reason_line : Lists → Size → Reason → List ℕ
+reason_line d size (Weights cert) = margins d (certificate_view cert)
+reason_line d size (Growth ray) = unshown_line d size (codes "by " ++ (deeds d ray.firings.items ray.writes.items ++ codes " again and again"))
+reason_line d size Nothing = unshown_line d size (codes "the numbers became too large or the search too long")
+
+-- the text gives a reason that the size has
+abbrev pub IsExplained : Lists → Explained → Type 0
+IsExplained d e = (reason : Reason) × IsReason (network_of d) e.size.target e.size.least reason × (string_bytes e.because ≡ reason_line d e.size reason)
+
+-- a size for all that a certificate can bound, in file order, each of them explained
+abbrev pub AreExplained : Lists → List Explained → Type 0
+AreExplained d es = (map (λ e. e.size.target) es ≡ every_target (network_of d)) × All (IsExplained d) es
+
+abbrev pub sizes_of : List Explained → List Size
+sizes_of es = map (λ e. e.size) es
+
+-- ── needs
+-- two targets are the same
+abbrev pub is_target : Target → Target → Bool
+is_target (target.Instance r k) (target.Instance q j) = (r == q) && (k == j)
+is_target (target.Reader r) (target.Reader q) = r == q
+is_target (target.Instance r k) (target.Reader q) = false
+is_target (target.Reader r) (target.Instance q j) = false
+
+-- as much is known of the one as of the other
+abbrev pub is_as_much : Least → Least → Bool
+is_as_much (Shown n) (Shown m) = n == m
+is_as_much Unbounded Unbounded = true
+is_as_much Unknown Unknown = true
+is_as_much one other = false
+
+-- why a target has its size
+abbrev pub because_of_target : List Explained → Target → List ℕ
+because_of_target es target = option_map_or (λ e. string_bytes e.because) (find (λ e. is_target target e.size.target) es) []
+
+-- why a reader needs so much for all its samples: by one row or a ray where that says as much, and else by its keys
+abbrev pub because_of_size : Lists → ℕ → Room → Explained → List ℕ
+because_of_size d r room e =
+    if is_as_much e.size.least room.least then string_bytes e.because else because_line (name_at d.readers.names r) room (codes "this is the sum of the bounds of its keys")
+
+-- a size is one of the key at a reader that the writer matches, and as much as the writer needs
+abbrev pub is_for_as_much : Network → ℕ → ℕ → Least → Explained → Bool
+is_for_as_much net w k least e = is_for net w k e.size.target && is_as_much e.size.least least
+
+-- the reader of a target
+abbrev pub reader_of : Target → ℕ
+reader_of (target.Instance r k) = r
+reader_of (target.Reader r) = r
+
+-- why a writer needs so much: a reader does
+abbrev pub because_of_reader : Lists → ℕ → ℕ → Room → Explained → List ℕ
+because_of_reader d w k room e =
+    because_line (name_at d.writers.names w ++ (codes " " ++ writer_key d w k)) room (codes "as much as reader " ++ name_at d.readers.names (reader_of e.size.target))
+
+-- the line for a need
+abbrev pub because_of : Lists → List Explained → Need → List ℕ
+because_of d es (need.Key r k room) = because_of_target es (target.Instance r k)
+because_of d es (need.Reader r room) = option_map_or (because_of_size d r room) (find (λ e. is_target (target.Reader r) e.size.target) es) []
+because_of d es (need.Writer w k room) = option_map_or (because_of_reader d w k room) (find (is_for_as_much (network_of d) w k room.least) es) []

@@ -1,0 +1,306 @@
+//! How much room each strict reader needs, and how deep the history of each writer with KEEP_LAST has to be, beside the
+//! limits that the deployment has.
+ghost use Rattle.std.specs.Prelude.{◌≡◌, ◌<◌, ◌++◌, IfOk, None, flat_map, map, option_map};
+ghost use Rattle.std.specs.List.{range_with_len};
+ghost use Rattle.dds_match.specs.Plan.{network_of};
+ghost use Rattle.dds_runs.specs.Accepted.{instance_limit};
+ghost use Rattle.dds_sizing.specs.Needs.{are_bounded, depth_need, greater, greatest_of, is_bounded, is_for, key_limit};
+ghost use Rattle.dds_sizing.specs.Needs.{limit_of_key, limit_of_total, limit_by, list_of, need_at, need_of, needs_of};
+ghost use Rattle.dds_sizing.specs.Needs.{room_of, with_least, with_size, writer_needs};
+
+use dds_base::grid::KEYS;
+use dds_base::{KeyNo, NoMemory, ReaderNo, WriterNo};
+use dds_match::Plan;
+use dds_propose::targets::Target;
+use dds_qos::ReaderLimits;
+use dds_search::{Least, Size, total_of};
+use std::alloc::Global;
+
+/// The policy by which an endpoint limits its samples.
+#[derive(Clone, Copy, Debug, PartialEq, Eq)]
+pub enum Policy {
+    Depth,
+    MaxSamplesPerInstance,
+    MaxSamples,
+}
+
+/// A finite limit of an endpoint.
+#[derive(Clone, Copy, Debug, PartialEq, Eq)]
+pub struct Limit {
+    pub policy: Policy,
+    pub most: u32,
+}
+
+/// What is known of how much room is needed, and the limit of the deployment, if it has a finite one.
+#[derive(Clone, Copy, Debug, PartialEq, Eq)]
+pub struct Room {
+    pub least: Least,
+    pub limit: Option<Limit>,
+}
+
+/// Whose samples need room.
+#[derive(Clone, Copy, Debug, PartialEq, Eq)]
+pub enum Need {
+    /// Those of a key at a strict reader.
+    Key {
+        reader: ReaderNo,
+        key: KeyNo,
+        room: Room,
+    },
+    /// Those of all keys together at a strict reader.
+    Reader {
+        reader: ReaderNo,
+        room: Room,
+    },
+    /// Those of a key at a writer with KEEP_LAST.
+    Writer {
+        writer: WriterNo,
+        key: KeyNo,
+        room: Room,
+    },
+}
+
+/// How much room is needed.
+pub(crate) fn room_of(need: &Need) -> Room
+    ensures { result ≡ room_of need.now }
+{
+    match need {
+        Need::Key { room, .. } | Need::Reader { room, .. } | Need::Writer { room, .. } => *room,
+    }
+}
+
+/// The limit of a policy, if it is finite.
+fn limit_by(policy: Policy, most: Option<u32>) -> Option<Limit>
+    ensures { result ≡ limit_by policy most }
+{
+    match most {
+        Some(most) => Some(Limit { policy, most }),
+        None => None,
+    }
+}
+
+/// What limits a key of a reader: its depth where it keeps the last samples alone, else max_samples_per_instance.
+fn key_limit(limits: &ReaderLimits) -> Option<Limit>
+    ensures limit { result ≡ key_limit limits.now }
+    ensures compared { option_map (λ l. l.most) result ≡ instance_limit limits.now }
+{
+    match limits.keep_last {
+        Some(depth) => limit_by(Policy::Depth, Some(depth)),
+        None => limit_by(
+            Policy::MaxSamplesPerInstance,
+            limits.max_samples_per_instance,
+        ),
+    }
+}
+
+/// What limits a key of the reader with this number.
+pub(crate) fn limit_of_key(plan: &Plan, reader: ReaderNo) -> Option<Limit>
+    ensures { result ≡ limit_of_key (network_of plan.now) reader }
+{
+    if reader.number() >= plan.lists().readers() {
+        return None;
+    }
+    key_limit(&plan.reader_limits(reader))
+}
+
+/// What limits all samples of the reader with this number together.
+pub(crate) fn limit_of_total(plan: &Plan, reader: ReaderNo) -> Option<Limit>
+    ensures { result ≡ limit_of_total (network_of plan.now) reader }
+{
+    if reader.number() >= plan.lists().readers() {
+        return None;
+    }
+    limit_by(Policy::MaxSamples, plan.reader_limits(reader).max_samples)
+}
+
+/// What a reader needs by a size, which is one of these.
+fn need_of(plan: &Plan, sizes: &[Size], size: &Size) -> Need
+    ensures { result ≡ need_of (network_of plan.now) sizes.now size.now }
+{
+    match size.target {
+        Target::Instance { reader, key } => Need::Key {
+            reader,
+            key,
+            room: Room {
+                least: size.least,
+                limit: limit_of_key(plan, reader),
+            },
+        },
+        Target::Reader(reader) => Need::Reader {
+            reader,
+            room: Room {
+                least: total_of(sizes, reader, size.least),
+                limit: limit_of_total(plan, reader),
+            },
+        },
+    }
+}
+
+/// What readers need, in the order of the sizes.
+fn reader_needs(alloc: Global, plan: &Plan, sizes: &[Size]) -> Result<Vec<Need>, NoMemory>
+    ensures { IfOk result (λ needs. needs.items ≡ map (need_of (network_of plan.now) sizes.now) sizes.now) }
+{
+    let mut needs = Vec::new(alloc);
+    for size in sizes {
+        needs.push(need_of(plan, sizes, size))?;
+    }
+    Ok(needs)
+}
+
+/// The greater of two needs: one without a bound is greater than any, and beside one of which nothing is known nothing
+/// is known.
+fn greater(one: Least, other: Least) -> Least
+    ensures { result ≡ greater one other }
+{
+    match (one, other) {
+        (Least::Shown(one), Least::Shown(other)) => Least::Shown(one.max(other)),
+        (Least::Unbounded, _) | (_, Least::Unbounded) => Least::Unbounded,
+        (Least::Unknown, _) | (_, Least::Unknown) => Least::Unknown,
+    }
+}
+
+/// The greatest of some needs, if there are any, and one more.
+fn with_least(greatest: Option<Least>, least: Least) -> Least
+    ensures { result ≡ with_least greatest least }
+{
+    match greatest {
+        Some(greatest) => greater(greatest, least),
+        None => least,
+    }
+}
+
+/// Whether a target is of the key at a reader that the writer matches.
+pub(crate) fn is_for(plan: &Plan, writer: WriterNo, key: KeyNo, target: &Target) -> bool
+    ensures { result ≡ is_for (network_of plan.now) writer key target.now }
+{
+    match target {
+        Target::Instance { reader, key: other } => *other == key && plan.matched(writer, *reader),
+        Target::Reader(_) => false,
+    }
+}
+
+/// The greatest of some needs and one more, if it is of the key at a reader that the writer matches.
+fn with_size(
+    plan: &Plan,
+    writer: WriterNo,
+    key: KeyNo,
+    greatest: Option<Least>,
+    size: &Size,
+) -> Option<Least>
+    ensures { result ≡ with_size (network_of plan.now) writer key greatest size.now }
+{
+    if is_for(plan, writer, key, &size.target) {
+        Some(with_least(greatest, size.least))
+    } else {
+        greatest
+    }
+}
+
+/// The greatest bound of the key at the readers that the writer matches, if one of these is among the sizes.
+fn greatest_of(plan: &Plan, sizes: &[Size], writer: WriterNo, key: KeyNo) -> Option<Least>
+    ensures { result ≡ greatest_of (network_of plan.now) writer key None sizes.now }
+{
+    let mut greatest = None;
+    for size in sizes {
+        greatest = with_size(plan, writer, key, greatest, size);
+    }
+    greatest
+}
+
+/// What a writer with this depth needs of a key, if a strict reader takes it.
+fn need_at(writer: WriterNo, key: KeyNo, depth: u32, greatest: Option<Least>) -> Option<Need>
+    ensures { result ≡ need_at writer key depth greatest }
+{
+    match greatest {
+        Some(least) => Some(Need::Writer {
+            writer,
+            key,
+            room: Room {
+                least,
+                limit: limit_by(Policy::Depth, Some(depth)),
+            },
+        }),
+        None => None,
+    }
+}
+
+/// What a writer needs of a key: the greatest bound of its strict readers. `None` where it keeps all, no rule writes
+/// the key, or no strict reader takes it.
+fn depth_need(plan: &Plan, sizes: &[Size], writer: WriterNo, key: KeyNo) -> Option<Need>
+    requires { writer < (network_of plan.now).writers }
+    ensures { result ≡ depth_need (network_of plan.now) sizes.now writer key }
+{
+    match plan.writer_limits(writer).keep_last {
+        Some(depth) if plan.is_written(writer, key) => {
+            need_at(writer, key, depth, greatest_of(plan, sizes, writer, key))
+        }
+        _ => None,
+    }
+}
+
+/// Adds a need, if it is there.
+fn push_need(needs: &mut Vec<Need>, need: Option<Need>) -> Result<(), NoMemory>
+    ensures { IfOk result (λ _. needs.new.items ≡ needs.old.items ++ list_of need) }
+{
+    if let Some(need) = need {
+        needs.push(need)?;
+    }
+    Ok(())
+}
+
+/// What a writer needs, in the order of its keys.
+fn writer_needs(
+    alloc: Global,
+    plan: &Plan,
+    sizes: &[Size],
+    writer: WriterNo,
+) -> Result<Vec<Need>, NoMemory>
+    requires { writer < (network_of plan.now).writers }
+    ensures { IfOk result (λ needs. needs.items ≡ writer_needs (network_of plan.now) sizes.now writer) }
+{
+    let mut needs = Vec::new(alloc);
+    for k in 0..KEYS {
+        push_need(&mut needs, depth_need(plan, sizes, writer, KeyNo::new(k)))?;
+    }
+    Ok(needs)
+}
+
+/// What all writers need, in file order.
+fn depth_needs(alloc: Global, plan: &Plan, sizes: &[Size]) -> Result<Vec<Need>, NoMemory>
+    ensures { IfOk result
+        (λ needs. needs.items
+        ≡ flat_map (writer_needs (network_of plan.now) sizes.now) (range_with_len 0 (network_of plan.now).writers)) }
+{
+    let mut needs = Vec::new(alloc);
+    for w in 0..plan.lists().writers() {
+        let more = writer_needs(alloc, plan, sizes, WriterNo::new(w))?;
+        needs.extend_from_slice(&more)?;
+    }
+    Ok(needs)
+}
+
+/// What readers and writers need by the sizes of a plan. `NoMemory` is the only error.
+#[tactic(auto, unfolding(crate::specs::Needs::needs_of))]
+pub(crate) fn needs_of(alloc: Global, plan: &Plan, sizes: &[Size]) -> Result<Vec<Need>, NoMemory>
+    ensures { IfOk result (λ needs. needs.items ≡ needs_of (network_of plan.now) sizes.now) }
+{
+    let mut needs = reader_needs(alloc, plan, sizes)?;
+    let more = depth_needs(alloc, plan, sizes)?;
+    needs.extend_from_slice(&more)?;
+    Ok(needs)
+}
+
+/// Whether a bound is known.
+fn is_bounded(need: &Need) -> bool
+    ensures { result ≡ is_bounded need.now }
+{
+    matches!(room_of(need).least, Least::Shown(_))
+}
+
+/// Whether a bound is known of each need.
+#[tactic(auto, unfolding(crate::specs::Needs::are_bounded))]
+pub(crate) fn are_bounded(needs: &[Need]) -> bool
+    ensures { result ≡ are_bounded needs.now }
+{
+    needs.iter().all(|need| is_bounded(need))
+}

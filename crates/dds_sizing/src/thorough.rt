@@ -1,0 +1,291 @@
+//! What `propose --thorough` answers to the bytes of a deployment.
+ghost use Rattle.std.specs.Prelude.{◌≡◌, ◌∷◌, ◌≤◌, ◌<◌, ℕ, List, [], IfErr, IfOk, IfSome, IsOk, None, Ok, OnOk, Some};
+ghost use Rattle.std.specs.Prelude.{string_bytes, true};
+ghost use Rattle.dds_match.specs.Plan.{network_of};
+ghost use Rattle.dds_weights.specs.Fits.{fits};
+ghost use Rattle.dds_weights.specs.Views.{certificate_view};
+ghost use Rattle.dds_check.specs.Accepts.{first_no};
+ghost use Rattle.dds_answers.specs.Answers.{Gives};
+ghost use Rattle.dds_answers.specs.Fault.{IsAnswerFault};
+ghost use Rattle.dds_answers.specs.Outcome.{Outcome, unproposed};
+ghost use Rattle.dds_deploy.specs.Document.{read as deployment_read};
+ghost use Rattle.dds_runs.specs.Accepted.{instance_limit};
+ghost use Rattle.dds_sizing.specs.Missing.{IsDepthFor, IsLimitText, IsMissingText, least_line, length_line, own_name};
+ghost use Rattle.dds_sizing.specs.Missing.{short_line, shower};
+ghost use Rattle.dds_sizing.specs.Searches.{MayFind};
+
+use crate::shortages::shortage_word;
+use dds_answers::{Answer, MAX_FILE, ToolFault, answer_certificate, read_plan, structure_text};
+use dds_base::{KeyNo, NoMemory, ReaderNo, WriterNo};
+use dds_check::No;
+use dds_match::Plan;
+use dds_propose::propose;
+use dds_propose::targets::Target;
+use dds_search::{Budget, Found, Least, Missing, Shortage, search};
+use dds_weights::Certificate;
+use dds_weights::naming::{name_at, reader_key, writer_key};
+use std::alloc::Global;
+use std::time::Clock;
+
+/// The limit of a key of a reader by its own policies, with its name: its depth where it keeps the last samples alone.
+fn own_limit(plan: &Plan, reader: ReaderNo) -> (&'static str, Option<u32>)
+    ensures name { result.0.now ≡ own_name (network_of plan.now) reader }
+    ensures limit { reader < (network_of plan.now).readers
+        → result.1 ≡ instance_limit ((network_of plan.now).reader_limits reader) }
+{
+    if reader.number() >= plan.lists().readers() {
+        return ("the limit", None);
+    }
+    let limits = plan.reader_limits(reader);
+    match limits.keep_last {
+        Some(depth) => ("the history depth", Some(depth)),
+        None => ("max_samples_per_instance", limits.max_samples_per_instance),
+    }
+}
+
+/// How many samples of a key a writer keeps for a reader by KEEP_LAST. `None` where it keeps all, doesn't match the
+/// reader, or no rule writes the key.
+fn depth_for(plan: &Plan, writer: WriterNo, reader: ReaderNo, key: KeyNo) -> Option<u32>
+    ensures { IfSome result (IsDepthFor (network_of plan.now) writer reader key) }
+{
+    let is_there = writer.number() < plan.lists().writers();
+    if is_there && plan.matched(writer, reader) && plan.is_written(writer, key) {
+        plan.writer_limits(writer).keep_last
+    } else {
+        None
+    }
+}
+
+/// Whether a limit is lower than another, or the only one.
+fn is_lower(limit: u32, other: Option<u32>) -> bool {
+    match other {
+        Some(other) => limit < other,
+        None => true,
+    }
+}
+
+/// The first of the writers that keep the fewest samples of a key for a reader, where that is fewer than its own limit.
+fn lowest_writer(plan: &Plan, reader: ReaderNo, key: KeyNo, own: Option<u32>) -> Option<WriterNo>
+    ensures { IfSome result (λ w. (depth : ℕ) × IsDepthFor (network_of plan.now) w reader key depth) }
+{
+    let mut lowest = own;
+    let mut found = None;
+    for w in 0..plan.lists().writers() {
+        let writer = WriterNo::new(w);
+        if let Some(depth) = depth_for(plan, writer, reader, key) {
+            if is_lower(depth, lowest) {
+                lowest = Some(depth);
+                found = Some(writer);
+            }
+        }
+    }
+    found
+}
+
+/// The limit of a key at a reader, with its names: the reader's own, or the depth of a writer where that is lower.
+fn instance_text(
+    alloc: Global,
+    plan: &Plan,
+    reader: ReaderNo,
+    key: KeyNo,
+) -> Result<String, NoMemory>
+    ensures { IfOk result (λ text. IsLimitText plan.now (Target.Instance reader key) (string_bytes text)) }
+{
+    let lists = plan.lists();
+    let (name, own) = own_limit(plan, reader);
+    match lowest_writer(plan, reader, key, own) {
+        Some(writer) => {
+            let key = writer_key(lists, writer, key);
+            let writer = name_at(lists.writer_names(), writer.number());
+            format!(in alloc; "the history depth of {writer} {key}")
+        }
+        None => {
+            let key = reader_key(lists, reader, key);
+            let reader = name_at(lists.reader_names(), reader.number());
+            format!(in alloc; "{name} of {reader} {key}")
+        }
+    }
+}
+
+/// The limit of a target, with the names of the endpoint and of the key.
+fn limit_text(alloc: Global, plan: &Plan, target: &Target) -> Result<String, NoMemory>
+    ensures { IfOk result (λ text. IsLimitText plan.now target.now (string_bytes text)) }
+{
+    match target {
+        Target::Instance { reader, key } => instance_text(alloc, plan, *reader, *key),
+        Target::Reader(reader) => {
+            let reader = name_at(plan.lists().reader_names(), reader.number());
+            format!(in alloc; "max_samples of {reader}")
+        }
+    }
+}
+
+/// What shows the bounds that are compared: of the samples of a reader a single row.
+fn words_for_showing(target: &Target) -> &'static str
+    ensures { result.now ≡ shower target.now }
+{
+    match target {
+        Target::Instance { .. } => "weights show",
+        Target::Reader(_) => "one row of weights shows",
+    }
+}
+
+/// What is known of the bounds for a limit that has no certificate.
+fn least_text(alloc: Global, limit: &str, shower: &str, least: Least) -> Result<String, NoMemory>
+    ensures { IfOk result (λ text. string_bytes text ≡ least_line limit.now shower.now least) }
+{
+    match least {
+        Least::Shown(bound) => format!(in alloc;
+            "ddscheck: no weights show {limit}; the least bound that {shower} is {bound}\n"
+        ),
+        Least::Unbounded => format!(in alloc;
+            "ddscheck: no weights show {limit}, nor any other bound\n"
+        ),
+        Least::Unknown => format!(in alloc;
+            "ddscheck: no weights were found that show {limit}: the numbers became too large or the search too long\n"
+        ),
+    }
+}
+
+/// What ran out where no weights were found for a limit.
+fn short_text(alloc: Global, limit: &str, shortage: Shortage) -> Result<String, NoMemory>
+    ensures { IfOk result (λ text. string_bytes text ≡ short_line limit.now shortage) }
+{
+    let word = shortage_word(shortage);
+    format!(in alloc;
+        "ddscheck: no weights were found that show {limit}: the search ran out of {word}\n"
+    )
+}
+
+/// Why no certificate was found.
+fn missing_text(alloc: Global, plan: &Plan, missing: Missing) -> Result<String, NoMemory>
+    ensures { IfOk result (λ text. IsMissingText plan.now missing (string_bytes text)) }
+{
+    match missing {
+        Missing::Structure(no) => {
+            let line = structure_text(alloc, plan.lists(), no)?;
+            format!(in alloc; "ddscheck: whatever the certificate, {line}")
+        }
+        Missing::Limit { target, least } => {
+            let limit = limit_text(alloc, plan, &target)?;
+            least_text(alloc, limit.as_str(), words_for_showing(&target), least)
+        }
+        Missing::Short { target, shortage } => {
+            let limit = limit_text(alloc, plan, &target)?;
+            short_text(alloc, limit.as_str(), shortage)
+        }
+        Missing::Rows => String::from_str(
+            alloc,
+            "ddscheck: each limit has weights that show it, but no 64 rows were found that show all of them\n",
+        ),
+        Missing::Refused(no) => {
+            let line = structure_text(alloc, plan.lists(), no)?;
+            format!(in alloc; "ddscheck: what was found isn't accepted: {line}")
+        }
+    }
+}
+
+/// The answer `none`, with this note for the user.
+#[tactic(auto, unfolding(dds_answers::specs::Report::output_of, dds_answers::specs::Report::status_of))]
+fn answer_none_with(alloc: Global, note: Result<String, NoMemory>) -> Result<Answer, ToolFault>
+    ensures gives { Gives result unproposed }
+    ensures note { IfOk result (λ a. IfOk note (λ note. a.note ≡ Some note)) }
+    ensures there { OnOk result (IsOk note) }
+    ensures fault { IfErr result IsAnswerFault }
+{
+    let Ok(note) = note else {
+        return Err(ToolFault::NoMemory);
+    };
+    match String::from_str(alloc, "none\n") {
+        Ok(text) => Ok(Answer {
+            text,
+            is_yes: false,
+            note: Some(note),
+        }),
+        Err(_) => Err(ToolFault::NoMemory),
+    }
+}
+
+/// The answer where no certificate was found, with a line that says why.
+fn answer_missing(alloc: Global, plan: &Plan, missing: Missing) -> Result<Answer, ToolFault>
+    ensures gives { Gives result unproposed }
+    ensures note { IfOk result
+        (λ a. (note : _) × (a.note ≡ Some note) × IsMissingText plan.now missing (string_bytes note)) }
+    ensures fault { IfErr result IsAnswerFault }
+{
+    answer_none_with(alloc, missing_text(alloc, plan, missing))
+}
+
+/// The line for a certificate whose text is longer than a file may be.
+pub(crate) fn length_text(alloc: Global, length: usize) -> Result<String, NoMemory>
+    ensures { IfOk result (λ text. string_bytes text ≡ length_line length) }
+{
+    format!(in alloc;
+        "ddscheck: a certificate was found, but its text has {length} bytes, and a file may have at most 1048576\n"
+    )
+}
+
+/// The answer with a certificate that is accepted, unless its text is longer than a file may be, so that `check`
+/// couldn't read it: then it is `none`, and a line says why.
+fn answer_found(alloc: Global, plan: &Plan, certificate: &Certificate) -> Result<Answer, ToolFault>
+    requires fit { fits (network_of plan.now) (certificate_view certificate.now) ≡ true }
+    requires accepted { first_no plan.now (certificate_view certificate.now) ≡ None }
+    ensures gives { (end : Outcome) × MayFind (Ok plan.now) end × Gives result end }
+    ensures fault { IfErr result IsAnswerFault }
+{
+    match answer_certificate(alloc, plan, certificate) {
+        Ok(answer) => {
+            let length = answer.text.len();
+            if length <= MAX_FILE {
+                return Ok(answer);
+            }
+            drop(answer);
+            answer_none_with(alloc, length_text(alloc, length))
+        }
+        Err(fault) => Err(fault),
+    }
+}
+
+/// The answer where the search found nothing: the rounds may still find a certificate, since their numbers are smaller.
+fn by_rounds(alloc: Global, plan: &Plan, missing: Missing) -> Result<Answer, ToolFault>
+    ensures gives { (end : Outcome) × MayFind (Ok plan.now) end × Gives result end }
+    ensures fault { IfErr result IsAnswerFault }
+{
+    match propose(alloc, plan) {
+        Ok(Some(certificate)) => answer_found(alloc, plan, &certificate),
+        Ok(None) => answer_missing(alloc, plan, missing),
+        Err(_) => Err(ToolFault::NoMemory),
+    }
+}
+
+/// The answer to what is found for a plan.
+fn answer_search<C: Clock>(
+    alloc: Global,
+    plan: &Plan,
+    budget: Budget<C>,
+) -> Result<Answer, ToolFault>
+    ensures gives { (end : Outcome) × MayFind (Ok plan.now) end × Gives result end }
+    ensures fault { IfErr result IsAnswerFault }
+{
+    match search(alloc, plan, budget) {
+        Ok(Found::Certificate(certificate)) => answer_found(alloc, plan, &certificate),
+        Ok(Found::Missing(missing)) => by_rounds(alloc, plan, missing),
+        Err(_) => Err(ToolFault::NoMemory),
+    }
+}
+
+/// The answer of `propose --thorough` to the bytes of a deployment: yes with the text of a certificate that is
+/// accepted, of at most 1,048,576 bytes, or no where none was found, and then with a note that says why.
+pub fn thorough_answer<C: Clock>(
+    alloc: Global,
+    deployment: &[u8],
+    budget: Budget<C>,
+) -> Result<Answer, ToolFault>
+    ensures gives { (end : Outcome) × MayFind (deployment_read deployment.now) end × Gives result end }
+    ensures fault { IfErr result IsAnswerFault }
+{
+    let plan = read_plan(alloc, deployment)?;
+    let answer = answer_search(alloc, &plan, budget);
+    drop(plan);
+    answer
+}

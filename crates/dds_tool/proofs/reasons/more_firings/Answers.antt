@@ -1,6 +1,0 @@
-use Rattle.std.proofs.Common.{◌++◌, codes, rules}
-use Rattle.dds_tool.specs.Reasons.{firings_words}
-use Rattle.dds_tool.proofs.reasons.more_firings.Goals as goal
-
-pub returns : goal.returns
-returns c = c.text_of_each.ensures (λ f. codes ", " ++ firings_words c.args.lists.now f) (λ x r post. search rules)

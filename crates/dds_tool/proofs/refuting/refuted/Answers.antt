@@ -1,8 +1,0 @@
-use Rattle.dds_tool.proofs.Refutes.{refuted_gives}
-use Rattle.dds_tool.proofs.refuting.refuted.Goals as goal
-
-pub returns-clause-gives : goal.returns-clause-gives
-returns-clause-gives g c =
-    refuted_gives c.args.style c.args.plan c.in-Ok.plan c.in-Ok.refutation c.told_known.result c.answered-answer.result c.is_safe.result
-    c.in-Ok.ensures.plan c.in-Ok.ensures.unsafe_run c.in-Ok.ensures.unaccepted c.in-Ok.ensures.fits c.in-Ok.ensures.safe c.in-Ok.ensures.accepted c.in-Ok.ensures.structure
-    c.is_safe.ensures c.answered-answer.ensures.answer c.answered-answer.ensures.text c.answered-answer.ensures.memory c.told_known.ensures

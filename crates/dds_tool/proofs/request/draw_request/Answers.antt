@@ -1,9 +1,0 @@
-use Rattle.clap.specs.Words.{found_of, rows_of}
-use Rattle.dds_tool.proofs.Requested.{draws_once}
-use Rattle.dds_tool.proofs.request.draw_request.Goals as goal
-use Rattle.std.proofs.Common.{◌∙◌, sym}
-
-pub returns-in-Some-clause-unasked : goal.returns-in-Some-clause-unasked
-returns-in-Some-clause-unasked c = λ words is r asks.
-    draws_once words (rows_of (found_of c.args.matches.now)) is r asks c.in_ok-deployment.deployment.now c.in-Some.certificate.now (sym c.in_ok-deployment.ensures.named) c.in-Some.ensures
-    (sym c.is_input_twice.ensures ∙ c.if-is_input_twice.true)
