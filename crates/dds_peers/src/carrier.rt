@@ -60,6 +60,12 @@ impl<N: Name> Carrier<N> {
         Some(1 + u64::from(word / 2 % SHORT))
     }
 
+    // Whether nobody can answer it: every packet is lost, and it has sent nothing but HEARTBEATs for a while, which would
+    // go on until its events are used up.
+    fn is_unheard(&self, fates: &[Fate]) -> bool {
+        self.pace.heartbeats > HEARTBEATS && fates.iter().all(|&fate| fate == Fate::Lose)
+    }
+
     // Makes a round. It says whether the thread goes on.
     fn round<R: Wait + Clock>(
         &mut self,
@@ -69,7 +75,7 @@ impl<N: Name> Carrier<N> {
         pumps: u64,
     ) -> bool {
         let cut = self.cut(fates.as_slice());
-        if self.events >= pumps {
+        if self.events >= pumps || self.is_unheard(fates.as_slice()) {
             return false;
         }
         let left = pumps - self.events;
