@@ -1,8 +1,7 @@
 #!/bin/sh
 # Tries the wrong bodies that the merge gate leaves out: lays the edits of tools/more-edits over a copy of the tree in place of those of the crates, and has
-# `rt ci` see that the prover refuses each. With names of crates it tries theirs alone. Where the gate has passed on this machine, its proofs are taken over
-# and each crate is proved once more for its edits; from nothing it takes hours. So it is run by hand before a release. What came of an edit is kept too: a
-# second run tries what has changed. It works on so many crates side by side as there are processors, or as RT_JOBS says.
+# `rt must-fail` see that the prover refuses each. With names of crates it tries theirs alone. It proves the crates below them once, and each crate once more for
+# its edits, which takes hours for all of them. So it is run by hand before a release.
 # The last line is 'N passed, M failed'; the status is 1 if one failed.
 here=$(CDPATH='' cd -- "$(dirname -- "$0")/.." && pwd)
 room=$(mktemp -d) || exit 1
@@ -18,7 +17,7 @@ for crate; do
     cp "tools/more-edits/$crate/"*.edit "crates/$crate/must-fail/" || exit 1
     wanted=$((wanted + $(ls "tools/more-edits/$crate" | wc -l)))
 done
-rt ci "$@" >log 2>&1
+rt must-fail "$@" >log 2>&1
 grep -a -v '^rt: .* proved' log
 passed=$(grep -a -c '^rt: must-fail .*: refused, as it must be' log)
 echo "$passed passed, $((wanted - passed)) failed"

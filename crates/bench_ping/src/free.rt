@@ -73,7 +73,7 @@ fn write_all(simulator: &mut Simulator, samples: usize) -> Option<Packet> {
 }
 
 /// The numbers of the first and the last sample that the writer has for its reader after so many writes, as its
-/// HEARTBEAT tells them. `None` where there was no memory, or an event did something else than it is for.
+/// HEARTBEAT gives them. `None` where there was no memory, or an event did something unexpected.
 pub(crate) fn write_freely(alloc: Global, samples: usize) -> Option<(u64, u64)> {
     let mut simulator = open(alloc)?;
     let last = write_all(&mut simulator, samples);

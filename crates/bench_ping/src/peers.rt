@@ -32,7 +32,7 @@ fn fates(lost: usize) -> Option<Fates> {
     Fates::new(&all)
 }
 
-/// What a run came to: how many entries its journal has, how many samples were written and taken, and whether each
+/// The result of a run: how many entries its journal has, how many samples were written and taken, and whether each
 /// application stopped.
 #[derive(Clone, Copy)]
 pub(crate) struct Told {
@@ -72,7 +72,7 @@ fn all_timed<R: Clock>(
     Some(all)
 }
 
-/// What a run came to.
+/// The result of a run.
 fn came_to(outcome: &Outcome<Box<dyn App + Send>>) -> Told {
     let entries = outcome.journal.entries();
     Told {
@@ -146,7 +146,7 @@ fn ran<R: Threads + Wait + Clock + Sync>(
     ran_with(rt, alloc, checked, apps, fates, watch)
 }
 
-/// What a run came to, how long it took, and within how many microseconds half of the round trips and 99 of 100 were
+/// The result of a run, how long it took, and within how many microseconds half of the round trips and 99 of 100 were
 /// made.
 #[derive(Clone, Copy)]
 pub(crate) struct Peered {

@@ -119,7 +119,7 @@ impl Timed {
         Ok(trips)
     }
 
-    /// Tells how long half of the round trips and 99 of 100 took at most.
+    /// Stores how long half of the round trips and 99 of 100 took at most.
     fn tell(&self) {
         let Ok(trips) = self.trips() else {
             return;

@@ -5,7 +5,7 @@ ghost use Rattle.dds_apps.specs.declared.app.Act.TheVariants.{Do};
 use crate::diary::Diary;
 use dds_base::{AppNo, Event, NoMemory, Reply};
 
-/// What an application wants next.
+/// What an application asks for next.
 #[derive(Clone, Copy, Debug, PartialEq, Eq)]
 pub enum Act {
     /// Make this event, and let the application hear what came of it.

@@ -131,8 +131,8 @@ impl<A: App, N: Name> Player<A, N> {
         Ok(())
     }
 
-    // Passes the gate and makes the call that the application wants, unless it has made too many. It says whether the
-    // thread goes on.
+    // Passes the gate and makes the call that the application asks for, unless it has made too many. Returns whether
+    // the thread goes on.
     fn call<R: Wait, G: Gate>(
         &mut self,
         rt: &R,

@@ -93,12 +93,12 @@ pub enum Reply {
     Sent(Option<usize>),
     /// A packet did this at its reader.
     Arrived(Arrival),
-    /// An ACKNACK came to its writer.
+    /// An ACKNACK arrived at its writer.
     Acked,
     Dropped,
 }
 
-/// What befalls a packet on the bus when a participant turns to the bus.
+/// What happens to a packet on the bus when a participant turns to the bus.
 #[derive(Clone, Copy, Debug, PartialEq, Eq)]
 pub enum Fate {
     /// The packet at the lowest taken place arrives, and leaves it.

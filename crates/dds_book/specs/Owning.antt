@@ -32,28 +32,28 @@ names_unknown d (SendAckNack r w) = not (nat_lt w (length d.writers.entries) && 
 names_unknown d (Deliver i keep) = false
 names_unknown d (Lose i) = false
 
--- the seat is that of the application that owns the writer
+-- the seat belongs to the application that owns the writer
 abbrev pub has_writer : Lists → ℕ → ℕ → Bool
 has_writer d seat w = option_map_or (λ (a : Application). has a.writers w) (slice_get d.applications.entries seat) false
 
--- the seat is that of the application that owns the reader
+-- the seat belongs to the application that owns the reader
 abbrev pub has_reader : Lists → ℕ → ℕ → Bool
 has_reader d seat r = option_map_or (λ (a : Application). has a.readers r) (slice_get d.applications.entries seat) false
 
--- the seat is that of the rule's application
+-- the seat belongs to the rule's application
 abbrev pub has_rule : Lists → ℕ → ℕ → Bool
 has_rule d seat u = option_map_or (λ (x : Rule). x.application == seat) (slice_get d.rules.entries u) false
 
--- the seat is that of the writer's participant
+-- the seat belongs to the writer's participant
 abbrev pub sends_of_writer : Lists → ℕ → ℕ → Bool
 sends_of_writer d seat w = is_after_apps d seat && option_map_or (λ (x : Writer). x.participant == participant_of d seat) (slice_get d.writers.entries w) false
 
--- the seat is that of the reader's participant
+-- the seat belongs to the reader's participant
 abbrev pub sends_of_reader : Lists → ℕ → ℕ → Bool
 sends_of_reader d seat r = is_after_apps d seat && option_map_or (λ (x : Reader). x.participant == participant_of d seat) (slice_get d.readers.entries r) false
 
 -- ── whose it is
--- the seat is that of the application or participant at which the event happens; packets of the bus are every participant's
+-- the seat belongs to the application or participant at which the event happens; packets of the bus are every participant's
 abbrev pub is_own : Lists → ℕ → Event → Bool
 is_own d seat (Write w k x) = has_writer d seat w
 is_own d seat (Fire u) = has_rule d seat u

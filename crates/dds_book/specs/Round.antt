@@ -59,11 +59,11 @@ abbrev pub is_excess : Pace → Event → Bool
 is_excess p e = nat_lt most_heartbeats p.heartbeats && is_heartbeat e
 
 -- ── turns
--- what a turn comes to: the event that was entered with its reply, nothing, or a fault
+-- the answer of a turn: the event that was entered with its reply, nothing, or a fault
 abbrev pub Answer : Type 0
 Answer = Result (Option (Event × Reply)) BookFault
 
--- the pace after a turn that came to this
+-- the pace after a turn with this answer
 abbrev pub pace_after : Pace → Answer → Pace
 pace_after p (Ok (Some m)) = counted (next_turn p) m.0
 pace_after p _ = next_turn p
@@ -99,13 +99,13 @@ halt_after p (Ok None) = None
 halt_after p (Ok (Some m)) = if is_excess p m.0 then Some GivesWay else None
 halt_after p (Err f) = Some (Fault f)
 
--- with a turn more, which came to this and left this book and this seat
+-- with a turn more, which had this answer and left this book and this seat
 abbrev pub course_after : Course → Answer → BookContent → SeatState → Course
 course_after c answer book seat =
     let pace = pace_after c.pace answer in
     record { told = told_after c.told answer; quiet = quiet_after c.quiet answer; halt = halt_after pace answer; book = book; seat = seat; pace = pace }
 
--- how a round that enters so many events at most ends, if it has come to its end
+-- how a round that enters so many events at most ends, if it has ended
 abbrev pub end_of : ℕ → Course → Option RoundEnd
 end_of most c = option_or c.halt (if c.quiet == quiet_turns then Some Quiet else if length c.told == most then Some Full else None)
 
@@ -115,14 +115,14 @@ pub record IsTurn (plan : Lists) (fates : List Fate) (old new : BookContent) (be
   pub next : slice_get fates (pace.moved % length fates) ≡ Some fate
   pub pumped : Pumped plan old new before after (due_at plan old.entries before.number pace.turn fate) answer
 
--- the turns of a round, one after another, as long as it hasn't come to its end
+-- the turns of a round, one after another, as long as it hasn't ended
 pub data AreTurns (plan : Lists) (fates : List Fate) (most : ℕ) (start : Course) : Course → Type 0 where
   no_turn : AreTurns plan fates most start start
   one_more : (c : Course) (answer : Answer) (book : BookContent) (seat : SeatState) → AreTurns plan fates most start c → end_of most c ≡ None
       → IsTurn plan fates c.book book c.seat seat c.pace answer → AreTurns plan fates most start (course_after c answer book seat)
 
 -- ── rounds
--- what a round does to a book and a seat: its turns lead to its end. It tells how many events were entered, and how many changes the book has then
+-- what a round does to a book and a seat: its turns lead to its end. It reports how many events were entered, and how many changes the book has then
 pub record IsRound (plan : Lists) (fates : List Fate) (most : ℕ) (old new : BookContent) (before after : SeatState) (from to : Pace) (r : Round) : Type 0 where
   pub course : Course
   pub turns : AreTurns plan fates most (course_from old before from) course

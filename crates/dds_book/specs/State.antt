@@ -47,7 +47,7 @@ pub record IsBook (plan : Lists) (tables : List TableId) (entries : List Entry) 
   pub counted : changes ≡ changes_in entries
 
 -- ── calls
--- why an event of a seat is not entered, the first reason, want of memory aside
+-- why an event of a seat is not entered, the first reason, `NoMemory` aside
 abbrev pub first_fault : Lists → BookContent → ℕ → Event → Option BookFault
 first_fault plan book seat event =
     if book.closed then Some Closed
@@ -55,13 +55,13 @@ first_fault plan book seat event =
     else if not (owns plan seat event) then Some NotYours
     else None
 
--- the fault that is told is the first; where there is none, memory ran out
+-- the fault that is returned is the first; where there is none, memory ran out
 abbrev pub Tells : Option BookFault → BookFault → Type 0
 Tells (Some first) f = f ≡ first
 Tells None f = f ≡ NoMemory
 
--- the event was entered: the journal has one entry more, which is the seat's new front, and the reply may come to the event in the world that the
--- journal led to. It doesn't tell of a sample rejected or overwritten, unless at a watcher, nor of a number given up or of a stranger
+-- the event was entered: the journal has one entry more, which is the seat's new front, and the reply may answer the event in the world that the
+-- journal led to. It doesn't report a sample rejected or overwritten, unless at a watcher, nor a number given up or a stranger
 pub record Enters (plan : Lists) (old new : BookContent) (before after : SeatState) (event : Event) (reply : Reply) : Type 0 where
   pub allowed : first_fault plan old before.number event ≡ None
   pub book : new ≡ record { closed = false; entries = old.entries ++ entry_of before.number event reply ∷ [] }

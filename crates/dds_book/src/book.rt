@@ -59,7 +59,7 @@ impl<N: Name> Book<N> {
 
     /// Makes an event of a seat and enters it. The seat's new front is a journal that begins with the old front, ends
     /// with this call, and has no other entry of the seat after the old front. A fault enters nothing: of several the
-    /// first is told.
+    /// first is returned.
     pub fn call<R: Wait>(
         &self,
         rt: &R,
@@ -176,7 +176,7 @@ impl<N: Name> Book<N> {
         }
     }
 
-    /// Waits for at most 10 ms until more than so many entries are no refusals, and tells how many they are. It waits
+    /// Waits for at most 10 ms until more than so many entries are no refusals, and returns how many they are. It waits
     /// as long for a stopped book. What an application takes or fires doesn't end the wait at once.
     pub fn wait_change<R: Wait + Clock>(&self, rt: &R, seen: u64) -> Option<u64>
         ensures { IfSome result (λ count. seen < count) }

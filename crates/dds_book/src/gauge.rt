@@ -83,7 +83,7 @@ impl Gauge {
         open_gauge(alloc, apps, monitors)
     }
 
-    /// Raises the seat's own count by one, and tells it. A full count stays as it is.
+    /// Raises the seat's own count by one, and returns it. A full count stays as it is.
     pub fn bump(&self, seat: &mut GaugeSeat) -> Result<u64, GaugeFull>
         requires gauge { seat.old.table ≡ self.now.table }
         requires owner { IsSome seat.old.owner }

@@ -65,11 +65,11 @@ pub enum RoundEnd {
     Quiet,
     /// The participant has sent a HEARTBEAT again, with nothing else sent since the last one: others are to act first.
     GivesWay,
-    /// The last turn came to this fault, and entered nothing.
+    /// The last turn ended with this fault, and entered nothing.
     Fault(BookFault),
 }
 
-/// What a round came to.
+/// The result of a round.
 #[derive(Clone, Copy, Debug, PartialEq, Eq)]
 pub struct Round {
     /// How many events it entered.

@@ -80,7 +80,7 @@ impl<N: Name> BookState<N> {
     }
 
     /// Makes an event of a seat and enters it, with what came of it; a refusal by the domain is entered too. A fault
-    /// enters nothing and changes nothing: of several the first is told, and `NoMemory` is the last.
+    /// enters nothing and changes nothing: of several the first is returned, and `NoMemory` is the last.
     pub fn enter(&mut self, seat: &mut Seat<N>, event: Event) -> Result<Reply, BookFault>
         ensures entered { IfOk result (λ reply. Enters N.plan self.old self.new seat.old seat.new event reply) }
         ensures refused { IfErr result (λ f. Refuses N.plan self.old self.new seat.old seat.new event f) }
@@ -117,7 +117,7 @@ impl<N: Name> BookState<N> {
         Ok(told)
     }
 
-    /// Enters what the seat's participant is to do in its turn, as `enter` does, and tells it. `None` where there is
+    /// Enters what the seat's participant is to do in its turn, as `enter` does, and returns it. `None` where there is
     /// nothing to do, and then nothing is changed. Of a closed book the answer is `Closed`.
     pub fn pump(
         &mut self,

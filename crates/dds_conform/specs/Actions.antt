@@ -1,4 +1,4 @@
--- What a line of a trace tells: what an application did, and whether that is its own to do.
+-- What a line of a trace says: what an application did, and whether that is its own to do.
 use Rattle.std.specs.Prelude.{ℕ, ◌<◌, Bool, ◌&&◌, List, ◌++◌, codes, length, Option, Some, None}
 use Rattle.dds_base.specs.declared.events.Event.{Event}
 use Rattle.dds_base.specs.declared.events.Event.TheVariants as event

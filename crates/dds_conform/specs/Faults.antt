@@ -1,4 +1,4 @@
--- The numbers and words that users are told of a trace that can't be read.
+-- The numbers and words that users see for a trace that can't be read.
 use Rattle.std.specs.Prelude.{ℕ, List, codes}
 use Rattle.dds_conform.specs.declared.fault.TraceFaultKind.{TraceFaultKind}
 use Rattle.dds_conform.specs.declared.fault.TraceFaultKind.TheVariants.{NotText, NotAnEntry, Foreign}

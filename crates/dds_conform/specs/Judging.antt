@@ -21,7 +21,7 @@ use Rattle.dds_conform.specs.Entries.{entry_action, entry_line}
 use Rattle.dds_conform.specs.Keeping.{Explains, Gives, HasNoRivals, Keeps}
 use Rattle.dds_conform.specs.Shortages.{shortages}
 
--- what entries tell, without their lines and applications
+-- what entries say, without their lines and applications
 abbrev pub actions_of : List Entry → List Action
 actions_of es = map entry_action es
 
@@ -116,7 +116,7 @@ pub record IsFullAt (net : Network) (es : List Entry) : Type 0 where
   pub before : Reaches net (actions_of (take place es)) ledger
   pub full : IsFull (entry_action entry) ledger
 
--- the answer tells the line and the write that has no permit, and what the rules lack at the ledger
+-- the answer gives the line and the write that has no permit, and what the rules lack at the ledger
 abbrev pub IsRefusal : Network → LedgerState → (line writer key : ℕ) → Conformance → Type 0
 IsRefusal net l n w k Kept = ⊥
 IsRefusal net l n w k (NoPermit x) = (n ≡ x.line) × (w ≡ x.writer) × (k ≡ x.key) × (x.short.items ≡ shortages net l.spare x.writer x.key)

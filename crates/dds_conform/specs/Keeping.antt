@@ -8,7 +8,7 @@ use Rattle.dds_runs.specs.CountRuns.CountMove.{Writes, Fires, Takes}
 use Rattle.dds_conform.specs.declared.actions.Action.{Action}
 use Rattle.dds_conform.specs.declared.actions.Action.TheVariants.{Write, Take}
 
--- what a trace tells of moves: writes and takes, with their keys alone, and no firing
+-- what a trace records of moves: writes and takes, with their keys alone, and no firing
 unfoldable pub traced : List CountMove → List Action
 traced [] = []
 traced (Writes w k d ∷ ms) = Write w k ∷ traced ms

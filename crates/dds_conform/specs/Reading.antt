@@ -1,4 +1,4 @@
--- What the lines of a trace tell.
+-- What the lines of a trace say.
 use Rattle.std.specs.Prelude.{◌≡◌, ◌≢◌, ℕ, suc, ◌-◌, ◌<◌, ◌≤◌, ◌==◌, nat_eq, nat_le, Bool, true, false, not, ◌&&◌, ◌||◌, if◌then◌else◌, List, [], ◌∷◌, codes, length, map, Option, Some, None, All, slice_get, take, count_by, IsUtf8}
 use Rattle.std.specs.List.{after_first, before_first, starts_with, list_all, list_any}
 use Rattle.std.specs.Str.Lines.{lines}
@@ -27,17 +27,17 @@ is_digit b = is_between 48 57 b
 abbrev pub is_time : List ℕ → Bool
 is_time word = list_any is_digit word && (list_all (λ b. is_digit b || (b == 46)) word && nat_le (count_by (λ b. b == 46) word) 1)
 
--- what a line tells: what stands after a time and a blank
+-- what a line says: what stands after a time and a blank
 abbrev pub told : List ℕ → Option (List ℕ)
 told line = if list_any is_blank line && is_time (before_first is_blank line) then Some (after_first is_blank line) else None
 
 -- ── lines
--- what lines tell that say something, the first of them with this number
+-- what the lines say that say something, where the first line of all has this number
 unfoldable pub told_from : ℕ → List (List ℕ) → List (ℕ × Option (List ℕ))
 told_from n [] = []
 told_from n (line ∷ ls) = if says_something line then (n, told line) ∷ told_from (suc n) ls else told_from (suc n) ls
 
--- an entry as a line tells it, with the number of the line
+-- an entry as a line says it, with the number of the line
 abbrev pub shown : Lists → Entry → ℕ × Option (List ℕ)
 shown d e = (entry_line e, Some (action_text d (entry_application e) (entry_action e)))
 
@@ -45,17 +45,17 @@ shown d e = (entry_line e, Some (action_text d (entry_application e) (entry_acti
 abbrev pub IsEntryOf : Lists → Entry → Type 0
 IsEntryOf d e = (entry_application e < length d.applications.entries) × (is_own d (entry_application e) (entry_action e) ≡ true)
 
--- each line that says something tells an entry, these in their order
+-- each line that says something stands for an entry, these in their order
 pub record AreEntries (d : Lists) (ls : List (List ℕ)) (entries : List Entry) : Type 0 where
   pub told : map (shown d) entries ≡ told_from 1 ls
   pub known : All (IsEntryOf d) entries
 
 -- ── faults
--- the line tells nothing that an application of the deployment does at an endpoint that is there
+-- the line says nothing that an application of the deployment does at an endpoint that is there
 abbrev pub TellsNothing : Lists → List ℕ → Type 0
 TellsNothing d line = (a : ℕ) (x : Action) → a < length d.applications.entries → IsThere d x → told line ≢ Some (action_text d a x)
 
--- the line tells what isn't the application's own
+-- the line says what isn't the application's own
 abbrev pub TellsForeign : Lists → List ℕ → Type 0
 TellsForeign d line = (a : ℕ) × (x : Action) × (told line ≡ Some (action_text d a x)) × (is_own d a x ≡ false)
 
@@ -71,7 +71,7 @@ abbrev pub IsPushFault : Lists → ℕ → List ℕ → TraceFault → Type 0
 IsPushFault d n line NoMemory = Unit {0}
 IsPushFault d n line (At kind m) = IsFaultAt d n line (At kind m)
 
--- the line with number n says something and has the fault, and the lines before it tell entries
+-- the line with number n says something and has the fault, and the lines before it stand for entries
 pub record IsFirstFault (d : Lists) (ls : List (List ℕ)) (fault : TraceFault) : Type 0 where
   pub number : ℕ
   pub line : List ℕ

@@ -1,4 +1,4 @@
-//! What a line of a trace tells.
+//! What a line of a trace says.
 ghost use Rattle.std.specs.Prelude.{◌≡◌};
 ghost use Rattle.dds_conform.specs.Entries.{entry_action, entry_application, entry_line};
 
@@ -33,7 +33,7 @@ pub enum Entry {
 }
 
 impl Entry {
-    /// The entry of a line that tells an application's action.
+    /// The entry of a line that reports an application's action.
     pub fn new(line: usize, application: AppNo, action: Action) -> Entry
         ensures line { entry_line result ≡ line }
         ensures application { entry_application result ≡ application }

@@ -11,7 +11,7 @@ pub struct Shortage {
     pub missing: u64,
 }
 
-/// A write that has no permit, the line that tells it, and what the rules lack that could give one.
+/// A write that has no permit, the line that reports it, and what the rules lack that could give one.
 #[derive(Debug, Drop)]
 pub struct Refused {
     pub line: usize,
@@ -27,6 +27,6 @@ pub enum Conformance {
     Kept,
     /// For the entries up to this write they can't.
     NoPermit(Refused),
-    /// The search for firings came to its last step, or a count would pass 2^64 - 1.
+    /// The search for firings ran out of steps, or a count would pass 2^64 - 1.
     Unknown,
 }

@@ -18,7 +18,7 @@ pub enum TraceFaultKind {
 impl TraceFaultKind {
     ghost use Rattle.dds_conform.specs.Faults.{number_of, name_of};
 
-    /// The number that users are told, 1 to 3 in the order of the kinds.
+    /// The number that users see, 1 to 3 in the order of the kinds.
     pub fn number(self) -> u8
         ensures { result ≡ number_of self }
     {
@@ -29,7 +29,7 @@ impl TraceFaultKind {
         }
     }
 
-    /// The word that users are told beside the number.
+    /// The word that users see beside the number.
     pub fn name(self) -> &'static str
         ensures { result.now ≡ name_of self }
     {

@@ -1,8 +1,8 @@
-//! Whether a recorded trace keeps the rules of a deployment. A trace tells in each line that an application wrote or
-//! took a sample of a key, and no firings of rules: it keeps the rules where firings can be put in between so that each
-//! write has its permit and each firing its takes.
+//! Whether a recorded trace keeps the rules of a deployment. Each line of a trace says that an application wrote or
+//! took a sample of a key, and none that a rule fired: the trace keeps the rules where firings can be put in between
+//! so that each write has its permit and each firing its takes.
 //!
-//! `read_trace` reads the lines, each with its number, and tells the first fault. `conform` makes the entries on a
+//! `read_trace` reads the lines, each with its number, and returns the first fault. `conform` makes the entries on a
 //! ledger in their order, and fires a rule when a write needs it. `kept` is proved to mean that there are such firings,
 //! and `no permit`, where no two rules give permits for the same writes, that there are none. Where they do there is a
 //! choice: then a search of at most so many steps tries which rule to fire, and what it finds is judged on a ledger

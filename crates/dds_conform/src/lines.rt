@@ -1,4 +1,4 @@
-//! What one line of a trace tells.
+//! What one line of a trace says.
 ghost use Rattle.std.specs.Prelude.{◌≡◌, ◌≢◌, ◌<◌, ◌==◌, ◌||◌, ℕ, Some, None, List, length, count_by};
 ghost use Rattle.std.specs.Prelude.{IfSome, IfNone, IfOk, IfErr};
 ghost use Rattle.std.specs.List.{list_all, list_any};
@@ -60,7 +60,7 @@ fn is_time(word: &str) -> bool
     has_digit(bytes) && has_digits_and_points(bytes) && count_points(bytes) <= 1
 }
 
-/// What a line tells: what stands after a time and a blank.
+/// What a line says: what stands after a time and a blank.
 fn told(line: &str) -> Option<&str>
     ensures some { IfSome result (λ text. told line.now ≡ Some text.now) }
     ensures none { IfNone result (told line.now ≡ None) }
@@ -90,7 +90,7 @@ fn action_in(event: &Event) -> Option<Action>
     }
 }
 
-/// The write or take that a text tells.
+/// The write or take that a text describes.
 fn what_of(lists: &Deployment, text: &str) -> Option<Action>
     ensures some { IfSome result (λ x. what_text lists.now x ≡ text.now) }
     ensures none { IfNone result ((x : Action) → IsThere lists.now x → what_text lists.now x ≢ text.now) }
@@ -110,7 +110,7 @@ fn what_after(lists: &Deployment, word: &str, text: &str) -> Option<Action>
     what_of(lists, after_word(text, word)?)
 }
 
-/// The application, and what it did, that a text tells.
+/// The application that a text names, and what it did.
 #[tactic(auto, using(crate::proofs::WordLaws::one_more))]
 fn action_of(lists: &Deployment, text: &str) -> Option<(AppNo, Action)>
     ensures within { IfSome result (λ x. x.0 < length lists.now.applications.entries) }
@@ -148,7 +148,7 @@ fn fault_at(kind: TraceFaultKind, line: usize) -> TraceFault
     TraceFault::At { kind, line }
 }
 
-/// The entry of a line that tells this text.
+/// The entry of a line that says this text.
 fn entry_of(plan: &Plan, text: &str, line: usize) -> Result<Entry, TraceFault>
     ensures entry { IfOk result (λ e. (entry_line e ≡ line)
         × (action_text plan.now (entry_application e) (entry_action e) ≡ text.now)) }

@@ -209,8 +209,8 @@ fn without_owner<E: Endpoints>(applications: &Section<Application>, count: usize
     None
 }
 
-// Whether each endpoint of the section at this key has an application. The fault is told at its entry there, not at an
-// application.
+// Whether each endpoint of the section at this key has an application. The fault is reported at its entry there, not
+// at an application.
 #[tactic(auto, unfolding(crate::specs::Applications::are_owned, dds_fields::specs::Paths::key_path))]
 fn are_owned<E: Endpoints>(
     alloc: Global,

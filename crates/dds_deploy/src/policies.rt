@@ -408,7 +408,7 @@ pub(crate) fn partitions(
 }
 
 /// The keys that the entry of a reader may have since version 3. Before it `may_lose`, the first, is none of them. But
-/// for `filter`, the second, the others are those of a writer.
+/// for `filter`, the second, the others are also keys of a writer.
 pub(crate) const READER_KEYS: [&str; 22] = [
     "may_lose",
     "filter",

@@ -38,7 +38,7 @@ taken_from bus start n = count_below n (λ i. is_some (at_place bus (start + i))
 abbrev pub taken_count : List (Option Packet) → ℕ
 taken_count bus = taken_from bus 0 places
 
--- the count of each block of 64 places, and the count of all, are those of the bus
+-- the count of each block of 64 places, and the count of all, match the bus
 pub record IsCounted (bus : List (Option Packet)) (taken : List ℕ) (count : ℕ) : Type 0 where
   pub whole : length bus ≡ places
   pub blocks : length taken ≡ 64

@@ -21,7 +21,7 @@ abbrev pub has_message : WriterState → ℕ → Due → Bool
 has_message x r (DueData n) = is_offered x (proxy_of r x.proxies) n
 has_message x r (DueGap n) = not (proxy_of r x.proxies).watcher && is_silent x (proxy_of r x.proxies) n
 
--- the packet is that message, and the number the last of which it tells
+-- the packet is that message, and the number is the last one that it covers
 abbrev pub IsMessage : WriterState → ℕ → Due → Packet → ℕ → Type 0
 IsMessage x r (DueData n) (Data m) last = (last ≡ n) × (m.reader ≡ r) × (m.sample.sn ≡ n) × (In m.sample x.kept ⊎ (x.last ≡ Some m.sample))
 IsMessage x r (DueGap n) (Gap g) last = (last ≡ g.set.base - 1) × (g ≡ gap_of x.me r (is_relevant x (proxy_of r x.proxies)) x.written n)

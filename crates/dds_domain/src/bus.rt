@@ -104,7 +104,7 @@ impl Bus {
         Some(start + at)
     }
 
-    /// Puts a packet at the least free place, and tells which. `None` where no place is free: then the packet is lost.
+    /// Puts a packet at the least free place, and returns that place. `None` where none is free: the packet is lost.
     pub(crate) fn send(&mut self, packet: Packet) -> Option<usize>
         ensures place { result ≡ sent_to self.old }
         ensures state { self.new ≡ with_packet self.old packet result }

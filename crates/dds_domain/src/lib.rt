@@ -2,7 +2,7 @@
 //! that may lose, repeat and reorder what it carries.
 //!
 //! A simulator runs any plan. What is done to it is a run of the plan, and it stands for the world that this run leads
-//! to; a reply may tell that a reader rejects or overwrites a sample.
+//! to; a reply may report that a reader rejects or overwrites a sample.
 //!
 //! A domain belongs to a checked plan. It stands for the last world of some run of its plan, and for the notes that the
 //! run leaves. The layer above sees that each step that is made is a step of the world, and that the domain stands for

@@ -12,7 +12,7 @@ use std::marker::Model;
 
 /// Writers, readers, rule ledger and bus of a plan. What was done to them since they were opened, event by event with
 /// its reply, is a run of the plan, and they stand for the world that it leads to. Of a plan in which a reader's bounds
-/// don't suffice a reply may tell of a sample that is rejected or overwritten.
+/// don't suffice, a reply may report a sample that is rejected or overwritten.
 #[derive(Drop)]
 pub struct Simulator {
     parts: Parts,
@@ -46,7 +46,7 @@ impl Simulator {
         Ok(Simulator { parts, alloc })
     }
 
-    /// Makes an event, and tells what came of it: after whatever run the simulator stood for its world, that run with
+    /// Makes an event and returns its reply: after whatever run the simulator stood for its world, that run with
     /// the event and its reply is a run of the plan, and the simulator stands for the world after it. A `Refused`
     /// changes nothing. An `Err` means that memory ran out; it changes nothing.
     pub fn step(&mut self, event: Event) -> Result<Reply, NoMemory>
@@ -59,7 +59,7 @@ impl Simulator {
         self.parts.step(event)
     }
 
-    /// Makes events one after the other, and tells what came of each: after whatever run the simulator stood for its
+    /// Makes events one after the other and returns their replies: after whatever run the simulator stood for its
     /// world, that run with these events and their replies is a run of the plan, and the simulator stands for the world
     /// after it. A `Refused` changes nothing. An `Err` means that memory ran out: then it has the replies of the events
     /// that were done, which stay done, and no later event was.

@@ -8,7 +8,7 @@ use dds_qos::Due;
 use std::alloc::Global;
 
 impl Parts {
-    /// Makes an event, and tells what came of it. An `Err` means that memory ran out; it changes nothing.
+    /// Makes an event and returns its reply. An `Err` means that memory ran out; it changes nothing.
     pub(crate) fn step(&mut self, event: Event) -> Result<Reply, NoMemory>
         requires { HasWorld self.old }
         ensures steps { IfOk result (λ reply. StepsWorld self.old event reply self.new) }
@@ -40,7 +40,7 @@ impl Parts {
         }
     }
 
-    /// Makes events one after the other, and tells what came of each. An `Err` means that memory ran out: then it has
+    /// Makes events one after the other and returns their replies. An `Err` means that memory ran out: then it has
     /// the replies of the events that were done, which stay done, and no later event was.
     pub(crate) fn run(
         &mut self,

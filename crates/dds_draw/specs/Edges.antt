@@ -42,7 +42,7 @@ all_rule_edges d = each_below (length d.rules.entries) (rule_at d)
 abbrev pub connection_edge : List ℕ → List ℕ → List ℕ → List ℕ
 connection_edge writer reader attributes = codes "  \"writer " ++ (writer ++ (codes "\" -> \"reader " ++ (reader ++ (codes "\"" ++ (attributes ++ codes ";\n")))))
 
--- the edge of a writer and a reader with these names, which match or don't for this reason (OMG DDS 1.4, clause 2.2.3). It is red and tells so where they match
+-- the edge of a writer and a reader with these names, which match or don't for this reason (OMG DDS 1.4, clause 2.2.3). It is red and says so where they match
 -- and no connection names them, or a connection names them and they don't match; there is none where neither holds
 abbrev pub edge_of : List ℕ → List ℕ → Bool → Option WhyNot → List ℕ
 edge_of writer reader named None =

@@ -15,7 +15,7 @@ use std::alloc::Global;
 /// their topics and limits in their labels, and readers also what the certificate shows of them, where one is given.
 /// Edges lead from readers over rules to writers, with counts of samples and keys, and from writers to the readers that
 /// match or that a connection names (OMG DDS 1.4, clause 2.2.3); where only one of the two holds, the edge is red and
-/// tells so. `NoMemory` is the only error.
+/// says so. `NoMemory` is the only error.
 pub fn drawing(alloc: Global, plan: &Plan, certificate: Option<&Certificate>) -> TextResult
     ensures { IfOk result
         (λ text. string_bytes text ≡ drawing plan.now (option_map (λ c. certificate_view c.now) certificate.entry)) }

@@ -1,4 +1,4 @@
--- The numbers and words that users are told of a file of events that can't be read.
+-- The numbers and words that users see for a file of events that can't be read.
 use Rattle.std.specs.Prelude.{ℕ, List, codes}
 use Rattle.dds_events.specs.declared.fault.EventsFaultKind.{EventsFaultKind}
 use Rattle.dds_events.specs.declared.fault.EventsFaultKind.TheVariants.{NotText, NotAnEvent}

@@ -43,11 +43,11 @@ IsSaidBy d text event = (event_text d event ≡ text) × HasNoData event
 abbrev pub IsUnsaidBy : Lists → List ℕ → Event → Type 0
 IsUnsaidBy d text event = IsOfDeployment d event → event_text d event ≢ text
 
--- the text is that of no event of the deployment, whatever data a write has
+-- the text stands for no event of the deployment, whatever data a write has
 abbrev pub SaysNoEvent : Lists → List ℕ → Type 0
 SaysNoEvent d text = (event : Event) → IsUnsaidBy d text event
 
--- a line says something unless it is empty, a comment, or what tells where a sample is lost
+-- a line says something unless it is empty, a comment, or what says where a sample is lost
 abbrev pub says_something : List ℕ → Bool
 says_something line =
     not (length line == 0) && (not (starts_with nat_eq line (codes "#")) && not (starts_with nat_eq line (codes "unsafe ")))

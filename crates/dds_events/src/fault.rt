@@ -17,7 +17,7 @@ pub enum EventsFaultKind {
 impl EventsFaultKind {
     ghost use Rattle.dds_events.specs.Faults.{number_of, name_of};
 
-    /// The number that users are told, 1 and 2 in the order of the kinds.
+    /// The number that users see, 1 and 2 in the order of the kinds.
     pub fn number(self) -> u8
         ensures { result ≡ number_of self }
     {
@@ -27,7 +27,7 @@ impl EventsFaultKind {
         }
     }
 
-    /// The word that users are told beside the number.
+    /// The word that users see beside the number.
     pub fn name(self) -> &'static str
         ensures { result.now ≡ name_of self }
     {

@@ -1,4 +1,4 @@
-//! The events of a run and their replies as lines of text, and events read from such lines. Names are those of the
+//! The events of a run and their replies as lines of text, and events read from such lines. Names are as in the
 //! deployment file. The text of an event and of a reply is stated byte for byte; of what is read it is proved that the
 //! text says it, and of what is not, that it is the text of no event of the deployment.
 #![tactic(auto)]

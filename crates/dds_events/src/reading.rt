@@ -31,7 +31,7 @@ pub fn read_event(lists: &Deployment, line: &str) -> Option<Event>
         .or(loss_of(line))
 }
 
-/// Whether a line says something: it is not empty, no comment, and doesn't tell where a sample is lost.
+/// Whether a line says something: it is not empty, no comment, and doesn't say where a sample is lost.
 fn says_something(line: &str) -> bool
     ensures { result ≡ says_something line.now }
 {
@@ -48,7 +48,7 @@ fn before_arrow(line: &str) -> &str
     }
 }
 
-/// The event of a line that says something. The number of the line is told where it is no event.
+/// The event of a line that says something. Where the line is no event, the fault has its number.
 fn read_line(lists: &Deployment, line: &str, number: usize) -> Result<Event, EventsFault>
     ensures known { IfOk result (IsOfDeployment lists.now) }
     ensures event { IfOk result (IsSaidBy lists.now (before_arrow line.now)) }

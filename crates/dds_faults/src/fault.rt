@@ -8,7 +8,7 @@ use std::alloc::Global;
 /// A fault of a file with words for it.
 #[derive(Drop)]
 pub struct FileFault {
-    /// The number and the name that users are told, as `docs/FORMAT.md` lists them for the kind of file.
+    /// The number and the name that users see, as `docs/FORMAT.md` lists them for the kind of file.
     pub number: u8,
     pub name: &'static str,
     /// Where it is, as `rules[2].takes[0].count`.
@@ -45,7 +45,7 @@ fn certificate_number(kind: FaultKind) -> u8 {
 }
 
 impl FileKind {
-    /// The number that users are told for a kind of fault.
+    /// The number that users see for a kind of fault.
     pub(crate) fn number(self, kind: FaultKind) -> u8 {
         match self {
             FileKind::Deployment => kind.number(),

@@ -1,4 +1,4 @@
-//! What is told of small files: the words, which no clause says, and that a fault has no others in its train.
+//! The faults of small files: their words, which no clause says, and that no fault brings others with it.
 
 use crate::{FileFault, Known, deployment_faults};
 use std::alloc::Global;

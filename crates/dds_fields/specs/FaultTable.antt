@@ -1,4 +1,4 @@
--- The numbers and the words by which users are told of a document's faults.
+-- The numbers and the words that users see for a document's faults.
 use Rattle.std.specs.Prelude.{ℕ, List, codes}
 use Rattle.dds_fields.specs.declared.fault.FaultKind.{FaultKind}
 use Rattle.dds_fields.specs.declared.fault.FaultKind.TheVariants.{NotToml, WrongVersion, UnknownKey, MissingKey, WrongKind, OutOfRange, Duplicate, UnknownName, BadName, Qos, TooMany, EndpointOwner, RuleEntry}

@@ -26,7 +26,7 @@ pub enum FaultKind {
 impl FaultKind {
     ghost use Rattle.dds_fields.specs.FaultTable.{number_of, name_of};
 
-    /// The number that users are told, 1 to 13 in the order of the kinds.
+    /// The number that users see, 1 to 13 in the order of the kinds.
     pub fn number(self) -> u8
         ensures { result ≡ number_of self }
     {
@@ -47,7 +47,7 @@ impl FaultKind {
         }
     }
 
-    /// The word that users are told beside the number.
+    /// The word that users see beside the number.
     pub fn name(self) -> &'static str
         ensures { result.now ≡ name_of self }
     {

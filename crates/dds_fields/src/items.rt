@@ -25,7 +25,7 @@ pub trait Items {
     // what one more item gives, after what was read before it
     ghost step: { Self → State → List ℕ → Data → Reading State };
 
-    /// Adds one more item, or tells its first fault. Nothing is promised of `all` after a fault.
+    /// Adds one more item, or returns its first fault. Nothing is promised about `all` after a fault.
     fn add(
         &self,
         alloc: Global,

@@ -17,7 +17,7 @@ pub record IsGuardOf (d : Lists) (a : ℕ) (g : GuardState) : Type 0 where
   pub rules : g.rules ≡ rules_of d a
   pub names : g.names ≡ names_of d
 
--- and its ledger is that of the plan, before the first event
+-- and its ledger is the plan's, before the first event
 pub record IsOpened (d : Lists) (a : ℕ) (g : GuardState) : Type 0 where
   pub guards : IsGuardOf d a g
   pub world : StandsFor (network_of d) opening g.ledger

@@ -116,7 +116,7 @@ fn guard_named(alloc: Global, lists: Deployment, name: &[u8]) -> Result<Guard, O
 }
 
 /// Opens the guard of an application: of the deployment that the bytes are, the application of this name. Its counts
-/// are those of the plan before the first event. An `Err` is the kind of the deployment's first fault, that there is no
+/// are the plan's before the first event. An `Err` is the kind of the deployment's first fault, that there is no
 /// such application, or that memory ran out.
 pub fn open(alloc: Global, deployment: &[u8], application: &[u8]) -> Result<Guard, OpenFault>
     ensures ok { IfOk result (OpensAs deployment.now application.now) }

@@ -45,7 +45,7 @@ pub enum WriteRefused {
     NoPermit,
 }
 
-/// The refusal of a ledger, as a guard tells it.
+/// The refusal of a ledger, as a guard reports it.
 pub(crate) fn firing_refused(refused: FireRefused) -> FiringRefused
     ensures { result ≡ firing_refused refused }
 {

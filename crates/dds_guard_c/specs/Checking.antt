@@ -22,6 +22,6 @@ Says end verdict line =
 abbrev pub put_over : List ℕ → List ℕ → List ℕ
 put_over text room = take (min (length text) (length room)) text ++ drop (min (length text) (length room)) room
 
--- the verdict is that of the check of two files with these bytes, and its text is put over what was there, as far as there is room, with its whole length
+-- the verdict comes from the check of two files with these bytes, and its text is put over what was there, as far as there is room, with its whole length
 abbrev pub IsChecked : (deployment certificate : List ℕ) → (verdict whole : ℕ) → (old new : List ℕ) → Type 0
 IsChecked d c verdict whole old new = (text : List ℕ) × Says (check_file_outcome Plain d c) verdict text × (whole ≡ length text) × (new ≡ put_over text old)

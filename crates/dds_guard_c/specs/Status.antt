@@ -30,12 +30,12 @@ write_status None = 0
 write_status (Some writing.Foreign) = 6
 write_status (Some writing.NoPermit) = 7
 
--- a name's number is told, or it is unknown
+-- a name's number is given, or the name is unknown
 abbrev pub name_status : Option ℕ → ℕ
 name_status None = 3
 name_status (Some n) = 0
 
--- a count is told, or the endpoint isn't the application's
+-- a count is given, or the endpoint isn't the application's
 abbrev pub count_status : Option ℕ → ℕ
 count_status None = 6
 count_status (Some n) = 0

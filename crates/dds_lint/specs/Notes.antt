@@ -66,11 +66,11 @@ abbrev pub unused_row : lists.Certificate → ℕ → Option Note
 unused_row cert n =
     noted (not (list_any (λ (b : Bound). b.row == n) cert.bounds || list_any (λ (t : Total). t.row == n) cert.totals)) (note.UnusedRow n)
 
--- the bound is that of a watcher, or of a key that can't reach the reader: no condition asks it
+-- the bound is for a watcher, or for a key that can't reach the reader: no condition asks it
 abbrev pub needless_bound : Network → Bound → ℕ → Option Note
 needless_bound net b i = noted (net.watcher b.reader || not (reach net b.reader b.key)) (note.NeedlessBound i)
 
--- the total is that of a watcher, or of a reader that no key can reach
+-- the total is for a watcher, or for a reader that no key can reach
 abbrev pub needless_total : Network → Total → ℕ → Option Note
 needless_total net t i = noted (net.watcher t.reader || (count_below net.keys (reach net t.reader) == 0)) (note.NeedlessTotal i)
 

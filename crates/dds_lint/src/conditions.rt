@@ -44,8 +44,8 @@ fn push_all(nos: &mut Vec<No>, plan: &Plan, certificate: &Certificate) -> Result
 
 /// Every condition that fails for a plan and a certificate that fits it, in the order in which the checker asks them:
 /// by number, then by row, endpoint and key, each in file order. The first is the one with which the checker refuses
-/// the certificate, and there is none where it accepts it. Of an endpoint that the running profile doesn't have the
-/// least number is told. `NoMemory` is the only error.
+/// the certificate, and there is none where it accepts it. For an endpoint that the running profile doesn't have,
+/// the least number is given. `NoMemory` is the only error.
 #[tactic(auto, using(crate::proofs::FirstOfAll::first_of_all))]
 pub fn all_nos(alloc: Global, plan: &Plan, certificate: &Certificate) -> Result<Vec<No>, NoMemory>
     requires { fits (network_of plan.now) (certificate_view certificate.now) ≡ true }

@@ -17,7 +17,7 @@ use std::marker::Model;
 
 /// The lists of a deployment. Every value is well formed: the lists keep their limits, every number names what is
 /// there, nothing is named twice, each endpoint is consistent and has exactly one owner, at its participant, and rules
-/// keep to what their application owns. The contracts of `writers`, `readers` and `applications` tell it.
+/// keep to what their application owns. The contracts of `writers`, `readers` and `applications` say so.
 #[derive(Drop)]
 pub struct Deployment {
     version: u32,

@@ -141,7 +141,7 @@ fn mark_free(free: &mut KeyTable, lists: &Deployment)
     }
 }
 
-/// Whether a key of a writer comes to a reader, which hears the key and matches the writer.
+/// Whether a key of a writer reaches a reader, which hears the key and matches the writer.
 fn comes_to(
     lists: &Deployment,
     reasons: &[Option<WhyNot>],
@@ -157,7 +157,7 @@ fn comes_to(
     hearing.has(r.number(), key.number()) && is_matched(reasons, lists, w, r)
 }
 
-/// Marks a key of a writer at each reader that it comes to.
+/// Marks a key of a writer at each reader that it reaches.
 fn mark_readers(
     reached: &mut KeyTable,
     lists: &Deployment,

@@ -25,7 +25,7 @@ takes_of d r = map (λ k. Take r k) (filter (has (filter_at d.readers r)) (below
 abbrev pub all_takes : Lists → ℕ → List Step
 all_takes d app = flat_map (takes_of d) (filter (has (readers_at d.applications app)) (below (length d.readers.entries)))
 
--- the application's rule wants takes
+-- the application's rule needs takes
 abbrev pub is_fired : Lists → ℕ → ℕ → Bool
 is_fired d app u = option_map_or (λ (x : Rule). (x.application == app) && not (length x.takes == 0)) (slice_get d.rules.entries u) false
 

@@ -8,7 +8,7 @@ use std::marker::Model;
 /// How many fates a circle has at most.
 const MOST: usize = 64;
 
-/// The fates that befall packets, one after the other and then from the first one again: 1 to 64. A contract sees the
+/// What happens to packets, one after the other and then from the first one again: 1 to 64 fates. A contract sees the
 /// list.
 #[derive(Drop)]
 pub struct Fates {

@@ -41,7 +41,7 @@ pub struct Outcome<A: App> {
     pub gauge: Vec<u64>,
 }
 
-/// Why a run gave nothing. Of several the first of 1, 5, 3, 4, 2 is told.
+/// Why a run gave nothing. Of several the first of 1, 5, 3, 4, 2 is returned.
 #[derive(Drop)]
 pub enum RunFault<A: App> {
     /// 1: there aren't as many applications as the plan has. Nothing was run, and all comes back.
@@ -296,7 +296,7 @@ fn run_all<A: App + Send, R: Threads + Wait + Clock + Sync, G: Gate>(
 }
 
 /// Runs each application and each participant of a checked deployment in a thread of its own: the applications' threads
-/// are joined, the book is stopped, the participants' are joined. The seats are those of the gauge's owners, in the
+/// are joined, the book is stopped, the participants' are joined. The seats belong to the gauge's owners, in the
 /// order of the plan's applications, and each of their counts is 0; others may read the gauge while the run goes on.
 ///
 /// With `Ok` the applications come back in order: at each place is the one that was given there, by its identity. The

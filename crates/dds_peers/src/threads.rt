@@ -15,7 +15,7 @@ use std::thread::{JoinHandle, Promise, PromisedHandle, Scope, Threads};
 use std::time::Clock;
 
 /// What an application's thread promises: it gives back the application that it was given, at the seat of this
-/// number; its count at this gauge and its diary, if it was empty at first, are those of what was done.
+/// number; its count at this gauge and its diary, if it was empty at first, match what was done.
 #[derive(Drop)]
 pub(crate) struct Plays<A> {
     app: usize,
@@ -35,7 +35,7 @@ impl<A: App, N: Name> Promise<Player<A, N>> for Plays<A> {
 /// The handle of an application's thread.
 pub(crate) type Playing<A, N> = PromisedHandle<Player<A, N>, Plays<A>>;
 
-// Starts a thread for each application, until one can't be made. It tells whether all were.
+// Starts a thread for each application, until one can't be made. Returns whether all were.
 fn start_players<
     's,
     E: 's,
@@ -109,7 +109,7 @@ fn join_players<A: App, N: Name, R: Threads>(
     players
 }
 
-// Starts a thread for each participant, until one can't be made. It tells whether all were.
+// Starts a thread for each participant, until one can't be made. Returns whether all were.
 fn start_carriers<'s, E: 's, N: Name + Send + Sync + 's, R: Wait + Clock + Sync + 's>(
     scope: &'s Scope<'s, E>,
     rt: &'s R,
@@ -131,7 +131,7 @@ fn start_carriers<'s, E: 's, N: Name + Send + Sync + 's, R: Wait + Clock + Sync 
     (handles, true)
 }
 
-// Joins the participants' threads. It tells whether one has met a full journal.
+// Joins the participants' threads. Returns whether one has met a full journal.
 fn join_carriers<N: Name, R: Threads>(rt: &R, handles: Vec<JoinHandle<Carrier<N>>>) -> bool {
     let mut is_full = false;
     for handle in handles {
@@ -149,7 +149,7 @@ pub(crate) struct Room<A: App, N: Name> {
 }
 
 /// Runs all threads in one scope: the applications' are joined, the book is stopped, the participants' are joined. It
-/// gives the applications back, and tells whether each thread could be made, and whether a participant has met a full
+/// gives the applications back, and says whether each thread could be made, and whether a participant has met a full
 /// journal.
 pub(crate) fn together<
     A: App + Send,

@@ -51,8 +51,8 @@ fn add_bound(
     Ok(())
 }
 
-/// Adds the row of a target and its bound. Tells whether there are such: no weight and no bound is above 4,294,967,295,
-/// and the weights come to rest.
+/// Adds the row of a target and its bound. Returns whether there are such: no weight and no bound is above
+/// 4,294,967,295, and the weights come to rest.
 fn add_target(
     alloc: Global,
     plan: &Plan,

@@ -29,7 +29,7 @@ const ROUNDS: usize = 256;
 #[derive(Clone, Copy, Debug, PartialEq, Eq)]
 pub(crate) struct NoRow;
 
-/// Raises the permits of a key by as much. Tells whether there is a writer.
+/// Raises the permits of a key by as much. Returns whether there is a writer.
 fn raise_permits(
     weights: &mut Weights,
     writers: &[WriterNo],
@@ -49,8 +49,8 @@ fn raise_permits(
 }
 
 /// Lets the permits of the matched writers follow the samples of a key of a reader. A permit weighs what the samples of
-/// its key weigh at all matched readers together; weights never fall, so it rises by as much as they have risen. Tells
-/// whether a permit rose.
+/// its key weigh at all matched readers together; weights never fall, so it rises by as much as they have risen.
+/// Returns whether a permit rose.
 fn follow_samples(
     plan: &Plan,
     weights: &mut Weights,
@@ -90,7 +90,7 @@ fn follow_target(plan: &Plan, target: &Target, weights: &mut Weights) -> Result<
     Ok(changed)
 }
 
-/// Lets the permits follow the sample that a rule needs first. Tells whether a permit rose.
+/// Lets the permits follow the sample that a rule needs first. Returns whether a permit rose.
 fn follow_need(plan: &Plan, weights: &mut Weights, u: RuleNo) -> Result<bool, NoRow>
     requires there { u < (network_of plan.now).rules }
     requires heard { IsRisenHeard (network_of plan.now) weights.old }
@@ -120,7 +120,7 @@ fn follow_needs(plan: &Plan, weights: &mut Weights) -> Result<bool, NoRow>
 }
 
 /// Raises the take of a rule's first need to the least weight at which what the rule writes weighs no more than what it
-/// needs. Tells whether it rose. A rule without needs is never fired.
+/// needs. Returns whether it rose. A rule without needs is never fired.
 fn raise_take(weights: &mut Weights, rule: &Rule) -> Result<bool, NoRow>
     requires counted { All IsCounted rule.now.takes.items }
     requires known { (e : Portion ℕ) (es : List (Portion ℕ)) → rule.now.takes.items ≡ e ∷ es
@@ -161,7 +161,7 @@ fn counted_rule(plan: &Plan, u: RuleNo) -> &Rule
     plan.rule(u)
 }
 
-/// Raises the takes, rules in file order. Tells whether one rose.
+/// Raises the takes, rules in file order. Returns whether one rose.
 fn raise_takes(plan: &Plan, weights: &mut Weights) -> Result<bool, NoRow>
     ensures { IfOk result
         (RaisesTakes (takes_risen (network_of plan.now) (cell weights.old.permits) (cell weights.old.takes)
@@ -175,7 +175,7 @@ fn raise_takes(plan: &Plan, weights: &mut Weights) -> Result<bool, NoRow>
     Ok(changed)
 }
 
-/// Raises a sample to the weight of its take. Tells whether it rose.
+/// Raises a sample to the weight of its take. Returns whether it rose.
 fn raise_sample(weights: &mut Weights, reader: ReaderNo, key: KeyNo) -> bool
     requires { cell weights.old.samples reader key < cell weights.old.takes reader key
         → cell weights.old.risen reader key ≡ 0 }
@@ -192,7 +192,7 @@ fn raise_sample(weights: &mut Weights, reader: ReaderNo, key: KeyNo) -> bool
     true
 }
 
-/// Raises the sample that a rule needs first to the weight of its take. Tells whether it rose.
+/// Raises the sample that a rule needs first to the weight of its take. Returns whether it rose.
 fn raise_need(plan: &Plan, weights: &mut Weights, u: RuleNo) -> bool
     requires there { u < (network_of plan.now).rules }
     requires fresh { (r k : ℕ) → cell weights.old.samples r k < cell weights.old.takes r k
@@ -207,7 +207,7 @@ fn raise_need(plan: &Plan, weights: &mut Weights, u: RuleNo) -> bool
     }
 }
 
-/// Raises the samples to the weights of their takes. Only a first need of a rule has a take with a weight. Tells
+/// Raises the samples to the weights of their takes. Only a first need of a rule has a take with a weight. Returns
 /// whether one rose.
 fn raise_samples(plan: &Plan, weights: &mut Weights) -> bool
     requires { (r k : ℕ) → cell weights.old.risen r k ≡ 0 }
@@ -223,8 +223,8 @@ fn raise_samples(plan: &Plan, weights: &mut Weights) -> bool
     changed
 }
 
-/// One round: the permits follow the samples, then the takes the permits, then the samples the takes. Tells whether a
-/// weight rose.
+/// One round: the permits follow the samples, then the takes the permits, then the samples the takes. Returns whether
+/// a weight rose.
 fn round(plan: &Plan, target: &Target, weights: &mut Weights) -> Result<bool, NoRow>
     requires { IsMade (network_of plan.now) target.now weights.old }
     ensures { IfOk result (IsRound (network_of plan.now) target.now weights.old weights.new) }

@@ -91,7 +91,7 @@ is_met offered requested Liveliness = is_liveliness_met offered.liveliness reque
 is_met offered requested Reliability = nat_le (reliability_rank requested.reliability) (reliability_rank offered.reliability)
 is_met offered requested DestinationOrder = nat_le (order_rank requested.destination_order) (order_rank offered.destination_order)
 
--- all policies, in the order in which they are told
+-- all policies, in the order in which they are reported
 abbrev pub policies : List Policy
 policies = Durability ∷ Presentation ∷ Deadline ∷ LatencyBudget ∷ Ownership ∷ Liveliness ∷ Reliability ∷ DestinationOrder ∷ []
 

@@ -83,6 +83,6 @@ abbrev pub heard_after : ℕ → HeartbeatFor → ℕ
 heard_after heard h = max heard h.last
 
 -- ── ACKNACK
--- what it tells: the base, and of the 256 numbers from it on those heard of that have no mark
+-- what it says: the base, and of the 256 numbers from it on those heard of that have no mark
 abbrev pub missing_of : (ℕ → Bool) → ℕ → NumberSet
 missing_of marks heard = set_of (base_of marks) (λ n. nat_le n heard && not (marks n))

@@ -7,7 +7,7 @@ ghost use Rattle.dds_qos.specs.Compatibility.{is_liveliness_met};
 
 use crate::policies::{Liveliness, Policies, Presentation, ReaderQos, WriterQos};
 
-/// The policies in which an offer is compared with a request, in the order in which they are told. The clauses are
+/// The policies in which an offer is compared with a request, in the order in which they are reported. The clauses are
 /// those of OMG DDS 1.4.
 #[derive(Clone, Copy, Debug, PartialEq, Eq)]
 pub enum Policy {

@@ -13,7 +13,7 @@ use std::alloc::Global;
 #[derive(Clone, Copy, Debug, PartialEq, Eq)]
 pub struct WriterProxy {
     pub writer: WriterNo,
-    /// The greatest last number that a HEARTBEAT of the writer told, 0 to 2^63 - 1.
+    /// The greatest last number that a HEARTBEAT of the writer gave, 0 to 2^63 - 1.
     pub heard: u64,
     /// Whether a HEARTBEAT came since the last ACKNACK to the writer was built.
     pub owes: bool,
@@ -45,7 +45,7 @@ pub(crate) fn open_proxies(
     Ok(proxies)
 }
 
-// In what follows `rising` tells that the notes stand in order of their writers' numbers, so that one is found by
+// In what follows `rising` says that the notes stand in order of their writers' numbers, so that one is found by
 // halving.
 
 // Whether a writer is noted.

@@ -18,7 +18,7 @@ no_counts n = record { endpoints = n; places = replicate (n * 64) 0 }
 abbrev pub only_at : ℕ → ℕ → ℕ → ℕ → ℕ → ℕ
 only_at e l n i k = if (e == i) && (l == k) then n else 0
 
--- each count of the new table is that of the old and so many more
+-- each count of the new table is the one of the old table and so many more
 pub record IsMoreBy (more : ℕ → ℕ → ℕ) (old new : CountTable) : Type 0 where
   pub endpoints : new.endpoints ≡ old.endpoints
   pub counts : (i k : ℕ) → count_at new i k ≡ count_at old i k + more i k

@@ -1,4 +1,4 @@
--- Where each writer keeps all, no write is free and no reader may lose samples, the definitions of runs and certificates are those of a
+-- Where each writer keeps all, no write is free and no reader may lose samples, the definitions of runs and certificates are the ones of a
 -- system without KEEP_LAST writers, free writes and such readers: each as it is written out here.
 use Rattle.std.specs.Prelude.{◌≡◌, ℕ, ◌-◌, Bool, false, not, ◌&&◌, ◌||◌, ◌==◌, List, All, length, filter, slice_get, nat_le, Some, None, if◌then◌else◌}
 use Rattle.std.specs.Option.{option_map_or}

@@ -12,7 +12,7 @@ pub data Move : Type 0 where
   Do : (event : Event) → Move
   Redeliver : (packet : Packet) → Move
 
--- the reply may come to a move; a packet can only come again if it was sent
+-- the reply may answer a move; a packet can only arrive again if it was sent
 abbrev pub MayMove : Network → World → Move → Reply → Type 0
 MayMove net v (Do e) reply = May net v e reply
 MayMove net v (Redeliver p) reply = In p v.sent × (reply ≡ packet_reply net v p)
@@ -45,7 +45,7 @@ unfoldable pub replay : Network → World → List (Move × Reply) → World
 replay net v [] = v
 replay net v (m ∷ ms) = replay net (after_move net v m.0 m.1) ms
 
--- each reply may come to its move when its turn comes
+-- each reply may answer its move when its turn comes
 unfoldable pub IsRunFrom : Network → World → List (Move × Reply) → Type 0
 IsRunFrom net v [] = Unit {0}
 IsRunFrom net v (m ∷ ms) = MayMove net v m.0 m.1 × IsRunFrom net (after_move net v m.0 m.1) ms

@@ -1,4 +1,4 @@
--- One step of a run: the event, the reply that may come to it, and the world after it (DDSI-RTPS 2.5, clause 8.4; DDS 1.4, clause 2.2.3).
+-- One step of a run: the event, the reply that may answer it, and the world after it (DDSI-RTPS 2.5, clause 8.4; DDS 1.4, clause 2.2.3).
 use Rattle.std.specs.Prelude.{◌≡◌, ℕ, suc, ◌+◌, ◌-◌, ◌^◌, Bool, true, false, if◌then◌else◌, ◌==◌, nat_lt, nat_le, not, ◌&&◌, ◌||◌, List, [], ◌∷◌, ◌++◌, length, Option, Some, None}
 use Rattle.dds_base.specs.Sums.{least, put}
 pub use Rattle.dds_base.specs.declared.events.Event.{Event}
@@ -163,7 +163,7 @@ after_data v r s _ = v
 abbrev pub give_up : World → ℕ → ℕ → ℕ → World
 give_up v r w n = mark_lost v r w (new_by_heartbeat (marked v r w) n)
 
--- the world after a DATA did this at a watcher r: where it marks its number, the watcher gives up the unmarked numbers below it, and tells nobody
+-- the world after a DATA did this at a watcher r: where it marks its number, the watcher gives up the unmarked numbers below it, and informs nobody
 abbrev pub after_watched : World → ℕ → Sample → Arrival → World
 after_watched v r s a = if marks_it a then after_data (give_up v r s.writer s.sn) r s a else v
 
@@ -203,7 +203,7 @@ AtPlace None P = ⊥
 AtPlace (Some p) P = P p
 
 -- ── steps
--- the reply may come to an event that isn't refused. It is fixed, but for Take: of any writer the least available number may be taken
+-- the reply may answer an event that isn't refused. It is fixed, but for Take: of any writer the least available number may be taken
 abbrev pub Replies : Network → World → Event → Reply → Type 0
 Replies net v (Write w k d) reply = reply ≡ Written (suc (length (v.written w)))
 Replies net v (Fire u) reply = reply ≡ Fired
@@ -242,7 +242,7 @@ abbrev pub RefusedOr : Option Refusal → Reply → Type 0 → Type 0
 RefusedOr None reply P = P
 RefusedOr (Some x) reply P = reply ≡ Refused x
 
--- the reply may come to an event: the refusal where one stands, and else a reply of the event
+-- the reply may answer an event: the refusal where one stands, and else a reply of the event
 abbrev pub May : Network → World → Event → Reply → Type 0
 May net v e reply = RefusedOr (refusal net v e) reply (Replies net v e reply)
 
@@ -251,6 +251,6 @@ abbrev pub after : Network → World → Event → Reply → World
 after net v e (Refused x) = v
 after net v e reply = changed net v e reply
 
--- an event with a reply that may come to it leads from a world to a new one
+-- an event with a reply that may answer it leads from a world to a new one
 abbrev pub Step : Network → World → Event → Reply → World → Type 0
 Step net v e reply new = May net v e reply × (new ≡ after net v e reply)

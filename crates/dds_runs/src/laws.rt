@@ -1,6 +1,6 @@
-//! The laws of every run, over the definitions alone: four passes and what they come to. `accepts` rests on them. What
+//! The laws of every run, over the definitions alone: four passes and what follows. `accepts` rests on them. What
 //! they say of packets, of what is stored and of watchers holds of every plan; only counts, order and the safety that
-//! they come to need an accepted certificate.
+//! follows from them need an accepted certificate.
 
 ghost use Rattle.dds_runs.specs.Before.{Before};
 ghost use Rattle.dds_runs.specs.CountRuns.{CountRuns};
@@ -53,7 +53,7 @@ pub fn watched()
     ensures { Watched }
 {}
 
-/// What they come to: an accepted certificate is safe in every wide run.
+/// What follows from them: an accepted certificate is safe in every wide run.
 pub fn headline()
     ensures { Headline }
 {}

@@ -21,7 +21,7 @@ abbrev pub IsClaimFor : Network → Target → ℕ → Certificate → Type 0
 IsClaimFor net target n cert =
     (fits net cert ≡ true) × (cert.bounds ≡ bound_entry target 0 n) × (cert.totals ≡ total_entry target 0 n) × IsShown net (certificate_of cert)
 
--- a bound has a certificate that claims it alone; where no weights show one there is a ray; where nothing is known nothing is told
+-- a bound has a certificate that claims it alone; where no weights show one there is a ray; where nothing is known nothing is given
 abbrev pub IsReason : Network → Target → Least → Reason → Type 0
 IsReason net target (Shown n) (Weights cert) = IsClaimFor net target n (certificate_view cert)
 IsReason net target Unbounded (Growth ray) = IsRay net target ray

@@ -38,7 +38,7 @@ abbrev pub every_target : Network → List Target
 every_target net = flat_map (reader_targets net) (range_with_len 0 net.readers)
 
 -- ── sizes
--- the bound that is told, if one is, is shown by some weights
+-- the bound that is given, if one is, is shown by some weights
 abbrev pub IsShownSize : Network → Size → Type 0
 IsShownSize net size = IsShownLeast net size.target size.least
 

@@ -1,4 +1,4 @@
--- The lines that tell an acceptance.
+-- The lines that report an acceptance.
 use Rattle.std.specs.Prelude.{List, ◌++◌, codes, flat_map, ℕ}
 use Rattle.std.specs.Fmt.{decimal}
 use Rattle.dds_lists.specs.Lists.{Lists}

@@ -1,4 +1,4 @@
--- The line that tells a refusal.
+-- The line that reports a refusal.
 use Rattle.std.specs.Prelude.{ℕ, List, ◌++◌, codes}
 use Rattle.std.specs.Fmt.{decimal}
 use Rattle.dds_lists.specs.Lists.{Lists}

@@ -1,4 +1,4 @@
-//! The lines that tell what a check came to: those of an acceptance, with its bounds and totals, and that of a refusal.
+//! The lines that report a check: those of an acceptance, with its bounds and totals, and the one of a refusal.
 #![tactic(auto)]
 
 mod acceptance;

@@ -1,5 +1,5 @@
 //! Certificates: weights for the samples, takes and permits of a plan, and the bounds that they show.
-//! `Certificate::fits` tells whether one fits a plan, and `certificate_text` gives its text.
+//! `Certificate::fits` says whether one fits a plan, and `certificate_text` gives its text.
 #![tactic(auto)]
 
 pub mod certificate;

@@ -1,4 +1,4 @@
--- Pieces of a deployment's XML: lengths of time, limits and libraries. Their words are those of the IDL (OMG DDS 1.4, clause 2.3.3).
+-- Pieces of a deployment's XML: lengths of time, limits and libraries. Their words come from the IDL (OMG DDS 1.4, clause 2.3.3).
 use Rattle.std.specs.Prelude.{codes, ℕ, List, ◌++◌, ◌/◌, ◌%◌, Option}
 use Rattle.std.specs.Fmt.{decimal}
 use Rattle.dds_qos.specs.declared.policies.Duration.{Duration}

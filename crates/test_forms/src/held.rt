@@ -66,7 +66,7 @@ impl Held {
         base_in(&self.marks, writer)
     }
 
-    // What an ACKNACK to a writer tells.
+    // What an ACKNACK to a writer says.
     pub(crate) fn missing(&self, writer: WriterNo, heard: u64) -> SnSet
         requires { heard ≤ last_number }
         ensures { result ≡ missing_of (in_marks self.now.marks.items writer) heard }

@@ -33,7 +33,7 @@ use std::marker::Model;
 /// that is not marked. A stored sample is available where its number is below its writer's base.
 ///
 /// A watcher takes a part of what is written. A DATA that it stores, or whose key is outside its filter, marks all
-/// numbers below its own too, which the watcher gives up without telling; so its marked numbers are those below its
+/// numbers below its own too, which the watcher silently gives up; so its marked numbers are those below its
 /// base. It heeds no GAP and no HEARTBEAT, and sends no ACKNACK.
 ///
 /// A message of a writer that the reader does not know is answered by `Stranger`, and changes nothing.
@@ -253,7 +253,7 @@ impl PlainReader {
     }
 
     /// A GAP arrives, which has to name this reader (DDSI-RTPS 2.5, clauses 8.3.8.4 and 8.4.12). The numbers from its
-    /// start to the base of its set less one, and those of the set, are marked. `Irrelevant(n)` tells how many of them
+    /// start to the base of its set less one, and those of the set, are marked. `Irrelevant(n)` says how many of them
     /// were not marked before, 0 to 2^63 - 1. `Stranger` where the reader does not know the writer; it changes nothing.
     /// A watcher marks nothing, and answers `Irrelevant(0)`. `Err` where a mark had no memory; it changes nothing.
     pub fn on_gap(&mut self, gap: &GapMsg) -> Result<Arrival, NoMemory>
@@ -280,7 +280,7 @@ impl PlainReader {
 
     /// A HEARTBEAT arrives, which has to name this reader (DDSI-RTPS 2.5, clauses 8.3.8.6 and 8.4.12). The numbers from
     /// 1 to its first less one are marked, the last number heard becomes the greater of itself and the HEARTBEAT's
-    /// last, and an ACKNACK is owed. `Lost(n)` tells how many of the numbers below first were not marked before, 1 to
+    /// last, and an ACKNACK is owed. `Lost(n)` says how many of the numbers below first were not marked before, 1 to
     /// 2^63 - 1, and `Heard` that none was. `Stranger` where the reader does not know the writer; it changes nothing. A
     /// watcher changes nothing either, and answers `Heard`. `Err` where a mark had no memory; it changes nothing.
     pub fn on_heartbeat(&mut self, heartbeat: &Heartbeat) -> Result<Arrival, NoMemory>

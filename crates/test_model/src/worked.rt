@@ -272,7 +272,7 @@ const FIRST_COMES_LAST: &[(Move, Told)] = &[
     (Move::Take(0, 0), Told::Took(3, 13)),
 ];
 
-/// The reader takes one of two keys, and GAPs tell of the other.
+/// The reader takes one of two keys, and GAPs cover the other.
 const GAPS: &[(Move, Told)] = &[
     (Move::Write(0, 1, 11), Told::Written(1)),
     (Move::Write(0, 0, 12), Told::Written(2)),

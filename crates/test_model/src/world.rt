@@ -227,7 +227,7 @@ impl World {
         }
     }
 
-    /// The greatest last number of a HEARTBEAT of a writer that came to a reader.
+    /// The greatest last number of a HEARTBEAT of a writer that reached a reader.
     pub fn heard(&self, reader: ReaderNo, writer: WriterNo) -> u64 {
         match self.from_writer(reader, writer) {
             Some(held) => held.heard,

@@ -1,4 +1,4 @@
-//! The rule of the counts, and what each step on them tells.
+//! The rule of the counts, and what each step on them shows.
 use crate::gauge::GaugeView;
 use atomic_table::{Play, Split, TableRule};
 

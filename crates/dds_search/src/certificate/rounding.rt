@@ -102,8 +102,8 @@ fn raise(weights: &mut Vec<u32>, need: Change, lack: u128) -> Option<()> {
     Some(())
 }
 
-/// Raises a need of a firing where what it gives weighs more than what it needs. Tells whether it did, `None` where it
-/// can't.
+/// Raises a need of a firing where what it gives weighs more than what it needs. Returns whether it did, `None` where
+/// it can't.
 fn repair(firing: &Firing, values: &[i128], weights: &mut Vec<u32>) -> Option<bool> {
     let given = weighed(&firing.gives, weights);
     let needed = weighed(&firing.needs, weights);
@@ -115,7 +115,7 @@ fn repair(firing: &Firing, values: &[i128], weights: &mut Vec<u32>) -> Option<bo
     Some(true)
 }
 
-/// Goes through all firings once. Tells whether a weight rose.
+/// Goes through all firings once. Returns whether a weight rose.
 fn round(firings: &[Firing], values: &[i128], weights: &mut Vec<u32>) -> Option<bool> {
     let mut changed = false;
     for firing in firings {
@@ -125,7 +125,7 @@ fn round(firings: &[Firing], values: &[i128], weights: &mut Vec<u32>) -> Option<
     Some(changed)
 }
 
-/// Rounds until one raises nothing. Tells whether one did.
+/// Rounds until one raises nothing. Returns whether one did.
 fn come_to_rest(firings: &[Firing], values: &[i128], weights: &mut Vec<u32>) -> bool {
     for _ in 0..ROUNDS {
         match round(firings, values, weights) {

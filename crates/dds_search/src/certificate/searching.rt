@@ -71,7 +71,7 @@ pub(crate) fn claimed(
     }
 }
 
-/// What is told of a bound above a limit: it is told only where its row holds and shows it.
+/// The answer for a bound above a limit: it is given only where its row holds and shows it.
 fn shown(
     alloc: Global,
     plan: &Plan,
@@ -91,7 +91,7 @@ fn shown(
     }
 }
 
-/// What is told of a ray: that no weights show a bound only where it is one.
+/// The answer for a ray: it says that no weights show a bound only where it is one.
 fn raised(plan: &Plan, target: &Target, ray: &Ray) -> Least
     ensures { IsShownLeast (network_of plan.now) target.now result }
 {
@@ -224,7 +224,7 @@ fn search_limits<C: Clock>(alloc: Global, plan: &Plan, budget: Budget<C>) -> Res
 }
 
 /// Looks for a certificate of a plan, by exact linear programming for each limit. What it gives fits the plan and is
-/// accepted, so the deployment is safe. Where it gives none it tells why: a condition that no certificate can change,
+/// accepted, so the deployment is safe. Where it gives none it says why: a condition that no certificate can change,
 /// or the first limit for which no weights were found, and then a bound that some weights do show, where it knows one.
 ///
 /// That a certificate is found where there is one isn't promised: numbers may pass 128 bits, weights 32 bits, rows be
@@ -236,11 +236,11 @@ pub fn search<C: Clock>(alloc: Global, plan: &Plan, budget: Budget<C>) -> Result
         (λ f. IfCertificate f (λ c. Accepted (network_of plan.now) (certificate_of (certificate_view c)))) }
     ensures safe { IfOk result
         (λ f. IfCertificate f (λ c. Safe (network_of plan.now) (certificate_of (certificate_view c)))) }
-    // What is told of the structure is so, and then no certificate is accepted.
+    // What is reported of the structure is true, and then no certificate is accepted.
     ensures structure { IfOk result (λ f. IfStructure f (λ no. structure_no plan.now ≡ Some no)) }
     ensures always { IfOk result
         (λ f. IfStructure f (λ no. (cert : CertificateLists) → first_no plan.now cert ≢ None)) }
-    // Some weights show the bound that is told.
+    // Some weights show the bound that is given.
     ensures least { IfOk result (λ f. IfLimit f (IsShownLeast (network_of plan.now))) }
 {
     if let Some(no) = structure_no(plan) {

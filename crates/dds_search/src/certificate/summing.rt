@@ -44,7 +44,7 @@ impl Sum {
         true
     }
 
-    /// Adds a row, where the sum then serves its own entries and these. Tells whether it does.
+    /// Adds a row, where the sum then serves its own entries and these. Returns whether it does.
     fn take(
         &mut self,
         alloc: Global,

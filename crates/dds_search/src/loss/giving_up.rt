@@ -1,5 +1,5 @@
 //! Whether a strict reader gives a sample up when a HEARTBEAT comes. Which numbers it misses isn't seen from outside,
-//! so it is asked: its ACKNACK names the least one. That isn't a part of the run that is told.
+//! so it is asked: its ACKNACK names the least one. That isn't part of the run that is reported.
 ghost use Rattle.std.specs.Prelude.{◌≡◌, List, IfOk, IfSome};
 ghost use Rattle.dds_match.specs.Plan.{network_of};
 ghost use Rattle.dds_runs.specs.Steps.{Event as EventValue, Reply as ReplyValue};
@@ -90,7 +90,7 @@ fn written_key(events: &[Event], replies: &[Reply], writer: WriterNo, number: u6
     None
 }
 
-/// Makes the last event of a run, and tells whether a strict reader gives up a number by a HEARTBEAT that it brings,
+/// Makes the last event of a run, and returns whether a strict reader gives up a number by a HEARTBEAT that it brings,
 /// and then the key of the least one.
 pub(crate) fn gave_up(
     simulator: &mut Simulator,

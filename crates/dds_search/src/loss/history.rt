@@ -46,7 +46,7 @@ impl History {
             .checked_add(reader.number())
     }
 
-    /// How many numbers of a writer came to a reader.
+    /// How many numbers of a writer reached a reader.
     fn came(&self, writer: WriterNo, reader: ReaderNo) -> Option<u64> {
         let pair = self.pair(writer, reader)?;
         self.came.get(pair).copied()
@@ -70,7 +70,7 @@ impl History {
         }
     }
 
-    /// Whether a number of a writer came to a reader.
+    /// Whether a number of a writer reached a reader.
     pub(crate) fn has_come(&self, writer: WriterNo, reader: ReaderNo) -> bool {
         match self.came(writer, reader) {
             Some(came) => came > 0,
@@ -78,7 +78,7 @@ impl History {
         }
     }
 
-    /// How many samples of the keys were written that have not come to a reader.
+    /// How many samples of the keys were written that have not reached a reader.
     pub(crate) fn under_way(&self, writer: WriterNo, reader: ReaderNo, keys: &[KeyNo]) -> usize {
         let Some(rest) = self.rest(writer, reader) else {
             return 0;
@@ -86,13 +86,13 @@ impl History {
         rest.iter().filter(|key| keys.contains(key)).count()
     }
 
-    /// The keys of the samples that have not come to a reader, in the order of their numbers.
+    /// The keys of the samples that have not reached a reader, in the order of their numbers.
     fn rest(&self, writer: WriterNo, reader: ReaderNo) -> Option<&[KeyNo]> {
         let came = usize::try_from(self.came(writer, reader)?).ok()?;
         self.written.get(writer.number())?.get(came..)
     }
 
-    /// How many numbers come before the first sample of one of the keys that has not come to a reader, if there is such
+    /// How many numbers come before the first sample of one of the keys that has not reached a reader, if there is such
     /// a sample.
     pub(crate) fn before(
         &self,

@@ -294,8 +294,8 @@ impl Making {
         best.map(|(_, writer)| writer)
     }
 
-    /// Writes a sample of one of the keys at a writer that matches a reader, and tells the writer, if that is permitted
-    /// anywhere.
+    /// Writes a sample of one of the keys at a writer that matches a reader, and returns the writer, if that is
+    /// permitted anywhere.
     fn write_for(&mut self, reader: ReaderNo, keys: &[KeyNo]) -> Result<Option<WriterNo>, Halt>
         ensures plan { self.new.simulator.plan ≡ self.old.simulator.plan }
     {
@@ -520,7 +520,7 @@ impl Making {
         Err(Halt::Long)
     }
 
-    /// Settles a writer with its readers but one, which acknowledges what has come to it: then the writer keeps nothing
+    /// Settles a writer with its readers but one, which acknowledges what has reached it: then the writer keeps nothing
     /// before that.
     fn settle_others(&mut self, writer: WriterNo, reader: ReaderNo) -> Result<(), Halt>
         ensures plan { self.new.simulator.plan ≡ self.old.simulator.plan }
@@ -559,8 +559,8 @@ impl Making {
         Err(Halt::Long)
     }
 
-    /// Makes the firings, and then lets the writer drop a sample of the keys that has not come to the reader, and tell
-    /// it so by a HEARTBEAT. It always ends with a reason why no more can be done.
+    /// Makes the firings, and then lets the writer drop a sample of the keys that has not reached the reader, and
+    /// announce that by a HEARTBEAT. It always ends with a reason why no more can be done.
     fn run_over(
         &mut self,
         alloc: Global,

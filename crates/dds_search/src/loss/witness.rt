@@ -30,7 +30,7 @@ struct Ending {
     told: Told,
 }
 
-/// How a reply tells that an arriving sample is lost, or another one by it, if it does.
+/// How an arriving sample is lost, or another one by it, if the reply says so.
 fn loss_of(reply: &Reply) -> Option<Loss>
     ensures told { IfSome result (TellsLoss reply.now) }
     ensures sample { IfSome result IsOfSample }
@@ -58,7 +58,7 @@ fn brought(simulator: &Simulator, event: &Event) -> Option<(ReaderNo, KeyNo)>
     }
 }
 
-/// Makes an event that brings a strict reader a sample, and tells what is lost by it, if something is.
+/// Makes an event that brings a strict reader a sample, and returns what is lost by it, if something is.
 fn arrived(simulator: &mut Simulator, last: &Event) -> Result<Option<Told>, NoMemory>
     ensures plan { simulator.new.plan ≡ simulator.old.plan }
     ensures told { IfOk result
@@ -82,7 +82,7 @@ fn arrived(simulator: &mut Simulator, last: &Event) -> Result<Option<Told>, NoMe
     }
 }
 
-/// Makes the last event of a run, and tells what a strict reader loses by it, if it loses something.
+/// Makes the last event of a run, and returns what a strict reader loses by it, if it loses something.
 fn lost(
     simulator: &mut Simulator,
     before: &[Event],
@@ -101,7 +101,7 @@ fn lost(
     }
 }
 
-/// Makes the events of a run, and tells what a strict reader loses by the last one, if it loses something. The plan is
+/// Makes the events of a run and returns what a strict reader loses by the last one, if it loses something. The plan is
 /// given back.
 fn ended(
     mut simulator: Simulator,
@@ -174,7 +174,7 @@ pub(crate) fn witness(
     Ok((Some(found), plan))
 }
 
-/// What a run that was made comes to: where it ended because a reader lost a sample, that is made sure. The plan is
+/// The result of a run that was made: where it ended because a reader lost a sample, that is verified. The plan is
 /// given back.
 pub(crate) fn concluded(
     alloc: Global,

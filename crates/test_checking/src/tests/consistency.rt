@@ -1,4 +1,4 @@
-//! Which policies of one endpoint go together, and which fault is told where they don't: worked by hand, and as Eclipse
+//! Which policies of one endpoint go together, and which fault comes where they don't: worked by hand, and as Eclipse
 //! Cyclone DDS 0.10.2 answers, which doesn't name the fault.
 //!
 //! A case is a line of words: the side, the endpoint and the fault, or `-` for none. An endpoint is `name=value` joined

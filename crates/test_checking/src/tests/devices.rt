@@ -147,7 +147,7 @@ impl Write for Full {
     }
 }
 
-/// What a command tells where its output takes so many bytes.
+/// What a command reports where its output takes so many bytes.
 fn expect_write_fault(rt: &impl Abort, alloc: Global, command: Command, room: usize) {
     let mut files = readable(PING.as_bytes(), PING_CERT.as_bytes());
     let mut err = Stream::new(Vec::new(alloc));
@@ -170,7 +170,7 @@ fn tells_a_failed_write(rt: HostRuntime) {
     }
 }
 
-// Where the error output takes nothing, the status is told alone.
+// Where the error output takes nothing, only the status is given.
 #[test]
 fn answers_the_status_without_an_error_output(rt: HostRuntime) {
     let alloc = rt.alloc();

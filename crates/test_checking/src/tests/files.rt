@@ -4,8 +4,8 @@ ghost use Rattle.dds_answers.specs.Reading.{is_worn};
 
 use crate::tests::expecting::expect_equal;
 use dds_answers::{
-    Answer, Counted, Detail, Exit, Output, Sources, Stream, ToolFault, check_files, give,
-    match_file, migrate_file, propose_file, tell_fault,
+    Answer, Counted, Detail, Exit, MAX_FILE, Output, Sources, Stream, ToolFault, check_answer,
+    give, match_answer, migrate_answer, propose_answer, read_file, read_files, tell_fault,
 };
 use std::alloc::Global;
 use std::io::{self, ErrorKind, Read};
@@ -127,11 +127,15 @@ pub(crate) enum Command {
 
 impl Command {
     fn answer<S: Sources>(self, alloc: Global, files: &mut S) -> Result<Answer, ToolFault> {
+        if self == Command::Check {
+            let (d, c) = read_files(alloc, files, "d", "c", MAX_FILE)?;
+            return check_answer(alloc, d.as_slice(), c.as_slice(), Detail::Plain);
+        }
+        let bytes = read_file(alloc, files, "d")?;
         match self {
-            Command::Check => check_files(alloc, "d", "c", Detail::Plain, files),
-            Command::Match => match_file(alloc, "d", files),
-            Command::Propose => propose_file(alloc, "d", files),
-            Command::Migrate => migrate_file(alloc, "d", files),
+            Command::Match => match_answer(alloc, bytes.as_slice()),
+            Command::Propose => propose_answer(alloc, bytes.as_slice()),
+            Command::Check | Command::Migrate => migrate_answer(alloc, bytes.as_slice()),
         }
     }
 

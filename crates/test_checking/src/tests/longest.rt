@@ -1,5 +1,5 @@
 //! The longest lists: each key of each endpoint of the greatest plan, by entries without `key`. No list has more single
-//! keys, since one more names an endpoint and key again. So TooMany is told of arrays alone.
+//! keys, since one more names an endpoint and key again. So TooMany is reported for arrays alone.
 
 use crate::tests::expecting::expect_equal;
 use crate::tests::plans::{NO_MEMORY, certificate_of, plan_of};
@@ -95,7 +95,7 @@ fn expect_longest(rt: &impl Abort, found: &Certificate) {
     }
 }
 
-/// What is told of a certificate: the number and the name of the fault and its path, or `ok`.
+/// The message for a certificate: the number and the name of the fault and its path, or `ok`.
 fn told(rt: &impl Abort, alloc: Global, plan: &Plan, bytes: &[u8]) -> String {
     let told = match read_certificate(alloc, plan, bytes) {
         Ok(certificate) => {

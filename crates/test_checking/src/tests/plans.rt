@@ -8,7 +8,7 @@ use std::alloc::Global;
 use std::process::Abort;
 use test_files::plans::planned;
 
-/// What is told where memory is refused, which ends a test.
+/// The message where memory is refused, which ends a test.
 pub(crate) const NO_MEMORY: &str = "no memory";
 
 /// Two topics, of the keys `a`, `b`, `c` and of the key `d`, each with a writer. The reader `r` takes all keys of the

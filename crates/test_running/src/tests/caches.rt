@@ -139,7 +139,7 @@ pub(crate) struct Seen {
 }
 
 impl<C: CacheForm> Fed<C> {
-    /// What tells whether a call changed something.
+    /// What shows whether a call changed something.
     pub(crate) fn seen(&self) -> Seen {
         Seen {
             stored: self.cache.stored(),

@@ -182,7 +182,7 @@ pub(crate) fn listed(alloc: Global) -> Result<Vec<Event>, NoMemory> {
     Ok(events)
 }
 
-/// The replies are those that the list tells from a place on, as far as they go.
+/// The replies are the ones in the list from a place on, as far as they go.
 pub(crate) fn expect_replies(rt: &impl Abort, replies: &[Reply], from: usize) {
     for (reply, (asked, told)) in replies.iter().zip(LIST.iter().skip(from)) {
         assert_eq!(rt; told_of(reply), *told, "{:?}", event_of(*asked));

@@ -10,7 +10,7 @@ use std::process::Abort;
 use test_files::plans::planned;
 use test_model::{Layout, ReaderLayout, RuleLayout, World, WriterLayout};
 
-/// What is told where memory is refused, which ends a test.
+/// The message where memory is refused, which ends a test.
 pub(crate) const NO_MEMORY: &str = "no memory";
 
 /// No topic has more keys.

@@ -212,7 +212,7 @@ impl<R: ReaderForm> Listener<R> {
         self.reader.take(KeyNo::new(key))
     }
 
-    /// What tells whether a call changed something.
+    /// What shows whether a call changed something.
     pub(crate) fn seen(&self) -> Seen {
         let (first, second) = (WriterNo::new(0), WriterNo::new(1));
         Seen {
@@ -357,7 +357,7 @@ const HEARD_TWICE: &[(Call, Answer)] = &[
     (Call::Heartbeat(1, 1), Answer::Heard),
 ];
 
-/// The reader takes one of two keys, and GAPs tell of the other.
+/// The reader takes one of two keys, and GAPs cover the other.
 const GAPS: &[(Call, Answer)] = &[
     (Call::Gap(1, 2, &[]), Answer::Irrelevant(1)),
     (Call::Data(2, 0), Answer::New),

@@ -27,7 +27,7 @@ fn expect_same_run(rt: &impl Abort, alloc: Global, plan: &Plan, run: &Counterexa
     drop(world);
 }
 
-/// Looks for a run of a deployment that loses a sample, and compares the one that is found. Tells whether there is one.
+/// Looks for a run of a deployment that loses a sample, and compares the one it finds. Returns whether there is one.
 fn expect_refuted<R: Abort + Clock>(rt: &R, alloc: Global, text: &str) -> bool {
     let budget = Budget::new(rt, SECONDS);
     let Ok((refutation, plan)) = refute(alloc, plan_of(rt, alloc, text), budget) else {

@@ -32,7 +32,7 @@ struct Side {
     fates: usize,
 }
 
-/// Whether the event befalls a packet on the bus.
+/// Whether the event happens to a packet on the bus.
 fn is_on_bus(event: &Event) -> bool {
     matches!(event, Event::Deliver { .. } | Event::Lose { .. })
 }
@@ -117,7 +117,7 @@ impl Side {
     }
 }
 
-/// Makes rounds until enough is taken at both sides, and tells how many.
+/// Makes rounds until enough is taken at both sides, and returns how many.
 fn rounds(rt: &impl Abort, domain: &mut Domain, first: &mut Side, second: &mut Side) -> u64 {
     for turn in 0..TURNS {
         if first.taken >= WANTED && second.taken >= WANTED {

@@ -136,7 +136,7 @@ fn each_event_without_memory(rt: HostRuntime) -> Result<(), Fail> {
     Ok(())
 }
 
-/// Runs the list. Where memory is refused the replies are those of the events that were done, and the rest is run after
+/// Runs the list. Where memory is refused the replies answer the events that were done, and the rest is run after
 /// them.
 fn run_list(rt: &impl Abort, domain: &mut Domain, events: &[Event]) {
     let done = match domain.run(events) {

@@ -186,7 +186,7 @@ fn fill(rt: &impl Abort, both: &mut Both, plan: &Plan) {
     }
 }
 
-/// What is asked of a full bus, and what is told.
+/// What is asked of a full bus, and what it answers.
 pub(crate) const ON_A_FULL_BUS: [(Move, Told); 4] = [
     (Move::SendHeartbeat(0, 0), Told::NotSent),
     (Move::Lose(7), Told::Dropped),

@@ -1,5 +1,5 @@
-//! Two steady applications that answer each other: ten samples of each are written and taken, whatever befalls the
-//! packets.
+//! Two steady applications that answer each other: ten samples of each are written and taken, whatever happens to
+//! the packets.
 
 use crate::tests::expecting::expect_equal;
 use crate::tests::plans::ping;

@@ -82,7 +82,7 @@ fn fills_the_journal(rt: HostRuntime) {
     expect_fault(&rt, run_until_full(&rt, alloc, first), Fault::JournalFull);
 }
 
-/// Of two causes, a diary with an entry at the start and a full journal, the journal is told.
+/// Of two causes, a diary with an entry at the start and a full journal, the journal is reported.
 #[test]
 fn fills_the_journal_and_has_an_entry_before_it_starts(rt: HostRuntime) {
     let alloc = rt.alloc();

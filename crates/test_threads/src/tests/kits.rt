@@ -8,7 +8,7 @@ use test_files::plans::{planned, proposed};
 use test_files::texts::PING;
 use test_model::worked::{Move, Told};
 
-/// A call: the seat, what it makes, and what is told. The seats are those of the two applications and then those of
+/// A call: the seat, what it makes, and the answer. The seats belong to the two applications and then to
 /// their participants.
 pub(crate) type Call = (usize, Move, Result<Told, BookFault>);
 

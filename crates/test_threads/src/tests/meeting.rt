@@ -44,7 +44,7 @@ impl Bell {
         self.ear.try_recv(rt).is_ok()
     }
 
-    /// Waits until it rings, at most so many times, and tells how many of these waits are left. `None` where it
+    /// Waits until it rings, at most so many times, and returns how many of these waits are left. `None` where it
     /// doesn't ring in time.
     fn hear<R: Wait + Clock>(&self, rt: &R, waits: usize) -> Option<usize> {
         for made in 0..waits {

@@ -12,7 +12,7 @@ use std::process::Abort;
 use std::test::Fail;
 use test_model::worked::event_of;
 
-/// A round, and what it comes to.
+/// A round, and its result.
 #[derive(Clone, Copy)]
 struct Case {
     seat: usize,

@@ -1,4 +1,4 @@
-//! Runs, and what they tell.
+//! Runs, and what they leave.
 ghost use Rattle.std.specs.Prelude.{◌≡◌, ◌≤◌, length};
 ghost use Rattle.dds_apps.specs.Kept.{AreOwners};
 

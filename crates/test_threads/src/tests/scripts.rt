@@ -1,4 +1,4 @@
-//! Applications that want one event over and over.
+//! Applications that ask for one event over and over.
 
 use dds_base::{Event, KeyNo, NoMemory, ReaderNo, Reply, WriterNo};
 use dds_peers::{Act, App, Diary};

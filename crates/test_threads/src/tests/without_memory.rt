@@ -48,7 +48,7 @@ fn expect_calls<N: Name>(rt: &impl Abort, state: &mut BookState<N>, seats: &mut 
     }
 }
 
-/// Turns of participants after the calls: the seat, the turn, and what is told, none where there is nothing to do. The
+/// Turns of participants after the calls: the seat, the turn, and the answer, none where there is nothing to do. The
 /// sample was sent and has arrived, so what is left is the HEARTBEAT of its writer, and the ACKNACK that it asks for.
 const TURNS: [(usize, u64, Option<Told>); 7] = [
     (2, 0, None),
@@ -76,7 +76,7 @@ fn pumped<N: Name>(
     }
 }
 
-/// What is told of the event that was due, if one was.
+/// The reply to the event that was due, if one was.
 fn told_of_turn(
     rt: &impl Abort,
     answer: Result<Option<(Event, Reply)>, BookFault>,

@@ -1,4 +1,4 @@
-//! The first 600 programs. Each is a line, whose form the module above tells.
+//! The first 600 programs. Each is a line, whose form the module above describes.
 
 pub(super) static PROGRAMS: &str =
     "1 3 - 1 aEaNbEaO1dNbNdO3aO2aO6dT5bO4bO8dNaO7cEbT9bNaO11aT13aEbT12dO10dO14dT15cNbNbT17cO16dEdNaNdO19cO18dO21aO20aT24cT22cNdT23dE

@@ -1,4 +1,4 @@
-//! The last 600 programs. Each is a line, whose form the module above tells.
+//! The last 600 programs. Each is a line, whose form the module above describes.
 
 pub(super) static PROGRAMS: &str =
     "2 6 3 - aNbEdNbEdNaNaT1aNcNbIcT6aT4aT5aEcNdO2dT3aNcT8dNbIdO9dO11dO13bIaNaO10cNbEaT17dO14bIdO15aNbIcT19cNbIaT18dO20
