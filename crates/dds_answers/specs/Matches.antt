@@ -5,8 +5,8 @@ use Rattle.dds_match.specs.Matching.{why_not}
 use Rattle.dds_match.specs.Network.{Network}
 use Rattle.dds_match.specs.declared.matching.WhyNot.{WhyNot}
 use Rattle.dds_runs.specs.First.{all_below}
-use Rattle.dds_weights.specs.Naming.{name_at}
-use Rattle.dds_weights.specs.Text.{each_below}
+use Rattle.dds_text.specs.Names.{name_at}
+use Rattle.dds_text.specs.Texts.{each_below}
 use Rattle.dds_show.specs.Reasons.{reason_words}
 
 -- the line of a pair with these names that matches, or doesn't for this reason

@@ -7,7 +7,7 @@ ghost use Rattle.dds_answers.specs.Matches.{writer_lines};
 use dds_base::{NoMemory, ReaderNo, WriterNo};
 use dds_match::Plan;
 use dds_show::reasons::reason_text;
-use dds_weights::naming::name_at;
+use dds_text::names::name_at;
 use std::alloc::Global;
 
 /// The line of a writer and a reader.

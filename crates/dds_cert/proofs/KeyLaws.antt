@@ -21,7 +21,7 @@ use Rattle.dds_lists.specs.WellFormed.{filter_at, writer_key_count, AreDistinctB
 use Rattle.dds_match.specs.Plan.{hears, writes_key}
 use Rattle.dds_weights.specs.Fits.{is_distinct, keys_differ}
 use Rattle.dds_weights.specs.Named.{same_place}
-use Rattle.dds_weights.specs.Naming.{writer_keys, reader_keys}
+use Rattle.dds_text.specs.Names.{writer_keys, reader_keys}
 use Rattle.dds_cert.specs.Keys.{passing, heard_key, a_heard_key, one_key, keys_of_entry, reader_and_keys, writer_and_keys}
 use Rattle.dds_cert.specs.Adding.{any_stands}
 use Rattle.dds_weights.proofs.DistinctLaws.{not_before, is_distinct-append}

@@ -8,7 +8,7 @@ use Rattle.dds_fields.specs.Document.{version}
 use Rattle.dds_lists.specs.Lists.{Lists, all_keys}
 use Rattle.dds_lists.specs.WellFormed.{filter_at}
 use Rattle.dds_match.specs.Plan.{hears}
-use Rattle.dds_weights.specs.Naming.{reader_keys, writer_keys}
+use Rattle.dds_text.specs.Names.{reader_keys, writer_keys}
 
 -- the number that passes the test
 abbrev pub passing : (ℕ → Bool) → Option ℕ → Option ℕ

@@ -1,15 +1,15 @@
 //! The fields that name an endpoint and its keys.
 ghost use Rattle.std.specs.Prelude.{◌≡◌, ◌<◌, List, ℕ, length, codes, true, IfOk};
-ghost use Rattle.dds_match.specs.Plan.{hears};
 ghost use Rattle.toml.specs.Data.{Members};
 ghost use Rattle.toml.specs.View.{view, table_view};
+ghost use Rattle.dds_lists.specs.Lists.{all_keys};
+ghost use Rattle.dds_lists.specs.WellFormed.{filter_at};
+ghost use Rattle.dds_match.specs.Plan.{hears};
+ghost use Rattle.dds_text.specs.Names.{reader_keys, writer_keys};
+ghost use Rattle.dds_weights.specs.Fits.{keys_differ};
 ghost use Rattle.dds_fields.specs.Reading.{Read as Reading, field, a_known_name};
 ghost use Rattle.dds_fields.specs.Gives.{Gives};
 ghost use Rattle.dds_fields.specs.Places.{place_text};
-ghost use Rattle.dds_lists.specs.Lists.{all_keys};
-ghost use Rattle.dds_lists.specs.WellFormed.{filter_at};
-ghost use Rattle.dds_weights.specs.Fits.{keys_differ};
-ghost use Rattle.dds_weights.specs.Naming.{reader_keys, writer_keys};
 ghost use Rattle.dds_cert.specs.Keys.{heard_key, a_heard_key, one_key, keys_of_entry, reader_and_keys};
 ghost use Rattle.dds_cert.specs.Keys.{writer_and_keys};
 
@@ -18,7 +18,7 @@ use dds_fields::fault::{FaultKind, ReadFault, refuse};
 use dds_fields::field::{known_name_field, known_name_of, name_of, require, value_at};
 use dds_fields::place::Place;
 use dds_lists::Deployment;
-use dds_weights::naming::{keys_of_reader, keys_of_writer};
+use dds_text::names::{keys_of_reader, keys_of_writer};
 use std::alloc::Global;
 use toml::{Table, Value};
 

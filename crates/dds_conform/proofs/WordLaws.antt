@@ -4,7 +4,7 @@ use Rattle.std.proofs.lemmas.Bool.{cases_eq}
 use Rattle.std.proofs.lemmas.List.{append_cancel_left}
 use Rattle.dds_base.specs.declared.events.Event.TheVariants as event
 use Rattle.dds_lists.specs.Lists.{Lists}
-use Rattle.dds_events.specs.Naming.{two_words}
+use Rattle.dds_text.specs.Texts.{two_words}
 use Rattle.dds_events.specs.Reading.{SaysNoEvent}
 use Rattle.dds_conform.specs.declared.actions.Action.{Action}
 use Rattle.dds_conform.specs.declared.actions.Action.TheVariants.{Write, Take}

@@ -4,8 +4,8 @@ use Rattle.dds_base.specs.declared.events.Event.{Event}
 use Rattle.dds_base.specs.declared.events.Event.TheVariants as event
 use Rattle.dds_lists.specs.Lists.{Lists, has, readers_at, writers_at}
 use Rattle.dds_match.specs.Plan.{hears, writes_key}
-use Rattle.dds_weights.specs.Naming.{name_at, reader_key, reader_keys, writer_key, writer_keys}
-use Rattle.dds_events.specs.Naming.{reader_name, two_words, writer_name}
+use Rattle.dds_text.specs.Names.{name_at, reader_key, reader_keys, writer_key, writer_keys, reader_name, writer_name}
+use Rattle.dds_text.specs.Texts.{two_words}
 use Rattle.dds_conform.specs.declared.actions.Action.{Action}
 use Rattle.dds_conform.specs.declared.actions.Action.TheVariants.{Write, Take}
 

@@ -2,8 +2,7 @@
 use Rattle.std.specs.Prelude.{ℕ, List, [], ◌∷◌, ◌++◌, codes, flat_map}
 use Rattle.std.specs.Fmt.{decimal}
 use Rattle.dds_lists.specs.Lists.{Lists}
-use Rattle.dds_weights.specs.Naming.{reader_key, writer_key}
-use Rattle.dds_events.specs.Naming.{reader_name, rule_text, writer_name}
+use Rattle.dds_text.specs.Names.{reader_key, writer_key, reader_name, rule_text, writer_name}
 use Rattle.dds_conform.specs.declared.conformance.Conformance.{Conformance}
 use Rattle.dds_conform.specs.declared.conformance.Conformance.TheVariants.{Kept, NoPermit, Unknown}
 use Rattle.dds_conform.specs.declared.conformance.Shortage.{Shortage}

@@ -4,9 +4,8 @@ ghost use Rattle.dds_conform.specs.Answers.{answer_text, refusal_text, shortage_
 
 use crate::conformance::{Conformance, Refused, Shortage};
 use dds_base::NoMemory;
-use dds_events::rule_text;
 use dds_lists::Deployment;
-use dds_weights::naming::{name_at, reader_key, writer_key};
+use dds_text::names::{name_at, reader_key, rule_text, writer_key};
 use std::alloc::Global;
 
 /// What a rule lacks, as a line.

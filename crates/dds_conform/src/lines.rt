@@ -2,8 +2,8 @@
 ghost use Rattle.std.specs.Prelude.{◌≡◌, ◌≢◌, ◌<◌, ◌==◌, ◌||◌, ℕ, Some, None, List, length, count_by};
 ghost use Rattle.std.specs.Prelude.{IfSome, IfNone, IfOk, IfErr};
 ghost use Rattle.std.specs.List.{list_all, list_any};
-ghost use Rattle.dds_weights.specs.Naming.{name_at};
-ghost use Rattle.dds_events.specs.Naming.{two_words};
+ghost use Rattle.dds_text.specs.Names.{name_at};
+ghost use Rattle.dds_text.specs.Texts.{two_words};
 ghost use Rattle.dds_conform.specs.Actions.{IsThere, action_in, action_text, is_own, what_text};
 ghost use Rattle.dds_conform.specs.Entries.{entry_action, entry_application, entry_line};
 ghost use Rattle.dds_conform.specs.Reading.{IsEntryOf, IsFaultAt, is_digit, is_time};
@@ -15,7 +15,7 @@ use dds_base::{AppNo, Event};
 use dds_events::read_event;
 use dds_lists::Deployment;
 use dds_match::Plan;
-use dds_weights::naming::name_at;
+use dds_text::names::name_at;
 
 /// Whether a line says something: it is not empty, and no comment.
 pub(crate) fn says_something(line: &str) -> bool

@@ -7,8 +7,8 @@ use Rattle.dds_lists.specs.Lists.{Lists, Rule}
 use Rattle.dds_match.specs.Matching.{why_not}
 use Rattle.dds_match.specs.Plan.{intended}
 use Rattle.dds_match.specs.declared.matching.WhyNot.{WhyNot}
-use Rattle.dds_weights.specs.Naming.{name_at, reader_key, writer_key}
-use Rattle.dds_weights.specs.Text.{each_below}
+use Rattle.dds_text.specs.Names.{name_at, reader_key, writer_key}
+use Rattle.dds_text.specs.Texts.{each_below}
 use Rattle.dds_show.specs.Reasons.{reason_words}
 
 -- what a rule takes of a key at a reader

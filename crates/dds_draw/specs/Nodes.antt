@@ -10,11 +10,10 @@ use Rattle.dds_qos.specs.declared.policies.Reliability.{Reliability}
 use Rattle.dds_qos.specs.declared.policies.Reliability.TheVariants.{BestEffort, Reliable}
 use Rattle.dds_lists.specs.Lists.{Lists, Reader, Rule, Writer}
 use Rattle.dds_weights.specs.Lists.{Certificate}
-use Rattle.dds_weights.specs.Naming.{name_at, reader_key}
+use Rattle.dds_text.specs.Names.{name_at, reader_key, rule_text}
 use Rattle.dds_weights.specs.declared.certificate.Bound.{Bound}
 use Rattle.dds_weights.specs.declared.certificate.Total.{Total}
 use Rattle.dds_runs.specs.Accepted.{instance_limit}
-use Rattle.dds_events.specs.Naming.{rule_text}
 use Rattle.dds_draw.specs.Room.{colour_of}
 
 -- how many samples of an instance stay by KEEP_LAST; nothing of KEEP_ALL (OMG DDS 1.4, clause 2.2.3.18)

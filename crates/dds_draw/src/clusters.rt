@@ -1,7 +1,7 @@
 //! Participants and applications as clusters.
 ghost use Rattle.std.specs.Prelude.{◌≡◌, ◌<◌, IfOk, length, option_map, string_bytes};
 ghost use Rattle.dds_lists.specs.Views.{application_view, participant_view};
-ghost use Rattle.dds_weights.specs.Text.{each_below};
+ghost use Rattle.dds_text.specs.Texts.{each_below};
 ghost use Rattle.dds_weights.specs.Views.{certificate_view};
 ghost use Rattle.dds_draw.specs.Clusters.{application_at, application_cluster, application_members, endpoint_name};
 ghost use Rattle.dds_draw.specs.Clusters.{participant_cluster, participant_clusters, participant_members, reader_at};
@@ -10,9 +10,9 @@ ghost use Rattle.dds_draw.specs.Clusters.{rule_at, writer_at};
 use crate::nodes::{reader_node, rule_node, writer_node};
 use dds_base::{AppNo, ParticipantNo, ReaderNo, RuleNo, WriterNo};
 use dds_lists::{Application, Deployment, Participant};
-use dds_show::texts::{TextResult, text_below, text_of_endpoints};
+use dds_text::names::name_at;
+use dds_text::texts::{TextResult, text_below, text_of_endpoints};
 use dds_weights::Certificate;
-use dds_weights::naming::name_at;
 use std::alloc::Global;
 
 /// The name of the node of an endpoint: its side, `writer` or `reader`, and its own name.

@@ -8,8 +8,8 @@ use dds_base::{Portion, ReaderNo, RuleNo, WriterNo};
 use dds_lists::{Deployment, Rule};
 use dds_match::{Plan, WhyNot};
 use dds_show::reasons::reason_text;
-use dds_show::texts::{TextResult, text_below, text_of_each};
-use dds_weights::naming::{name_at, reader_key, writer_key};
+use dds_text::names::{name_at, reader_key, writer_key};
+use dds_text::texts::{TextResult, text_below, text_of_each};
 use std::alloc::Global;
 
 /// What a rule takes of a key at a reader.

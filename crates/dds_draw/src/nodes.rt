@@ -10,11 +10,10 @@ ghost use Rattle.dds_draw.specs.Nodes.{rule_node, start_line, total_line, writer
 use crate::room::colour_of;
 use dds_base::{ReaderNo, RuleNo, WriterNo};
 use dds_check::limits::instance_limit;
-use dds_events::rule_text;
 use dds_lists::{Deployment, Reader, Rule, Writer};
 use dds_qos::{History, HistoryKind, Policies, ReaderLimits, Reliability, reader_limits};
-use dds_show::texts::{TextResult, text_of_each};
-use dds_weights::naming::{name_at, reader_key};
+use dds_text::names::{name_at, reader_key, rule_text};
+use dds_text::texts::{TextResult, text_of_each};
 use dds_weights::{Bound, Certificate, Total};
 use std::alloc::Global;
 

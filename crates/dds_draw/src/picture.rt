@@ -6,7 +6,7 @@ ghost use Rattle.dds_draw.specs.Picture.{drawing};
 use crate::clusters::participant_clusters;
 use crate::edges::{all_pair_edges, all_rule_edges};
 use dds_match::Plan;
-use dds_show::texts::TextResult;
+use dds_text::texts::TextResult;
 use dds_weights::Certificate;
 use std::alloc::Global;
 

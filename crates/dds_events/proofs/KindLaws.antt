@@ -6,8 +6,8 @@ use Rattle.std.proofs.lemmas.Slice.Eq.{bytes_eq-Decides}
 use Rattle.dds_base.specs.declared.events.Event.TheVariants.{Write, Fire, Take, SendData, SendGap, SendHeartbeat, SendAckNack, Deliver, Lose}
 use Rattle.dds_lists.specs.Lists.{Lists, key_name}
 use Rattle.dds_lists.specs.declared.lists.Origin.{Origin}
-use Rattle.dds_weights.specs.Naming.{name_at}
-use Rattle.dds_events.specs.Naming.{rule_text, two_words}
+use Rattle.dds_text.specs.Names.{name_at, rule_text}
+use Rattle.dds_text.specs.Texts.{two_words}
 use Rattle.dds_events.specs.Reading.{IsUnsaidBy, SaysNoEvent}
 use Rattle.dds_events.proofs.WordLaws.{one_after}
 

@@ -15,8 +15,8 @@ use Rattle.std.proofs.lemmas.Str.Parse.{IsNumeralModel, parse_plain}
 use Rattle.std.proofs.lemmas.Option.{unwrap_or-slice_get}
 use Rattle.std.proofs.lemmas.Slice.Eq.{bytes_eq-Decides}
 use Rattle.dds_base.specs.Names.{number_of}
-use Rattle.dds_weights.specs.Naming.{name_at}
-use Rattle.dds_events.specs.Naming.{two_words}
+use Rattle.dds_text.specs.Names.{name_at}
+use Rattle.dds_text.specs.Texts.{two_words}
 use Rattle.dds_events.specs.Words.{IsPlain}
 
 -- the name with the number that was found

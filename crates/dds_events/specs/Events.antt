@@ -4,8 +4,8 @@ use Rattle.std.specs.Fmt.{decimal}
 use Rattle.dds_base.specs.declared.events.Event.{Event}
 use Rattle.dds_base.specs.declared.events.Event.TheVariants.{Write, Fire, Take, SendData, SendGap, SendHeartbeat, SendAckNack, Deliver, Lose}
 use Rattle.dds_lists.specs.Lists.{Lists}
-use Rattle.dds_weights.specs.Naming.{reader_key, writer_key}
-use Rattle.dds_events.specs.Naming.{reader_name, rule_text, three_words, two_words, writer_name}
+use Rattle.dds_text.specs.Names.{reader_key, writer_key, reader_name, rule_text, writer_name}
+use Rattle.dds_text.specs.Texts.{three_words, two_words}
 
 -- what is done, in words; the data of a write is not shown
 abbrev pub event_text : Lists → Event → List ℕ

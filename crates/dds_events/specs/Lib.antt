@@ -1,4 +1,3 @@
-pub mod Naming
 pub mod Replies
 pub mod Events
 pub mod Lines

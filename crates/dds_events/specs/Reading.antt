@@ -5,7 +5,7 @@ use Rattle.std.specs.Str.Lines.{lines}
 use Rattle.dds_base.specs.declared.events.Event.{Event}
 use Rattle.dds_base.specs.declared.events.Event.TheVariants.{Write, Fire, Take, SendData, SendGap, SendHeartbeat, SendAckNack, Deliver, Lose}
 use Rattle.dds_lists.specs.Lists.{Lists}
-use Rattle.dds_weights.specs.Naming.{reader_keys, writer_keys}
+use Rattle.dds_text.specs.Names.{reader_keys, writer_keys}
 use Rattle.dds_events.specs.Events.{event_text}
 use Rattle.dds_events.specs.declared.fault.EventsFault.{EventsFault}
 use Rattle.dds_events.specs.declared.fault.EventsFault.TheVariants.{At, NoMemory}

@@ -11,7 +11,8 @@ use Rattle.dds_base.specs.declared.sample.Rejection.{Rejection}
 use Rattle.dds_base.specs.declared.sample.Rejection.TheVariants as rejection
 use Rattle.dds_base.specs.declared.sample.Sample.{Sample}
 use Rattle.dds_lists.specs.Lists.{Lists}
-use Rattle.dds_events.specs.Naming.{two_words, writer_name}
+use Rattle.dds_text.specs.Texts.{two_words}
+use Rattle.dds_text.specs.Names.{writer_name}
 
 -- the word for why an event is refused
 abbrev pub refusal_name : Refusal → List ℕ

@@ -1,13 +1,13 @@
 //! The texts of events.
 ghost use Rattle.std.specs.Prelude.{◌≡◌, IfOk, string_bytes};
 ghost use Rattle.std.specs.Fmt.{decimal};
+ghost use Rattle.dds_text.specs.Names.{reader_name, writer_name};
+ghost use Rattle.dds_text.specs.Texts.{three_words, two_words};
 ghost use Rattle.dds_events.specs.Events.{event_text};
-ghost use Rattle.dds_events.specs.Naming.{reader_name, three_words, two_words, writer_name};
 
-use crate::naming::{reader_name, rule_text, writer_name};
 use dds_base::{Event, NoMemory, ReaderNo, WriterNo};
 use dds_lists::Deployment;
-use dds_weights::naming::{reader_key, writer_key};
+use dds_text::names::{reader_key, reader_name, rule_text, writer_key, writer_name};
 use std::alloc::Global;
 
 /// What a writer sends a reader: the word for it, their names and its number, with blanks between them.

@@ -1,15 +1,15 @@
 //! The event of each kind that a text says. A function answers `None` only where the text is no event of its kind.
 ghost use Rattle.std.specs.Prelude.{◌≡◌, ◌≢◌, ◌<◌, ◌↔◌, ℕ, Bool, true, List, length, IfNone, IfSome};
-ghost use Rattle.dds_weights.specs.Naming.{reader_key, reader_keys, writer_key, writer_keys};
 ghost use Rattle.dds_lists.specs.Lists.{Lists};
-ghost use Rattle.dds_events.specs.Naming.{reader_name, rule_text, two_words, writer_name};
+ghost use Rattle.dds_text.specs.Names.{reader_key, reader_keys, writer_key, writer_keys};
+ghost use Rattle.dds_text.specs.Names.{reader_name, rule_text, writer_name};
+ghost use Rattle.dds_text.specs.Texts.{two_words};
 ghost use Rattle.dds_events.specs.Reading.{IsOfDeployment, IsSaidBy, IsUnsaidBy};
 
-use crate::naming::{reader_name, writer_name};
 use crate::words::{after_word, number_of, numbered_pair_of, pair_of, place_after};
 use dds_base::{Data, Event, KeyNo, ReaderNo, RuleNo, WriterNo};
 use dds_lists::Deployment;
-use dds_weights::naming::{keys_of_reader, keys_of_writer, name_at};
+use dds_text::names::{keys_of_reader, keys_of_writer, name_at, reader_name, writer_name};
 
 /// What a write carries that is read from a text.
 const NO_DATA: Data = [0; 32];

@@ -2,9 +2,9 @@
 ghost use Rattle.std.specs.Prelude.{◌≡◌, IfOk, string_bytes};
 ghost use Rattle.dds_events.specs.Replies.{arrival_text, refusal_name, rejection_name, reply_text, sample_text};
 
-use crate::naming::writer_name;
 use dds_base::{Arrival, NoMemory, Refusal, Rejection, Reply, Sample};
 use dds_lists::Deployment;
+use dds_text::names::writer_name;
 use std::alloc::Global;
 
 /// The word for why an event is refused: the name of the variant.

@@ -3,12 +3,12 @@
 //! that hold no blanks.
 ghost use Rattle.std.specs.Prelude.{◌≡◌, ◌≢◌, ◌<◌, ◌↔◌, ◌^◌, ℕ, true, List, length, IfNone, IfSome};
 ghost use Rattle.std.specs.Fmt.{decimal};
-ghost use Rattle.dds_weights.specs.Naming.{name_at};
-ghost use Rattle.dds_events.specs.Naming.{three_words, two_words};
+ghost use Rattle.dds_text.specs.Names.{name_at};
+ghost use Rattle.dds_text.specs.Texts.{three_words, two_words};
 ghost use Rattle.dds_events.specs.Words.{IsPlain};
 
 use dds_base::Names;
-use dds_weights::naming::name_at;
+use dds_text::names::name_at;
 
 /// What stands after this word and a blank, `None` where the text doesn't begin with them.
 pub(crate) fn after_word<'a>(text: &'a str, word: &str) -> Option<&'a str>

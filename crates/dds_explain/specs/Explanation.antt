@@ -10,7 +10,7 @@ use Rattle.dds_check.specs.declared.verdict.Subject.TheVariants as subject
 use Rattle.dds_explain.specs.Limits.{reader_instances_lines, writer_instances_lines, no_bound_line, no_total_lines, bound_over_line, samples_over_lines, keep_last_filter_lines, writer_depth_lines}
 use Rattle.dds_explain.specs.Margin.{margin_lines}
 use Rattle.dds_explain.specs.Pairs.{not_matched_lines, not_intended_line}
-use Rattle.dds_events.specs.Naming.{writer_name, reader_name}
+use Rattle.dds_text.specs.Names.{writer_name, reader_name}
 use Rattle.dds_explain.specs.Policies.{keeps_last_line, exclusive_line, source_order_line, ordered_line, best_effort_line}
 use Rattle.dds_explain.specs.Rows.{take_raises_line, rule_raises_lines, write_raises_lines}
 use Rattle.dds_explain.specs.Shown.{bound_not_shown_lines, total_not_shown_lines}

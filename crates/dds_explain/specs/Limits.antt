@@ -7,14 +7,12 @@ use Rattle.dds_lists.specs.Lists.{Lists}
 use Rattle.dds_match.specs.Network.{reach, is_written}
 use Rattle.dds_match.specs.Plan.{network_of}
 use Rattle.dds_weights.specs.Lists.{Certificate}
-use Rattle.dds_weights.specs.Naming.{reader_key, writer_key}
-use Rattle.dds_weights.specs.Text.{each_below}
+use Rattle.dds_text.specs.Names.{reader_key, writer_key, writer_name, reader_name}
+use Rattle.dds_text.specs.Texts.{each_below, number_or}
 use Rattle.dds_weights.specs.declared.certificate.Bound.{Bound}
 use Rattle.dds_runs.specs.Accepted.{instance_limit}
 use Rattle.dds_check.specs.Limits.{is_bounded, is_heard, reached_bound}
 use Rattle.dds_check.specs.Tables.{bound_of, total_of}
-use Rattle.dds_events.specs.Naming.{writer_name, reader_name}
-use Rattle.dds_show.specs.Pieces.{number_or}
 use Rattle.dds_explain.specs.Pieces.{limit_text, instance_limit_name, key_line}
 
 -- ── 20

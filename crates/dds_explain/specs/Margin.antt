@@ -6,11 +6,10 @@ use Rattle.dds_lists.specs.Lists.{Lists}
 use Rattle.dds_match.specs.Network.{Network}
 use Rattle.dds_match.specs.Plan.{network_of}
 use Rattle.dds_weights.specs.Lists.{Certificate, Row}
-use Rattle.dds_weights.specs.Naming.{reader_key}
+use Rattle.dds_text.specs.Names.{reader_key, reader_name}
 use Rattle.dds_weights.specs.declared.certificate.Bound.{Bound}
 use Rattle.dds_weights.specs.declared.certificate.Total.{Total}
 use Rattle.dds_runs.specs.Accepted.{row_of, budget, instance_limit}
-use Rattle.dds_events.specs.Naming.{reader_name}
 use Rattle.dds_explain.specs.Pieces.{instance_limit_name}
 use Rattle.dds_explain.specs.Shown.{shown_text}
 

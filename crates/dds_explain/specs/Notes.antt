@@ -4,14 +4,14 @@ use Rattle.std.specs.Option.{option_map_or}
 use Rattle.dds_lists.specs.Lists.{Lists, Rule, key_name}
 use Rattle.dds_match.specs.Plan.{network_of}
 use Rattle.dds_weights.specs.Lists.{Certificate}
-use Rattle.dds_weights.specs.Naming.{name_at, reader_key, row_name}
+use Rattle.dds_text.specs.Names.{name_at, reader_key, reader_name, rule_text, writer_name}
+use Rattle.dds_weights.specs.Naming.{row_name}
 use Rattle.dds_weights.specs.declared.certificate.Bound.{Bound}
 use Rattle.dds_weights.specs.declared.certificate.Total.{Total}
 use Rattle.dds_lint.specs.Live.{live_of}
 use Rattle.dds_lint.specs.Notes.{all_notes}
 use Rattle.dds_lint.specs.declared.notes.Note.{Note}
 use Rattle.dds_lint.specs.declared.notes.Note.TheVariants as note
-use Rattle.dds_events.specs.Naming.{reader_name, rule_text, writer_name}
 
 -- the rule is there, and takes nothing
 abbrev pub takes_nothing : Lists → ℕ → Bool

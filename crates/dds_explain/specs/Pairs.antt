@@ -4,7 +4,7 @@ use Rattle.std.specs.Option.{option_map_or}
 use Rattle.dds_lists.specs.Lists.{Lists}
 use Rattle.dds_match.specs.Matching.{why_not}
 use Rattle.dds_show.specs.Reasons.{reason_words}
-use Rattle.dds_events.specs.Naming.{writer_name, reader_name}
+use Rattle.dds_text.specs.Names.{writer_name, reader_name}
 use Rattle.dds_explain.specs.Values.{mismatch_lines}
 
 -- a connection whose endpoints don't match, and why (DDS 1.4, clause 2.2.3); of policies what is offered and what is requested

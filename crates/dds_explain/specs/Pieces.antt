@@ -3,7 +3,7 @@ use Rattle.std.specs.Prelude.{codes, ℕ, List, ◌++◌, Option}
 use Rattle.std.specs.Fmt.{decimal}
 use Rattle.std.specs.Option.{option_map_or}
 use Rattle.dds_qos.specs.declared.limits.ReaderLimits.{ReaderLimits}
-use Rattle.dds_show.specs.Pieces.{number_or}
+use Rattle.dds_text.specs.Texts.{number_or}
 
 -- a limit: a number, or "unlimited"
 abbrev pub limit_text : Option ℕ → List ℕ

@@ -7,10 +7,9 @@ use Rattle.dds_lists.specs.Lists.{Lists, Rule}
 use Rattle.dds_match.specs.Network.{weighed}
 use Rattle.dds_match.specs.Plan.{network_of}
 use Rattle.dds_weights.specs.Lists.{Certificate, Row}
-use Rattle.dds_weights.specs.Naming.{reader_key, writer_key}
-use Rattle.dds_weights.specs.Text.{each_below}
+use Rattle.dds_text.specs.Names.{reader_key, writer_key, writer_name, reader_name, rule_text}
+use Rattle.dds_text.specs.Texts.{each_below}
 use Rattle.dds_runs.specs.Accepted.{row_of, spread}
-use Rattle.dds_events.specs.Naming.{writer_name, reader_name, rule_text}
 use Rattle.dds_explain.specs.Pieces.{weighed_term}
 
 -- ── 30

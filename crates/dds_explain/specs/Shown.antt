@@ -6,13 +6,12 @@ use Rattle.dds_lists.specs.Lists.{Lists}
 use Rattle.dds_match.specs.Network.{reach}
 use Rattle.dds_match.specs.Plan.{network_of}
 use Rattle.dds_weights.specs.Lists.{Certificate, Row}
-use Rattle.dds_weights.specs.Naming.{reader_key, writer_key}
-use Rattle.dds_weights.specs.Text.{each_below}
+use Rattle.dds_text.specs.Names.{reader_key, writer_key, writer_name, reader_name}
+use Rattle.dds_text.specs.Texts.{each_below}
 use Rattle.dds_weights.specs.declared.certificate.Bound.{Bound}
 use Rattle.dds_weights.specs.declared.certificate.Total.{Total}
 use Rattle.dds_runs.specs.Accepted.{row_of, budget, opening_permits}
 use Rattle.dds_check.specs.Shown.{shows, shows_all}
-use Rattle.dds_events.specs.Naming.{writer_name, reader_name}
 use Rattle.dds_explain.specs.Pieces.{weighed_term}
 
 -- the least bound that a row shows, by what the permits at the opening weigh and what a sample weighs

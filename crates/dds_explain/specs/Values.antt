@@ -15,7 +15,7 @@ use Rattle.dds_lists.specs.Lists.{Lists, Reader, Writer}
 use Rattle.dds_match.specs.Matching.{why_not}
 use Rattle.dds_match.specs.declared.matching.WhyNot.{WhyNot}
 use Rattle.dds_match.specs.declared.matching.WhyNot.TheVariants as because
-use Rattle.dds_show.specs.Words.{access_scope_word, destination_order_word, durability_word, liveliness_word, ownership_word, reliability_word}
+use Rattle.dds_text.specs.Words.{access_scope_word, destination_order_word, durability_word, liveliness_word, ownership_word, reliability_word}
 
 -- a field of the file, with what is offered and what is requested there
 abbrev pub value_line : (field offered requested : List ℕ) → List ℕ

@@ -11,7 +11,6 @@ use crate::limits::{
 };
 use crate::margin::margin_lines;
 use crate::pairs::{not_intended_line, not_matched_lines};
-use crate::pieces::{reader_name, writer_name};
 use crate::policies::{
     best_effort_line, exclusive_line, keeps_last_line, ordered_line, source_order_line,
 };
@@ -20,7 +19,8 @@ use crate::shown::{bound_not_shown_lines, total_not_shown_lines};
 use dds_base::{KeyNo, ReaderNo, RuleNo, WriterNo};
 use dds_check::{No, Number, Subject};
 use dds_match::Plan;
-use dds_show::texts::TextResult;
+use dds_text::names::{reader_name, writer_name};
+use dds_text::texts::TextResult;
 use dds_weights::Certificate;
 use std::alloc::Global;
 
@@ -94,9 +94,9 @@ fn reader_reason(
         (λ text. string_bytes text ≡ reader_reason plan.now (certificate_view certificate.now) number reader) }
 {
     match number {
-        Number::Exclusive => exclusive_line(alloc, reader_name(plan, reader)),
-        Number::SourceOrder => source_order_line(alloc, reader_name(plan, reader)),
-        Number::OrderedOrCoherent => ordered_line(alloc, reader_name(plan, reader)),
+        Number::Exclusive => exclusive_line(alloc, reader_name(plan.lists(), reader)),
+        Number::SourceOrder => source_order_line(alloc, reader_name(plan.lists(), reader)),
+        Number::OrderedOrCoherent => ordered_line(alloc, reader_name(plan.lists(), reader)),
         Number::ReaderInstances => reader_instances_lines(alloc, plan, reader),
         Number::NoBound => no_total_lines(alloc, plan, certificate, reader),
         Number::BoundOverSamples => samples_over_lines(alloc, plan, certificate, reader),
@@ -110,9 +110,9 @@ fn writer_reason(alloc: Global, plan: &Plan, number: Number, writer: WriterNo) -
     ensures { IfOk result (λ text. string_bytes text ≡ writer_reason plan.now number writer) }
 {
     match number {
-        Number::WriterKeepsLast => keeps_last_line(alloc, writer_name(plan, writer)),
-        Number::Exclusive => exclusive_line(alloc, writer_name(plan, writer)),
-        Number::WriterBestEffort => best_effort_line(alloc, writer_name(plan, writer)),
+        Number::WriterKeepsLast => keeps_last_line(alloc, writer_name(plan.lists(), writer)),
+        Number::Exclusive => exclusive_line(alloc, writer_name(plan.lists(), writer)),
+        Number::WriterBestEffort => best_effort_line(alloc, writer_name(plan.lists(), writer)),
         Number::WriterInstances => writer_instances_lines(alloc, plan, writer),
         _ => Ok(String::new(alloc)),
     }

@@ -3,27 +3,23 @@
 ghost use Rattle.std.specs.Prelude.{◌≡◌, ◌<◌, ◌^◌, IfOk, string_bytes};
 ghost use Rattle.dds_base.specs.Sums.{total};
 ghost use Rattle.dds_match.specs.Plan.{network_of};
-ghost use Rattle.dds_weights.specs.Naming.{reader_key};
-ghost use Rattle.dds_weights.specs.Text.{each_below};
+ghost use Rattle.dds_text.specs.Names.{reader_key, reader_name};
+ghost use Rattle.dds_text.specs.Texts.{each_below};
 ghost use Rattle.dds_weights.specs.Views.{certificate_view};
 ghost use Rattle.dds_check.specs.Limits.{is_bounded, is_heard, reached_bound};
 ghost use Rattle.dds_check.specs.Tables.{bound_of};
-ghost use Rattle.dds_events.specs.Naming.{reader_name};
 ghost use Rattle.dds_explain.specs.Limits.{bound_given, keep_last_filter_lines, unheard_key, writer_depth_lines};
 ghost use Rattle.dds_explain.specs.Limits.{bound_line, bound_over_line, bound_text, no_bound_line, no_total_lines};
 ghost use Rattle.dds_explain.specs.Limits.{reached_bound_line, reached_key, reader_instances_lines, samples_over_lines};
 ghost use Rattle.dds_explain.specs.Limits.{total_line, unbounded_key, writer_instances_lines, written_key};
 
-use crate::pieces::{
-    instance_limit_name, key_line, limit_text, reader_limits, reader_name, writer_limits,
-    writer_name,
-};
+use crate::pieces::{instance_limit_name, key_line, limit_text, reader_limits, writer_limits};
 use dds_base::grid::KEYS;
 use dds_base::{KeyNo, ReaderNo, WriterNo};
 use dds_check::{find_bound, find_total, instance_limit, reached, written};
 use dds_match::Plan;
-use dds_show::texts::{TextResult, number_or, text_below};
-use dds_weights::naming::{reader_key, writer_key};
+use dds_text::names::{reader_key, reader_name, writer_key, writer_name};
+use dds_text::texts::{TextResult, number_or, text_below};
 use dds_weights::{Bound, Certificate};
 use std::alloc::Global;
 
@@ -56,7 +52,7 @@ pub(crate) fn reader_instances_lines(alloc: Global, plan: &Plan, reader: ReaderN
     ensures { IfOk result (λ text. string_bytes text ≡ reader_instances_lines plan.now reader) }
 {
     let count = reached(plan, reader);
-    let name = reader_name(plan, reader);
+    let name = reader_name(plan.lists(), reader);
     let limit = limit_text(alloc, reader_limits(plan, reader).max_instances)?;
     let keys = reached_keys(alloc, plan, reader)?;
     format!(in alloc;
@@ -93,7 +89,7 @@ pub(crate) fn writer_instances_lines(alloc: Global, plan: &Plan, writer: WriterN
     ensures { IfOk result (λ text. string_bytes text ≡ writer_instances_lines plan.now writer) }
 {
     let count = written(plan, writer);
-    let name = writer_name(plan, writer);
+    let name = writer_name(plan.lists(), writer);
     let limit = limit_text(alloc, writer_limits(plan, writer).max_instances)?;
     let keys = written_keys(alloc, plan, writer)?;
     format!(in alloc;
@@ -107,7 +103,7 @@ pub(crate) fn no_bound_line(alloc: Global, plan: &Plan, reader: ReaderNo, key: K
 {
     let limits = reader_limits(plan, reader);
     let key = reader_key(plan.lists(), reader, key);
-    let name = reader_name(plan, reader);
+    let name = reader_name(plan.lists(), reader);
     let policy = instance_limit_name(&limits);
     let limit = limit_text(alloc, instance_limit(&limits))?;
     format!(in alloc;
@@ -162,7 +158,7 @@ pub(crate) fn no_total_lines(
     ensures { IfOk result
         (λ text. string_bytes text ≡ no_total_lines plan.now (certificate_view certificate.now) reader) }
 {
-    let name = reader_name(plan, reader);
+    let name = reader_name(plan.lists(), reader);
     let limit = limit_text(alloc, reader_limits(plan, reader).max_samples)?;
     let keys = unbounded_keys(alloc, plan, certificate.bounds.as_slice(), reader)?;
     format!(in alloc;
@@ -194,7 +190,7 @@ pub(crate) fn bound_over_line(
         find_bound(certificate.bounds.as_slice(), reader, key),
     )?;
     let key = reader_key(plan.lists(), reader, key);
-    let name = reader_name(plan, reader);
+    let name = reader_name(plan.lists(), reader);
     let policy = instance_limit_name(&limits);
     let limit = limit_text(alloc, instance_limit(&limits))?;
     format!(in alloc;
@@ -286,7 +282,7 @@ pub(crate) fn samples_over_lines(
     ensures { IfOk result
         (λ text. string_bytes text ≡ samples_over_lines plan.now (certificate_view certificate.now) reader) }
 {
-    let name = reader_name(plan, reader);
+    let name = reader_name(plan.lists(), reader);
     let limit = limit_text(alloc, reader_limits(plan, reader).max_samples)?;
     let total = total_line(alloc, find_total(certificate.totals.as_slice(), reader))?;
     let bounds = reached_bound_lines(alloc, plan, certificate.bounds.as_slice(), reader)?;
@@ -334,8 +330,8 @@ pub(crate) fn keep_last_filter_lines(
     ensures { IfOk result (λ text. string_bytes text ≡ keep_last_filter_lines plan.now writer reader) }
 {
     let keys = unheard_keys(alloc, plan, writer, reader)?;
-    let writer = writer_name(plan, writer);
-    let reader = reader_name(plan, reader);
+    let writer = writer_name(plan.lists(), writer);
+    let reader = reader_name(plan.lists(), reader);
     format!(in alloc;
         "because {writer} has history KEEP_LAST, and the filter of {reader} leaves out what rules write there\n{keys}"
     )
@@ -366,7 +362,7 @@ fn bound_of_key(
 {
     let bound = find_bound(certificate.bounds.as_slice(), reader, key);
     let name = reader_key(plan.lists(), reader, key);
-    bound_given(alloc, name, reader_name(plan, reader), bound)
+    bound_given(alloc, name, reader_name(plan.lists(), reader), bound)
 }
 
 /// The depth of a writer with KEEP_LAST, the bound of the key at the reader, and the reader's total if there is one.
@@ -385,6 +381,6 @@ pub(crate) fn writer_depth_lines(
     let bound = bound_of_key(alloc, plan, certificate, reader, key)?;
     let total = total_line(alloc, find_total(certificate.totals.as_slice(), reader))?;
     let key = writer_key(plan.lists(), writer, key);
-    let writer = writer_name(plan, writer);
+    let writer = writer_name(plan.lists(), writer);
     format!(in alloc; "because {writer} keeps {depth} of {key}, and {bound}\n{total}")
 }

@@ -7,14 +7,14 @@ ghost use Rattle.dds_explain.specs.Margin.{bound_line, bound_margin, bound_words
 ghost use Rattle.dds_explain.specs.Margin.{named_instance_limit, named_limit, openings, total_line, total_margin};
 ghost use Rattle.dds_explain.specs.Margin.{total_words};
 
-use crate::pieces::{find_row, instance_limit_name, reader_limits, reader_name};
+use crate::pieces::{find_row, instance_limit_name, reader_limits};
 use crate::shown::shown_text;
 use crate::weights::{budget, sample_weight};
 use dds_base::{NoMemory, ReaderNo};
 use dds_check::instance_limit;
 use dds_match::Plan;
-use dds_show::texts::{TextResult, text_of_each};
-use dds_weights::naming::reader_key;
+use dds_text::names::{reader_key, reader_name};
+use dds_text::texts::{TextResult, text_of_each};
 use dds_weights::{Bound, Certificate, Row, Total};
 use std::alloc::Global;
 use std::marker::Model;
@@ -41,7 +41,7 @@ fn margin_text(alloc: Global, claim: &str, limit: &str, row: &Row, opening: u128
 fn bound_words(alloc: Global, plan: &Plan, bound: &Bound) -> TextResult
     ensures { IfOk result (λ text. string_bytes text ≡ bound_words plan.now bound.now) }
 {
-    let name = reader_name(plan, bound.reader);
+    let name = reader_name(plan.lists(), bound.reader);
     let key = reader_key(plan.lists(), bound.reader, bound.key);
     let number = bound.bound;
     format!(in alloc; "{name} {key} {number}")
@@ -153,7 +153,7 @@ fn bound_margin(alloc: Global, openings: &Openings, bound: &Bound) -> TextResult
 fn total_words(alloc: Global, plan: &Plan, total: &Total) -> TextResult
     ensures { IfOk result (λ text. string_bytes text ≡ total_words plan.now total.now) }
 {
-    let name = reader_name(plan, total.reader);
+    let name = reader_name(plan.lists(), total.reader);
     let number = total.bound;
     format!(in alloc; "{name} {number}")
 }

@@ -5,14 +5,13 @@ ghost use Rattle.dds_weights.specs.Views.{certificate_view};
 ghost use Rattle.dds_explain.specs.Notes.{bound_words, held_up_words, note_line, note_lines, note_text, stuck_words};
 ghost use Rattle.dds_explain.specs.Notes.{takes_nothing, total_words, unwritten_words};
 
-use crate::pieces::{reader_name, writer_name};
 use dds_base::{KeyNo, ReaderNo, RuleNo, TopicNo, WriterNo};
-use dds_events::rule_text;
 use dds_lint::{Note, all_notes};
 use dds_lists::Deployment;
 use dds_match::Plan;
-use dds_show::texts::{TextResult, text_of_each};
-use dds_weights::naming::{name_at, reader_key, row_name};
+use dds_text::names::{name_at, reader_key, reader_name, rule_text, writer_name};
+use dds_text::texts::{TextResult, text_of_each};
+use dds_weights::naming::row_name;
 use dds_weights::{Bound, Certificate, Total};
 use std::alloc::Global;
 
@@ -65,7 +64,7 @@ fn bound_words(alloc: Global, plan: &Plan, bound: &Bound) -> TextResult
     ensures { IfOk result (λ text. string_bytes text ≡ bound_words plan.now bound.now) }
 {
     let key = reader_key(plan.lists(), bound.reader, bound.key);
-    let reader = reader_name(plan, bound.reader);
+    let reader = reader_name(plan.lists(), bound.reader);
     format!(in alloc; "nothing needs the bound of {key} at {reader}")
 }
 
@@ -85,7 +84,7 @@ fn needless_bound(alloc: Global, plan: &Plan, certificate: &Certificate, place: 
 fn total_words(alloc: Global, plan: &Plan, total: &Total) -> TextResult
     ensures { IfOk result (λ text. string_bytes text ≡ total_words plan.now total.now) }
 {
-    let reader = reader_name(plan, total.reader);
+    let reader = reader_name(plan.lists(), total.reader);
     format!(in alloc; "nothing needs the total of {reader}")
 }
 
@@ -105,8 +104,8 @@ fn needless_total(alloc: Global, plan: &Plan, certificate: &Certificate, place: 
 fn held_up_words(alloc: Global, plan: &Plan, writer: WriterNo, reader: ReaderNo) -> TextResult
     ensures { IfOk result (λ text. string_bytes text ≡ held_up_words plan.now writer reader) }
 {
-    let writer = writer_name(plan, writer);
-    let reader = reader_name(plan, reader);
+    let writer = writer_name(plan.lists(), writer);
+    let reader = reader_name(plan.lists(), reader);
     format!(in alloc; "{writer} keeps all within a limit, so it waits where {reader} is slow")
 }
 
@@ -118,16 +117,16 @@ pub fn note_text(alloc: Global, plan: &Plan, certificate: &Certificate, note: No
 {
     match note {
         Note::Watcher(reader) => {
-            let reader = reader_name(plan, reader);
+            let reader = reader_name(plan.lists(), reader);
             format!(in alloc; "{reader} may miss samples, and a yes says nothing of that")
         }
         Note::Unlimited(reader) => {
-            let reader = reader_name(plan, reader);
+            let reader = reader_name(plan.lists(), reader);
             format!(in alloc; "{reader} has no limit, and no bound says how much it may store")
         }
         Note::UnwrittenKey { topic, key } => unwritten_words(alloc, plan.lists(), topic, key),
         Note::IdleWriter(writer) => {
-            let writer = writer_name(plan, writer);
+            let writer = writer_name(plan.lists(), writer);
             format!(in alloc; "no rule writes at {writer}")
         }
         Note::NoRules => { String::from_str(alloc, "there's no rule, so nothing is ever written") }

@@ -5,12 +5,12 @@ ghost use Rattle.dds_match.specs.Matching.{why_not};
 ghost use Rattle.dds_show.specs.Reasons.{reason_words};
 ghost use Rattle.dds_explain.specs.Pairs.{not_intended_line, not_matched_lines};
 
-use crate::pieces::{reader_name, writer_name};
 use crate::values::mismatch_lines;
 use dds_base::{ReaderNo, WriterNo};
 use dds_match::Plan;
 use dds_show::reasons::reason_text;
-use dds_show::texts::TextResult;
+use dds_text::names::{reader_name, writer_name};
+use dds_text::texts::TextResult;
 use std::alloc::Global;
 
 /// Why a pair doesn't match, in words: none where there is no reason.
@@ -34,8 +34,8 @@ pub(crate) fn not_matched_lines(
 {
     let reason = why_not_text(alloc, plan, writer, reader)?;
     let values = mismatch_lines(alloc, plan, writer, reader)?;
-    let writer = writer_name(plan, writer);
-    let reader = reader_name(plan, reader);
+    let writer = writer_name(plan.lists(), writer);
+    let reader = reader_name(plan.lists(), reader);
     format!(in alloc; "because {writer} and {reader} don't match: {reason}\n{values}")
 }
 
@@ -48,7 +48,7 @@ pub(crate) fn not_intended_line(
 ) -> TextResult
     ensures { IfOk result (λ text. string_bytes text ≡ not_intended_line plan.now writer reader) }
 {
-    let writer = writer_name(plan, writer);
-    let reader = reader_name(plan, reader);
+    let writer = writer_name(plan.lists(), writer);
+    let reader = reader_name(plan.lists(), reader);
     format!(in alloc; "because {writer} and {reader} match, and no connection names them\n")
 }

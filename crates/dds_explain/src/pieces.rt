@@ -3,28 +3,14 @@ ghost use Rattle.std.specs.Prelude.{◌≡◌, ℕ, List, [], IfOk, option_map, 
 ghost use Rattle.std.specs.Option.{option_map_or};
 ghost use Rattle.dds_match.specs.Plan.{network_of};
 ghost use Rattle.dds_weights.specs.Views.{certificate_view, row_view};
-ghost use Rattle.dds_events.specs.Naming.{reader_name, writer_name};
 ghost use Rattle.dds_explain.specs.Pieces.{instance_limit_name, key_line, limit_text, weighed_term};
 
 use dds_base::{ReaderNo, WriterNo};
 use dds_match::Plan;
 use dds_qos::{ReaderLimits, WriterLimits};
-use dds_show::texts::{TextResult, number_or};
-use dds_weights::naming::name_at;
+use dds_text::texts::{TextResult, number_or};
 use dds_weights::{Certificate, Row};
 use std::alloc::Global;
-
-pub(crate) fn writer_name(plan: &Plan, writer: WriterNo) -> &str
-    ensures { result.now ≡ writer_name plan.now writer }
-{
-    name_at(plan.lists().writer_names(), writer.number())
-}
-
-pub(crate) fn reader_name(plan: &Plan, reader: ReaderNo) -> &str
-    ensures { result.now ≡ reader_name plan.now reader }
-{
-    name_at(plan.lists().reader_names(), reader.number())
-}
 
 /// The limits of a writer, none where there is no such writer.
 pub(crate) fn writer_limits(plan: &Plan, writer: WriterNo) -> WriterLimits

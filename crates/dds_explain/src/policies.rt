@@ -4,7 +4,7 @@ ghost use Rattle.std.specs.Prelude.{◌≡◌, IfOk, string_bytes};
 ghost use Rattle.dds_explain.specs.Policies.{best_effort_line, exclusive_line, keeps_last_line, ordered_line};
 ghost use Rattle.dds_explain.specs.Policies.{policy_line, source_order_line};
 
-use dds_show::texts::TextResult;
+use dds_text::texts::TextResult;
 use std::alloc::Global;
 
 /// What an endpoint has that it must not have.

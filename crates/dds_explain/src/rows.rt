@@ -1,22 +1,21 @@
 //! Why numbers 30 to 32 refuse a row: what weighs more after a take, a firing or a write than before it.
 ghost use Rattle.std.specs.Prelude.{◌≡◌, IfOk, flat_map, length, string_bytes};
 ghost use Rattle.dds_lists.specs.Views.{rule_view};
-ghost use Rattle.dds_weights.specs.Text.{each_below};
+ghost use Rattle.dds_text.specs.Texts.{each_below};
 ghost use Rattle.dds_weights.specs.Views.{certificate_view, row_view};
 ghost use Rattle.dds_explain.specs.Rows.{permit_text, firing_line, firing_lines, heard_line, rule_lines};
 ghost use Rattle.dds_explain.specs.Rows.{rule_raises_lines, take_line, take_raises_line, take_term, write_line};
 ghost use Rattle.dds_explain.specs.Rows.{write_lines, write_raises_lines, write_term};
 
-use crate::pieces::{reader_name, text_of_row, weighed_term, writer_name};
+use crate::pieces::{text_of_row, weighed_term};
 use crate::weights::{
     permit_weight, permits_weighed, sample_weight, spread, take_weight, takes_weighed,
 };
 use dds_base::{KeyNo, Portion, ReaderNo, RuleNo, WriterNo};
-use dds_events::rule_text;
 use dds_lists::Rule;
 use dds_match::Plan;
-use dds_show::texts::{TextResult, text_below, text_of_each};
-use dds_weights::naming::{reader_key, writer_key};
+use dds_text::names::{reader_key, reader_name, rule_text, writer_key, writer_name};
+use dds_text::texts::{TextResult, text_below, text_of_each};
 use dds_weights::{Certificate, Row};
 use std::alloc::Global;
 
@@ -27,7 +26,7 @@ fn take_line(alloc: Global, plan: &Plan, row: &Row, reader: ReaderNo, key: KeyNo
     let take = take_weight(row, reader, key);
     let sample = sample_weight(row, reader, key);
     let key = reader_key(plan.lists(), reader, key);
-    let name = reader_name(plan, reader);
+    let name = reader_name(plan.lists(), reader);
     let row = row.name.as_str();
     format!(in alloc;
         "because by {row} a take of {key} at {name} weighs {take}, and a sample {sample}\n"
@@ -57,7 +56,7 @@ fn write_term(alloc: Global, plan: &Plan, row: &Row, x: &Portion<WriterNo>) -> T
 {
     let weight = permit_weight(row, x.endpoint, x.key);
     let key = writer_key(plan.lists(), x.endpoint, x.key);
-    let writer = writer_name(plan, x.endpoint);
+    let writer = writer_name(plan.lists(), x.endpoint);
     weighed_term(alloc, "writes", u128::from(x.count), weight, key, writer)
 }
 
@@ -67,7 +66,7 @@ fn take_term(alloc: Global, plan: &Plan, row: &Row, x: &Portion<ReaderNo>) -> Te
 {
     let weight = take_weight(row, x.endpoint, x.key);
     let key = reader_key(plan.lists(), x.endpoint, x.key);
-    let reader = reader_name(plan, x.endpoint);
+    let reader = reader_name(plan.lists(), x.endpoint);
     weighed_term(alloc, "takes", u128::from(x.count), weight, key, reader)
 }
 
@@ -149,7 +148,7 @@ fn heard_line(
 {
     if plan.matched(writer, reader) && plan.hears(reader, key) {
         let weight = sample_weight(row, reader, key);
-        let name = reader_name(plan, reader);
+        let name = reader_name(plan.lists(), reader);
         format!(in alloc; "  a sample at {name} weighs {weight}\n")
     } else {
         Ok(String::new(alloc))
@@ -185,7 +184,7 @@ fn write_line(alloc: Global, plan: &Plan, row: &Row, writer: WriterNo, key: KeyN
     let spread = spread(plan, row, writer, key);
     let permit = permit_text(alloc, plan, row, writer, key)?;
     let key = writer_key(plan.lists(), writer, key);
-    let name = writer_name(plan, writer);
+    let name = writer_name(plan.lists(), writer);
     let row = row.name.as_str();
     format!(in alloc;
         "because by {row} a write of {key} at {name} puts samples in flight that weigh {spread}, and {permit}\n"

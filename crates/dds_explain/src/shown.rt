@@ -2,7 +2,7 @@
 ghost use Rattle.std.specs.Prelude.{◌≡◌, ◌&&◌, ◌||◌, ◌*◌, suc, not, nat_lt, IfOk, string_bytes};
 ghost use Rattle.dds_match.specs.Network.{reach};
 ghost use Rattle.dds_match.specs.Plan.{network_of};
-ghost use Rattle.dds_weights.specs.Text.{each_below};
+ghost use Rattle.dds_text.specs.Texts.{each_below};
 ghost use Rattle.dds_weights.specs.Views.{certificate_view, row_view};
 ghost use Rattle.dds_runs.specs.Accepted.{budget, row_of};
 ghost use Rattle.dds_check.specs.Shown.{shows, shows_all};
@@ -11,13 +11,13 @@ ghost use Rattle.dds_explain.specs.Shown.{reached_sample_line, sample_line, show
 ghost use Rattle.dds_explain.specs.Shown.{total_not_shown_lines, unshown_bound, unshown_bound_by, unshown_line};
 ghost use Rattle.dds_explain.specs.Shown.{unshown_total, unshown_total_by, writer_permit_lines};
 
-use crate::pieces::{find_row, reader_name, text_of_row, weighed_term, writer_name};
+use crate::pieces::{find_row, text_of_row, weighed_term};
 use crate::weights::{budget, opening_permits, permit_weight, sample_weight};
 use dds_base::grid::KEYS;
 use dds_base::{KeyNo, ReaderNo, WriterNo};
 use dds_match::Plan;
-use dds_show::texts::{TextResult, text_below, text_of_each};
-use dds_weights::naming::{reader_key, writer_key};
+use dds_text::names::{reader_key, reader_name, writer_key, writer_name};
+use dds_text::texts::{TextResult, text_below, text_of_each};
 use dds_weights::{Bound, Certificate, Row, Total};
 use std::alloc::Global;
 
@@ -60,7 +60,7 @@ fn permit_line(alloc: Global, plan: &Plan, row: &Row, writer: WriterNo, key: Key
     }
     let weight = permit_weight(row, writer, key);
     let key = writer_key(plan.lists(), writer, key);
-    let name = writer_name(plan, writer);
+    let name = writer_name(plan.lists(), writer);
     weighed_term(alloc, "permits", count, weight, key, name)
 }
 
@@ -123,7 +123,7 @@ fn bound_claim(alloc: Global, plan: &Plan, bound: &Bound) -> TextResult
 {
     let number = bound.bound;
     let key = reader_key(plan.lists(), bound.reader, bound.key);
-    let name = reader_name(plan, bound.reader);
+    let name = reader_name(plan.lists(), bound.reader);
     format!(in alloc; "the bound {number} of {key} at {name}")
 }
 
@@ -214,7 +214,7 @@ fn total_claim(alloc: Global, plan: &Plan, total: &Total) -> TextResult
     ensures { IfOk result (λ text. string_bytes text ≡ total_claim plan.now total.now) }
 {
     let number = total.bound;
-    let name = reader_name(plan, total.reader);
+    let name = reader_name(plan.lists(), total.reader);
     format!(in alloc; "the total {number} of {name}")
 }
 

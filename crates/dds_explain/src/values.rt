@@ -9,8 +9,8 @@ ghost use Rattle.dds_explain.specs.Values.{time_text, unmet_lines, value_line};
 use dds_base::{ReaderNo, WriterNo};
 use dds_match::{Plan, WhyNot};
 use dds_qos::{Duration, Liveliness, Policies, Policy, PolicySet, Presentation};
-use dds_show::texts::{TextResult, text_of_each};
-use dds_show::words::{
+use dds_text::texts::{TextResult, text_of_each};
+use dds_text::words::{
     access_scope_word, destination_order_word, durability_word, liveliness_word, ownership_word,
     reliability_word,
 };

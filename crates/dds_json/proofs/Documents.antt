@@ -11,7 +11,7 @@ use Rattle.dds_lists.specs.Lists.{Lists}
 use Rattle.dds_match.specs.Matching.{why_not}
 use Rattle.dds_match.specs.declared.matching.WhyNot.{WhyNot}
 use Rattle.dds_weights.specs.Lists.{Certificate}
-use Rattle.dds_weights.specs.Naming.{name_at}
+use Rattle.dds_text.specs.Names.{name_at}
 use Rattle.dds_weights.specs.Views.{certificate_view}
 use Rattle.dds_check.specs.declared.verdict.No.{No}
 use Rattle.dds_check.specs.declared.verdict.Subject.{Subject}

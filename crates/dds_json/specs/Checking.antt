@@ -4,7 +4,8 @@ use Rattle.serde_json.specs.Data.{Data, Members, array, member, no_members, numb
 use Rattle.serde_json.specs.View.{items_of}
 use Rattle.dds_lists.specs.Lists.{Lists}
 use Rattle.dds_weights.specs.Lists.{Certificate}
-use Rattle.dds_weights.specs.Naming.{name_at, reader_key, row_name, writer_key}
+use Rattle.dds_text.specs.Names.{name_at, reader_key, writer_key, rule_text}
+use Rattle.dds_weights.specs.Naming.{row_name}
 use Rattle.dds_weights.specs.Views.{certificate_view}
 use Rattle.dds_weights.specs.declared.certificate.Bound.{Bound}
 use Rattle.dds_weights.specs.declared.certificate.Total.{Total}
@@ -12,7 +13,6 @@ use Rattle.dds_check.specs.Verdict.{number_of, name_of}
 use Rattle.dds_check.specs.declared.verdict.No.{No}
 use Rattle.dds_check.specs.declared.verdict.Subject.{Subject}
 use Rattle.dds_check.specs.declared.verdict.Subject.TheVariants as subject
-use Rattle.dds_events.specs.Naming.{rule_text}
 use Rattle.dds_answers.specs.Report.{because_lines}
 use Rattle.dds_answers.specs.declared.report.Detail.{Detail}
 use Rattle.dds_answers.specs.declared.report.Detail.TheVariants.{Plain, Explained}

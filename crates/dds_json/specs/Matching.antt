@@ -7,7 +7,7 @@ use Rattle.dds_lists.specs.Lists.{Lists}
 use Rattle.dds_match.specs.Matching.{why_not}
 use Rattle.dds_match.specs.Plan.{network_of}
 use Rattle.dds_match.specs.declared.matching.WhyNot.{WhyNot}
-use Rattle.dds_weights.specs.Naming.{name_at}
+use Rattle.dds_text.specs.Names.{name_at}
 use Rattle.dds_show.specs.Reasons.{reason_words}
 use Rattle.dds_answers.specs.Matches.{is_as_intended}
 

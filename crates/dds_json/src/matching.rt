@@ -15,7 +15,7 @@ use dds_answers::{Answer, ToolFault, answer_with, is_as_intended, read_plan};
 use dds_base::{NoMemory, ReaderNo, WriterNo};
 use dds_match::{Plan, WhyNot};
 use dds_show::reasons::reason_text;
-use dds_weights::naming::name_at;
+use dds_text::names::name_at;
 use serde_json::{Value, json};
 use std::alloc::Global;
 

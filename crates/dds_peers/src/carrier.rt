@@ -60,8 +60,8 @@ impl<N: Name> Carrier<N> {
         Some(1 + u64::from(word / 2 % SHORT))
     }
 
-    // Whether nobody can answer it: every packet is lost, and it has sent nothing but HEARTBEATs for a while, which would
-    // go on until its events are used up.
+    // Whether nobody can answer it: every packet is lost, and for a while it has sent nothing but HEARTBEATs, which it
+    // would do until its events are used up.
     fn is_unheard(&self, fates: &[Fate]) -> bool {
         self.pace.heartbeats > HEARTBEATS && fates.iter().all(|&fate| fate == Fate::Lose)
     }

@@ -2,7 +2,7 @@
 use Rattle.std.specs.Prelude.{ℕ, List, [], length, if◌then◌else◌}
 use Rattle.std.specs.List.{slice_index_or}
 use Rattle.dds_lists.specs.Lists.{Lists}
-use Rattle.dds_weights.specs.Text.{each_below}
+use Rattle.dds_text.specs.Texts.{each_below}
 use Rattle.dds_apps.specs.declared.player.AppEnd.{AppEnd}
 use Rattle.dds_apps.specs.declared.player.AppEnd.TheVariants as end
 use Rattle.dds_recap.specs.Ends.{is_idle}

@@ -5,8 +5,8 @@ use Rattle.dds_qos.specs.declared.limits.ReaderLimits.{ReaderLimits}
 use Rattle.dds_lists.specs.Lists.{Lists}
 use Rattle.dds_match.specs.Plan.{network_of}
 use Rattle.dds_runs.specs.Accepted.{instance_limit}
-use Rattle.dds_weights.specs.Naming.{name_at, reader_keys}
-use Rattle.dds_weights.specs.Text.{each_below}
+use Rattle.dds_text.specs.Names.{name_at, reader_keys}
+use Rattle.dds_text.specs.Texts.{each_below}
 use Rattle.dds_recap.specs.Held.{greatest}
 
 -- the limit that a reader is held against: that of an instance where it is finite, else max_samples

@@ -6,8 +6,8 @@ use Rattle.dds_base.specs.declared.portion.Portion.{Portion}
 use Rattle.dds_lists.specs.Lists.{Lists, has, readers_at}
 use Rattle.dds_match.specs.Network.{Network}
 use Rattle.dds_match.specs.Plan.{network_of}
-use Rattle.dds_weights.specs.Naming.{name_at, reader_key, reader_keys}
-use Rattle.dds_weights.specs.Text.{each_below}
+use Rattle.dds_text.specs.Names.{name_at, reader_key, reader_keys}
+use Rattle.dds_text.specs.Texts.{each_below}
 
 -- more of the key at the reader are needed than these
 abbrev pub is_short : List (Portion ℕ) → (r k spare : ℕ) → Bool

@@ -1,7 +1,7 @@
 //! A journal, event by event, and the lines that it comes down to.
 ghost use Rattle.std.specs.Prelude.{◌≡◌, ◌++◌, ℕ, IfOk, length, string_bytes};
-ghost use Rattle.dds_book.specs.Journal.{IsJournal, pairs_of, world_after};
 ghost use Rattle.dds_match.specs.Plan.{network_of};
+ghost use Rattle.dds_book.specs.Journal.{IsJournal, pairs_of, world_after};
 ghost use Rattle.dds_recap.specs.Explanation.{explanation};
 ghost use Rattle.dds_recap.specs.Held.{most_held, most_held_in_all};
 ghost use Rattle.dds_recap.specs.Idling.{wait_lines};
@@ -16,7 +16,7 @@ use dds_apps::AppEnd;
 use dds_base::NoMemory;
 use dds_book::Entry;
 use dds_match::Plan;
-use dds_show::texts::TextResult;
+use dds_text::texts::TextResult;
 use std::alloc::Global;
 
 /// The recap of a journal.

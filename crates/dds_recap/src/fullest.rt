@@ -9,8 +9,8 @@ use dds_base::ReaderNo;
 use dds_check::instance_limit;
 use dds_match::Plan;
 use dds_qos::ReaderLimits;
-use dds_show::texts::{TextResult, text_below};
-use dds_weights::naming::{keys_of_reader, name_at};
+use dds_text::names::{keys_of_reader, name_at};
+use dds_text::texts::{TextResult, text_below};
 use std::alloc::Global;
 
 /// The limit that a reader is held against, with its name: that of an instance where it is finite, else `max_samples`.

@@ -9,7 +9,7 @@ use crate::waits::app_waits;
 use dds_apps::AppEnd;
 use dds_base::AppNo;
 use dds_match::Plan;
-use dds_show::texts::{TextResult, text_below};
+use dds_text::texts::{TextResult, text_below};
 use std::alloc::Global;
 
 /// The lines of an application, if its thread ended idle.

@@ -8,8 +8,8 @@ ghost use Rattle.dds_recap.specs.Waits.{wait_line, waits};
 use crate::recap::Recap;
 use dds_base::{AppNo, KeyNo, Portion, ReaderNo, RuleNo};
 use dds_match::Plan;
-use dds_show::texts::{TextResult, text_below};
-use dds_weights::naming::{keys_of_reader, name_at, reader_key};
+use dds_text::names::{keys_of_reader, name_at, reader_key};
+use dds_text::texts::{TextResult, text_below};
 use std::alloc::Global;
 
 /// Whether more of a key at a reader are needed than these.

@@ -1,2 +1,1 @@
-pub mod ShowLaws
 mod Names

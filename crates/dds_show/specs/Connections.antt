@@ -4,9 +4,8 @@ use Rattle.std.specs.List.{range_with_len}
 use Rattle.std.specs.Option.{option_map_or}
 use Rattle.dds_lists.specs.Lists.{Lists}
 use Rattle.dds_match.specs.Plan.{matched}
-use Rattle.dds_weights.specs.Naming.{name_at}
-use Rattle.dds_weights.specs.Text.{each_below}
-use Rattle.dds_show.specs.Pieces.{start_of}
+use Rattle.dds_text.specs.Names.{name_at}
+use Rattle.dds_text.specs.Texts.{each_below, start_of}
 
 -- the pairs that match, by writer and then by reader, each in file order
 abbrev pub pair_at : Lists → ℕ → ℕ → List (ℕ × ℕ)

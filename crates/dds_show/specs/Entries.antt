@@ -6,9 +6,10 @@ use Rattle.dds_base.specs.declared.portion.Portion.{Portion}
 use Rattle.dds_qos.specs.declared.policies.Policies.{Policies}
 use Rattle.dds_lists.specs.Lists.{Lists, Participant, Topic, Writer, Reader, Application, Rule, keys_at, key_name}
 use Rattle.dds_lists.specs.declared.lists.Origin.{Origin}
-use Rattle.dds_weights.specs.Naming.{name_at, reader_key, writer_key}
-use Rattle.dds_weights.specs.Text.{each_below}
-use Rattle.dds_show.specs.Pieces.{comma, flag_word, name_items, quoted}
+use Rattle.dds_text.specs.Names.{name_at, reader_key, writer_key}
+use Rattle.dds_text.specs.Texts.{each_below}
+use Rattle.dds_show.specs.Pieces.{comma, name_items, quoted}
+use Rattle.dds_text.specs.Words.{flag_word}
 use Rattle.dds_show.specs.Policies.{policies_fields}
 
 -- in quotes the name with the number at a place of a list

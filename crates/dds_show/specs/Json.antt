@@ -4,8 +4,8 @@ use Rattle.std.specs.List.{range_with_len}
 use Rattle.std.specs.Option.{option_map_or}
 use Rattle.dds_base.specs.Pairs.{stands}
 use Rattle.dds_lists.specs.Lists.{Lists}
-use Rattle.dds_weights.specs.Naming.{name_at}
-use Rattle.dds_weights.specs.Text.{each_below}
+use Rattle.dds_text.specs.Names.{name_at}
+use Rattle.dds_text.specs.Texts.{each_below}
 use Rattle.dds_show.specs.Entries.{application_entry, connection_entry, participant_entry, reader_entry, rule_entry, topic_entry, writer_entry}
 use Rattle.dds_show.specs.Pieces.{line_start}
 

@@ -1,5 +1,4 @@
 pub mod Connections
-pub mod Words
 pub mod Pieces
 pub mod Policies
 pub mod Entries

@@ -1,8 +1,8 @@
 -- Pieces of a deployment's JSON. Names and partitions have no byte that JSON escapes.
-use Rattle.std.specs.Prelude.{codes, ℕ, List, [], ◌++◌, ◌==◌, Bool, Option, Some, None, length, if◌then◌else◌}
+use Rattle.std.specs.Prelude.{codes, ℕ, List, [], ◌++◌, Option, length}
 use Rattle.std.specs.Fmt.{decimal}
-use Rattle.dds_weights.specs.Naming.{name_at}
-use Rattle.dds_weights.specs.Text.{each_below}
+use Rattle.dds_text.specs.Names.{name_at}
+use Rattle.dds_text.specs.Texts.{each_below, number_or, start_of}
 use Rattle.dds_qos.specs.declared.policies.Duration.{Duration}
 use Rattle.dds_qos.specs.declared.policies.Duration.TheVariants.{Nanoseconds, Infinite}
 
@@ -10,11 +10,7 @@ use Rattle.dds_qos.specs.declared.policies.Duration.TheVariants.{Nanoseconds, In
 abbrev pub quoted : List ℕ → List ℕ
 quoted text = codes "\"" ++ (text ++ codes "\"")
 
--- what stands before the item at this place of a list: before the first, and before each other
-abbrev pub start_of : List ℕ → List ℕ → ℕ → List ℕ
-start_of first next i = if i == 0 then first else next
-
--- the same of a list in one line
+-- what stands before the item at this place of a list in one line
 abbrev pub comma : ℕ → List ℕ
 comma i = start_of [] (codes ", ") i
 
@@ -30,19 +26,10 @@ name_item names i = comma i ++ quoted (name_at names i)
 abbrev pub name_items : List (List ℕ) → List ℕ
 name_items names = each_below (length names) (name_item names)
 
--- true or false
-abbrev pub flag_word : Bool → List ℕ
-flag_word b = if b then codes "true" else codes "false"
-
 -- a length of time: nanoseconds, or "infinite"
 abbrev pub duration_text : Duration → List ℕ
 duration_text (Nanoseconds n) = decimal n
 duration_text Infinite = codes "\"infinite\""
-
--- a number, or this text where there is none
-abbrev pub number_or : Option ℕ → List ℕ → List ℕ
-number_or (Some n) none = decimal n
-number_or None none = none
 
 -- a limit: a number, or "unlimited"
 abbrev pub limit_text : Option ℕ → List ℕ

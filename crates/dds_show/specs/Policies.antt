@@ -6,8 +6,8 @@ use Rattle.dds_qos.specs.declared.policies.Liveliness.{Liveliness}
 use Rattle.dds_qos.specs.declared.policies.Policies.{Policies}
 use Rattle.dds_qos.specs.declared.policies.Presentation.{Presentation}
 use Rattle.dds_qos.specs.declared.policies.ResourceLimits.{ResourceLimits}
-use Rattle.dds_show.specs.Pieces.{duration_text, flag_word, limit_text}
-use Rattle.dds_show.specs.Words.{access_scope_word, destination_order_word, durability_word, history_word, liveliness_word, ownership_word, reliability_word}
+use Rattle.dds_show.specs.Pieces.{duration_text, limit_text}
+use Rattle.dds_text.specs.Words.{flag_word, access_scope_word, destination_order_word, durability_word, history_word, liveliness_word, ownership_word, reliability_word}
 
 abbrev pub presentation_fields : Presentation → List ℕ
 presentation_fields x =

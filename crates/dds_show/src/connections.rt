@@ -4,10 +4,10 @@ ghost use Rattle.std.specs.Prelude.{◌≡◌, ◌++◌, ◌<◌, IfOk, length, 
 ghost use Rattle.dds_show.specs.Connections.{connection_piece, connection_table, connections_text, matching_pairs};
 ghost use Rattle.dds_show.specs.Connections.{pair_at, pairs_of_writer};
 
-use crate::texts::{TextResult, start_of, text_below};
 use dds_base::{NoMemory, ReaderNo, WriterNo};
 use dds_match::Plan;
-use dds_weights::naming::name_at;
+use dds_text::names::name_at;
+use dds_text::texts::{TextResult, start_of, text_below};
 use std::alloc::Global;
 
 /// Adds a pair, if it matches.

@@ -4,8 +4,8 @@ ghost use Rattle.std.specs.Option.{option_map_or};
 ghost use Rattle.dds_lists.specs.Lists.{keys_at};
 ghost use Rattle.dds_lists.specs.Views.{application_view, participant_view, reader_view, rule_view, topic_view};
 ghost use Rattle.dds_lists.specs.Views.{writer_view};
-ghost use Rattle.dds_weights.specs.Naming.{name_at};
-ghost use Rattle.dds_weights.specs.Text.{each_below};
+ghost use Rattle.dds_text.specs.Names.{name_at};
+ghost use Rattle.dds_text.specs.Texts.{each_below};
 ghost use Rattle.dds_show.specs.Pieces.{comma, quoted};
 ghost use Rattle.dds_show.specs.Entries.{application_entry, connection_entry, may_lose_field, numbered_items};
 ghost use Rattle.dds_show.specs.Entries.{origin_fields, participant_entry, place_fields, portion_entry, qos_fields};
@@ -14,11 +14,11 @@ ghost use Rattle.dds_show.specs.Entries.{write_entry, write_items, writer_entry}
 
 use crate::pieces::{items_below, name_items, quoted, text_items};
 use crate::policies::policies_fields;
-use crate::texts::TextResult;
 use dds_base::{Endpoint, KeyNo, Names, ParticipantNo, Portion, ReaderNo, TopicNo, WriterNo};
 use dds_lists::{Application, Deployment, Origin, Participant, Reader, Rule, Topic, Writer};
 use dds_qos::Policies;
-use dds_weights::naming::{name_at, reader_key, writer_key};
+use dds_text::names::{name_at, reader_key, writer_key};
+use dds_text::texts::TextResult;
 use std::alloc::Global;
 
 /// In quotes the names of these keys.

@@ -1,7 +1,7 @@
 //! A deployment as it was read, in JSON: every section with its entries in file order, every field of an entry with its
 //! value.
 ghost use Rattle.std.specs.Prelude.{◌≡◌, ◌++◌, ◌<◌, ℕ, List, IfOk, length, string_bytes};
-ghost use Rattle.dds_weights.specs.Text.{each_below};
+ghost use Rattle.dds_text.specs.Texts.{each_below};
 ghost use Rattle.dds_show.specs.Pieces.{line_start};
 ghost use Rattle.dds_show.specs.Json.{application_item, applications_section, behaviour_sections, connections_section};
 ghost use Rattle.dds_show.specs.Json.{deployment_json, endpoint_sections, pair_at, pairs, pairs_of_writer};
@@ -13,10 +13,10 @@ use crate::entries::{
     writer_entry,
 };
 use crate::pieces::lines_below;
-use crate::texts::TextResult;
 use dds_base::{AppNo, NoMemory, ParticipantNo, ReaderNo, RuleNo, TopicNo, WriterNo};
 use dds_lists::Deployment;
-use dds_weights::naming::name_at;
+use dds_text::names::name_at;
+use dds_text::texts::TextResult;
 use std::alloc::Global;
 
 /// A section with these entries.

@@ -7,7 +7,5 @@ mod json;
 mod pieces;
 mod policies;
 pub mod reasons;
-pub mod texts;
-pub mod words;
 
 pub use json::deployment_json;

@@ -1,13 +1,13 @@
 //! Pieces of a deployment's JSON. Names and partitions have no byte that JSON escapes.
 ghost use Rattle.std.specs.Prelude.{◌≡◌, ◌++◌, ◌<◌, ℕ, List, IfOk, map, string_bytes};
-ghost use Rattle.dds_weights.specs.Text.{each_below};
-ghost use Rattle.dds_show.specs.Pieces.{comma, duration_text, flag_word, limit_text, line_start, name_items, quoted};
-ghost use Rattle.dds_show.specs.Pieces.{start_of};
+ghost use Rattle.dds_text.specs.Texts.{each_below, start_of};
+ghost use Rattle.dds_text.specs.Words.{flag_word};
+ghost use Rattle.dds_show.specs.Pieces.{comma, duration_text, limit_text, line_start, name_items, quoted};
 
-use crate::texts::{TextResult, number_or, start_of, text_below};
 use dds_base::Names;
 use dds_qos::Duration;
-use dds_weights::naming::name_at;
+use dds_text::names::name_at;
+use dds_text::texts::{TextResult, number_or, start_of, text_below};
 use std::alloc::Global;
 
 /// The items below `n`, with `first` before the first and `next` before each other.
@@ -84,12 +84,6 @@ pub(crate) fn text_items(alloc: Global, texts: &[String]) -> TextResult
     ensures { IfOk result (λ text. string_bytes text ≡ name_items (map string_bytes texts.now)) }
 {
     items_below(alloc, texts.len(), |i| quoted(alloc, texts[i].as_str()))
-}
-
-pub(crate) fn flag_word(flag: bool) -> &'static str
-    ensures { result.now ≡ flag_word flag }
-{
-    if flag { "true" } else { "false" }
 }
 
 /// A length of time: nanoseconds, or "infinite".

@@ -3,13 +3,13 @@ ghost use Rattle.std.specs.Prelude.{◌≡◌, IfOk, string_bytes};
 ghost use Rattle.dds_show.specs.Policies.{delivery_fields, history_fields, limits_fields, liveliness_fields};
 ghost use Rattle.dds_show.specs.Policies.{policies_fields, presentation_fields, timing_fields};
 
-use crate::pieces::{duration_text, flag_word, limit_text};
-use crate::texts::TextResult;
-use crate::words::{
-    access_scope_word, destination_order_word, durability_word, history_word, liveliness_word,
-    ownership_word, reliability_word,
-};
+use crate::pieces::{duration_text, limit_text};
 use dds_qos::{History, Liveliness, Policies, Presentation, ResourceLimits};
+use dds_text::texts::TextResult;
+use dds_text::words::{
+    access_scope_word, destination_order_word, durability_word, flag_word, history_word,
+    liveliness_word, ownership_word, reliability_word,
+};
 use std::alloc::Global;
 
 fn presentation_fields(alloc: Global, x: Presentation) -> TextResult

@@ -4,10 +4,10 @@ ghost use Rattle.std.specs.List.{join_by};
 ghost use Rattle.dds_qos.specs.Compatibility.{contains, name_of, policies};
 ghost use Rattle.dds_show.specs.Reasons.{reason_words};
 
-use crate::texts::TextResult;
 use dds_base::NoMemory;
 use dds_match::WhyNot;
 use dds_qos::{Policy, PolicySet};
+use dds_text::texts::TextResult;
 use std::alloc::Global;
 
 /// Adds the name of a policy, if it is in the set.

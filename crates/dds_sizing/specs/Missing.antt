@@ -5,7 +5,7 @@ use Rattle.std.specs.Option.{option_map_or}
 use Rattle.dds_lists.specs.Lists.{Lists}
 use Rattle.dds_match.specs.Network.{Network, is_written}
 use Rattle.dds_match.specs.Plan.{network_of}
-use Rattle.dds_weights.specs.Naming.{name_at, reader_key, writer_key}
+use Rattle.dds_text.specs.Names.{name_at, reader_key, writer_key}
 use Rattle.dds_answers.specs.Structure.{nothing}
 use Rattle.dds_verdict.specs.Refusal.{refusal_line}
 use Rattle.dds_propose.specs.declared.targets.Target.{Target}

@@ -6,7 +6,7 @@ use Rattle.std.specs.Option.{option_map_or}
 use Rattle.dds_lists.specs.Lists.{Lists}
 use Rattle.dds_match.specs.Network.{Network}
 use Rattle.dds_match.specs.Plan.{network_of}
-use Rattle.dds_weights.specs.Naming.{name_at, reader_key, writer_key}
+use Rattle.dds_text.specs.Names.{name_at, reader_key, writer_key, rule_text}
 use Rattle.dds_weights.specs.Views.{certificate_view}
 use Rattle.dds_propose.specs.declared.targets.Target.{Target}
 use Rattle.dds_propose.specs.declared.targets.Target.TheVariants as target
@@ -19,7 +19,6 @@ use Rattle.dds_search.specs.declared.certificate.rays.Writes.{Writes}
 use Rattle.dds_search.specs.declared.certificate.reasons.Reason.{Reason}
 use Rattle.dds_search.specs.declared.certificate.reasons.Reason.TheVariants.{Weights, Growth, Nothing}
 use Rattle.dds_search.specs.declared.certificate.sizes.Size.{Size}
-use Rattle.dds_events.specs.Naming.{rule_text}
 use Rattle.dds_explain.specs.Explanation.{margins}
 use Rattle.dds_sizing.specs.Needs.{is_for, limit_of_key, limit_of_total}
 use Rattle.dds_sizing.specs.NeedsText.{least_word, policy_word}

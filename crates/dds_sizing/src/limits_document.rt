@@ -13,7 +13,7 @@ use dds_base::NoMemory;
 use dds_json::{answer_word, line_of};
 use dds_lists::Deployment;
 use dds_search::Least;
-use dds_weights::naming::{name_at, reader_key, writer_key};
+use dds_text::names::{name_at, reader_key, writer_key};
 use serde_json::{Value, json};
 use std::alloc::Global;
 

@@ -7,7 +7,7 @@ use crate::needs::{Limit, Need, Policy, room_of};
 use dds_base::NoMemory;
 use dds_lists::Deployment;
 use dds_search::Least;
-use dds_weights::naming::{name_at, reader_key, writer_key};
+use dds_text::names::{name_at, reader_key, writer_key};
 use std::alloc::Global;
 
 /// The endpoint whose samples count, and the key, or `total` for all of them.

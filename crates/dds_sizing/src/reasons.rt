@@ -10,14 +10,13 @@ ghost use Rattle.dds_sizing.specs.Reasons.{reader_of, reason_line, sizes_of, tar
 use crate::needs::{Limit, Need, Room, is_for, limit_of_key, limit_of_total};
 use crate::needs_text::{least_text, policy_word};
 use dds_base::{KeyNo, NoMemory, ReaderNo, WriterNo};
-use dds_events::naming::rule_text;
 use dds_explain::margins;
 use dds_lists::Deployment;
 use dds_match::Plan;
 use dds_propose::targets::Target;
 use dds_search::{Budget, Firings, Least, Measurer, Reason, Reasoned, Size, Writes, every_target};
-use dds_show::texts::{TextResult, text_of_each};
-use dds_weights::naming::{name_at, reader_key, writer_key};
+use dds_text::names::{name_at, reader_key, rule_text, writer_key};
+use dds_text::texts::{TextResult, text_of_each};
 use std::alloc::Global;
 use std::time::Clock;
 

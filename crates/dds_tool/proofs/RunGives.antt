@@ -9,7 +9,7 @@ use Rattle.dds_check.specs.Accepts.{first_no}
 use Rattle.dds_lists.specs.Lists.{Lists}
 use Rattle.dds_cert.specs.Faults.{kind_of}
 use Rattle.dds_weights.specs.Lists.{Certificate}
-use Rattle.dds_weights.specs.Naming.{name_at}
+use Rattle.dds_text.specs.Names.{name_at}
 use Rattle.dds_check.specs.declared.verdict.No.{No}
 use Rattle.dds_book.specs.declared.entry.Entry.{Entry}
 use Rattle.dds_book.specs.Journal.{IsJournal}

@@ -5,8 +5,7 @@ use Rattle.dds_fields.specs.Reading.{Read}
 use Rattle.dds_lists.specs.Lists.{Lists}
 use Rattle.dds_deploy.specs.Document as deployment
 use Rattle.dds_match.specs.Plan.{network_of}
-use Rattle.dds_weights.specs.Naming.{name_at, reader_key, writer_key}
-use Rattle.dds_events.specs.Naming.{rule_text}
+use Rattle.dds_text.specs.Names.{name_at, reader_key, writer_key, rule_text}
 use Rattle.dds_conform.specs.Answers.{answer_text}
 use Rattle.dds_conform.specs.Judging as judging
 use Rattle.dds_conform.specs.Reading.{AreEntries, IsFaultOf}

@@ -7,7 +7,7 @@ use Rattle.dds_deploy.specs.Document as deployment
 use Rattle.dds_match.specs.Plan.{network_of}
 use Rattle.dds_weights.specs.Fits.{fits}
 use Rattle.dds_weights.specs.Lists.{Certificate}
-use Rattle.dds_weights.specs.Naming.{name_at, reader_key}
+use Rattle.dds_text.specs.Names.{name_at, reader_key}
 use Rattle.dds_weights.specs.Views.{certificate_view}
 use Rattle.dds_runs.specs.Accepted.{certificate_of}
 use Rattle.dds_check.specs.Accepts.{first_no}

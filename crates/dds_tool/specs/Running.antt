@@ -6,8 +6,8 @@ use Rattle.dds_base.specs.declared.events.Event.{Event}
 use Rattle.dds_base.specs.declared.events.Reply.{Reply}
 use Rattle.dds_base.specs.declared.events.Reply.TheVariants.{Took, Written}
 use Rattle.dds_lists.specs.Lists.{Lists}
-use Rattle.dds_weights.specs.Naming.{name_at}
-use Rattle.dds_weights.specs.Text.{each_below}
+use Rattle.dds_text.specs.Names.{name_at}
+use Rattle.dds_text.specs.Texts.{each_below}
 use Rattle.dds_book.specs.declared.entry.Entry.{Entry}
 use Rattle.dds_apps.specs.declared.player.AppEnd.{AppEnd}
 use Rattle.dds_apps.specs.declared.player.AppEnd.TheVariants as end

@@ -7,7 +7,7 @@ use Rattle.dds_base.specs.declared.events.Event.TheVariants as event
 use Rattle.dds_base.specs.declared.events.Reply.{Reply}
 use Rattle.dds_base.specs.declared.events.Reply.TheVariants as reply
 use Rattle.dds_lists.specs.Lists.{Lists}
-use Rattle.dds_weights.specs.Naming.{name_at, reader_key, writer_key}
+use Rattle.dds_text.specs.Names.{name_at, reader_key, writer_key}
 use Rattle.dds_tool.specs.declared.summary.Act.{Act}
 use Rattle.dds_tool.specs.declared.summary.Act.TheVariants as act
 

@@ -7,10 +7,9 @@ ghost use Rattle.dds_tool.specs.Conforming.{conformance_document, refused_docume
 
 use dds_base::NoMemory;
 use dds_conform::{Conformance, Refused, Shortage};
-use dds_events::rule_text;
 use dds_json::line_of;
 use dds_lists::Deployment;
-use dds_weights::naming::{name_at, reader_key, writer_key};
+use dds_text::names::{name_at, reader_key, rule_text, writer_key};
 use serde_json::{Value, json};
 use std::alloc::Global;
 

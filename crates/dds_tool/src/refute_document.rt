@@ -13,7 +13,7 @@ use dds_lists::Deployment;
 use dds_match::Plan;
 use dds_search::{Counterexample, Refutation, Unknown};
 use dds_sizing::shortage_word;
-use dds_weights::naming::{name_at, reader_key};
+use dds_text::names::{name_at, reader_key};
 use serde_json::{Value, json};
 use std::alloc::Global;
 

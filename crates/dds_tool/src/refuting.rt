@@ -1,8 +1,8 @@
 //! What `refute` answers.
 ghost use Rattle.std.specs.Prelude.{◌≡◌, Ok, IfErr, IfOk, string_bytes};
+ghost use Rattle.dds_deploy.specs.Document.{read as deployment_read};
 ghost use Rattle.dds_answers.specs.Answers.{GivesOneOf};
 ghost use Rattle.dds_answers.specs.Fault.{IsAnswerFault};
-ghost use Rattle.dds_deploy.specs.Document.{read as deployment_read};
 ghost use Rattle.dds_tool.specs.Refuting.{MayRefute, is_safe, known_text, loss_name, refuted_text, told_known};
 ghost use Rattle.dds_tool.specs.Refuting.{unknown_line, unsafe_line};
 
@@ -16,7 +16,7 @@ use dds_lists::Deployment;
 use dds_match::Plan;
 use dds_search::{Budget, Counterexample, Loss, Refutation, Unknown, refute};
 use dds_sizing::shortage_word;
-use dds_weights::naming::{name_at, reader_key};
+use dds_text::names::{name_at, reader_key};
 use std::alloc::Global;
 use std::time::Clock;
 

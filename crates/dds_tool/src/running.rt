@@ -3,16 +3,16 @@
 ghost use Rattle.std.specs.Prelude.{◌≡◌, ◌⊎◌, ◌++◌, [], IfErr, IfOk, Ok, length, map, option_map};
 ghost use Rattle.std.specs.Prelude.{string_bytes, unwrap_or};
 ghost use Rattle.std.specs.List.{count_by};
-ghost use Rattle.dds_book.specs.Journal.{IsJournal};
 ghost use Rattle.dds_deploy.specs.Document.{read as deployment_read};
+ghost use Rattle.dds_book.specs.Journal.{IsJournal};
 ghost use Rattle.dds_apps.specs.Kept.{entries_of};
+ghost use Rattle.dds_recap.specs.Ends.{all_good};
+ghost use Rattle.dds_recap.specs.Explanation.{explanation};
 ghost use Rattle.dds_answers.specs.Fault.{IsAnswerFault};
 ghost use Rattle.dds_answers.specs.Outcome.{accepted, outcome};
 ghost use Rattle.dds_tool.specs.RunDocument.{told_run};
 ghost use Rattle.dds_tool.specs.RunEnds.{GivesRun};
 ghost use Rattle.dds_tool.specs.Running.{app_line, app_names, because_of, end_word};
-ghost use Rattle.dds_recap.specs.Ends.{all_good};
-ghost use Rattle.dds_recap.specs.Explanation.{explanation};
 ghost use Rattle.dds_tool.specs.Running.{is_taken, is_written, run_lines};
 
 use crate::run_document::run_line;
@@ -26,7 +26,7 @@ use dds_match::Plan;
 use dds_peers::{App, AppEnd, Gate, Limits, Outcome, RunFault, Steady, gauge_of, run_peers};
 use dds_recap::{GoodEnds, all_good, explain_run};
 use dds_request::Wishes;
-use dds_weights::naming::name_at;
+use dds_text::names::name_at;
 use std::alloc::Global;
 use std::sync::Wait;
 use std::thread::Threads;

@@ -8,8 +8,8 @@ ghost use Rattle.dds_tool.specs.Summary.{summary_line, summary_text, times_text}
 use dds_base::grid::KEYS;
 use dds_base::{Event, KeyNo, NoMemory, ReaderNo, Reply, WriterNo};
 use dds_lists::Deployment;
-use dds_show::texts::text_of_each;
-use dds_weights::naming::{name_at, reader_key, writer_key};
+use dds_text::names::{name_at, reader_key, writer_key};
+use dds_text::texts::text_of_each;
 use std::alloc::Global;
 
 /// What is counted.

@@ -5,7 +5,7 @@ use Rattle.dds_lists.specs.Lists.{Lists}
 use Rattle.dds_weights.specs.Lists.{Certificate}
 use Rattle.dds_weights.specs.declared.certificate.Bound.{Bound}
 use Rattle.dds_weights.specs.declared.certificate.Total.{Total}
-use Rattle.dds_weights.specs.Naming.{name_at, reader_key}
+use Rattle.dds_text.specs.Names.{name_at, reader_key}
 
 -- the line of a bound
 abbrev pub bound_line : Lists → Bound → List ℕ

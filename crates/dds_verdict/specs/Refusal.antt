@@ -3,12 +3,13 @@ use Rattle.std.specs.Prelude.{ℕ, List, ◌++◌, codes}
 use Rattle.std.specs.Fmt.{decimal}
 use Rattle.dds_lists.specs.Lists.{Lists}
 use Rattle.dds_weights.specs.Lists.{Certificate}
-use Rattle.dds_weights.specs.Naming.{name_at, reader_key, writer_key, row_name}
+use Rattle.dds_text.specs.Names.{name_at, reader_key, writer_key, rule_text}
+use Rattle.dds_weights.specs.Naming.{row_name}
 use Rattle.dds_check.specs.Verdict.{number_of, name_of}
 use Rattle.dds_check.specs.declared.verdict.No.{No}
 use Rattle.dds_check.specs.declared.verdict.Subject.{Subject}
 use Rattle.dds_check.specs.declared.verdict.Subject.TheVariants as subject
-use Rattle.dds_events.specs.Naming.{rule_text, three_words, two_words}
+use Rattle.dds_text.specs.Texts.{three_words, two_words}
 
 -- the names of what a condition speaks of
 abbrev pub subject_text : Lists → Certificate → Subject → List ℕ

@@ -5,7 +5,7 @@ ghost use Rattle.dds_verdict.specs.Acceptance.{acceptance_lines, bound_line, tot
 
 use dds_base::NoMemory;
 use dds_lists::Deployment;
-use dds_weights::naming::{name_at, reader_key};
+use dds_text::names::{name_at, reader_key};
 use dds_weights::{Bound, Certificate, Total};
 use std::alloc::Global;
 

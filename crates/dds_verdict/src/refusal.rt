@@ -5,10 +5,10 @@ ghost use Rattle.dds_verdict.specs.Refusal.{refusal_line, subject_text};
 
 use dds_base::NoMemory;
 use dds_check::{No, Subject};
-use dds_events::rule_text;
 use dds_lists::Deployment;
+use dds_text::names::{name_at, reader_key, rule_text, writer_key};
 use dds_weights::Certificate;
-use dds_weights::naming::{name_at, reader_key, row_name, writer_key};
+use dds_weights::naming::row_name;
 use std::alloc::Global;
 
 /// The names of what a condition speaks of, with blanks between them.

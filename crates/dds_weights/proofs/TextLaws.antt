@@ -1,33 +1,16 @@
--- Texts of numbers in a row, and the lines of an endpoint from the table of weights.
+-- The parts of a certificate's text, and the lines of an endpoint from the table of weights.
 use Rattle.std.proofs.Common.{ℕ, zero, suc, ◌≡◌, ◌+◌, ◌*◌, ◌<◌, ◌≤◌, ◌==◌, ◌&&◌, List, [], ◌∷◌, ◌++◌, cond, flat_map, map, length, refl, sym, ap, ◌∙◌, arith, append-nil, append_assoc, add-one, get_or, take, slice_index, slice_get, Option, Some, None, unwrap_or, option_map}
 use Rattle.std.specs.List.{range_with_len}
-use Rattle.std.proofs.Math.Seq.{take-suc}
-use Rattle.std.proofs.lemmas.Grind.{flat_map-append}
-use Rattle.std.proofs.lemmas.List.{flat_map_more}
 use Rattle.std.proofs.lemmas.List.Folds.{flat_map-map}
-use Rattle.dds_base.proofs.Ranges.{range_push}
 use Rattle.dds_lists.specs.Lists.{Lists, Reader, Writer, keys_at}
 use Rattle.dds_lists.specs.WellFormed.{IsWellFormed}
 use Rattle.dds_weights.specs.declared.certificate.Weight.{Weight}
 use Rattle.dds_weights.specs.Lists.{weight_of}
-use Rattle.dds_weights.specs.Naming.{name_at, reader_keys, writer_keys}
-use Rattle.dds_weights.specs.Text.{each_below, weight_line, endpoint_lines}
+use Rattle.dds_text.specs.Names.{name_at, reader_keys, writer_keys}
+use Rattle.dds_text.specs.Texts.{each_below}
+use Rattle.dds_weights.specs.Text.{weight_line, endpoint_lines}
 use Rattle.dds_weights.specs.Weighing.{weight_by, ShowsWeights}
 use Rattle.dds_weights.proofs.FitLaws.{keys_few}
-
-each_below_more : (f : ℕ → List ℕ) (n : ℕ) → each_below (n + 1) f ≡ each_below n f ++ f n
-each_below_more f n = ap (flat_map f) (range_push n) ∙ (flat_map-append f (range_with_len 0 n) (n ∷ []) ∙ ap (λ xs. flat_map f (range_with_len 0 n) ++ xs) (append-nil (f n)))
-
--- the text of the next number is added
-pub and_next : (f : ℕ → List ℕ) (n : ℕ) (old text new : List ℕ) → text ≡ old ++ each_below n f → new ≡ text ++ f n → new ≡ old ++ each_below (n + 1) f
-and_next f n old text new before after =
-    after ∙ (ap (λ xs. xs ++ f n) before ∙ (append_assoc old (each_below n f) (f n) ∙ ap (λ xs. old ++ xs) (sym (each_below_more f n))))
-
--- the text of the next element is added
-pub and_element : {X : Type 0} (f : X → List ℕ) (xs : List X) (i : ℕ) (x : X) (old text line new : List ℕ) → i < length xs → x ≡ get_or xs i x →
-    text ≡ old ++ flat_map f (take i xs) → line ≡ f x → new ≡ text ++ line → new ≡ old ++ flat_map f (take (i + 1) xs)
-and_element f xs i x old text line new lt at before is after =
-    after ∙ (rw (before, is) (flat_map_more f old (take i xs) x ∙ rw (add-one, take-suc xs i x lt, ← at) refl))
 
 -- three parts are added, the first over what the elements stand for
 pub and_parts : {X Y : Type 0} (f : Y → List ℕ) (v : X → Y) (xs ys : List X) (head second third t1 t2 t3 t4 : List ℕ) → t1 ≡ head → ys ≡ xs → t2 ≡ t1 ++ flat_map (λ x. f (v x)) ys → t3 ≡ t2 ++ second → t4 ≡ t3 ++ third →

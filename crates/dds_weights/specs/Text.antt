@@ -1,17 +1,14 @@
 -- The text of a certificate file. Endpoints stand in file order and keys in the order of their topic, whatever the order of a list.
 use Rattle.std.specs.Prelude.{codes, ℕ, List, [], ◌++◌, ◌==◌, flat_map, length, if◌then◌else◌}
 use Rattle.std.specs.Fmt.{decimal}
-use Rattle.std.specs.List.{range_with_len}
 use Rattle.dds_lists.specs.Lists.{Lists}
+use Rattle.dds_text.specs.Texts.{each_below}
 use Rattle.dds_weights.specs.declared.certificate.Weight.{Weight}
 use Rattle.dds_weights.specs.declared.certificate.Bound.{Bound}
 use Rattle.dds_weights.specs.declared.certificate.Total.{Total}
 use Rattle.dds_weights.specs.Lists.{Row, Certificate, weight_of}
-use Rattle.dds_weights.specs.Naming.{name_at, reader_keys, writer_keys, reader_key, row_name}
-
--- the texts for 0, .., n - 1, in this order
-abbrev pub each_below : ℕ → (ℕ → List ℕ) → List ℕ
-each_below n text = flat_map text (range_with_len 0 n)
+use Rattle.dds_text.specs.Names.{name_at, reader_keys, writer_keys, reader_key}
+use Rattle.dds_weights.specs.Naming.{row_name}
 
 -- a line of a list of weights, whose endpoints are readers or writers. A weight of 0 is not written
 abbrev pub weight_line : List ℕ → List ℕ → List ℕ → ℕ → List ℕ

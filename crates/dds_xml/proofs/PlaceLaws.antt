@@ -1,8 +1,8 @@
 -- The text of what is at a place, under its name.
 use Rattle.std.proofs.Common.{ℕ, ◌≡◌, ◌∙◌, ◌==◌, List, [], Some, ap, eq-eqb, if◌then◌else◌, refl, sym, slice_get}
 use Rattle.std.specs.Option.{option_map_or}
-use Rattle.dds_weights.specs.Naming.{name_at}
-use Rattle.dds_show.proofs.ShowLaws.{item_here}
+use Rattle.dds_text.specs.Names.{name_at}
+use Rattle.dds_text.proofs.TextLaws.{item_here}
 
 -- the text of the entry at a place of its list, which is found by a number and whose name stands at that place of the names
 pub named_here : {X : Type 0} (f : List ℕ → X → List ℕ) (names given : List (List ℕ)) (xs : List X) (i n : ℕ) (x : X) (name text : List ℕ)

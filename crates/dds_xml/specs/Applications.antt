@@ -2,8 +2,8 @@
 use Rattle.std.specs.Prelude.{codes, ℕ, List, [], ◌++◌, flat_map, length, slice_get}
 use Rattle.std.specs.Option.{option_map_or}
 use Rattle.dds_lists.specs.Lists.{Application, Lists}
-use Rattle.dds_weights.specs.Naming.{name_at}
-use Rattle.dds_weights.specs.Text.{each_below}
+use Rattle.dds_text.specs.Names.{name_at}
+use Rattle.dds_text.specs.Texts.{each_below}
 use Rattle.dds_xml.specs.Pieces.{library}
 
 -- the publisher or the subscriber of the endpoint with this name

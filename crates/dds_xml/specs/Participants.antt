@@ -3,9 +3,8 @@ use Rattle.std.specs.Prelude.{codes, ℕ, List, [], ◌++◌, ◌==◌, nat_le, 
 use Rattle.std.specs.Fmt.{decimal}
 use Rattle.std.specs.Option.{option_map_or}
 use Rattle.dds_lists.specs.Lists.{Lists, Participant, Reader, Writer, keys_at}
-use Rattle.dds_weights.specs.Naming.{name_at}
-use Rattle.dds_weights.specs.Text.{each_below}
-use Rattle.dds_show.specs.Pieces.{start_of}
+use Rattle.dds_text.specs.Names.{name_at}
+use Rattle.dds_text.specs.Texts.{each_below, start_of}
 use Rattle.dds_xml.specs.Pieces.{library}
 
 -- a writer, in a publisher of its name, both with the writer's profile

@@ -3,7 +3,7 @@ use Rattle.std.specs.Prelude.{codes, ℕ, List, ◌++◌, ◌/◌, ◌%◌, Opti
 use Rattle.std.specs.Fmt.{decimal}
 use Rattle.dds_qos.specs.declared.policies.Duration.{Duration}
 use Rattle.dds_qos.specs.declared.policies.Duration.TheVariants.{Nanoseconds, Infinite}
-use Rattle.dds_show.specs.Pieces.{number_or}
+use Rattle.dds_text.specs.Texts.{number_or}
 
 -- the whole seconds of a length of time
 abbrev pub seconds_text : Duration → List ℕ

@@ -8,10 +8,9 @@ use Rattle.dds_qos.specs.declared.policies.Policies.{Policies}
 use Rattle.dds_qos.specs.declared.policies.Presentation.{Presentation}
 use Rattle.dds_qos.specs.declared.policies.ResourceLimits.{ResourceLimits}
 use Rattle.dds_lists.specs.Lists.{Lists, Reader, Writer}
-use Rattle.dds_weights.specs.Naming.{name_at}
-use Rattle.dds_weights.specs.Text.{each_below}
-use Rattle.dds_show.specs.Pieces.{flag_word}
-use Rattle.dds_show.specs.Words.{access_scope_word, destination_order_word, durability_word, history_word, liveliness_word, ownership_word, reliability_word}
+use Rattle.dds_text.specs.Names.{name_at}
+use Rattle.dds_text.specs.Texts.{each_below}
+use Rattle.dds_text.specs.Words.{flag_word, access_scope_word, destination_order_word, durability_word, history_word, liveliness_word, ownership_word, reliability_word}
 use Rattle.dds_xml.specs.Pieces.{duration_element, library, limit_element}
 
 -- a policy that is a kind and nothing else: its element, the word of the kind, and the word for the policy that ends the kind's name

@@ -2,8 +2,8 @@
 use Rattle.std.specs.Prelude.{codes, ℕ, List, [], ◌++◌, length, slice_get}
 use Rattle.std.specs.Option.{option_map_or}
 use Rattle.dds_lists.specs.Lists.{Lists, Topic}
-use Rattle.dds_weights.specs.Naming.{name_at}
-use Rattle.dds_weights.specs.Text.{each_below}
+use Rattle.dds_text.specs.Names.{name_at}
+use Rattle.dds_text.specs.Texts.{each_below}
 
 -- the type of a topic, by its module
 abbrev pub type_ref : List ℕ → Topic → List ℕ

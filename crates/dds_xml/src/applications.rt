@@ -6,8 +6,8 @@ ghost use Rattle.dds_xml.specs.Applications.{application_element, application_li
 use crate::pieces::library;
 use dds_base::AppNo;
 use dds_lists::{Application, Deployment};
-use dds_show::texts::{TextResult, text_of_endpoints};
-use dds_weights::naming::name_at;
+use dds_text::names::name_at;
+use dds_text::texts::{TextResult, text_of_endpoints};
 use std::alloc::Global;
 
 /// The publisher or the subscriber of the endpoint with this name.

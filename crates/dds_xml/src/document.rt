@@ -8,7 +8,7 @@ use crate::profiles::{reader_library, writer_library};
 use crate::topics::domain_library;
 use crate::types::types_section;
 use dds_lists::Deployment;
-use dds_show::texts::TextResult;
+use dds_text::texts::TextResult;
 use std::alloc::Global;
 
 /// What endpoints use: the types of topics, and the QoS profiles.

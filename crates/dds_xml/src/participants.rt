@@ -9,8 +9,8 @@ ghost use Rattle.dds_xml.specs.Participants.{publishers, subscriber, subscriber_
 use crate::pieces::library;
 use dds_base::{KeyNo, Names, ParticipantNo, ReaderNo, WriterNo};
 use dds_lists::{Deployment, Participant, Reader, Writer};
-use dds_show::texts::{TextResult, start_of, text_below};
-use dds_weights::naming::name_at;
+use dds_text::names::name_at;
+use dds_text::texts::{TextResult, start_of, text_below};
 use std::alloc::Global;
 
 /// A writer, in a publisher of its name.

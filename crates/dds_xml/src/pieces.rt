@@ -1,11 +1,11 @@
 //! Pieces of a deployment's XML. Names and partitions have no character that XML escapes.
 ghost use Rattle.std.specs.Prelude.{◌≡◌, ◌<◌, ℕ, List, IfOk, string_bytes};
-ghost use Rattle.dds_weights.specs.Text.{each_below};
+ghost use Rattle.dds_text.specs.Texts.{each_below};
 ghost use Rattle.dds_xml.specs.Pieces.{duration_element, library, limit_element, limit_text, nanoseconds_text};
 ghost use Rattle.dds_xml.specs.Pieces.{seconds_text};
 
 use dds_qos::Duration;
-use dds_show::texts::{TextResult, number_or, text_below};
+use dds_text::texts::{TextResult, number_or, text_below};
 use std::alloc::Global;
 
 /// So many nanoseconds are a second.

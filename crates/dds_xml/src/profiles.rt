@@ -11,12 +11,12 @@ use crate::pieces::{duration_element, library, limit_element};
 use dds_base::{ReaderNo, WriterNo};
 use dds_lists::{Deployment, Reader, Writer};
 use dds_qos::{History, Liveliness, Policies, Presentation, ResourceLimits};
-use dds_show::texts::{TextResult, text_of_each};
-use dds_show::words::{
+use dds_text::names::name_at;
+use dds_text::texts::{TextResult, text_of_each};
+use dds_text::words::{
     access_scope_word, destination_order_word, durability_word, history_word, liveliness_word,
     ownership_word, reliability_word,
 };
-use dds_weights::naming::name_at;
 use std::alloc::Global;
 
 /// A policy that is a kind and nothing else. `suffix` is the policy's word in the name of the kind.

@@ -2,13 +2,13 @@
 //! Domains).
 ghost use Rattle.std.specs.Prelude.{◌≡◌, IfOk, string_bytes};
 ghost use Rattle.dds_lists.specs.Views.{topic_view};
-ghost use Rattle.dds_weights.specs.Naming.{name_at};
+ghost use Rattle.dds_text.specs.Names.{name_at};
 ghost use Rattle.dds_xml.specs.Topics.{domain_library, register_type, register_types, topic_element, topics, type_ref};
 
 use dds_base::TopicNo;
 use dds_lists::{Deployment, Topic};
-use dds_show::texts::{TextResult, text_below};
-use dds_weights::naming::name_at;
+use dds_text::names::name_at;
+use dds_text::texts::{TextResult, text_below};
 use std::alloc::Global;
 
 /// The type of a topic, by its module.

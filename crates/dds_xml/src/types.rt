@@ -6,8 +6,8 @@ ghost use Rattle.dds_xml.specs.Types.{enumerator, enumerators, module_element, t
 
 use dds_base::{Names, TopicNo};
 use dds_lists::{Deployment, Topic};
-use dds_show::texts::{TextResult, text_below};
-use dds_weights::naming::name_at;
+use dds_text::names::name_at;
+use dds_text::texts::{TextResult, text_below};
 use std::alloc::Global;
 
 /// A key of a topic.

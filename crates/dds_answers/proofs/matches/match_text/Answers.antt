@@ -1,5 +1,5 @@
 use Rattle.std.proofs.Common.{[], string_bytes}
-use Rattle.dds_weights.proofs.TextLaws.{and_next}
+use Rattle.dds_text.proofs.TextLaws.{and_next}
 use Rattle.dds_answers.specs.Matches.{writer_lines}
 use Rattle.dds_answers.proofs.matches.match_text.Goals as goal
 

@@ -1,5 +1,5 @@
 use Rattle.std.proofs.Common.{◌∙◌, ◌++◌, ap, string_bytes}
-use Rattle.dds_weights.proofs.TextLaws.{and_next}
+use Rattle.dds_text.proofs.TextLaws.{and_next}
 use Rattle.dds_answers.specs.Matches.{pair_line}
 use Rattle.dds_answers.proofs.matches.push_writer.Goals as goal
 

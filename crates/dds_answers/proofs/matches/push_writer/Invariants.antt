@@ -1,5 +1,5 @@
 use Rattle.std.proofs.Common.{◌≡◌, ◌++◌, string_bytes}
-use Rattle.dds_weights.specs.Text.{each_below}
+use Rattle.dds_text.specs.Texts.{each_below}
 use Rattle.dds_answers.specs.Matches.{pair_line}
 use Rattle.dds_answers.proofs.matches.push_writer.Given as goal
 

@@ -1,6 +1,5 @@
 use Rattle.std.proofs.Common.{◌≡◌, ap, ◌∙◌}
-use Rattle.dds_weights.specs.Naming.{name_at}
-use Rattle.dds_events.specs.Naming.{writer_name}
+use Rattle.dds_text.specs.Names.{name_at, writer_name}
 use Rattle.dds_conform.proofs.answers.refusal_text.Goals as goal
 
 pub returns : goal.returns

@@ -1,5 +1,5 @@
 use Rattle.std.proofs.Common.{◌≡◌, ◌∙◌, ap₂}
-use Rattle.dds_weights.specs.Naming.{name_at}
+use Rattle.dds_text.specs.Names.{name_at}
 use Rattle.dds_draw.specs.Clusters.{application_cluster}
 use Rattle.dds_draw.proofs.clusters.application_cluster.Goals as goal
 

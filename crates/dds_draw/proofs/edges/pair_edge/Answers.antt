@@ -1,5 +1,5 @@
 use Rattle.std.proofs.Common.{◌≡◌, ◌∙◌, ap, ap₂}
-use Rattle.dds_weights.specs.Naming.{name_at}
+use Rattle.dds_text.specs.Names.{name_at}
 use Rattle.dds_draw.specs.Edges.{pair_edge}
 use Rattle.dds_draw.proofs.edges.pair_edge.Goals as goal
 

@@ -1,6 +1,6 @@
 use Rattle.std.proofs.Common.{◌≡◌, ◌∙◌, ap, ap₂, string_bytes, option_map}
 use Rattle.dds_qos.specs.Limits.{reader_limits_of}
-use Rattle.dds_weights.specs.Naming.{name_at}
+use Rattle.dds_text.specs.Names.{name_at}
 use Rattle.dds_weights.specs.Views.{certificate_view}
 use Rattle.dds_draw.specs.Nodes.{certificate_lines, endpoint_label, reader_node}
 use Rattle.dds_draw.specs.Room.{colour_of}

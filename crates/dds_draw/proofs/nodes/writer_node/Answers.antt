@@ -1,5 +1,5 @@
 use Rattle.std.proofs.Common.{◌≡◌, ◌∙◌, ap₂, string_bytes}
-use Rattle.dds_weights.specs.Naming.{name_at}
+use Rattle.dds_text.specs.Names.{name_at}
 use Rattle.dds_draw.specs.Nodes.{endpoint_label, writer_node}
 use Rattle.dds_draw.proofs.nodes.writer_node.Goals as goal
 

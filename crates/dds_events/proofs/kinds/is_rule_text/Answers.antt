@@ -1,7 +1,7 @@
 use Rattle.std.proofs.Common.{◌≡◌, ◌∙◌, ap, subst, sym}
 use Rattle.std.specs.Str.{bytes_eq}
-use Rattle.dds_weights.specs.Naming.{name_at}
-use Rattle.dds_events.specs.Naming.{two_words}
+use Rattle.dds_text.specs.Names.{name_at}
+use Rattle.dds_text.specs.Texts.{two_words}
 use Rattle.dds_events.proofs.KindLaws.{keyed_rule}
 use Rattle.dds_events.proofs.kinds.is_rule_text.Goals as goal
 

@@ -1,6 +1,6 @@
 use Rattle.std.proofs.Common.{◌≢◌, ◌<◌, ℕ, length}
-use Rattle.dds_weights.specs.Naming.{reader_key, reader_keys}
-use Rattle.dds_events.specs.Naming.{two_words, reader_name}
+use Rattle.dds_text.specs.Names.{reader_key, reader_keys, reader_name}
+use Rattle.dds_text.specs.Texts.{two_words}
 use Rattle.dds_events.proofs.kinds.reader_and_key.Given as goal
 
 -- none of the readers so far begins the text

@@ -1,5 +1,5 @@
 use Rattle.std.proofs.Common.{◌≢◌, ◌<◌, ℕ}
-use Rattle.dds_events.specs.Naming.{rule_text}
+use Rattle.dds_text.specs.Names.{rule_text}
 use Rattle.dds_events.proofs.kinds.rule_of.Given as goal
 
 -- none of the rules so far has the text

@@ -1,6 +1,6 @@
 use Rattle.std.proofs.Common.{◌≢◌, ◌<◌, ℕ, length}
-use Rattle.dds_weights.specs.Naming.{writer_key, writer_keys}
-use Rattle.dds_events.specs.Naming.{two_words, writer_name}
+use Rattle.dds_text.specs.Names.{writer_key, writer_keys, writer_name}
+use Rattle.dds_text.specs.Texts.{two_words}
 use Rattle.dds_events.proofs.kinds.writer_and_key.Given as goal
 
 -- none of the writers so far begins the text

@@ -3,7 +3,7 @@ use Rattle.std.specs.List.{zip}
 use Rattle.std.proofs.lemmas.Iterator.{YieldsList-from_slice, YieldsList-from_zip}
 use Rattle.std.proofs.lemmas.Iterator.Consumers.{YieldsList-end, YieldsList-turn}
 use Rattle.std.proofs.lemmas.List.{length_push, take_all}
-use Rattle.dds_weights.proofs.TextLaws.{and_element}
+use Rattle.dds_text.proofs.TextLaws.{and_element}
 use Rattle.dds_events.specs.Lines.{line_of_pair}
 use Rattle.dds_events.proofs.lines.lines_text.Goals as goal
 

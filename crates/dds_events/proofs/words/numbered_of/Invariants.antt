@@ -1,7 +1,7 @@
 use Rattle.std.proofs.Common.{◌≢◌, ◌<◌, ◌^◌, ℕ}
 use Rattle.std.specs.Fmt.{decimal}
-use Rattle.dds_weights.specs.Naming.{name_at}
-use Rattle.dds_events.specs.Naming.{two_words}
+use Rattle.dds_text.specs.Names.{name_at}
+use Rattle.dds_text.specs.Texts.{two_words}
 use Rattle.dds_events.proofs.words.numbered_of.Given as goal
 
 -- none of the names so far begins the text

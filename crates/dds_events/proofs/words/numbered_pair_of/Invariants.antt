@@ -1,7 +1,7 @@
 use Rattle.std.proofs.Common.{◌≢◌, ◌<◌, ◌^◌, ℕ, length}
 use Rattle.std.specs.Fmt.{decimal}
-use Rattle.dds_weights.specs.Naming.{name_at}
-use Rattle.dds_events.specs.Naming.{three_words}
+use Rattle.dds_text.specs.Names.{name_at}
+use Rattle.dds_text.specs.Texts.{three_words}
 use Rattle.dds_events.proofs.words.numbered_pair_of.Given as goal
 
 -- none of the first names so far begins the text

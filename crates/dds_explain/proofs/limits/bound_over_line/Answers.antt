@@ -2,7 +2,7 @@ use Rattle.std.proofs.Common.{◌≡◌, ◌∙◌, string_bytes, ap, List}
 use Rattle.dds_qos.specs.declared.limits.ReaderLimits.{ReaderLimits}
 use Rattle.dds_lists.specs.Lists.{Lists}
 use Rattle.dds_match.specs.Plan.{network_of}
-use Rattle.dds_weights.specs.Naming.{reader_key}
+use Rattle.dds_text.specs.Names.{reader_key}
 use Rattle.dds_weights.specs.declared.certificate.Bound.{Bound}
 use Rattle.dds_runs.specs.Accepted.{instance_limit}
 use Rattle.dds_check.specs.Tables.{bound_of}

@@ -1,7 +1,7 @@
 use Rattle.std.proofs.Common.{◌≡◌, ◌∙◌, string_bytes, ap, List}
 use Rattle.dds_qos.specs.declared.limits.ReaderLimits.{ReaderLimits}
 use Rattle.dds_match.specs.Plan.{network_of}
-use Rattle.dds_weights.specs.Text.{each_below}
+use Rattle.dds_text.specs.Texts.{each_below}
 use Rattle.dds_weights.specs.declared.certificate.Bound.{Bound}
 use Rattle.dds_explain.specs.Limits.{unbounded_key}
 use Rattle.dds_explain.specs.Pieces.{limit_text}

@@ -3,7 +3,7 @@ use Rattle.dds_base.specs.declared.portion.Portion.{Portion}
 use Rattle.dds_lists.specs.Lists.{Lists}
 use Rattle.dds_lists.specs.Views.{rule_view}
 use Rattle.dds_weights.specs.Views.{row_view}
-use Rattle.dds_events.specs.Naming.{rule_text}
+use Rattle.dds_text.specs.Names.{rule_text}
 use Rattle.dds_explain.specs.Rows.{firing_line, take_term, write_term}
 use Rattle.dds_explain.proofs.rows.firing_lines.Goals as goal
 

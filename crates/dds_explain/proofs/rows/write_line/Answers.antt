@@ -1,6 +1,6 @@
 use Rattle.std.proofs.Common.{◌≡◌, ◌∙◌, ap}
 use Rattle.dds_lists.specs.Lists.{Lists}
-use Rattle.dds_weights.specs.Naming.{writer_key}
+use Rattle.dds_text.specs.Names.{writer_key}
 use Rattle.dds_explain.proofs.rows.write_line.Goals as goal
 
 pub returns : goal.returns

@@ -1,6 +1,6 @@
 use Rattle.std.proofs.Common.{◌≡◌, ◌∙◌, ap}
 use Rattle.dds_lists.specs.Lists.{Lists}
-use Rattle.dds_weights.specs.Naming.{reader_key}
+use Rattle.dds_text.specs.Names.{reader_key}
 use Rattle.dds_explain.proofs.shown.bound_claim.Goals as goal
 
 pub returns : goal.returns

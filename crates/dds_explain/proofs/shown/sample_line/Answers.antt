@@ -1,6 +1,6 @@
 use Rattle.std.proofs.Common.{◌≡◌, ◌∙◌, string_bytes, ap}
 use Rattle.dds_lists.specs.Lists.{Lists}
-use Rattle.dds_weights.specs.Naming.{reader_key}
+use Rattle.dds_text.specs.Names.{reader_key}
 use Rattle.dds_weights.specs.Views.{row_view}
 use Rattle.dds_runs.specs.Accepted.{row_of}
 use Rattle.dds_explain.specs.Shown.{shown_text}

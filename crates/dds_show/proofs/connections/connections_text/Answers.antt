@@ -1,6 +1,6 @@
 use Rattle.std.proofs.Common.{rules, ◌≡◌, ◌∙◌, ap, subst, length, IfOk, string_bytes}
 use Rattle.dds_show.specs.Connections.{connection_piece, matching_pairs}
-use Rattle.dds_weights.specs.Text.{each_below}
+use Rattle.dds_text.specs.Texts.{each_below}
 use Rattle.dds_show.proofs.connections.connections_text.Goals as goal
 
 pub returns : goal.returns

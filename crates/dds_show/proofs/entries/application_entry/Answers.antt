@@ -1,5 +1,5 @@
 use Rattle.std.proofs.Common.{◌≡◌, ◌∙◌, ap₂, string_bytes}
-use Rattle.dds_weights.specs.Naming.{name_at}
+use Rattle.dds_text.specs.Names.{name_at}
 use Rattle.dds_show.specs.Entries.{numbered_items}
 use Rattle.dds_show.proofs.entries.application_entry.Goals as goal
 

@@ -1,6 +1,6 @@
 use Rattle.std.proofs.Common.{[]}
 use Rattle.dds_show.specs.Json.{pairs_of_writer}
-use Rattle.dds_show.proofs.ShowLaws.{and_those}
+use Rattle.dds_text.proofs.TextLaws.{and_those}
 use Rattle.dds_show.proofs.json.pairs.Goals as goal
 
 pub loop-w-preserved : goal.loop-w-preserved

@@ -1,5 +1,5 @@
 use Rattle.dds_show.specs.Json.{pair_at}
-use Rattle.dds_show.proofs.ShowLaws.{and_those}
+use Rattle.dds_text.proofs.TextLaws.{and_those}
 use Rattle.dds_show.proofs.json.push_pairs_of_writer.Goals as goal
 
 pub loop-r-preserved : goal.loop-r-preserved

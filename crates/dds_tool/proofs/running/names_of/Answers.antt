@@ -1,7 +1,7 @@
 use Rattle.std.proofs.Common.{◌≡◌, ◌∙◌, map, ap, string_bytes, sym}
 use Rattle.std.specs.List.{range_with_len}
 use Rattle.dds_base.proofs.Ranges.{range_push}
-use Rattle.dds_weights.specs.Naming.{name_at}
+use Rattle.dds_text.specs.Names.{name_at}
 use Rattle.dds_peers.proofs.ListLaws.{map_both}
 use Rattle.dds_tool.proofs.running.names_of.Goals as goal
 

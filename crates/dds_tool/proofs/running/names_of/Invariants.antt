@@ -1,6 +1,6 @@
 use Rattle.std.proofs.Common.{◌≡◌, map, string_bytes}
 use Rattle.std.specs.List.{range_with_len}
-use Rattle.dds_weights.specs.Naming.{name_at}
+use Rattle.dds_text.specs.Names.{name_at}
 use Rattle.dds_tool.proofs.running.names_of.Given as goal
 
 -- the names of the applications so far

@@ -1,7 +1,7 @@
 use Rattle.std.proofs.Common.{◌≡◌, ◌∙◌, ◌++◌, [], List, ℕ, get_or, map, string_bytes, sym, ap, ap₂}
 use Rattle.std.proofs.lemmas.List.{get_or-map}
 use Rattle.dds_book.specs.declared.entry.Entry.{Entry}
-use Rattle.dds_weights.proofs.TextLaws.{and_next}
+use Rattle.dds_text.proofs.TextLaws.{and_next}
 use Rattle.dds_apps.specs.declared.player.AppEnd.TheVariants.{Stopped}
 use Rattle.dds_apps.specs.Kept.{entries_of}
 use Rattle.dds_tool.specs.Running.{app_line, line_at}

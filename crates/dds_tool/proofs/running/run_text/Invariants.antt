@@ -1,5 +1,5 @@
 use Rattle.std.proofs.Common.{◌≡◌, map, string_bytes}
-use Rattle.dds_weights.specs.Text.{each_below}
+use Rattle.dds_text.specs.Texts.{each_below}
 use Rattle.dds_tool.specs.Running.{line_at}
 use Rattle.dds_tool.proofs.running.run_text.Given as goal
 

@@ -1,5 +1,5 @@
 use Rattle.std.proofs.Common.{◌≡◌, ◌++◌, ◌∙◌, ap, arith, map, string_bytes}
-use Rattle.dds_show.proofs.ShowLaws.{and_those}
+use Rattle.dds_text.proofs.TextLaws.{and_those}
 use Rattle.dds_tool.specs.Summary.{key_parts}
 use Rattle.dds_tool.proofs.Summaries.{all_keys}
 use Rattle.dds_tool.proofs.summary.push_endpoint.Goals as goal

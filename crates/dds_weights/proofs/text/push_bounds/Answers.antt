@@ -1,7 +1,7 @@
 use Rattle.std.proofs.Common.{string_bytes}
 use Rattle.dds_weights.specs.Text.{bound_text}
 use Rattle.dds_weights.specs.Views.{certificate_view}
-use Rattle.dds_weights.proofs.TextLaws.{and_element}
+use Rattle.dds_text.proofs.TextLaws.{and_element}
 use Rattle.dds_weights.proofs.text.push_bounds.Goals as goal
 
 pub loop-bound-preserved : goal.loop-bound-preserved

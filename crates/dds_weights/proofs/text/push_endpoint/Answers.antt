@@ -1,7 +1,7 @@
 use Rattle.std.proofs.Common.{◌+◌, ◌*◌, slice_index, string_bytes}
-use Rattle.dds_weights.specs.Naming.{name_at}
+use Rattle.dds_text.specs.Names.{name_at}
 use Rattle.dds_weights.specs.Text.{weight_line}
-use Rattle.dds_weights.proofs.TextLaws.{and_next}
+use Rattle.dds_text.proofs.TextLaws.{and_next}
 use Rattle.dds_weights.proofs.text.push_endpoint.Goals as goal
 
 pub loop-k-preserved : goal.loop-k-preserved

@@ -1,6 +1,7 @@
 use Rattle.std.proofs.Common.{◌≡◌, ◌+◌, ◌*◌, ◌++◌, slice_index, string_bytes}
-use Rattle.dds_weights.specs.Naming.{name_at}
-use Rattle.dds_weights.specs.Text.{each_below, weight_line}
+use Rattle.dds_text.specs.Names.{name_at}
+use Rattle.dds_text.specs.Texts.{each_below}
+use Rattle.dds_weights.specs.Text.{weight_line}
 use Rattle.dds_weights.proofs.text.push_endpoint.Given as goal
 
 -- the lines of the keys so far are added

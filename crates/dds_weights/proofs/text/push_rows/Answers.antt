@@ -1,7 +1,7 @@
 use Rattle.std.proofs.Common.{string_bytes}
 use Rattle.dds_weights.specs.Text.{row_text}
 use Rattle.dds_weights.specs.Views.{row_view}
-use Rattle.dds_weights.proofs.TextLaws.{and_element}
+use Rattle.dds_text.proofs.TextLaws.{and_element}
 use Rattle.dds_weights.proofs.text.push_rows.Goals as goal
 
 pub loop-row-preserved : goal.loop-row-preserved

@@ -1,8 +1,9 @@
 use Rattle.std.proofs.Common.{◌≡◌, ◌++◌, [], codes, string_bytes, ap, arith, ◌∙◌}
 use Rattle.dds_weights.specs.Lists.{weight_of}
-use Rattle.dds_weights.specs.Naming.{name_at, reader_keys}
+use Rattle.dds_text.specs.Names.{name_at, reader_keys}
 use Rattle.dds_weights.specs.Text.{endpoint_lines}
-use Rattle.dds_weights.proofs.TextLaws.{and_next, lines_shown, reader_keys_few}
+use Rattle.dds_text.proofs.TextLaws.{and_next}
+use Rattle.dds_weights.proofs.TextLaws.{lines_shown, reader_keys_few}
 use Rattle.dds_weights.proofs.text.reader_lines.Goals as goal
 
 pub loop-r-preserved : goal.loop-r-preserved

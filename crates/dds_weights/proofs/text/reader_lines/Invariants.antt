@@ -1,7 +1,8 @@
 use Rattle.std.proofs.Common.{◌≡◌, codes, string_bytes}
 use Rattle.dds_weights.specs.Lists.{weight_of}
-use Rattle.dds_weights.specs.Naming.{name_at, reader_keys}
-use Rattle.dds_weights.specs.Text.{each_below, endpoint_lines}
+use Rattle.dds_text.specs.Names.{name_at, reader_keys}
+use Rattle.dds_text.specs.Texts.{each_below}
+use Rattle.dds_weights.specs.Text.{endpoint_lines}
 use Rattle.dds_weights.proofs.text.reader_lines.Given as goal
 
 -- the lines of the readers so far

@@ -1,5 +1,5 @@
 use Rattle.std.proofs.Common.{rules, ◌≡◌, ◌∙◌, ap₂, codes, string_bytes}
-use Rattle.dds_weights.specs.Naming.{name_at}
+use Rattle.dds_text.specs.Names.{name_at}
 use Rattle.dds_xml.specs.Applications.{owned_element, owned_elements}
 use Rattle.dds_xml.proofs.applications.application_element.Goals as goal
 

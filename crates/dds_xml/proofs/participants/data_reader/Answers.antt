@@ -1,6 +1,6 @@
 use Rattle.std.proofs.Common.{◌≡◌, ◌∙◌, ap₂, string_bytes}
 use Rattle.dds_lists.specs.Lists.{keys_at}
-use Rattle.dds_weights.specs.Naming.{name_at}
+use Rattle.dds_text.specs.Names.{name_at}
 use Rattle.dds_xml.specs.Participants.{content_filter}
 use Rattle.dds_xml.proofs.participants.data_reader.Goals as goal
 

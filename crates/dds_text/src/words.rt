@@ -1,11 +1,18 @@
 //! The words of policies, as a deployment file has them.
 ghost use Rattle.std.specs.Prelude.{◌≡◌};
-ghost use Rattle.dds_show.specs.Words.{access_scope_word, destination_order_word, durability_word, history_word};
-ghost use Rattle.dds_show.specs.Words.{liveliness_word, ownership_word, reliability_word};
+ghost use Rattle.dds_text.specs.Words.{access_scope_word, destination_order_word, durability_word, flag_word};
+ghost use Rattle.dds_text.specs.Words.{history_word, liveliness_word, ownership_word, reliability_word};
 
 use dds_qos::{
     AccessScope, DestinationOrder, Durability, HistoryKind, LivelinessKind, Ownership, Reliability,
 };
+
+/// The word of a flag.
+pub fn flag_word(flag: bool) -> &'static str
+    ensures { result.now ≡ flag_word flag }
+{
+    if flag { "true" } else { "false" }
+}
 
 /// The word of a kind of durability (OMG DDS 1.4, clause 2.2.3.4).
 pub fn durability_word(x: Durability) -> &'static str

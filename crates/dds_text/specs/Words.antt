@@ -1,5 +1,5 @@
 -- The words of policies, as a deployment file has them.
-use Rattle.std.specs.Prelude.{ℕ, List, codes}
+use Rattle.std.specs.Prelude.{ℕ, List, Bool, codes, if◌then◌else◌}
 use Rattle.dds_qos.specs.declared.policies.Durability.{Durability}
 use Rattle.dds_qos.specs.declared.policies.Durability.TheVariants.{Volatile, TransientLocal, Transient, Persistent}
 use Rattle.dds_qos.specs.declared.policies.AccessScope.{AccessScope}
@@ -14,6 +14,10 @@ use Rattle.dds_qos.specs.declared.policies.DestinationOrder.{DestinationOrder}
 use Rattle.dds_qos.specs.declared.policies.DestinationOrder.TheVariants.{ByReceptionTimestamp, BySourceTimestamp}
 use Rattle.dds_qos.specs.declared.policies.HistoryKind.{HistoryKind}
 use Rattle.dds_qos.specs.declared.policies.HistoryKind.TheVariants.{KeepLast, KeepAll}
+
+-- true or false
+abbrev pub flag_word : Bool → List ℕ
+flag_word b = if b then codes "true" else codes "false"
 
 abbrev pub durability_word : Durability → List ℕ
 durability_word Volatile = codes "VOLATILE"

@@ -1,7 +1,7 @@
 use Rattle.std.proofs.Common.{◌≡◌, ◌∙◌, [], IfOk, ap, flat_map, string_bytes}
 use Rattle.std.proofs.lemmas.List.{take_all}
-use Rattle.dds_weights.proofs.TextLaws.{and_element}
-use Rattle.dds_show.proofs.texts.text_of_each.Goals as goal
+use Rattle.dds_text.proofs.TextLaws.{and_element}
+use Rattle.dds_text.proofs.texts.text_of_each.Goals as goal
 
 pub loop-x-preserved : goal.loop-x-preserved
 loop-x-preserved g c f same =

@@ -1,6 +1,6 @@
 use Rattle.std.proofs.Common.{◌≡◌, ℕ, List, ◌<◌, IfOk, string_bytes}
-use Rattle.dds_weights.specs.Text.{each_below}
-use Rattle.dds_show.proofs.texts.text_below.Given as goal
+use Rattle.dds_text.specs.Texts.{each_below}
+use Rattle.dds_text.proofs.texts.text_below.Given as goal
 
 -- the texts so far
 abbrev pub invariant-loop-i : goal.invariant-loop-i

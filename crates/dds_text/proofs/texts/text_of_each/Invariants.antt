@@ -1,5 +1,5 @@
 use Rattle.std.proofs.Common.{◌≡◌, ℕ, List, IfOk, flat_map, string_bytes, take}
-use Rattle.dds_show.proofs.texts.text_of_each.Given as goal
+use Rattle.dds_text.proofs.texts.text_of_each.Given as goal
 
 -- the texts so far
 abbrev pub invariant-loop-x : goal.invariant-loop-x

@@ -1,12 +1,11 @@
 //! Texts of a number that may be missing, and texts made of a text for each number below a bound, or for each element
 //! of a list.
 ghost use Rattle.std.specs.Prelude.{◌≡◌, ◌<◌, ℕ, List, IfOk, flat_map, string_bytes};
-ghost use Rattle.dds_weights.specs.Naming.{name_at};
-ghost use Rattle.dds_weights.specs.Text.{each_below};
-ghost use Rattle.dds_show.specs.Pieces.{number_or, start_of};
+ghost use Rattle.dds_text.specs.Names.{name_at};
+ghost use Rattle.dds_text.specs.Texts.{each_below, number_or, start_of};
 
+use crate::names::name_at;
 use dds_base::{Endpoint, Names, NoMemory};
-use dds_weights::naming::name_at;
 use std::alloc::Global;
 
 /// A text, unless memory runs out.

@@ -1,6 +1,6 @@
 use Rattle.std.proofs.Common.{◌≡◌, IfOk, string_bytes}
-use Rattle.dds_show.proofs.ShowLaws.{and_text}
-use Rattle.dds_show.proofs.texts.text_below.Goals as goal
+use Rattle.dds_text.proofs.TextLaws.{and_text}
+use Rattle.dds_text.proofs.texts.text_below.Goals as goal
 
 pub loop-i-preserved : goal.loop-i-preserved
 loop-i-preserved g c f same =
