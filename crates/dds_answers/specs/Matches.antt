@@ -5,7 +5,7 @@ use Rattle.dds_match.specs.Matching.{why_not}
 use Rattle.dds_match.specs.Network.{Network}
 use Rattle.dds_match.specs.declared.matching.WhyNot.{WhyNot}
 use Rattle.dds_runs.specs.First.{all_below}
-use Rattle.dds_text.specs.Names.{name_at}
+use Rattle.dds_text.specs.Names.{reader_name, writer_name}
 use Rattle.dds_text.specs.Texts.{each_below}
 use Rattle.dds_show.specs.Reasons.{reason_words}
 
@@ -16,7 +16,7 @@ line_of w r (Some reason) = codes "none " ++ (w ++ (codes " " ++ (r ++ (codes " 
 
 -- the line of the writer and the reader with these numbers
 abbrev pub pair_line : Lists → ℕ → ℕ → List ℕ
-pair_line d w r = line_of (name_at d.writers.names w) (name_at d.readers.names r) (why_not d w r)
+pair_line d w r = line_of (writer_name d w) (reader_name d r) (why_not d w r)
 
 -- the lines of a writer, by readers in file order
 abbrev pub writer_lines : Lists → ℕ → ℕ → List ℕ

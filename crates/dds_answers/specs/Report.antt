@@ -1,5 +1,5 @@
 -- What a check answers, and what commands write of that and of other answers.
-use Rattle.std.specs.Prelude.{ℕ, List, [], ◌++◌, ◌≡◌, length, if◌then◌else◌, codes, flat_map, string_bytes, None, Result, Ok, Err}
+use Rattle.std.specs.Prelude.{ℕ, List, [], ◌++◌, ◌≡◌, length, if◌then◌else◌, codes, string_bytes, None, Result, Ok, Err}
 use Rattle.dds_fields.specs.Reading.{Read}
 use Rattle.dds_fields.specs.declared.fault.ReadFault.{ReadFault}
 use Rattle.dds_fields.specs.declared.fault.ReadFault.TheVariants as unread
@@ -9,7 +9,6 @@ use Rattle.dds_cert.specs.declared.fault.CertFault.TheVariants as uncertified
 use Rattle.dds_cert.specs.Faults.{kind_of}
 use Rattle.dds_weights.specs.Lists.{Certificate}
 use Rattle.dds_weights.specs.Views.{certificate_view}
-use Rattle.dds_check.specs.declared.verdict.No.{No}
 use Rattle.dds_match.specs.Plan.{network_of}
 use Rattle.dds_answers.specs.Matches.{is_as_intended, lines_of}
 use Rattle.dds_weights.specs.Text.{certificate_text}
@@ -18,8 +17,8 @@ use Rattle.dds_xml.specs.Document.{deployment_xml}
 use Rattle.dds_draw.specs.Picture.{drawing}
 use Rattle.dds_explain.specs.Explanation.{margins, reason}
 use Rattle.dds_explain.specs.Notes.{note_lines}
-use Rattle.dds_verdict.specs.Acceptance.{acceptance_lines}
-use Rattle.dds_verdict.specs.Refusal.{refusal_line}
+use Rattle.dds_explain.specs.Acceptance.{acceptance_lines}
+use Rattle.dds_explain.specs.Refusal.{refusal_line}
 use Rattle.dds_answers.specs.declared.format.Format.{Format}
 use Rattle.dds_answers.specs.declared.format.Format.TheVariants.{Json, DdsXml}
 use Rattle.dds_answers.specs.Outcome.{Outcome, accepted, refused, accepted_because, refused_because, bad_deployment, bad_certificate, too_large, compared, proposed, unproposed, migrated, shown, drawn, said, bad_events, bad_trace}

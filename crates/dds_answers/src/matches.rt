@@ -7,7 +7,7 @@ ghost use Rattle.dds_answers.specs.Matches.{writer_lines};
 use dds_base::{NoMemory, ReaderNo, WriterNo};
 use dds_match::Plan;
 use dds_show::reasons::reason_text;
-use dds_text::names::name_at;
+use dds_text::names::{reader_name, writer_name};
 use std::alloc::Global;
 
 /// The line of a writer and a reader.
@@ -20,13 +20,14 @@ fn pair_text(
     ensures { IfOk result (λ text. string_bytes text ≡ pair_line plan.now writer reader) }
 {
     let lists = plan.lists();
-    let writer_name = name_at(lists.writer_names(), writer.number());
-    let reader_name = name_at(lists.reader_names(), reader.number());
-    match plan.why_not(writer, reader) {
-        None => format!(in alloc; "match {writer_name} {reader_name}\n"),
+    let why_not = plan.why_not(writer, reader);
+    let writer = writer_name(lists, writer);
+    let reader = reader_name(lists, reader);
+    match why_not {
+        None => format!(in alloc; "match {writer} {reader}\n"),
         Some(reason) => {
             let reason = reason_text(alloc, reason)?;
-            format!(in alloc; "none {writer_name} {reader_name} {reason}\n")
+            format!(in alloc; "none {writer} {reader} {reason}\n")
         }
     }
 }

@@ -19,10 +19,9 @@ use dds_base::NoMemory;
 use dds_cert::{CertFault, CertKind, read_certificate};
 use dds_check::{Checked, No, check};
 use dds_deploy::DeployFault;
-use dds_explain::{margins, note_lines, reason};
+use dds_explain::{acceptance_text, margins, note_lines, reason, refusal_text};
 use dds_fields::fault::FaultKind;
 use dds_match::Plan;
-use dds_verdict::{acceptance_text, refusal_text};
 use dds_weights::Certificate;
 use std::alloc::Global;
 

@@ -5,7 +5,7 @@ ghost use Rattle.dds_conform.specs.Answers.{answer_text, refusal_text, shortage_
 use crate::conformance::{Conformance, Refused, Shortage};
 use dds_base::NoMemory;
 use dds_lists::Deployment;
-use dds_text::names::{name_at, reader_key, rule_text, writer_key};
+use dds_text::names::{reader_key, reader_name, rule_text, writer_key, writer_name};
 use std::alloc::Global;
 
 /// What a rule lacks, as a line.
@@ -13,7 +13,7 @@ fn shortage_line(alloc: Global, lists: &Deployment, short: &Shortage) -> Result<
     ensures { IfOk result (λ text. string_bytes text ≡ shortage_line lists.now short.now) }
 {
     let rule = rule_text(alloc, lists, short.rule)?;
-    let reader = name_at(lists.reader_names(), short.reader.number());
+    let reader = reader_name(lists, short.reader);
     let key = reader_key(lists, short.reader, short.key);
     let missing = short.missing;
     format!(in alloc; "{rule} lacks {missing} of {reader} {key}\n")
@@ -46,7 +46,7 @@ fn refusal_text(
         ≡ refusal_text lists.now refused.now.line refused.now.writer refused.now.key refused.now.short.items) }
 {
     let line = refused.line;
-    let writer = name_at(lists.writer_names(), refused.writer.number());
+    let writer = writer_name(lists, refused.writer);
     let key = writer_key(lists, refused.writer, refused.key);
     format!(in alloc; "line {line}: no permit for {writer} {key}\n{short}")
 }

@@ -7,7 +7,7 @@ use Rattle.dds_lists.specs.Lists.{Lists, Rule}
 use Rattle.dds_match.specs.Matching.{why_not}
 use Rattle.dds_match.specs.Plan.{intended}
 use Rattle.dds_match.specs.declared.matching.WhyNot.{WhyNot}
-use Rattle.dds_text.specs.Names.{name_at, reader_key, writer_key}
+use Rattle.dds_text.specs.Names.{reader_key, reader_name, writer_key, writer_name}
 use Rattle.dds_text.specs.Texts.{each_below}
 use Rattle.dds_show.specs.Reasons.{reason_words}
 
@@ -15,7 +15,7 @@ use Rattle.dds_show.specs.Reasons.{reason_words}
 abbrev pub take_edge : Lists → ℕ → Portion ℕ → List ℕ
 take_edge d u x =
     codes "  \"reader "
-    ++ (name_at d.readers.names x.endpoint
+    ++ (reader_name d x.endpoint
     ++ (codes "\" -> \"rule " ++ (decimal u ++ (codes "\" [label=\"" ++ (decimal x.count ++ (codes " " ++ (reader_key d x.endpoint x.key ++ codes "\"];\n")))))))
 
 -- what a rule writes of a key at a writer
@@ -24,7 +24,7 @@ write_edge d u x =
     codes "  \"rule "
     ++ (decimal u
     ++ (codes "\" -> \"writer "
-    ++ (name_at d.writers.names x.endpoint ++ (codes "\" [label=\"" ++ (decimal x.count ++ (codes " " ++ (writer_key d x.endpoint x.key ++ codes "\"];\n")))))))
+    ++ (writer_name d x.endpoint ++ (codes "\" [label=\"" ++ (decimal x.count ++ (codes " " ++ (writer_key d x.endpoint x.key ++ codes "\"];\n")))))))
 
 -- what a rule takes, then what it writes
 abbrev pub rule_edges : Lists → ℕ → Rule → List ℕ
@@ -52,7 +52,7 @@ edge_of writer reader named (Some reason) =
 
 -- the edge of the writer and the reader with these numbers
 unfoldable pub pair_edge : Lists → ℕ → ℕ → List ℕ
-pair_edge d w r = edge_of (name_at d.writers.names w) (name_at d.readers.names r) (intended d w r) (why_not d w r)
+pair_edge d w r = edge_of (writer_name d w) (reader_name d r) (intended d w r) (why_not d w r)
 
 -- the edges of a writer, by readers in file order
 abbrev pub pair_edges : Lists → ℕ → List ℕ

@@ -10,7 +10,7 @@ use Rattle.dds_qos.specs.declared.policies.Reliability.{Reliability}
 use Rattle.dds_qos.specs.declared.policies.Reliability.TheVariants.{BestEffort, Reliable}
 use Rattle.dds_lists.specs.Lists.{Lists, Reader, Rule, Writer}
 use Rattle.dds_weights.specs.Lists.{Certificate}
-use Rattle.dds_text.specs.Names.{name_at, reader_key, rule_text}
+use Rattle.dds_text.specs.Names.{name_at, reader_key, reader_name, rule_text, writer_name}
 use Rattle.dds_weights.specs.declared.certificate.Bound.{Bound}
 use Rattle.dds_weights.specs.declared.certificate.Total.{Total}
 use Rattle.dds_runs.specs.Accepted.{instance_limit}
@@ -67,8 +67,8 @@ endpoint_label name topic p = name ++ (codes "\\n" ++ (topic ++ policies_lines p
 unfoldable pub writer_node : Lists → ℕ → Writer → List ℕ
 writer_node d w x =
     codes "    \"writer "
-    ++ (name_at d.writers.names w
-    ++ (codes "\" [label=\"" ++ (endpoint_label (name_at d.writers.names w) (name_at d.topics.names x.topic) x.qos.offered ++ codes "\"];\n")))
+    ++ (writer_name d w
+    ++ (codes "\" [label=\"" ++ (endpoint_label (writer_name d w) (name_at d.topics.names x.topic) x.qos.offered ++ codes "\"];\n")))
 
 -- a word for a reader that may lose samples
 abbrev pub may_lose_line : Bool → List ℕ
@@ -78,11 +78,11 @@ may_lose_line may_lose = if may_lose then codes "\\nmay lose" else []
 unfoldable pub reader_node : Lists → Option Certificate → ℕ → Reader → List ℕ
 reader_node d c r x =
     codes "    \"reader "
-    ++ (name_at d.readers.names r
+    ++ (reader_name d r
     ++ (codes "\" [style=filled, fillcolor="
     ++ (colour_of c r (reader_limits_of x.qos.requested)
     ++ (codes ", label=\""
-    ++ (endpoint_label (name_at d.readers.names r) (name_at d.topics.names x.topic) x.qos.requested
+    ++ (endpoint_label (reader_name d r) (name_at d.topics.names x.topic) x.qos.requested
     ++ (may_lose_line x.may_lose ++ (certificate_lines d r (reader_limits_of x.qos.requested) c ++ codes "\"];\n")))))))
 
 -- how often a rule may write at the opening, nothing where it may not

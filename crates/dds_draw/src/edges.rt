@@ -8,7 +8,7 @@ use dds_base::{Portion, ReaderNo, RuleNo, WriterNo};
 use dds_lists::{Deployment, Rule};
 use dds_match::{Plan, WhyNot};
 use dds_show::reasons::reason_text;
-use dds_text::names::{name_at, reader_key, writer_key};
+use dds_text::names::{reader_key, reader_name, writer_key, writer_name};
 use dds_text::texts::{TextResult, text_below, text_of_each};
 use std::alloc::Global;
 
@@ -16,7 +16,7 @@ use std::alloc::Global;
 fn take_edge(alloc: Global, lists: &Deployment, rule: RuleNo, x: &Portion<ReaderNo>) -> TextResult
     ensures { IfOk result (λ text. string_bytes text ≡ take_edge lists.now rule x.now) }
 {
-    let reader = name_at(lists.reader_names(), x.endpoint.number());
+    let reader = reader_name(lists, x.endpoint);
     let key = reader_key(lists, x.endpoint, x.key);
     let number = rule.number();
     let count = x.count;
@@ -27,7 +27,7 @@ fn take_edge(alloc: Global, lists: &Deployment, rule: RuleNo, x: &Portion<Reader
 fn write_edge(alloc: Global, lists: &Deployment, rule: RuleNo, x: &Portion<WriterNo>) -> TextResult
     ensures { IfOk result (λ text. string_bytes text ≡ write_edge lists.now rule x.now) }
 {
-    let writer = name_at(lists.writer_names(), x.endpoint.number());
+    let writer = writer_name(lists, x.endpoint);
     let key = writer_key(lists, x.endpoint, x.key);
     let number = rule.number();
     let count = x.count;
@@ -98,14 +98,11 @@ fn pair_edge(alloc: Global, plan: &Plan, writer: WriterNo, reader: ReaderNo) -> 
     ensures { IfOk result (λ text. string_bytes text ≡ pair_edge plan.now writer reader) }
 {
     let lists = plan.lists();
-    let writer_name = name_at(lists.writer_names(), writer.number());
-    let reader_name = name_at(lists.reader_names(), reader.number());
-    let named = plan.intended(writer, reader);
     edge_of(
         alloc,
-        writer_name,
-        reader_name,
-        named,
+        writer_name(lists, writer),
+        reader_name(lists, reader),
+        plan.intended(writer, reader),
         plan.why_not(writer, reader),
     )
 }

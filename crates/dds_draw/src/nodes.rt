@@ -12,7 +12,7 @@ use dds_base::{ReaderNo, RuleNo, WriterNo};
 use dds_check::limits::instance_limit;
 use dds_lists::{Deployment, Reader, Rule, Writer};
 use dds_qos::{History, HistoryKind, Policies, ReaderLimits, Reliability, reader_limits};
-use dds_text::names::{name_at, reader_key, rule_text};
+use dds_text::names::{name_at, reader_key, reader_name, rule_text, writer_name};
 use dds_text::texts::{TextResult, text_of_each};
 use dds_weights::{Bound, Certificate, Total};
 use std::alloc::Global;
@@ -152,7 +152,7 @@ pub(crate) fn writer_node(
 ) -> TextResult
     ensures { IfOk result (λ text. string_bytes text ≡ writer_node lists.now writer (writer_view x.now)) }
 {
-    let name = name_at(lists.writer_names(), writer.number());
+    let name = writer_name(lists, writer);
     let topic = name_at(lists.topic_names(), x.topic.number());
     let label = endpoint_label(alloc, name, topic, &x.qos.offered)?;
     format!(in alloc; "    \"writer {name}\" [label=\"{label}\"];\n")
@@ -178,7 +178,7 @@ pub(crate) fn reader_node(
         ≡ reader_node lists.now (option_map
         (λ c. certificate_view c.now) certificate.entry) reader (reader_view x.now)) }
 {
-    let name = name_at(lists.reader_names(), reader.number());
+    let name = reader_name(lists, reader);
     let topic = name_at(lists.topic_names(), x.topic.number());
     let label = endpoint_label(alloc, name, topic, &x.qos.requested)?;
     let may_lose = may_lose_line(x.may_lose);

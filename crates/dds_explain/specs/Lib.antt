@@ -1,3 +1,5 @@
+pub mod Acceptance
+pub mod Refusal
 pub mod Pieces
 pub mod Values
 pub mod Pairs

@@ -1,7 +1,8 @@
-//! The reasons of a check's answer: the numbers behind a refusal, how tight what is accepted is, and what a yes doesn't
-//! say.
+//! The lines of a check's answer and its reasons: an acceptance with its bounds and totals, or a refusal; then the
+//! numbers behind a refusal, how tight what is accepted is, and what a yes doesn't say.
 #![tactic(auto, using(dds_runs::proofs::Sums::total_start, dds_runs::proofs::Sums::total_more))]
 
+mod acceptance;
 mod explanation;
 mod limits;
 mod margin;
@@ -9,10 +10,13 @@ mod notes;
 mod pairs;
 mod pieces;
 mod policies;
+mod refusal;
 mod rows;
 mod shown;
 mod values;
 mod weights;
 
+pub use acceptance::acceptance_text;
 pub use explanation::{margins, reason};
 pub use notes::{note_lines, note_text};
+pub use refusal::refusal_text;

@@ -4,7 +4,7 @@ use Rattle.serde_json.specs.Data.{Data, Members, array, member, no_members, numb
 use Rattle.serde_json.specs.View.{items_of}
 use Rattle.dds_lists.specs.Lists.{Lists}
 use Rattle.dds_weights.specs.Lists.{Certificate}
-use Rattle.dds_text.specs.Names.{name_at, reader_key, writer_key, rule_text}
+use Rattle.dds_text.specs.Names.{reader_key, reader_name, rule_text, writer_key, writer_name}
 use Rattle.dds_weights.specs.Naming.{row_name}
 use Rattle.dds_weights.specs.Views.{certificate_view}
 use Rattle.dds_weights.specs.declared.certificate.Bound.{Bound}
@@ -27,11 +27,11 @@ answered answer (Some because) members = member (codes "answer") (string answer)
 -- the bound of an instance
 abbrev pub bound_document : Lists → Bound → Data
 bound_document d b =
-    object (member (codes "bound") (number (unsigned b.bound)) (member (codes "key") (string (reader_key d b.reader b.key)) (member (codes "reader") (string (name_at d.readers.names b.reader)) no_members)))
+    object (member (codes "bound") (number (unsigned b.bound)) (member (codes "key") (string (reader_key d b.reader b.key)) (member (codes "reader") (string (reader_name d b.reader)) no_members)))
 
 -- the bound of all samples of a reader
 abbrev pub total_document : Lists → Total → Data
-total_document d t = object (member (codes "bound") (number (unsigned t.bound)) (member (codes "reader") (string (name_at d.readers.names t.reader)) no_members))
+total_document d t = object (member (codes "bound") (number (unsigned t.bound)) (member (codes "reader") (string (reader_name d t.reader)) no_members))
 
 -- yes, with each bound and each total
 abbrev pub acceptance_document : Lists → Certificate → Option (List ℕ) → Data
@@ -41,21 +41,21 @@ acceptance_document d c because =
 -- a writer, a reader and a key of it, by name
 abbrev pub pair_key_document : Lists → ℕ → ℕ → ℕ → Data
 pair_key_document d w r k =
-    object (member (codes "key") (string (reader_key d r k)) (member (codes "reader") (string (name_at d.readers.names r)) (member (codes "writer") (string (name_at d.writers.names w)) no_members)))
+    object (member (codes "key") (string (reader_key d r k)) (member (codes "reader") (string (reader_name d r)) (member (codes "writer") (string (writer_name d w)) no_members)))
 
 -- what a condition speaks of, by name
 abbrev pub subject_document : Lists → Certificate → Subject → Data
 subject_document d c (subject.Pair w r) =
-    object (member (codes "reader") (string (name_at d.readers.names r)) (member (codes "writer") (string (name_at d.writers.names w)) no_members))
+    object (member (codes "reader") (string (reader_name d r)) (member (codes "writer") (string (writer_name d w)) no_members))
 subject_document d c (subject.PairKey w r k) = pair_key_document d w r k
-subject_document d c (subject.Instance r k) = object (member (codes "key") (string (reader_key d r k)) (member (codes "reader") (string (name_at d.readers.names r)) no_members))
-subject_document d c (subject.Reader r) = object (member (codes "reader") (string (name_at d.readers.names r)) no_members)
-subject_document d c (subject.Writer w) = object (member (codes "writer") (string (name_at d.writers.names w)) no_members)
+subject_document d c (subject.Instance r k) = object (member (codes "key") (string (reader_key d r k)) (member (codes "reader") (string (reader_name d r)) no_members))
+subject_document d c (subject.Reader r) = object (member (codes "reader") (string (reader_name d r)) no_members)
+subject_document d c (subject.Writer w) = object (member (codes "writer") (string (writer_name d w)) no_members)
 subject_document d c (subject.RowInstance n r k) =
-    object (member (codes "key") (string (reader_key d r k)) (member (codes "reader") (string (name_at d.readers.names r)) (member (codes "row") (string (row_name c n)) no_members)))
+    object (member (codes "key") (string (reader_key d r k)) (member (codes "reader") (string (reader_name d r)) (member (codes "row") (string (row_name c n)) no_members)))
 subject_document d c (subject.RowRule n u) = object (member (codes "row") (string (row_name c n)) (member (codes "rule") (string (rule_text d u)) no_members))
 subject_document d c (subject.RowWriterKey n w k) =
-    object (member (codes "key") (string (writer_key d w k)) (member (codes "row") (string (row_name c n)) (member (codes "writer") (string (name_at d.writers.names w)) no_members)))
+    object (member (codes "key") (string (writer_key d w k)) (member (codes "row") (string (row_name c n)) (member (codes "writer") (string (writer_name d w)) no_members)))
 
 -- no, with the condition that fails and what it speaks of
 abbrev pub refusal_document : Lists → Certificate → No → Option (List ℕ) → Data

@@ -7,7 +7,7 @@ use Rattle.dds_lists.specs.Lists.{Lists}
 use Rattle.dds_match.specs.Matching.{why_not}
 use Rattle.dds_match.specs.Plan.{network_of}
 use Rattle.dds_match.specs.declared.matching.WhyNot.{WhyNot}
-use Rattle.dds_text.specs.Names.{name_at}
+use Rattle.dds_text.specs.Names.{reader_name, writer_name}
 use Rattle.dds_show.specs.Reasons.{reason_words}
 use Rattle.dds_answers.specs.Matches.{is_as_intended}
 
@@ -19,7 +19,7 @@ named_pair w r (Some reason) =
 
 -- the writer and the reader with these numbers
 abbrev pub pair_document : Lists → ℕ → ℕ → Data
-pair_document d w r = named_pair (name_at d.writers.names w) (name_at d.readers.names r) (why_not d w r)
+pair_document d w r = named_pair (writer_name d w) (reader_name d r) (why_not d w r)
 
 -- those of a writer, by readers in file order
 abbrev pub writer_pairs : Lists → ℕ → ℕ → List Data

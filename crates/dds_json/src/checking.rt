@@ -19,7 +19,7 @@ use dds_answers::{Answer, Detail, Report, ToolFault, answer_with, because_text};
 use dds_base::{KeyNo, NoMemory, ReaderNo, WriterNo};
 use dds_check::{No, Subject};
 use dds_lists::Deployment;
-use dds_text::names::{name_at, reader_key, rule_text, writer_key};
+use dds_text::names::{reader_key, reader_name, rule_text, writer_key, writer_name};
 use dds_weights::naming::row_name;
 use dds_weights::{Bound, Certificate, Total};
 use serde_json::{Value, json};
@@ -29,7 +29,7 @@ use std::alloc::Global;
 fn bound_document(alloc: Global, lists: &Deployment, bound: &Bound) -> Result<Value, NoMemory>
     ensures { IfOk result (λ v. view v ≡ bound_document lists.now bound.now) }
 {
-    let reader = name_at(lists.reader_names(), bound.reader.number());
+    let reader = reader_name(lists, bound.reader);
     let key = reader_key(lists, bound.reader, bound.key);
     json!(in alloc; {"reader": reader, "key": key, "bound": bound.bound})
 }
@@ -49,7 +49,7 @@ fn bounds_array(alloc: Global, lists: &Deployment, bounds: &[Bound]) -> Result<V
 fn total_document(alloc: Global, lists: &Deployment, total: &Total) -> Result<Value, NoMemory>
     ensures { IfOk result (λ v. view v ≡ total_document lists.now total.now) }
 {
-    let reader = name_at(lists.reader_names(), total.reader.number());
+    let reader = reader_name(lists, total.reader);
     json!(in alloc; {"reader": reader, "bound": total.bound})
 }
 
@@ -96,8 +96,8 @@ fn pair_key_document(
     ensures { IfOk result (λ v. view v ≡ pair_key_document lists.now writer reader key) }
 {
     let key = reader_key(lists, reader, key);
-    let writer = name_at(lists.writer_names(), writer.number());
-    let reader = name_at(lists.reader_names(), reader.number());
+    let writer = writer_name(lists, writer);
+    let reader = reader_name(lists, reader);
     json!(in alloc; {"writer": writer, "reader": reader, "key": key})
 }
 
@@ -112,8 +112,8 @@ fn subject_document(
 {
     match subject {
         Subject::Pair { writer, reader } => {
-            let writer = name_at(lists.writer_names(), writer.number());
-            let reader = name_at(lists.reader_names(), reader.number());
+            let writer = writer_name(lists, writer);
+            let reader = reader_name(lists, reader);
             json!(in alloc; {"writer": writer, "reader": reader})
         }
         Subject::PairKey {
@@ -123,21 +123,21 @@ fn subject_document(
         } => pair_key_document(alloc, lists, writer, reader, key),
         Subject::Instance { reader, key } => {
             let key = reader_key(lists, reader, key);
-            let reader = name_at(lists.reader_names(), reader.number());
+            let reader = reader_name(lists, reader);
             json!(in alloc; {"reader": reader, "key": key})
         }
         Subject::Reader(reader) => {
-            let reader = name_at(lists.reader_names(), reader.number());
+            let reader = reader_name(lists, reader);
             json!(in alloc; {"reader": reader})
         }
         Subject::Writer(writer) => {
-            let writer = name_at(lists.writer_names(), writer.number());
+            let writer = writer_name(lists, writer);
             json!(in alloc; {"writer": writer})
         }
         Subject::RowInstance { row, reader, key } => {
             let row = row_name(certificate, row);
             let key = reader_key(lists, reader, key);
-            let reader = name_at(lists.reader_names(), reader.number());
+            let reader = reader_name(lists, reader);
             json!(in alloc; {"row": row, "reader": reader, "key": key})
         }
         Subject::RowRule { row, rule } => {
@@ -148,7 +148,7 @@ fn subject_document(
         Subject::RowWriterKey { row, writer, key } => {
             let row = row_name(certificate, row);
             let key = writer_key(lists, writer, key);
-            let writer = name_at(lists.writer_names(), writer.number());
+            let writer = writer_name(lists, writer);
             json!(in alloc; {"row": row, "writer": writer, "key": key})
         }
     }

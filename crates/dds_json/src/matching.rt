@@ -15,7 +15,7 @@ use dds_answers::{Answer, ToolFault, answer_with, is_as_intended, read_plan};
 use dds_base::{NoMemory, ReaderNo, WriterNo};
 use dds_match::{Plan, WhyNot};
 use dds_show::reasons::reason_text;
-use dds_text::names::name_at;
+use dds_text::names::{reader_name, writer_name};
 use serde_json::{Value, json};
 use std::alloc::Global;
 
@@ -49,11 +49,12 @@ fn pair_document(
     ensures { IfOk result (λ v. view v ≡ pair_document plan.now writer reader) }
 {
     let lists = plan.lists();
-    let writer_name = name_at(lists.writer_names(), writer.number());
-    let reader_name = name_at(lists.reader_names(), reader.number());
-    match plan.why_not(writer, reader) {
-        None => matching_pair(alloc, writer_name, reader_name),
-        Some(reason) => mismatched_pair(alloc, writer_name, reader_name, reason),
+    let why_not = plan.why_not(writer, reader);
+    let writer = writer_name(lists, writer);
+    let reader = reader_name(lists, reader);
+    match why_not {
+        None => matching_pair(alloc, writer, reader),
+        Some(reason) => mismatched_pair(alloc, writer, reader, reason),
     }
 }
 

@@ -5,7 +5,7 @@ use Rattle.dds_qos.specs.declared.limits.ReaderLimits.{ReaderLimits}
 use Rattle.dds_lists.specs.Lists.{Lists}
 use Rattle.dds_match.specs.Plan.{network_of}
 use Rattle.dds_runs.specs.Accepted.{instance_limit}
-use Rattle.dds_text.specs.Names.{name_at, reader_keys}
+use Rattle.dds_text.specs.Names.{reader_keys, reader_name}
 use Rattle.dds_text.specs.Texts.{each_below}
 use Rattle.dds_recap.specs.Held.{greatest}
 
@@ -26,7 +26,7 @@ fullest d of_key of_all r = if is_some (instance_limit ((network_of d).reader_li
 -- the line of a reader
 abbrev pub reader_line : Lists → (ℕ → ℕ → ℕ) → (ℕ → ℕ) → ℕ → List ℕ
 reader_line d of_key of_all r =
-    codes "reader " ++ (name_at d.readers.names r ++ (codes " fullest " ++ (decimal (fullest d of_key of_all r) ++ (limit_text ((network_of d).reader_limits r) ++ codes "\n"))))
+    codes "reader " ++ (reader_name d r ++ (codes " fullest " ++ (decimal (fullest d of_key of_all r) ++ (limit_text ((network_of d).reader_limits r) ++ codes "\n"))))
 
 -- the lines of all readers, in file order
 abbrev pub reader_lines : Lists → (ℕ → ℕ → ℕ) → (ℕ → ℕ) → List ℕ

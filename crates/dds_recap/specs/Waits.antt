@@ -6,7 +6,7 @@ use Rattle.dds_base.specs.declared.portion.Portion.{Portion}
 use Rattle.dds_lists.specs.Lists.{Lists, has, readers_at}
 use Rattle.dds_match.specs.Network.{Network}
 use Rattle.dds_match.specs.Plan.{network_of}
-use Rattle.dds_text.specs.Names.{name_at, reader_key, reader_keys}
+use Rattle.dds_text.specs.Names.{name_at, reader_key, reader_keys, reader_name}
 use Rattle.dds_text.specs.Texts.{each_below}
 
 -- more of the key at the reader are needed than these
@@ -23,7 +23,7 @@ waits net spare a r k = any_below net.rules (lacks net a r k (spare r k))
 
 -- the line of an application that waits for a key at a reader
 abbrev pub wait_line : Lists → (a r k : ℕ) → List ℕ
-wait_line d a r k = name_at d.applications.names a ++ (codes " waits for " ++ (name_at d.readers.names r ++ (codes " " ++ (reader_key d r k ++ codes "\n"))))
+wait_line d a r k = name_at d.applications.names a ++ (codes " waits for " ++ (reader_name d r ++ (codes " " ++ (reader_key d r k ++ codes "\n"))))
 
 abbrev pub key_wait : Lists → (ℕ → ℕ → ℕ) → (a r k : ℕ) → List ℕ
 key_wait d spare a r k = if waits (network_of d) spare a r k then wait_line d a r k else []

@@ -8,7 +8,7 @@ ghost use Rattle.dds_recap.specs.Waits.{wait_line, waits};
 use crate::recap::Recap;
 use dds_base::{AppNo, KeyNo, Portion, ReaderNo, RuleNo};
 use dds_match::Plan;
-use dds_text::names::{keys_of_reader, name_at, reader_key};
+use dds_text::names::{keys_of_reader, name_at, reader_key, reader_name};
 use dds_text::texts::{TextResult, text_below};
 use std::alloc::Global;
 
@@ -50,7 +50,7 @@ fn wait_line(alloc: Global, plan: &Plan, app: AppNo, reader: ReaderNo, key: KeyN
 {
     let lists = plan.lists();
     let app = name_at(lists.application_names(), app.number());
-    let name = name_at(lists.reader_names(), reader.number());
+    let name = reader_name(lists, reader);
     let key = reader_key(lists, reader, key);
     format!(in alloc; "{app} waits for {name} {key}\n")
 }

@@ -4,7 +4,7 @@ use Rattle.std.specs.List.{range_with_len}
 use Rattle.std.specs.Option.{option_map_or}
 use Rattle.dds_lists.specs.Lists.{Lists}
 use Rattle.dds_match.specs.Plan.{matched}
-use Rattle.dds_text.specs.Names.{name_at}
+use Rattle.dds_text.specs.Names.{reader_name, writer_name}
 use Rattle.dds_text.specs.Texts.{each_below, start_of}
 
 -- the pairs that match, by writer and then by reader, each in file order
@@ -20,7 +20,7 @@ matching_pairs d = flat_map (pairs_of_writer d) (range_with_len 0 (length d.writ
 -- the table of a pair
 abbrev pub connection_table : Lists → ℕ × ℕ → List ℕ
 connection_table d p =
-    codes "[[connections]]\nwriter = \"" ++ (name_at d.writers.names p.0 ++ (codes "\"\nreader = \"" ++ (name_at d.readers.names p.1 ++ codes "\"\n")))
+    codes "[[connections]]\nwriter = \"" ++ (writer_name d p.0 ++ (codes "\"\nreader = \"" ++ (reader_name d p.1 ++ codes "\"\n")))
 
 -- the table of the pair at this place, with an empty line before it where it isn't the first
 abbrev pub connection_piece : Lists → ℕ → List ℕ

@@ -6,7 +6,7 @@ use Rattle.dds_base.specs.declared.portion.Portion.{Portion}
 use Rattle.dds_qos.specs.declared.policies.Policies.{Policies}
 use Rattle.dds_lists.specs.Lists.{Lists, Participant, Topic, Writer, Reader, Application, Rule, keys_at, key_name}
 use Rattle.dds_lists.specs.declared.lists.Origin.{Origin}
-use Rattle.dds_text.specs.Names.{name_at, reader_key, writer_key}
+use Rattle.dds_text.specs.Names.{name_at, reader_key, reader_name, writer_key, writer_name}
 use Rattle.dds_text.specs.Texts.{each_below}
 use Rattle.dds_show.specs.Pieces.{comma, name_items, quoted}
 use Rattle.dds_text.specs.Words.{flag_word}
@@ -59,10 +59,10 @@ portion_entry side endpoint key count =
     codes "{\"" ++ (side ++ (codes "\": \"" ++ (endpoint ++ (codes "\", \"key\": \"" ++ (key ++ (codes "\", \"count\": " ++ (decimal count ++ codes "}")))))))
 
 abbrev pub take_entry : Lists → Portion ℕ → List ℕ
-take_entry d x = portion_entry (codes "reader") (name_at d.readers.names x.endpoint) (reader_key d x.endpoint x.key) x.count
+take_entry d x = portion_entry (codes "reader") (reader_name d x.endpoint) (reader_key d x.endpoint x.key) x.count
 
 abbrev pub write_entry : Lists → Portion ℕ → List ℕ
-write_entry d x = portion_entry (codes "writer") (name_at d.writers.names x.endpoint) (writer_key d x.endpoint x.key) x.count
+write_entry d x = portion_entry (codes "writer") (writer_name d x.endpoint) (writer_key d x.endpoint x.key) x.count
 
 abbrev pub take_item : Lists → List (Portion ℕ) → ℕ → List ℕ
 take_item d xs i = comma i ++ option_map_or (take_entry d) (slice_get xs i) []
@@ -94,4 +94,4 @@ rule_entry d origin x =
     ++ (codes "], \"writes\": [" ++ (write_items d x.writes ++ (codes "], \"start\": " ++ (start_text x ++ codes "}")))))))))
 
 abbrev pub connection_entry : Lists → ℕ × ℕ → List ℕ
-connection_entry d pair = codes "{\"writer\": \"" ++ (name_at d.writers.names pair.0 ++ (codes "\", \"reader\": \"" ++ (name_at d.readers.names pair.1 ++ codes "\"}")))
+connection_entry d pair = codes "{\"writer\": \"" ++ (writer_name d pair.0 ++ (codes "\", \"reader\": \"" ++ (reader_name d pair.1 ++ codes "\"}")))

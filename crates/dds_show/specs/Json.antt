@@ -4,7 +4,7 @@ use Rattle.std.specs.List.{range_with_len}
 use Rattle.std.specs.Option.{option_map_or}
 use Rattle.dds_base.specs.Pairs.{stands}
 use Rattle.dds_lists.specs.Lists.{Lists}
-use Rattle.dds_text.specs.Names.{name_at}
+use Rattle.dds_text.specs.Names.{name_at, reader_name, writer_name}
 use Rattle.dds_text.specs.Texts.{each_below}
 use Rattle.dds_show.specs.Entries.{application_entry, connection_entry, participant_entry, reader_entry, rule_entry, topic_entry, writer_entry}
 use Rattle.dds_show.specs.Pieces.{line_start}
@@ -28,10 +28,10 @@ abbrev pub topic_item : Lists → ℕ → List ℕ
 topic_item d i = line_start i ++ option_map_or (topic_entry (name_at d.topics.names i)) (slice_get d.topics.entries i) []
 
 abbrev pub writer_item : Lists → ℕ → List ℕ
-writer_item d i = line_start i ++ option_map_or (writer_entry d (name_at d.writers.names i)) (slice_get d.writers.entries i) []
+writer_item d i = line_start i ++ option_map_or (writer_entry d (writer_name d i)) (slice_get d.writers.entries i) []
 
 abbrev pub reader_item : Lists → ℕ → List ℕ
-reader_item d i = line_start i ++ option_map_or (reader_entry d (name_at d.readers.names i)) (slice_get d.readers.entries i) []
+reader_item d i = line_start i ++ option_map_or (reader_entry d (reader_name d i)) (slice_get d.readers.entries i) []
 
 abbrev pub application_item : Lists → ℕ → List ℕ
 application_item d i = line_start i ++ option_map_or (application_entry d (name_at d.applications.names i)) (slice_get d.applications.entries i) []

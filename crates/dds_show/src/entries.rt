@@ -17,7 +17,7 @@ use crate::policies::policies_fields;
 use dds_base::{Endpoint, KeyNo, Names, ParticipantNo, Portion, ReaderNo, TopicNo, WriterNo};
 use dds_lists::{Application, Deployment, Origin, Participant, Reader, Rule, Topic, Writer};
 use dds_qos::Policies;
-use dds_text::names::{name_at, reader_key, writer_key};
+use dds_text::names::{name_at, reader_key, reader_name, writer_key, writer_name};
 use dds_text::texts::TextResult;
 use std::alloc::Global;
 
@@ -155,7 +155,7 @@ fn portion_entry(alloc: Global, side: &str, endpoint: &str, key: &str, count: u1
 fn take_entry(alloc: Global, lists: &Deployment, x: &Portion<ReaderNo>) -> TextResult
     ensures { IfOk result (λ text. string_bytes text ≡ take_entry lists.now x.now) }
 {
-    let reader = name_at(lists.reader_names(), x.endpoint.number());
+    let reader = reader_name(lists, x.endpoint);
     let key = reader_key(lists, x.endpoint, x.key);
     portion_entry(alloc, "reader", reader, key, x.count)
 }
@@ -163,7 +163,7 @@ fn take_entry(alloc: Global, lists: &Deployment, x: &Portion<ReaderNo>) -> TextR
 fn write_entry(alloc: Global, lists: &Deployment, x: &Portion<WriterNo>) -> TextResult
     ensures { IfOk result (λ text. string_bytes text ≡ write_entry lists.now x.now) }
 {
-    let writer = name_at(lists.writer_names(), x.endpoint.number());
+    let writer = writer_name(lists, x.endpoint);
     let key = writer_key(lists, x.endpoint, x.key);
     portion_entry(alloc, "writer", writer, key, x.count)
 }

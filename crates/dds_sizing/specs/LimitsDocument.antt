@@ -3,7 +3,7 @@ use Rattle.std.specs.Prelude.{ℕ, Bool, List, codes, map, Option, Some, None}
 use Rattle.serde_json.specs.Data.{Data, array, boolean, member, no_members, number, object, string, unsigned}
 use Rattle.serde_json.specs.View.{items_of}
 use Rattle.dds_lists.specs.Lists.{Lists}
-use Rattle.dds_text.specs.Names.{name_at, reader_key, writer_key}
+use Rattle.dds_text.specs.Names.{reader_key, reader_name, writer_key, writer_name}
 use Rattle.dds_search.specs.declared.answer.Least.{Least}
 use Rattle.dds_search.specs.declared.answer.Least.TheVariants.{Shown, Unbounded, Unknown}
 use Rattle.dds_json.specs.Matching.{answer_word}
@@ -16,9 +16,9 @@ use Rattle.dds_sizing.specs.NeedsText.{is_low, policy_word}
 
 -- the endpoint whose samples count, and the key, if only those of one do
 abbrev pub subject_document : Lists → Need → Data
-subject_document d (need.Key r k room) = object (member (codes "key") (string (reader_key d r k)) (member (codes "reader") (string (name_at d.readers.names r)) no_members))
-subject_document d (need.Reader r room) = object (member (codes "reader") (string (name_at d.readers.names r)) no_members)
-subject_document d (need.Writer w k room) = object (member (codes "key") (string (writer_key d w k)) (member (codes "writer") (string (name_at d.writers.names w)) no_members))
+subject_document d (need.Key r k room) = object (member (codes "key") (string (reader_key d r k)) (member (codes "reader") (string (reader_name d r)) no_members))
+subject_document d (need.Reader r room) = object (member (codes "reader") (string (reader_name d r)) no_members)
+subject_document d (need.Writer w k room) = object (member (codes "key") (string (writer_key d w k)) (member (codes "writer") (string (writer_name d w)) no_members))
 
 -- the number of samples for which room is needed, or the word for why there is none
 abbrev pub least_document : Least → Data

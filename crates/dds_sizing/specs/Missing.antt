@@ -5,9 +5,9 @@ use Rattle.std.specs.Option.{option_map_or}
 use Rattle.dds_lists.specs.Lists.{Lists}
 use Rattle.dds_match.specs.Network.{Network, is_written}
 use Rattle.dds_match.specs.Plan.{network_of}
-use Rattle.dds_text.specs.Names.{name_at, reader_key, writer_key}
+use Rattle.dds_text.specs.Names.{reader_key, reader_name, writer_key, writer_name}
 use Rattle.dds_answers.specs.Structure.{nothing}
-use Rattle.dds_verdict.specs.Refusal.{refusal_line}
+use Rattle.dds_explain.specs.Refusal.{refusal_line}
 use Rattle.dds_propose.specs.declared.targets.Target.{Target}
 use Rattle.dds_propose.specs.declared.targets.Target.TheVariants.{Instance, Reader}
 use Rattle.dds_search.specs.declared.answer.Least.{Least}
@@ -31,9 +31,9 @@ IsDepthFor net w r k depth = (net.matched w r ≡ true) × (is_written net w k �
 -- the limit of a target by the names of the endpoint and the key: the reader's own, or the depth of a writer
 abbrev pub IsLimitText : Lists → Target → List ℕ → Type 0
 IsLimitText d (Instance r k) text =
-    (text ≡ own_name (network_of d) r ++ (codes " of " ++ (name_at d.readers.names r ++ (codes " " ++ reader_key d r k))))
-    ⊎ ((w depth : ℕ) × IsDepthFor (network_of d) w r k depth × (text ≡ codes "the history depth of " ++ (name_at d.writers.names w ++ (codes " " ++ writer_key d w k))))
-IsLimitText d (Reader r) text = text ≡ codes "max_samples of " ++ name_at d.readers.names r
+    (text ≡ own_name (network_of d) r ++ (codes " of " ++ (reader_name d r ++ (codes " " ++ reader_key d r k))))
+    ⊎ ((w depth : ℕ) × IsDepthFor (network_of d) w r k depth × (text ≡ codes "the history depth of " ++ (writer_name d w ++ (codes " " ++ writer_key d w k))))
+IsLimitText d (Reader r) text = text ≡ codes "max_samples of " ++ reader_name d r
 
 -- what shows the bounds that are compared: of the samples of a reader a single row
 abbrev pub shower : Target → List ℕ

@@ -2,7 +2,7 @@
 use Rattle.std.specs.Prelude.{ℕ, Bool, false, nat_lt, List, [], ◌++◌, codes, flat_map, Option, Some, None, if◌then◌else◌}
 use Rattle.std.specs.Fmt.{decimal}
 use Rattle.dds_lists.specs.Lists.{Lists}
-use Rattle.dds_text.specs.Names.{name_at, reader_key, writer_key}
+use Rattle.dds_text.specs.Names.{reader_key, reader_name, writer_key, writer_name}
 use Rattle.dds_search.specs.declared.answer.Least.{Least}
 use Rattle.dds_search.specs.declared.answer.Least.TheVariants.{Shown, Unbounded, Unknown}
 use Rattle.dds_sizing.specs.declared.needs.Limit.{Limit}
@@ -15,9 +15,9 @@ use Rattle.dds_sizing.specs.Needs.{room_of}
 
 -- the endpoint whose samples count, and the key, or `total` for all of them
 abbrev pub subject_words : Lists → Need → List ℕ
-subject_words d (need.Key r k room) = codes "reader " ++ (name_at d.readers.names r ++ (codes " " ++ reader_key d r k))
-subject_words d (need.Reader r room) = codes "reader " ++ (name_at d.readers.names r ++ codes " total")
-subject_words d (need.Writer w k room) = codes "writer " ++ (name_at d.writers.names w ++ (codes " " ++ writer_key d w k))
+subject_words d (need.Key r k room) = codes "reader " ++ (reader_name d r ++ (codes " " ++ reader_key d r k))
+subject_words d (need.Reader r room) = codes "reader " ++ (reader_name d r ++ codes " total")
+subject_words d (need.Writer w k room) = codes "writer " ++ (writer_name d w ++ (codes " " ++ writer_key d w k))
 
 -- the number of samples for which room is needed, or the word for why there is none
 abbrev pub least_word : Least → List ℕ

@@ -6,7 +6,7 @@ use Rattle.std.specs.Option.{option_map_or}
 use Rattle.dds_lists.specs.Lists.{Lists}
 use Rattle.dds_match.specs.Network.{Network}
 use Rattle.dds_match.specs.Plan.{network_of}
-use Rattle.dds_text.specs.Names.{name_at, reader_key, writer_key, rule_text}
+use Rattle.dds_text.specs.Names.{reader_key, reader_name, rule_text, writer_key, writer_name}
 use Rattle.dds_weights.specs.Views.{certificate_view}
 use Rattle.dds_propose.specs.declared.targets.Target.{Target}
 use Rattle.dds_propose.specs.declared.targets.Target.TheVariants as target
@@ -41,8 +41,8 @@ because_line who room why =
 
 -- the reader, and the key, if only its samples count
 abbrev pub target_words : Lists → Target → List ℕ
-target_words d (target.Instance r k) = name_at d.readers.names r ++ (codes " " ++ reader_key d r k)
-target_words d (target.Reader r) = name_at d.readers.names r
+target_words d (target.Instance r k) = reader_name d r ++ (codes " " ++ reader_key d r k)
+target_words d (target.Reader r) = reader_name d r
 
 -- ── rays
 -- the words for each of a list, with commas between them
@@ -56,7 +56,7 @@ firings_words d f = rule_text d f.rule ++ (codes " " ++ decimal f.count)
 
 -- a writer, a key, and how often it is written
 abbrev pub writes_words : Lists → Writes → List ℕ
-writes_words d w = name_at d.writers.names w.writer ++ (codes " " ++ (writer_key d w.writer w.key ++ (codes " " ++ decimal w.count)))
+writes_words d w = writer_name d w.writer ++ (codes " " ++ (writer_key d w.writer w.key ++ (codes " " ++ decimal w.count)))
 
 -- all that is done: the firings, the writes that need no permit, or both
 abbrev pub deeds : Lists → List Firings → List Writes → List ℕ
@@ -113,7 +113,7 @@ because_of_target es target = option_map_or (λ e. string_bytes e.because) (find
 -- why a reader needs so much for all its samples: by one row or a ray where that says as much, and else by its keys
 abbrev pub because_of_size : Lists → ℕ → Room → Explained → List ℕ
 because_of_size d r room e =
-    if is_as_much e.size.least room.least then string_bytes e.because else because_line (name_at d.readers.names r) room (codes "this is the sum of the bounds of its keys")
+    if is_as_much e.size.least room.least then string_bytes e.because else because_line (reader_name d r) room (codes "this is the sum of the bounds of its keys")
 
 -- a size is one of the key at a reader that the writer matches, and as much as the writer needs
 abbrev pub is_for_as_much : Network → ℕ → ℕ → Least → Explained → Bool
@@ -127,7 +127,7 @@ reader_of (target.Reader r) = r
 -- why a writer needs so much: a reader does
 abbrev pub because_of_reader : Lists → ℕ → ℕ → Room → Explained → List ℕ
 because_of_reader d w k room e =
-    because_line (name_at d.writers.names w ++ (codes " " ++ writer_key d w k)) room (codes "as much as reader " ++ name_at d.readers.names (reader_of e.size.target))
+    because_line (writer_name d w ++ (codes " " ++ writer_key d w k)) room (codes "as much as reader " ++ reader_name d (reader_of e.size.target))
 
 -- the line for a need
 abbrev pub because_of : Lists → List Explained → Need → List ℕ

@@ -13,7 +13,7 @@ use dds_base::NoMemory;
 use dds_json::{answer_word, line_of};
 use dds_lists::Deployment;
 use dds_search::Least;
-use dds_text::names::{name_at, reader_key, writer_key};
+use dds_text::names::{reader_key, reader_name, writer_key, writer_name};
 use serde_json::{Value, json};
 use std::alloc::Global;
 
@@ -28,16 +28,16 @@ pub(crate) fn subject_document(
     match need {
         Need::Key { reader, key, .. } => {
             let key = reader_key(lists, *reader, *key);
-            let reader = name_at(lists.reader_names(), reader.number());
+            let reader = reader_name(lists, reader);
             json!(in alloc; {"reader": reader, "key": key})
         }
         Need::Reader { reader, .. } => {
-            let reader = name_at(lists.reader_names(), reader.number());
+            let reader = reader_name(lists, reader);
             json!(in alloc; {"reader": reader})
         }
         Need::Writer { writer, key, .. } => {
             let key = writer_key(lists, *writer, *key);
-            let writer = name_at(lists.writer_names(), writer.number());
+            let writer = writer_name(lists, writer);
             json!(in alloc; {"writer": writer, "key": key})
         }
     }

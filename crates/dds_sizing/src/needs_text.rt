@@ -7,7 +7,7 @@ use crate::needs::{Limit, Need, Policy, room_of};
 use dds_base::NoMemory;
 use dds_lists::Deployment;
 use dds_search::Least;
-use dds_text::names::{name_at, reader_key, writer_key};
+use dds_text::names::{reader_key, reader_name, writer_key, writer_name};
 use std::alloc::Global;
 
 /// The endpoint whose samples count, and the key, or `total` for all of them.
@@ -17,16 +17,16 @@ fn subject_text(alloc: Global, lists: &Deployment, need: &Need) -> Result<String
     match need {
         Need::Key { reader, key, .. } => {
             let key = reader_key(lists, *reader, *key);
-            let reader = name_at(lists.reader_names(), reader.number());
+            let reader = reader_name(lists, reader);
             format!(in alloc; "reader {reader} {key}")
         }
         Need::Reader { reader, .. } => {
-            let reader = name_at(lists.reader_names(), reader.number());
+            let reader = reader_name(lists, reader);
             format!(in alloc; "reader {reader} total")
         }
         Need::Writer { writer, key, .. } => {
             let key = writer_key(lists, *writer, *key);
-            let writer = name_at(lists.writer_names(), writer.number());
+            let writer = writer_name(lists, writer);
             format!(in alloc; "writer {writer} {key}")
         }
     }

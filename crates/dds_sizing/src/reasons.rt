@@ -15,7 +15,7 @@ use dds_lists::Deployment;
 use dds_match::Plan;
 use dds_propose::targets::Target;
 use dds_search::{Budget, Firings, Least, Measurer, Reason, Reasoned, Size, Writes, every_target};
-use dds_text::names::{name_at, reader_key, rule_text, writer_key};
+use dds_text::names::{reader_key, reader_name, rule_text, writer_key, writer_name};
 use dds_text::texts::{TextResult, text_of_each};
 use std::alloc::Global;
 use std::time::Clock;
@@ -57,12 +57,10 @@ fn target_text(alloc: Global, lists: &Deployment, target: &Target) -> TextResult
     match target {
         Target::Instance { reader, key } => {
             let key = reader_key(lists, *reader, *key);
-            let reader = name_at(lists.reader_names(), reader.number());
+            let reader = reader_name(lists, reader);
             format!(in alloc; "{reader} {key}")
         }
-        Target::Reader(reader) => {
-            String::from_str(alloc, name_at(lists.reader_names(), reader.number()))
-        }
+        Target::Reader(reader) => { String::from_str(alloc, reader_name(lists, reader)) }
     }
 }
 
@@ -110,7 +108,7 @@ fn writes_text(alloc: Global, lists: &Deployment, writes: &Writes) -> TextResult
     ensures { IfOk result (λ text. string_bytes text ≡ writes_words lists.now writes.now) }
 {
     let key = writer_key(lists, writes.writer, writes.key);
-    let writer = name_at(lists.writer_names(), writes.writer.number());
+    let writer = writer_name(lists, writes.writer);
     let count = writes.count;
     format!(in alloc; "{writer} {key} {count}")
 }
@@ -334,7 +332,7 @@ fn because_of_size(
     if is_as_much(explained.size.least, room.least) {
         String::from_str(alloc, explained.because.as_str())
     } else {
-        let who = name_at(lists.reader_names(), reader.number());
+        let who = reader_name(lists, reader);
         because_line(
             alloc,
             who,
@@ -395,9 +393,9 @@ fn because_of_reader(
     ensures { IfOk result (λ text. string_bytes text ≡ because_of_reader lists.now writer key room explained.now) }
 {
     let reader = reader_of(&explained.size.target);
-    let reader = name_at(lists.reader_names(), reader.number());
+    let reader = reader_name(lists, reader);
     let key = writer_key(lists, writer, key);
-    let writer = name_at(lists.writer_names(), writer.number());
+    let writer = writer_name(lists, writer);
     let who = format!(in alloc; "{writer} {key}")?;
     let why = format!(in alloc; "as much as reader {reader}")?;
     because_line(alloc, who.as_str(), room, why.as_str())

@@ -22,7 +22,7 @@ use dds_match::Plan;
 use dds_propose::propose;
 use dds_propose::targets::Target;
 use dds_search::{Budget, Found, Least, Missing, Shortage, search};
-use dds_text::names::{name_at, reader_key, writer_key};
+use dds_text::names::{reader_key, reader_name, writer_key, writer_name};
 use dds_weights::Certificate;
 use std::alloc::Global;
 use std::time::Clock;
@@ -96,12 +96,12 @@ fn instance_text(
     match lowest_writer(plan, reader, key, own) {
         Some(writer) => {
             let key = writer_key(lists, writer, key);
-            let writer = name_at(lists.writer_names(), writer.number());
+            let writer = writer_name(lists, writer);
             format!(in alloc; "the history depth of {writer} {key}")
         }
         None => {
             let key = reader_key(lists, reader, key);
-            let reader = name_at(lists.reader_names(), reader.number());
+            let reader = reader_name(lists, reader);
             format!(in alloc; "{name} of {reader} {key}")
         }
     }
@@ -114,7 +114,7 @@ fn limit_text(alloc: Global, plan: &Plan, target: &Target) -> Result<String, NoM
     match target {
         Target::Instance { reader, key } => instance_text(alloc, plan, *reader, *key),
         Target::Reader(reader) => {
-            let reader = name_at(plan.lists().reader_names(), reader.number());
+            let reader = reader_name(plan.lists(), reader);
             format!(in alloc; "max_samples of {reader}")
         }
     }

@@ -1,5 +1,5 @@
 -- What a run of files gives.
-use Rattle.std.proofs.Common.{Bool, IfErr, IfOk, ◌≡◌, ◌≤◌, ◌<◌, ◌⊎◌, ◌∙◌, ℕ, List, length, map, Option, Some, None, Result, Ok, Err, refl, sym, ap, inl, inr, string_bytes, subst}
+use Rattle.std.proofs.Common.{Bool, IfErr, IfOk, ◌≡◌, ◌∙◌, ℕ, List, length, map, Option, Some, None, Result, Ok, Err, refl, sym, ap, inl, inr, string_bytes, subst}
 use Rattle.std.proofs.lemmas.List.{length-map}
 use Rattle.std.proofs.lemmas.List.FromFn.{length-map-range_with_len}
 use Rattle.dds_fields.specs.Reading.{Flaw, Read}

@@ -1,11 +1,11 @@
 -- What is answered to whether a trace keeps the rules of a deployment.
-use Rattle.std.specs.Prelude.{codes, ℕ, ◌≡◌, ◌⊎◌, ◌&&◌, nat_le, Bool, true, false, List, length, map, Ok, Err, IsUtf8, string_bytes}
+use Rattle.std.specs.Prelude.{codes, ℕ, ◌≡◌, ◌⊎◌, Bool, true, false, List, map, Ok, Err, IsUtf8, string_bytes}
 use Rattle.std.specs.Str.Lines.{lines}
 use Rattle.dds_fields.specs.Reading.{Read}
 use Rattle.dds_lists.specs.Lists.{Lists}
 use Rattle.dds_deploy.specs.Document as deployment
 use Rattle.dds_match.specs.Plan.{network_of}
-use Rattle.dds_text.specs.Names.{name_at, reader_key, writer_key, rule_text}
+use Rattle.dds_text.specs.Names.{reader_key, reader_name, rule_text, writer_key, writer_name}
 use Rattle.dds_conform.specs.Answers.{answer_text}
 use Rattle.dds_conform.specs.Judging as judging
 use Rattle.dds_conform.specs.Reading.{AreEntries, IsFaultOf}
@@ -25,19 +25,19 @@ use Rattle.dds_json.specs.declared.style.Style.TheVariants.{Text, Json}
 use Rattle.dds_answers.specs.declared.answer.Answer.{Answer}
 use Rattle.dds_answers.specs.declared.fault.ToolFault.{ToolFault}
 use Rattle.dds_answers.specs.declared.fault.ToolFault.TheVariants as fault
-use Rattle.dds_answers.specs.Outcome.{MayIf, Outcome, bad_deployment, bad_trace, said}
+use Rattle.dds_answers.specs.Outcome.{Outcome, bad_deployment, bad_trace, said}
 
 -- ── documents
 -- so many takes that a rule lacks
 abbrev pub shortage_document : Lists → Shortage → Data
 shortage_document d s =
-    object (member (codes "key") (string (reader_key d s.reader s.key)) (member (codes "missing") (number (unsigned s.missing)) (member (codes "reader") (string (name_at d.readers.names s.reader)) (member (codes "rule") (string (rule_text d s.rule)) no_members))))
+    object (member (codes "key") (string (reader_key d s.reader s.key)) (member (codes "missing") (number (unsigned s.missing)) (member (codes "reader") (string (reader_name d s.reader)) (member (codes "rule") (string (rule_text d s.rule)) no_members))))
 
 -- a write that has no permit, with its line and what the rules lack
 abbrev pub refused_document : Lists → Refused → Data
 refused_document d x =
     object (member (codes "answer") (string (codes "no")) (member (codes "key") (string (writer_key d x.writer x.key)) (member (codes "line") (number (unsigned x.line))
-    (member (codes "short") (array (items_of (map (shortage_document d) x.short.items))) (member (codes "writer") (string (name_at d.writers.names x.writer)) no_members)))))
+    (member (codes "short") (array (items_of (map (shortage_document d) x.short.items))) (member (codes "writer") (string (writer_name d x.writer)) no_members)))))
 
 abbrev pub conformance_document : Lists → Conformance → Data
 conformance_document d Kept = object (member (codes "answer") (string (codes "yes")) no_members)

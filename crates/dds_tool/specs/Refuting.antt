@@ -7,7 +7,7 @@ use Rattle.dds_deploy.specs.Document as deployment
 use Rattle.dds_match.specs.Plan.{network_of}
 use Rattle.dds_weights.specs.Fits.{fits}
 use Rattle.dds_weights.specs.Lists.{Certificate}
-use Rattle.dds_text.specs.Names.{name_at, reader_key}
+use Rattle.dds_text.specs.Names.{reader_key, reader_name}
 use Rattle.dds_weights.specs.Views.{certificate_view}
 use Rattle.dds_runs.specs.Accepted.{certificate_of}
 use Rattle.dds_check.specs.Accepts.{first_no}
@@ -27,7 +27,7 @@ use Rattle.dds_sizing.specs.Shortages.{shortage_word}
 use Rattle.dds_tool.specs.Summary.{summary_line, summary_text}
 use Rattle.dds_answers.specs.Outcome.{Outcome, bad_deployment, said}
 use Rattle.dds_answers.specs.Structure.{nothing}
-use Rattle.dds_verdict.specs.Refusal.{refusal_line}
+use Rattle.dds_explain.specs.Refusal.{refusal_line}
 use Rattle.serde_json.specs.Data.{Data, member, no_members, object, string}
 use Rattle.dds_json.specs.Checking.{refusal_document}
 use Rattle.dds_json.specs.Line.{line_of}
@@ -44,7 +44,7 @@ loss_name lost.Lost = codes "Lost"
 -- the line of a counterexample: the reader, the key, the loss, and how many events there are
 abbrev pub unsafe_line : Lists → Counterexample → List ℕ
 unsafe_line d c =
-    codes "unsafe " ++ (name_at d.readers.names c.reader ++ (codes " " ++ (reader_key d c.reader c.key ++ (codes " " ++ (loss_name c.loss ++ (codes " " ++ (decimal (length c.events.items) ++ codes "\n")))))))
+    codes "unsafe " ++ (reader_name d c.reader ++ (codes " " ++ (reader_key d c.reader c.key ++ (codes " " ++ (loss_name c.loss ++ (codes " " ++ (decimal (length c.events.items) ++ codes "\n")))))))
 
 -- the line, that which sums the run up, and those of its events with their replies
 abbrev pub refuted_text : Lists → Counterexample → List ℕ
@@ -69,7 +69,7 @@ loss_document reader key loss summary events =
 -- the document of a counterexample
 abbrev pub unsafe_document : Lists → Counterexample → Data
 unsafe_document d c =
-    loss_document (name_at d.readers.names c.reader) (reader_key d c.reader c.key) (loss_name c.loss) (summary_text d c.events.items c.replies.items) (lines_of d c.events.items c.replies.items)
+    loss_document (reader_name d c.reader) (reader_key d c.reader c.key) (loss_name c.loss) (summary_text d c.events.items c.replies.items) (lines_of d c.events.items c.replies.items)
 
 -- the document for what is known
 abbrev pub known_document : Lists → Refutation → Data

@@ -7,7 +7,7 @@ use Rattle.dds_base.specs.declared.events.Event.TheVariants as event
 use Rattle.dds_base.specs.declared.events.Reply.{Reply}
 use Rattle.dds_base.specs.declared.events.Reply.TheVariants as reply
 use Rattle.dds_lists.specs.Lists.{Lists}
-use Rattle.dds_text.specs.Names.{name_at, reader_key, writer_key}
+use Rattle.dds_text.specs.Names.{reader_key, reader_name, writer_key, writer_name}
 use Rattle.dds_tool.specs.declared.summary.Act.{Act}
 use Rattle.dds_tool.specs.declared.summary.Act.TheVariants as act
 
@@ -18,8 +18,8 @@ endpoint_count d act.Take = length d.readers.entries
 
 -- the name of such an endpoint
 abbrev pub endpoint_name : Lists → Act → ℕ → List ℕ
-endpoint_name d act.Write e = name_at d.writers.names e
-endpoint_name d act.Take e = name_at d.readers.names e
+endpoint_name d act.Write e = writer_name d e
+endpoint_name d act.Take e = reader_name d e
 
 -- the name of a key there
 abbrev pub key_name : Lists → Act → ℕ → ℕ → List ℕ

@@ -9,7 +9,7 @@ use dds_base::NoMemory;
 use dds_conform::{Conformance, Refused, Shortage};
 use dds_json::line_of;
 use dds_lists::Deployment;
-use dds_text::names::{name_at, reader_key, rule_text, writer_key};
+use dds_text::names::{reader_key, reader_name, rule_text, writer_key, writer_name};
 use serde_json::{Value, json};
 use std::alloc::Global;
 
@@ -19,7 +19,7 @@ fn shortage_document(alloc: Global, lists: &Deployment, short: &Shortage) -> Res
 {
     let rule = rule_text(alloc, lists, short.rule)?;
     let key = reader_key(lists, short.reader, short.key);
-    let reader = name_at(lists.reader_names(), short.reader.number());
+    let reader = reader_name(lists, short.reader);
     let missing = short.missing;
     json!(in alloc; {"rule": rule, "missing": missing, "reader": reader, "key": key})
 }
@@ -41,7 +41,7 @@ fn refused_document(alloc: Global, lists: &Deployment, refused: &Refused) -> Res
 {
     let short = shortages_array(alloc, lists, &refused.short)?;
     let key = writer_key(lists, refused.writer, refused.key);
-    let writer = name_at(lists.writer_names(), refused.writer.number());
+    let writer = writer_name(lists, refused.writer);
     let line = refused.line;
     json!(in alloc; {"answer": "no", "line": line, "writer": writer, "key": key, "short": short})
 }

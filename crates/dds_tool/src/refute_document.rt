@@ -13,7 +13,7 @@ use dds_lists::Deployment;
 use dds_match::Plan;
 use dds_search::{Counterexample, Refutation, Unknown};
 use dds_sizing::shortage_word;
-use dds_text::names::{name_at, reader_key};
+use dds_text::names::{reader_key, reader_name};
 use serde_json::{Value, json};
 use std::alloc::Global;
 
@@ -43,7 +43,7 @@ fn unsafe_document(
     ensures { IfOk result (λ v. view v ≡ unsafe_document lists.now found.now) }
 {
     let key = reader_key(lists, found.reader, found.key);
-    let reader = name_at(lists.reader_names(), found.reader.number());
+    let reader = reader_name(lists, found.reader);
     let loss = loss_name(found.loss);
     let summary = summary_text(alloc, lists, &found.events, &found.replies)?;
     let events = lines_text(alloc, lists, &found.events, &found.replies)?;

@@ -16,7 +16,7 @@ use dds_lists::Deployment;
 use dds_match::Plan;
 use dds_search::{Budget, Counterexample, Loss, Refutation, Unknown, refute};
 use dds_sizing::shortage_word;
-use dds_text::names::{name_at, reader_key};
+use dds_text::names::{reader_key, reader_name};
 use std::alloc::Global;
 use std::time::Clock;
 
@@ -40,7 +40,7 @@ fn unsafe_line(
     ensures { IfOk result (λ text. string_bytes text ≡ unsafe_line lists.now found.now) }
 {
     let key = reader_key(lists, found.reader, found.key);
-    let reader = name_at(lists.reader_names(), found.reader.number());
+    let reader = reader_name(lists, found.reader);
     let loss = loss_name(found.loss);
     let count = found.events.len();
     format!(in alloc; "unsafe {reader} {key} {loss} {count}\n")

@@ -1,5 +1,5 @@
 -- The parts of a certificate's text, and the lines of an endpoint from the table of weights.
-use Rattle.std.proofs.Common.{ℕ, zero, suc, ◌≡◌, ◌+◌, ◌*◌, ◌<◌, ◌≤◌, ◌==◌, ◌&&◌, List, [], ◌∷◌, ◌++◌, cond, flat_map, map, length, refl, sym, ap, ◌∙◌, arith, append-nil, append_assoc, add-one, get_or, take, slice_index, slice_get, Option, Some, None, unwrap_or, option_map}
+use Rattle.std.proofs.Common.{ℕ, zero, suc, ◌≡◌, ◌+◌, ◌*◌, ◌<◌, ◌≤◌, ◌==◌, ◌&&◌, List, [], ◌∷◌, ◌++◌, cond, flat_map, map, length, refl, sym, ap, ◌∙◌, arith, slice_index, slice_get, Option, Some, None, unwrap_or, option_map}
 use Rattle.std.specs.List.{range_with_len}
 use Rattle.std.proofs.lemmas.List.Folds.{flat_map-map}
 use Rattle.dds_lists.specs.Lists.{Lists, Reader, Writer, keys_at}
@@ -7,7 +7,6 @@ use Rattle.dds_lists.specs.WellFormed.{IsWellFormed}
 use Rattle.dds_weights.specs.declared.certificate.Weight.{Weight}
 use Rattle.dds_weights.specs.Lists.{weight_of}
 use Rattle.dds_text.specs.Names.{name_at, reader_keys, writer_keys}
-use Rattle.dds_text.specs.Texts.{each_below}
 use Rattle.dds_weights.specs.Text.{weight_line, endpoint_lines}
 use Rattle.dds_weights.specs.Weighing.{weight_by, ShowsWeights}
 use Rattle.dds_weights.proofs.FitLaws.{keys_few}

@@ -6,12 +6,13 @@ ghost use Rattle.dds_weights.specs.Text.{bound_text, total_text, certificate_tex
 ghost use Rattle.dds_weights.specs.Views.{row_view, certificate_view};
 
 use crate::certificate::{Bound, Certificate, Row, Total, Weight};
-use crate::naming::{keys_of_reader, keys_of_writer, name_at, reader_key, row_name};
+use crate::naming::row_name;
 use crate::weighing::weights_by_place;
 use dds_base::grid::{KEYS, PLACES};
 use dds_base::{Names, NoMemory, ReaderNo, WriterNo};
 use dds_lists::Deployment;
 use dds_match::Plan;
+use dds_text::names::{keys_of_reader, keys_of_writer, name_at, reader_key};
 use std::alloc::Global;
 
 /// The line of a weight, none where it is 0. `side` is the field of the endpoint, `reader` or `writer`.

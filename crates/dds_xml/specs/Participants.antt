@@ -3,7 +3,7 @@ use Rattle.std.specs.Prelude.{codes, ℕ, List, [], ◌++◌, ◌==◌, nat_le, 
 use Rattle.std.specs.Fmt.{decimal}
 use Rattle.std.specs.Option.{option_map_or}
 use Rattle.dds_lists.specs.Lists.{Lists, Participant, Reader, Writer, keys_at}
-use Rattle.dds_text.specs.Names.{name_at}
+use Rattle.dds_text.specs.Names.{name_at, reader_name, writer_name}
 use Rattle.dds_text.specs.Texts.{each_below, start_of}
 use Rattle.dds_xml.specs.Pieces.{library}
 
@@ -46,11 +46,11 @@ subscriber d name x =
 
 -- the writer with this number, if it is at this participant
 abbrev pub publisher_at : Lists → ℕ → ℕ → List ℕ
-publisher_at d p w = option_map_or (λ (x : Writer). if x.participant == p then publisher d (name_at d.writers.names w) x else []) (slice_get d.writers.entries w) []
+publisher_at d p w = option_map_or (λ (x : Writer). if x.participant == p then publisher d (writer_name d w) x else []) (slice_get d.writers.entries w) []
 
 -- the reader with this number, if it is at this participant
 abbrev pub subscriber_at : Lists → ℕ → ℕ → List ℕ
-subscriber_at d p r = option_map_or (λ (x : Reader). if x.participant == p then subscriber d (name_at d.readers.names r) x else []) (slice_get d.readers.entries r) []
+subscriber_at d p r = option_map_or (λ (x : Reader). if x.participant == p then subscriber d (reader_name d r) x else []) (slice_get d.readers.entries r) []
 
 -- the writers of a participant
 abbrev pub publishers : Lists → ℕ → List ℕ

@@ -8,7 +8,7 @@ use Rattle.dds_qos.specs.declared.policies.Policies.{Policies}
 use Rattle.dds_qos.specs.declared.policies.Presentation.{Presentation}
 use Rattle.dds_qos.specs.declared.policies.ResourceLimits.{ResourceLimits}
 use Rattle.dds_lists.specs.Lists.{Lists, Reader, Writer}
-use Rattle.dds_text.specs.Names.{name_at}
+use Rattle.dds_text.specs.Names.{reader_name, writer_name}
 use Rattle.dds_text.specs.Texts.{each_below}
 use Rattle.dds_text.specs.Words.{flag_word, access_scope_word, destination_order_word, durability_word, history_word, liveliness_word, ownership_word, reliability_word}
 use Rattle.dds_xml.specs.Pieces.{duration_element, library, limit_element}
@@ -89,11 +89,11 @@ reader_profile name x = profile (codes "datareader_qos") (codes "subscriber_qos"
 
 -- the profile of the writer with this number
 abbrev pub writer_profile_at : Lists → ℕ → List ℕ
-writer_profile_at d w = option_map_or (writer_profile (name_at d.writers.names w)) (slice_get d.writers.entries w) []
+writer_profile_at d w = option_map_or (writer_profile (writer_name d w)) (slice_get d.writers.entries w) []
 
 -- the profile of the reader with this number
 abbrev pub reader_profile_at : Lists → ℕ → List ℕ
-reader_profile_at d r = option_map_or (reader_profile (name_at d.readers.names r)) (slice_get d.readers.entries r) []
+reader_profile_at d r = option_map_or (reader_profile (reader_name d r)) (slice_get d.readers.entries r) []
 
 -- the profiles of all writers
 unfoldable pub writer_library : Lists → List ℕ

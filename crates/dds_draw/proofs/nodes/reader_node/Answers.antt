@@ -1,6 +1,6 @@
 use Rattle.std.proofs.Common.{◌≡◌, ◌∙◌, ap, ap₂, string_bytes, option_map}
 use Rattle.dds_qos.specs.Limits.{reader_limits_of}
-use Rattle.dds_text.specs.Names.{name_at}
+use Rattle.dds_text.specs.Names.{name_at, reader_name}
 use Rattle.dds_weights.specs.Views.{certificate_view}
 use Rattle.dds_draw.specs.Nodes.{certificate_lines, endpoint_label, reader_node}
 use Rattle.dds_draw.specs.Room.{colour_of}
@@ -12,9 +12,9 @@ returns c =
     let d = c.args.lists.now in
     let x = c.args.x.now in
     let claimed = option_map (λ c. certificate_view c.now) c.args.certificate in
-    let name : c.name_at-name.result.now ≡ name_at d.readers.names c.args.reader = c.name_at-name.ensures ∙ ap₂ name_at c.reader_names.ensures c.number.ensures in
-    let topic : c.name_at-topic.result.now ≡ name_at d.topics.names x.topic = c.name_at-topic.ensures ∙ ap₂ name_at c.topic_names.ensures c.number-2.ensures in
-    let label : string_bytes c.in_ok-label.label ≡ endpoint_label (name_at d.readers.names c.args.reader) (name_at d.topics.names x.topic) x.qos.requested =
+    let name : c.reader_name-name.result.now ≡ reader_name d c.args.reader = c.reader_name-name.ensures in
+    let topic : c.name_at-topic.result.now ≡ name_at d.topics.names x.topic = c.name_at-topic.ensures ∙ ap₂ name_at c.topic_names.ensures c.number.ensures in
+    let label : string_bytes c.in_ok-label.label ≡ endpoint_label (reader_name d c.args.reader) (name_at d.topics.names x.topic) x.qos.requested =
     c.in_ok-label.ensures ∙ ap₂ (λ own text. endpoint_label own text x.qos.requested) name topic in
     let colour : c.colour_of-colour.result.now ≡ colour_of claimed c.args.reader (reader_limits_of x.qos.requested) = c.colour_of-colour.ensures ∙ ap (colour_of claimed c.args.reader) c.reader_limits-limits.ensures in
     let claims : string_bytes c.in_ok-claims.claims ≡ certificate_lines d c.args.reader (reader_limits_of x.qos.requested) claimed =

@@ -1,11 +1,11 @@
 //! The lines of an acceptance.
 ghost use Rattle.std.specs.Prelude.{◌≡◌, ◌++◌, IfOk, flat_map, string_bytes};
 ghost use Rattle.dds_weights.specs.Views.{certificate_view};
-ghost use Rattle.dds_verdict.specs.Acceptance.{acceptance_lines, bound_line, total_line};
+ghost use Rattle.dds_explain.specs.Acceptance.{acceptance_lines, bound_line, total_line};
 
 use dds_base::NoMemory;
 use dds_lists::Deployment;
-use dds_text::names::{name_at, reader_key};
+use dds_text::names::{reader_key, reader_name};
 use dds_weights::{Bound, Certificate, Total};
 use std::alloc::Global;
 
@@ -13,7 +13,7 @@ use std::alloc::Global;
 fn bound_text(alloc: Global, lists: &Deployment, bound: &Bound) -> Result<String, NoMemory>
     ensures { IfOk result (λ text. string_bytes text ≡ bound_line lists.now bound.now) }
 {
-    let reader = name_at(lists.reader_names(), bound.reader.number());
+    let reader = reader_name(lists, bound.reader);
     let key = reader_key(lists, bound.reader, bound.key);
     let number = bound.bound;
     format!(in alloc; "bound {reader} {key} {number}\n")
@@ -23,7 +23,7 @@ fn bound_text(alloc: Global, lists: &Deployment, bound: &Bound) -> Result<String
 fn total_text(alloc: Global, lists: &Deployment, total: &Total) -> Result<String, NoMemory>
     ensures { IfOk result (λ text. string_bytes text ≡ total_line lists.now total.now) }
 {
-    let reader = name_at(lists.reader_names(), total.reader.number());
+    let reader = reader_name(lists, total.reader);
     let number = total.bound;
     format!(in alloc; "total {reader} {number}\n")
 }

@@ -1,6 +1,6 @@
 use Rattle.std.proofs.Common.{◌≡◌, ◌++◌, flat_map, string_bytes, take}
-use Rattle.dds_verdict.specs.Acceptance.{total_line}
-use Rattle.dds_verdict.proofs.acceptance.push_totals.Given as goal
+use Rattle.dds_explain.specs.Acceptance.{total_line}
+use Rattle.dds_explain.proofs.acceptance.push_totals.Given as goal
 
 -- the lines of the totals so far are added
 abbrev pub invariant-loop-total : goal.invariant-loop-total

@@ -1,12 +1,12 @@
 //! The line of a refusal.
 ghost use Rattle.std.specs.Prelude.{◌≡◌, IfOk, string_bytes};
 ghost use Rattle.dds_weights.specs.Views.{certificate_view};
-ghost use Rattle.dds_verdict.specs.Refusal.{refusal_line, subject_text};
+ghost use Rattle.dds_explain.specs.Refusal.{refusal_line, subject_text};
 
 use dds_base::NoMemory;
 use dds_check::{No, Subject};
 use dds_lists::Deployment;
-use dds_text::names::{name_at, reader_key, rule_text, writer_key};
+use dds_text::names::{reader_key, reader_name, rule_text, writer_key, writer_name};
 use dds_weights::Certificate;
 use dds_weights::naming::row_name;
 use std::alloc::Global;
@@ -23,8 +23,8 @@ fn subject_text(
 {
     match subject {
         Subject::Pair { writer, reader } => {
-            let writer = name_at(lists.writer_names(), writer.number());
-            let reader = name_at(lists.reader_names(), reader.number());
+            let writer = writer_name(lists, writer);
+            let reader = reader_name(lists, reader);
             format!(in alloc; "{writer} {reader}")
         }
         Subject::PairKey {
@@ -33,27 +33,21 @@ fn subject_text(
             key,
         } => {
             let key = reader_key(lists, reader, key);
-            let writer = name_at(lists.writer_names(), writer.number());
-            let reader = name_at(lists.reader_names(), reader.number());
+            let writer = writer_name(lists, writer);
+            let reader = reader_name(lists, reader);
             format!(in alloc; "{writer} {reader} {key}")
         }
         Subject::Instance { reader, key } => {
             let key = reader_key(lists, reader, key);
-            let reader = name_at(lists.reader_names(), reader.number());
+            let reader = reader_name(lists, reader);
             format!(in alloc; "{reader} {key}")
         }
-        Subject::Reader(reader) => String::from_str(
-            alloc,
-            name_at(lists.reader_names(), reader.number()),
-        ),
-        Subject::Writer(writer) => String::from_str(
-            alloc,
-            name_at(lists.writer_names(), writer.number()),
-        ),
+        Subject::Reader(reader) => String::from_str(alloc, reader_name(lists, reader)),
+        Subject::Writer(writer) => String::from_str(alloc, writer_name(lists, writer)),
         Subject::RowInstance { row, reader, key } => {
             let row = row_name(certificate, row);
             let key = reader_key(lists, reader, key);
-            let reader = name_at(lists.reader_names(), reader.number());
+            let reader = reader_name(lists, reader);
             format!(in alloc; "{row} {reader} {key}")
         }
         Subject::RowRule { row, rule } => {
@@ -64,7 +58,7 @@ fn subject_text(
         Subject::RowWriterKey { row, writer, key } => {
             let row = row_name(certificate, row);
             let key = writer_key(lists, writer, key);
-            let writer = name_at(lists.writer_names(), writer.number());
+            let writer = writer_name(lists, writer);
             format!(in alloc; "{row} {writer} {key}")
         }
     }

@@ -5,16 +5,16 @@ use Rattle.dds_lists.specs.Lists.{Lists}
 use Rattle.dds_weights.specs.Lists.{Certificate}
 use Rattle.dds_weights.specs.declared.certificate.Bound.{Bound}
 use Rattle.dds_weights.specs.declared.certificate.Total.{Total}
-use Rattle.dds_text.specs.Names.{name_at, reader_key}
+use Rattle.dds_text.specs.Names.{reader_key, reader_name}
 
 -- the line of a bound
 abbrev pub bound_line : Lists → Bound → List ℕ
 bound_line d b =
-    codes "bound " ++ (name_at d.readers.names b.reader ++ (codes " " ++ (reader_key d b.reader b.key ++ (codes " " ++ (decimal b.bound ++ codes "\n")))))
+    codes "bound " ++ (reader_name d b.reader ++ (codes " " ++ (reader_key d b.reader b.key ++ (codes " " ++ (decimal b.bound ++ codes "\n")))))
 
 -- the line of a total
 abbrev pub total_line : Lists → Total → List ℕ
-total_line d t = codes "total " ++ (name_at d.readers.names t.reader ++ (codes " " ++ (decimal t.bound ++ codes "\n")))
+total_line d t = codes "total " ++ (reader_name d t.reader ++ (codes " " ++ (decimal t.bound ++ codes "\n")))
 
 -- the lines of an acceptance: yes, each bound, each total
 abbrev pub acceptance_lines : Lists → Certificate → List ℕ

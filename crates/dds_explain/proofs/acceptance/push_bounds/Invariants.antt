@@ -1,6 +1,6 @@
 use Rattle.std.proofs.Common.{◌≡◌, ◌++◌, flat_map, string_bytes, take}
-use Rattle.dds_verdict.specs.Acceptance.{bound_line}
-use Rattle.dds_verdict.proofs.acceptance.push_bounds.Given as goal
+use Rattle.dds_explain.specs.Acceptance.{bound_line}
+use Rattle.dds_explain.proofs.acceptance.push_bounds.Given as goal
 
 -- the lines of the bounds so far are added
 abbrev pub invariant-loop-bound : goal.invariant-loop-bound
