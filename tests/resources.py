@@ -33,13 +33,13 @@ MEMORIES = {resource.RLIMIT_DATA: "heap", resource.RLIMIT_AS: "address space"}
 COMMANDS = {
     "check": "check d c", "check --explain": "check d c --explain", "match": "match d", "propose": "propose d", "propose --thorough": "propose d --thorough",
     "migrate": "migrate d", "show": "show d", "show --format dds-xml": "show d --format dds-xml", "draw": "draw d c", "run": "run d c --writes 2 --takes 2",
-    "refute": "refute d", "replay": "replay d e", "conform": "conform d t", "lint": "lint d c",
+    "limits": "limits d --explain", "refute": "refute d", "replay": "replay d e", "conform": "conform d t", "lint": "lint d c",
 }
-STYLED = ("check", "match", "propose", "run", "refute", "replay", "conform", "lint")
+STYLED = ("check", "match", "propose", "limits", "run", "refute", "replay", "conform", "lint")
 # address space that the stack may take, in KiB: with less it may be the stack that can't grow, which ends the program by a signal
 STACK_ROOM = 4096
 # the searches and reasons on the largest inputs take minutes
-NOT_ON_LARGEST = ("check --explain", "propose --thorough", "refute", "run")
+NOT_ON_LARGEST = ("check --explain", "propose --thorough", "limits", "refute", "run")
 EVENTS = "write ping_w k\nsend ping_w ping_r 1\ndeliver 0\ntake ping_r k\nfire answer\nheartbeat ping_w ping_r\n"
 TRACE = "0 a1 write ping_w k\n1 a2 take ping_r k\n2 a2 write pong_w k\n3 a2 write pong_w k\n"
 
