@@ -7,7 +7,7 @@ use Rattle.dds_answers.specs.declared.fault.ToolFault.{ToolFault}
 use Rattle.dds_answers.specs.declared.fault.ToolFault.TheVariants as fault
 use Rattle.dds_answers.specs.Answers.{Gives, GivesOneOf, SaysNothing}
 use Rattle.dds_answers.specs.Outcome.{MayIf, MayOfFile, MayOfFiles, Outcome, of_files, too_large}
-use Rattle.dds_answers.specs.Reading.{IsReadingFault}
+use Rattle.dds_answers.specs.Reading.{IsReadingFault, most_bytes}
 use Rattle.dds_answers.specs.Report.{Ends}
 
 -- what is known of the bytes of a file holds of these, if it has these
@@ -41,28 +41,28 @@ reading_fault fault.Write is = absurd is
 reading_fault fault.Run is = absurd is
 
 -- the bytes of two files are few enough, or those of one aren't
-pub few : (most : ℕ) (d c : List ℕ) → length d ≤ 1048576 → length c ≤ most → (nat_le (length d) 1048576 && nat_le (length c) most) ≡ true
-few most d c one other = rw (le-leb (length d) 1048576 one, le-leb (length c) most other) refl
+pub few : (most : ℕ) (d c : List ℕ) → length d ≤ most_bytes → length c ≤ most → (nat_le (length d) most_bytes && nat_le (length c) most) ≡ true
+few most d c one other = rw (le-leb (length d) most_bytes one, le-leb (length c) most other) refl
 
-many : (most : ℕ) (d c : List ℕ) → (1048576 < length d) ⊎ (most < length c) → (nat_le (length d) 1048576 && nat_le (length c) most) ≡ false
-many most d c (inl more) = rw (lt-leb (length d) 1048576 more) refl
-many most d c (inr more) = rw (lt-leb (length c) most more) (either (nat_le (length d) 1048576))
+many : (most : ℕ) (d c : List ℕ) → (most_bytes < length d) ⊎ (most < length c) → (nat_le (length d) most_bytes && nat_le (length c) most) ≡ false
+many most d c (inl more) = rw (lt-leb (length d) most_bytes more) refl
+many most d c (inr more) = rw (lt-leb (length c) most more) (either (nat_le (length d) most_bytes))
   where
     either : (b : Bool) → (b && false) ≡ false
     either true = refl
     either false = refl
 
 -- so a command on them ends as on their bytes, or since one is too large
-pub few_of_files : (d c : List ℕ) (end : Outcome) → length d ≤ 1048576 → length c ≤ 1048576 → of_files d c end ≡ end
-few_of_files d c end one other = rw (few 1048576 d c one other) refl
+pub few_of_files : (d c : List ℕ) (end : Outcome) → length d ≤ most_bytes → length c ≤ most_bytes → of_files d c end ≡ end
+few_of_files d c end one other = rw (few most_bytes d c one other) refl
 
-pub large_of_files : (d c : List ℕ) (end : Outcome) → (1048576 < length d) ⊎ (1048576 < length c) → of_files d c end ≡ too_large
-large_of_files d c end more = rw (many 1048576 d c more) refl
+pub large_of_files : (d c : List ℕ) (end : Outcome) → (most_bytes < length d) ⊎ (most_bytes < length c) → of_files d c end ≡ too_large
+large_of_files d c end more = rw (many most_bytes d c more) refl
 
-pub large_of_file : (May : Outcome → Type 0) (d : List ℕ) → 1048576 < length d → MayOfFile d May too_large
-large_of_file May d more = rw (lt-leb (length d) 1048576 more) refl
+pub large_of_file : (May : Outcome → Type 0) (d : List ℕ) → most_bytes < length d → MayOfFile d May too_large
+large_of_file May d more = rw (lt-leb (length d) most_bytes more) refl
 
-pub large_of_two : (May : Outcome → Type 0) (most : ℕ) (d c : List ℕ) → (1048576 < length d) ⊎ (most < length c) → MayOfFiles most d c May too_large
+pub large_of_two : (May : Outcome → Type 0) (most : ℕ) (d c : List ℕ) → (most_bytes < length d) ⊎ (most < length c) → MayOfFiles most d c May too_large
 large_of_two May most d c more = rw (many most d c more) refl
 
 -- one of the ends that may be of bytes that are few enough
@@ -71,8 +71,8 @@ few_gives b May (Ok answer) is (end, may, same) = (end, rw is may, same)
 few_gives b May (Err e) is (inl nothing) = inl nothing
 few_gives b May (Err e) is (inr (end, may, ends)) = inr (end, rw is may, ends)
 
-pub file_gives : (May : Outcome → Type 0) (d : List ℕ) (r : Result Answer ToolFault) → length d ≤ 1048576 → GivesOneOf May r → GivesOneOf (MayOfFile d May) r
-file_gives May d r small gives = few_gives (nat_le (length d) 1048576) May r (le-leb (length d) 1048576 small) gives
+pub file_gives : (May : Outcome → Type 0) (d : List ℕ) (r : Result Answer ToolFault) → length d ≤ most_bytes → GivesOneOf May r → GivesOneOf (MayOfFile d May) r
+file_gives May d r small gives = few_gives (nat_le (length d) most_bytes) May r (le-leb (length d) most_bytes small) gives
 
 -- what is given of an end that may be
 pub one_of : (May : Outcome → Type 0) (end : Outcome) (r : Result Answer ToolFault) → May end → Gives r end → GivesOneOf May r

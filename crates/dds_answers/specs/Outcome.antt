@@ -12,6 +12,7 @@ use Rattle.dds_check.specs.Accepts.{first_no}
 use Rattle.dds_check.specs.declared.verdict.No.{No}
 use Rattle.dds_events.specs.declared.fault.EventsFaultKind.{EventsFaultKind}
 use Rattle.dds_conform.specs.declared.fault.TraceFaultKind.{TraceFaultKind}
+use Rattle.dds_answers.specs.Reading.{most_bytes}
 
 -- the certificate is accepted, or a condition fails, and either may be printed with its reason, or the endpoints are compared, or a certificate is proposed or
 -- none is found, or a deployment is migrated to this text, or it is shown in a format, or it is drawn, with its certificate if there is one, or these
@@ -67,7 +68,7 @@ told Explained end = because end
 
 -- this end of a command on two files with these bytes, if neither is too large: both are read whole before either is parsed
 abbrev pub of_files : List ℕ → List ℕ → Outcome → Outcome
-of_files d c end = if nat_le (length d) 1048576 && nat_le (length c) 1048576 then end else too_large
+of_files d c end = if nat_le (length d) most_bytes && nat_le (length c) most_bytes then end else too_large
 
 -- of bytes that are few enough an end that may be, and of too many that one
 abbrev pub MayIf : (is_few : Bool) → (Outcome → Type 0) → Outcome → Type 0
@@ -76,12 +77,12 @@ MayIf false May end = end ≡ too_large
 
 -- an end that may be of a command on a file with these bytes, if it isn't too large: it is read whole before it is parsed
 abbrev pub MayOfFile : List ℕ → (Outcome → Type 0) → Outcome → Type 0
-MayOfFile d May end = MayIf (nat_le (length d) 1048576) May end
+MayOfFile d May end = MayIf (nat_le (length d) most_bytes) May end
 
 -- an end that may be of a command on two files with these bytes, if neither is too large: the second may have so many bytes, and both are read whole before
 -- either is parsed
 abbrev pub MayOfFiles : (most : ℕ) → List ℕ → List ℕ → (Outcome → Type 0) → Outcome → Type 0
-MayOfFiles most d c May end = MayIf (nat_le (length d) 1048576 && nat_le (length c) most) May end
+MayOfFiles most d c May end = MayIf (nat_le (length d) most_bytes && nat_le (length c) most) May end
 
 -- how a check of two files with these bytes ends
 unfoldable pub file_outcome : List ℕ → List ℕ → Outcome

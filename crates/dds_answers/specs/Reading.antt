@@ -6,6 +6,14 @@ use Rattle.std.specs.declared.io.ErrorKind.TheVariants.{Interrupted}
 use Rattle.dds_answers.specs.declared.fault.ToolFault.{ToolFault}
 use Rattle.dds_answers.specs.declared.fault.ToolFault.TheVariants as fault
 
+-- the most bytes that a file may have
+abbrev pub most_bytes : ℕ
+most_bytes = 1048576
+
+-- the most bytes that a file of events or a trace may have
+abbrev pub most_event_bytes : ℕ
+most_event_bytes = 67108864
+
 -- one more, up to 2^64 - 1
 abbrev pub one_more : ℕ → ℕ
 one_more n = min (n + 1) (2 ^ 64 - 1)

@@ -3,7 +3,7 @@ ghost use Rattle.std.specs.Prelude.{◌≡◌, ℕ, List, [], ◌∷◌, ◌≤�
 ghost use Rattle.std.specs.Prelude.{IsErrOf, OnOk, length};
 ghost use Rattle.dds_answers.specs.Causes.{IsFileFault};
 ghost use Rattle.dds_answers.specs.Opened.{Opens, OpensAll};
-ghost use Rattle.dds_answers.specs.Reading.{IsReadingFault};
+ghost use Rattle.dds_answers.specs.Reading.{IsReadingFault, most_bytes};
 
 use crate::counted::Counted;
 use crate::fault::ToolFault;
@@ -14,11 +14,11 @@ use std::alloc::Global;
 /// The bytes of the file at a path, at most `MAX_FILE`, as `read_file_up_to` reads them.
 pub fn read_file<S: Sources>(alloc: Global, files: &mut S, path: &str) -> Result<Vec<u8>, ToolFault>
     ensures bytes { IfOk result
-        (λ bytes. IfSome (S.holds files.old path.now) (λ xs. (bytes.items ≡ xs) × (length xs ≤ 1048576))) }
+        (λ bytes. IfSome (S.holds files.old path.now) (λ xs. (bytes.items ≡ xs) × (length xs ≤ most_bytes))) }
     ensures faults { IfErr result IsReadingFault }
     ensures causes { IfErr result (IsFileFault (S.has_failed files.new)) }
     ensures too_large { IsErrOf result ToolFault.TooLarge
-        → IfSome (S.holds files.old path.now) (λ xs. 1048576 < length xs) }
+        → IfSome (S.holds files.old path.now) (λ xs. most_bytes < length xs) }
     ensures others { S.holds files.new ≡ S.holds files.old }
     ensures opened { OpensAll (S.opened files.old) (S.opened files.new) (path.now ∷ []) }
 {
@@ -64,13 +64,13 @@ pub fn read_files<S: Sources>(
 ) -> Result<(Vec<u8>, Vec<u8>), ToolFault>
     requires few { most < 2 ^ 63 }
     ensures first { IfOk result
-        (λ both. IfSome (S.holds files.old first.now) (λ xs. (both.0.items ≡ xs) × (length xs ≤ 1048576))) }
+        (λ both. IfSome (S.holds files.old first.now) (λ xs. (both.0.items ≡ xs) × (length xs ≤ most_bytes))) }
     ensures second { IfOk result
         (λ both. IfSome (S.holds files.old second.now) (λ xs. (both.1.items ≡ xs) × (length xs ≤ most))) }
     ensures faults { IfErr result IsReadingFault }
     ensures causes { IfErr result (IsFileFault (S.has_failed files.new)) }
     ensures too_large { (x y : List ℕ) → S.holds files.old first.now ≡ Some x → S.holds files.old second.now ≡ Some y
-        → IsErrOf result ToolFault.TooLarge → (1048576 < length x) ⊎ (most < length y) }
+        → IsErrOf result ToolFault.TooLarge → (most_bytes < length x) ⊎ (most < length y) }
     ensures opened { Opens (S.opened files.old) (S.opened files.new) (first.now ∷ second.now ∷ []) }
     ensures all_opened { OnOk result (OpensAll (S.opened files.old) (S.opened files.new)
         (first.now ∷ second.now ∷ [])) }

@@ -1,7 +1,7 @@
 //! Reads a file whole.
 ghost use Rattle.std.specs.Prelude.{◌≡◌, ◌≢◌, ◌+◌, ◌^◌, ◌<◌, ◌≤◌, ◌⊎◌, length, IfOk, IfErr, IfSome, IsErrOf, OnOk};
 ghost use Rattle.std.specs.Io.KnownBytes.{IsAtEnd, Consumes};
-ghost use Rattle.dds_answers.specs.Reading.{IsReadingFault};
+ghost use Rattle.dds_answers.specs.Reading.{IsReadingFault, most_bytes};
 
 use crate::counted::{Counted, MAX_INTERRUPTED};
 use crate::fault::ToolFault;
@@ -19,10 +19,10 @@ pub fn read_all<R: Read>(alloc: Global, reader: &mut Counted<R>) -> Result<Vec<u
     requires interrupted { reader.old.interrupted < 2 ^ 63 }
     ensures whole { IfOk result (λ bytes. IfSome (R.remaining reader.old.reader) (λ left. bytes.items ≡ left)) }
     ensures end { OnOk result (IsAtEnd (R.remaining reader.new.reader)) }
-    ensures bounded { IfOk result (λ bytes. length bytes.items ≤ 1048576) }
+    ensures bounded { IfOk result (λ bytes. length bytes.items ≤ most_bytes) }
     ensures faults { IfErr result IsReadingFault }
     ensures too_large { IsErrOf result ToolFault.TooLarge
-        → IfSome (R.remaining reader.old.reader) (λ left. 1048576 < length left) }
+        → IfSome (R.remaining reader.old.reader) (λ left. most_bytes < length left) }
     ensures read { IsErrOf result ToolFault.Read
         → ((reader.new.failed ≡ reader.old.failed + 1) × (reader.new.interrupted ≤ reader.old.interrupted + 1000))
         ⊎ ((reader.new.failed ≡ reader.old.failed) × (reader.new.interrupted ≡ reader.old.interrupted + 1001)) }

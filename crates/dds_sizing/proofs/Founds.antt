@@ -13,14 +13,15 @@ use Rattle.dds_answers.specs.Outcome.{Outcome, bad_certificate, bad_deployment, 
 use Rattle.dds_answers.specs.Report.{Ends, output_of}
 use Rattle.dds_cert.specs.Faults.{kind_of}
 use Rattle.dds_search.specs.declared.answer.Missing.{Missing}
+use Rattle.dds_answers.specs.Reading.{most_bytes}
 use Rattle.dds_sizing.specs.Missing.{IsMissingText}
 use Rattle.dds_sizing.specs.Searches.{MayFind}
 
 -- the answer with a certificate that is accepted, whose text is short enough
-pub found_ends : (lists : Lists) (cert : Certificate) (answer : Answer) → fits (network_of lists) cert ≡ true → first_no lists cert ≡ None → length (string_bytes answer.text) ≤ 1048576
+pub found_ends : (lists : Lists) (cert : Certificate) (answer : Answer) → fits (network_of lists) cert ≡ true → first_no lists cert ≡ None → length (string_bytes answer.text) ≤ most_bytes
     → IsAnswer answer (proposed lists cert) → (end : Outcome) × MayFind (Ok lists) end × IsAnswer answer end
 unfolding output_of
-found_ends lists cert answer fit accepted short is = (proposed lists cert, inr (cert, (fit, accepted, subst (λ (text : List ℕ). length text ≤ 1048576) is.0 short), refl), is)
+found_ends lists cert answer fit accepted short is = (proposed lists cert, inr (cert, (fit, accepted, subst (λ (text : List ℕ). length text ≤ most_bytes) is.0 short), refl), is)
 
 -- a fault with which an answer to a certificate ends is none of a file, so that `none` may end with it too
 pub found_fault : (lists : Lists) (cert : Certificate) (f : ToolFault) → Ends f (proposed lists cert) → Ends f unproposed

@@ -13,6 +13,7 @@ use Rattle.dds_search.specs.Sizes.{AreSizes, claims_all}
 use Rattle.dds_search.specs.declared.certificate.sizes.Size.{Size}
 use Rattle.dds_answers.specs.declared.answer.Answer.{Answer}
 use Rattle.dds_answers.specs.Outcome.{Outcome, bad_deployment, said}
+use Rattle.dds_answers.specs.Reading.{most_bytes}
 use Rattle.dds_json.specs.Line.{line_of}
 use Rattle.dds_json.specs.Proposing.{none_document}
 use Rattle.dds_json.specs.declared.style.Style.{Style}
@@ -75,7 +76,7 @@ MayTellReasons style d end =
 -- no longer than a file may be
 abbrev pub IsClaim : Lists → List Size → lists.Certificate → Type 0
 IsClaim d sizes cert =
-    (fits (network_of d) cert ≡ true) × IsShown (network_of d) (certificate_of cert) × (claims_all cert sizes ≡ true) × (length (certificate_text d cert) ≤ 1048576)
+    (fits (network_of d) cert ≡ true) × IsShown (network_of d) (certificate_of cert) × (claims_all cert sizes ≡ true) × (length (certificate_text d cert) ≤ most_bytes)
 
 -- a certificate of some sizes is printed, each of which weights show, or that there is none
 abbrev pub MayTellClaim : Style → Lists → Outcome → Type 0
@@ -102,7 +103,7 @@ IsSaid text is_yes answer = (string_bytes answer.text ≡ text) × (answer.is_ye
 -- it prints the certificate, whose text is no longer than a file may be, or that there is none
 abbrev pub TellsClaim : Style → Lists → Bool → lists.Certificate → Answer → Type 0
 TellsClaim style d is_bounded cert answer =
-    (IsSaid (text_told style (certificate_text d cert) is_bounded) is_bounded answer × (length (certificate_text d cert) ≤ 1048576)) ⊎ IsSaid (none_told style) false answer
+    (IsSaid (text_told style (certificate_text d cert) is_bounded) is_bounded answer × (length (certificate_text d cert) ≤ most_bytes)) ⊎ IsSaid (none_told style) false answer
 
 -- the same of a certificate that may be there
 abbrev pub TellsFound : Style → Lists → Bool → Option lists.Certificate → Answer → Type 0

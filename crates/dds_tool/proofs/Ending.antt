@@ -12,7 +12,7 @@ use Rattle.dds_answers.specs.Fault.{IsAnswerFault}
 use Rattle.dds_answers.specs.Opened.{Opens, OpensAll}
 use Rattle.dds_answers.specs.Outcome.{MayIf, MayOfFiles, Outcome, bad_deployment, file_outcome, outcome, proposed, unproposed}
 use Rattle.dds_answers.specs.Proposals.{MaySeek}
-use Rattle.dds_answers.specs.Reading.{IsReadingFault}
+use Rattle.dds_answers.specs.Reading.{IsReadingFault, most_bytes}
 use Rattle.dds_answers.proofs.FileEnds.{few, few_gives, few_of_files, one_of}
 use Rattle.dds_json.specs.Ends.{EndsProposal, in_style}
 use Rattle.dds_json.specs.declared.style.Style.{Style}
@@ -55,14 +55,14 @@ pub only_gives : (Breaks : Type 0) (end : Outcome) (r : Result Answer ToolFault)
 only_gives Breaks end r gives = unless_gives Breaks (λ (e : Outcome). e ≡ end) r (one_gives end r gives)
 
 -- a run of files that aren't too large is broken off where one of their bytes is
-breaks : (asks : PairTask) (d s : List ℕ) → length d ≤ 1048576 → length s ≤ 1048576 → MayBreakOff asks (outcome d s) → MayBreakOff asks (file_outcome d s)
+breaks : (asks : PairTask) (d s : List ℕ) → length d ≤ most_bytes → length s ≤ most_bytes → MayBreakOff asks (outcome d s) → MayBreakOff asks (file_outcome d s)
 unfolding file_outcome
 breaks asks d s small short may = subst (MayBreakOff asks) (sym (few_of_files d s (outcome d s) small short)) may
 
-pub files_give : (asks : PairTask) (most : ℕ) (May : Outcome → Type 0) (d s : List ℕ) (r : Result Answer ToolFault) → length d ≤ 1048576 → length s ≤ most
-    → (MayBreakOff asks (outcome d s) → most ≡ 1048576) → GivesUnless (MayBreakOff asks (outcome d s)) May r → GivesUnless (MayBreakOff asks (file_outcome d s)) (MayOfFiles most d s May) r
-files_give asks most May d s (Ok answer) small short equal gives = few_gives (nat_le (length d) 1048576 && nat_le (length s) most) May (Ok answer) (few most d s small short) gives
-files_give asks most May d s (Err e) small short equal (inr gives) = inr (few_gives (nat_le (length d) 1048576 && nat_le (length s) most) May (Err e) (few most d s small short) gives)
+pub files_give : (asks : PairTask) (most : ℕ) (May : Outcome → Type 0) (d s : List ℕ) (r : Result Answer ToolFault) → length d ≤ most_bytes → length s ≤ most
+    → (MayBreakOff asks (outcome d s) → most ≡ most_bytes) → GivesUnless (MayBreakOff asks (outcome d s)) May r → GivesUnless (MayBreakOff asks (file_outcome d s)) (MayOfFiles most d s May) r
+files_give asks most May d s (Ok answer) small short equal gives = few_gives (nat_le (length d) most_bytes && nat_le (length s) most) May (Ok answer) (few most d s small short) gives
+files_give asks most May d s (Err e) small short equal (inr gives) = inr (few_gives (nat_le (length d) most_bytes && nat_le (length s) most) May (Err e) (few most d s small short) gives)
 files_give asks most May d s (Err e) small short equal (inl (may, run)) =
     inl (breaks asks d s small (subst (λ (n : ℕ). length s ≤ n) (equal may) short) may, run)
 
@@ -95,7 +95,7 @@ one_opens None new x opened = tt
 one_opens (Some before) new x opened = (1, omega arith, opened)
 
 -- the most that a second file may have is what a deployment may where a run may be broken off
-pub most_of_run : (asks : PairTask) (checked : Outcome) → MayBreakOff asks checked → most_of asks ≡ 1048576
+pub most_of_run : (asks : PairTask) (checked : Outcome) → MayBreakOff asks checked → most_of asks ≡ most_bytes
 most_of_run (pair.Check detail style) checked may = refl
 most_of_run (pair.Run wishes style) checked may = refl
 most_of_run (pair.Replay style) checked may = absurd may

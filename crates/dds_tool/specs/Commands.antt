@@ -9,6 +9,7 @@ use Rattle.dds_answers.specs.Migrations.{MayMigrate}
 use Rattle.dds_answers.specs.Outcome.{MayOfFile, MayOfFiles, Outcome, draw_outcome, file_outcome, match_outcome, outcome, show_outcome, told}
 use Rattle.dds_answers.specs.Proposals.{MayPropose}
 use Rattle.dds_answers.specs.Report.{Ends, output_of, status_of}
+use Rattle.dds_answers.specs.Reading.{most_bytes, most_event_bytes}
 use Rattle.dds_answers.specs.Syntax.{IsFaultTold}
 use Rattle.dds_answers.specs.declared.answer.Answer.{Answer}
 use Rattle.dds_answers.specs.declared.exit.Exit.TheVariants as exit
@@ -70,12 +71,12 @@ MayEndPair (pair.Lint form denied) deployment second d s end = MayLint form deni
 
 -- how many bytes the second file may have: 64 MiB of events or of a trace, else as many as a deployment
 abbrev pub most_of : PairTask → ℕ
-most_of (pair.Check detail style) = 1048576
-most_of (pair.Run wishes style) = 1048576
-most_of (pair.Replay style) = 67108864
-most_of (pair.Conform style) = 67108864
-most_of pair.Draw = 1048576
-most_of (pair.Lint form denied) = 1048576
+most_of (pair.Check detail style) = most_bytes
+most_of (pair.Run wishes style) = most_bytes
+most_of (pair.Replay style) = most_event_bytes
+most_of (pair.Conform style) = most_event_bytes
+most_of pair.Draw = most_bytes
+most_of (pair.Lint form denied) = most_bytes
 
 -- the same of files, which are read whole before any is parsed: one may be too large
 abbrev pub MayEndFile : Task → (name : List ℕ) → List ℕ → Outcome → Type 0

@@ -1,5 +1,6 @@
 use Rattle.std.proofs.Common.{◌≡◌, ◌≤◌, ◌<◌, ◌⊎◌, ◌∙◌, ℕ, List, IfErr, ap, ap₂, Err, inr, length, subst, sym}
 use Rattle.dds_answers.specs.Outcome.{Outcome, file_outcome, outcome}
+use Rattle.dds_answers.specs.Reading.{most_bytes}
 use Rattle.dds_answers.proofs.FileEnds.{held, large_of_two, unread_one}
 use Rattle.dds_tool.specs.Commands.{IsToldOf, MayBreakOff, MayEndFiles, MayEndPair, most_of}
 use Rattle.dds_tool.specs.RunEnds.{GivesUnless}
@@ -12,7 +13,7 @@ returns-in-Ok-clause-gives g c = λ x y is_x is_y.
     let name = c.args.deployment.now in
     let other = c.args.second.now in
     let most = c.most_of.ensures in
-    let first = held _ x (λ xs. (c.in-Ok.given.items ≡ xs) × (length xs ≤ 1048576)) is_x c.in-Ok.ensures.first in
+    let first = held _ x (λ xs. (c.in-Ok.given.items ≡ xs) × (length xs ≤ most_bytes)) is_x c.in-Ok.ensures.first in
     let second = held _ y (λ xs. (c.in-Ok.bytes.items ≡ xs) × (length xs ≤ c.most_of.result)) is_y c.in-Ok.ensures.second in
     let given = c.as_slice.ensures.value ∙ first.0 in
     let bytes = c.as_slice-in-Ok.ensures.value ∙ second.0 in
@@ -37,6 +38,6 @@ returns-in-Err-clause-gives g c = λ x y is_x is_y.
     let other = c.args.second.now in (
       inr (unread_one (MayEndFiles asks name other x y) c.in-Err.fault c.in-Err.ensures.faults
           (λ same. large_of_two (MayEndPair asks name other x y) (most_of asks) x y
-          (subst (λ (n : ℕ). (1048576 < length x) ⊎ (n < length y)) c.most_of.ensures (c.in-Err.ensures.too_large x y is_x is_y (ap Err same))))),
+          (subst (λ (n : ℕ). (most_bytes < length x) ⊎ (n < length y)) c.most_of.ensures (c.in-Err.ensures.too_large x y is_x is_y (ap Err same))))),
       read_told asks x y c.in-Err.fault c.in-Err.ensures.faults,
     )
