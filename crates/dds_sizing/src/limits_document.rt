@@ -28,16 +28,16 @@ pub(crate) fn subject_document(
     match need {
         Need::Key { reader, key, .. } => {
             let key = reader_key(lists, *reader, *key);
-            let reader = reader_name(lists, reader);
+            let reader = reader_name(lists, *reader);
             json!(in alloc; {"reader": reader, "key": key})
         }
         Need::Reader { reader, .. } => {
-            let reader = reader_name(lists, reader);
+            let reader = reader_name(lists, *reader);
             json!(in alloc; {"reader": reader})
         }
         Need::Writer { writer, key, .. } => {
             let key = writer_key(lists, *writer, *key);
-            let writer = writer_name(lists, writer);
+            let writer = writer_name(lists, *writer);
             json!(in alloc; {"writer": writer, "key": key})
         }
     }

@@ -17,16 +17,16 @@ fn subject_text(alloc: Global, lists: &Deployment, need: &Need) -> Result<String
     match need {
         Need::Key { reader, key, .. } => {
             let key = reader_key(lists, *reader, *key);
-            let reader = reader_name(lists, reader);
+            let reader = reader_name(lists, *reader);
             format!(in alloc; "reader {reader} {key}")
         }
         Need::Reader { reader, .. } => {
-            let reader = reader_name(lists, reader);
+            let reader = reader_name(lists, *reader);
             format!(in alloc; "reader {reader} total")
         }
         Need::Writer { writer, key, .. } => {
             let key = writer_key(lists, *writer, *key);
-            let writer = writer_name(lists, writer);
+            let writer = writer_name(lists, *writer);
             format!(in alloc; "writer {writer} {key}")
         }
     }

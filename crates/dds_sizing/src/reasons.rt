@@ -57,10 +57,10 @@ fn target_text(alloc: Global, lists: &Deployment, target: &Target) -> TextResult
     match target {
         Target::Instance { reader, key } => {
             let key = reader_key(lists, *reader, *key);
-            let reader = reader_name(lists, reader);
+            let reader = reader_name(lists, *reader);
             format!(in alloc; "{reader} {key}")
         }
-        Target::Reader(reader) => { String::from_str(alloc, reader_name(lists, reader)) }
+        Target::Reader(reader) => { String::from_str(alloc, reader_name(lists, *reader)) }
     }
 }
 

@@ -114,7 +114,7 @@ fn limit_text(alloc: Global, plan: &Plan, target: &Target) -> Result<String, NoM
     match target {
         Target::Instance { reader, key } => instance_text(alloc, plan, *reader, *key),
         Target::Reader(reader) => {
-            let reader = reader_name(plan.lists(), reader);
+            let reader = reader_name(plan.lists(), *reader);
             format!(in alloc; "max_samples of {reader}")
         }
     }

@@ -2,7 +2,7 @@ use Rattle.std.proofs.Common.{◌≡◌, ◌∙◌, string_bytes, ap, List}
 use Rattle.dds_qos.specs.declared.limits.ReaderLimits.{ReaderLimits}
 use Rattle.dds_lists.specs.Lists.{Lists}
 use Rattle.dds_match.specs.Plan.{network_of}
-use Rattle.dds_text.specs.Names.{reader_key}
+use Rattle.dds_text.specs.Names.{reader_key, reader_name}
 use Rattle.dds_weights.specs.declared.certificate.Bound.{Bound}
 use Rattle.dds_runs.specs.Accepted.{instance_limit}
 use Rattle.dds_check.specs.Tables.{bound_of}
@@ -20,4 +20,5 @@ returns c =
     c.instance_limit_name-policy.ensures ∙ ap instance_limit_name c.reader_limits-limits.ensures in
     let limit : string_bytes c.in_ok-limit.limit ≡ limit_text (instance_limit ((network_of c.args.plan.now).reader_limits c.args.reader)) =
     c.in_ok-limit.ensures ∙ (ap limit_text c.instance_limit.ensures ∙ ap (λ (x : ReaderLimits). limit_text (instance_limit x)) c.reader_limits-limits.ensures) in
-    rw (key, c.reader_name-name.ensures, bound, policy, limit) at c.format.ensures.ok
+    let name : c.reader_name-name.result.now ≡ reader_name c.args.plan.now c.args.reader = c.reader_name-name.ensures ∙ ap (λ (d : Lists). reader_name d c.args.reader) c.lists-2.ensures.value in
+    rw (key, name, bound, policy, limit) at c.format.ensures.ok

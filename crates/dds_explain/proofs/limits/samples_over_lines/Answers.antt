@@ -1,7 +1,9 @@
 use Rattle.std.proofs.Common.{◌≡◌, ◌∙◌, string_bytes, ap, List}
 use Rattle.dds_base.specs.Sums as sums
 use Rattle.dds_qos.specs.declared.limits.ReaderLimits.{ReaderLimits}
+use Rattle.dds_lists.specs.Lists.{Lists}
 use Rattle.dds_match.specs.Plan.{network_of}
+use Rattle.dds_text.specs.Names.{reader_name}
 use Rattle.dds_text.specs.Texts.{each_below}
 use Rattle.dds_weights.specs.declared.certificate.Bound.{Bound}
 use Rattle.dds_weights.specs.declared.certificate.Total.{Total}
@@ -21,4 +23,5 @@ returns c =
     c.in_ok-bounds.ensures ∙ ap (λ (bs : List Bound). each_below 64 (reached_bound_line c.args.plan.now bs c.args.reader)) c.as_slice-2.ensures.value in
     let sum : c.sum_of_bounds-sum.result ≡ sums.total 64 (reached_bound (network_of c.args.plan.now) c.args.certificate.now.bounds.items c.args.reader) =
     c.sum_of_bounds-sum.ensures ∙ ap (λ (bs : List Bound). sums.total 64 (reached_bound (network_of c.args.plan.now) bs c.args.reader)) c.as_slice-3.ensures.value in
-    rw (c.reader_name-name.ensures, limit, total, bounds, sum) at c.format.ensures.ok
+    let name : c.reader_name-name.result.now ≡ reader_name c.args.plan.now c.args.reader = c.reader_name-name.ensures ∙ ap (λ (d : Lists). reader_name d c.args.reader) c.lists.ensures.value in
+    rw (name, limit, total, bounds, sum) at c.format.ensures.ok
