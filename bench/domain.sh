@@ -1,7 +1,7 @@
 #!/bin/sh
 # Round trips of examples/ping in a domain that one thread drives, with an acknowledgement after each sample and after each third: how long 10,000 and 1,000,000
 # take and how much memory the process has at most; beside them, where idlc and Cyclone DDS's library are installed (Debian's cyclonedds-dev), samples within
-# one process by Cyclone DDS. The program is built by 'rt run' in crates/bench_ping.
+# one process by Cyclone DDS, of one thread and of two. The program is built by 'rt run' in crates/bench_ping.
 here=$(CDPATH='' cd -- "$(dirname -- "$0")/.." && pwd)
 domain=$here/crates/bench_ping/out/bench_ping
 room=$(mktemp -d) || exit 1
@@ -17,4 +17,5 @@ done
 command -v idlc >/dev/null || { echo 'idlc of Cyclone DDS is not installed' && exit; }
 cp "$here"/bench/cyclone/* "$room" && cd "$room" || exit 1
 idlc Number.idl && cc -O2 -o ping ping.c Number.c -lddsc -lpthread || exit 1
+echo "Cyclone DDS by one thread: $(./ping alone 1000000)"
 echo "Cyclone DDS within the process: $(./ping local 100000)"

@@ -1,7 +1,8 @@
 /* The deployment of examples/ping on Cyclone DDS, in one process: the first application writes three samples and one more for each answer that it
    takes, the second answers each sample that it takes. It prints how many samples a second were written and taken, and the processor's part.
 
-   ping local N          both sides in one domain: Cyclone DDS delivers within the process
+   ping alone N          both sides in one domain, by one thread, which takes what has come and never waits
+   ping local N          both sides in one domain, a thread each: Cyclone DDS delivers within the process
    ping net N PERMILLE   a domain object for each side, which speak over the loopback device, and so many of a thousand packets are lost on purpose
 
    To build it, with Debian's cyclonedds-dev:
@@ -73,11 +74,9 @@ static void write_one(side *s) {
     s->writes++;
 }
 
-static void take_some(side *s) {
+static void take_ready(side *s) {
     void *samples[TAKEN] = {0};
     dds_sample_info_t infos[TAKEN];
-    dds_attach_t ready;
-    need(dds_waitset_wait(s->waitset, &ready, 1, DDS_SECS(10)), "wait");
     int count = dds_take(s->reader, samples, infos, TAKEN, TAKEN);
     need(count, "take");
     for (int i = 0; i < count; i++) {
@@ -88,11 +87,35 @@ static void take_some(side *s) {
     need(dds_return_loan(s->reader, samples, count), "loan");
 }
 
+static void write_first(side *s) {
+    for (int i = 0; i < s->starts; i++) write_one(s);
+}
+
 static void *run_side(void *from) {
     side *s = from;
-    for (int i = 0; i < s->starts; i++) write_one(s);
-    while (s->takes < s->limit) take_some(s);
+    write_first(s);
+    while (s->takes < s->limit) {
+        dds_attach_t ready;
+        need(dds_waitset_wait(s->waitset, &ready, 1, DDS_SECS(10)), "wait");
+        take_ready(s);
+    }
     return NULL;
+}
+
+static void run_by_one_thread(side *one, side *two) {
+    write_first(one);
+    while (one->takes < one->limit) {
+        take_ready(two);
+        take_ready(one);
+    }
+}
+
+static void run_by_two_threads(side *one, side *two) {
+    pthread_t first, second;
+    pthread_create(&first, NULL, run_side, one);
+    pthread_create(&second, NULL, run_side, two);
+    pthread_join(first, NULL);
+    pthread_join(second, NULL);
 }
 
 static double seconds(clockid_t clock) {
@@ -114,8 +137,9 @@ static void open_domains(int permille) {
 
 int main(int count, char **words) {
     int over_net = count == 4 && strcmp(words[1], "net") == 0;
-    if (!over_net && !(count == 3 && strcmp(words[1], "local") == 0)) {
-        fprintf(stderr, "ping local N | ping net N PERMILLE\n");
+    int by_one = count == 3 && strcmp(words[1], "alone") == 0;
+    if (!over_net && !by_one && !(count == 3 && strcmp(words[1], "local") == 0)) {
+        fprintf(stderr, "ping alone N | ping local N | ping net N PERMILLE\n");
         return 4;
     }
     if (over_net) open_domains(atoi(words[3]));
@@ -125,11 +149,7 @@ int main(int count, char **words) {
     await_match(&one);
     await_match(&two);
     double began = seconds(CLOCK_MONOTONIC), used = seconds(CLOCK_PROCESS_CPUTIME_ID);
-    pthread_t first, second;
-    pthread_create(&first, NULL, run_side, &one);
-    pthread_create(&second, NULL, run_side, &two);
-    pthread_join(first, NULL);
-    pthread_join(second, NULL);
+    (by_one ? run_by_one_thread : run_by_two_threads)(&one, &two);
     double took = seconds(CLOCK_MONOTONIC) - began;
     used = seconds(CLOCK_PROCESS_CPUTIME_ID) - used;
     printf("%ld samples in %.2f s: %.0f a second, %.2f processors\n", one.takes + two.takes, took, (one.takes + two.takes) / took, used / took);
