@@ -38,15 +38,21 @@ total_words d t = codes "nothing needs the total of " ++ reader_name d t.reader
 abbrev pub held_up_words : Lists → ℕ → ℕ → List ℕ
 held_up_words d w r = writer_name d w ++ (codes " keeps all within a limit, so it waits where " ++ (reader_name d r ++ codes " is slow"))
 
+-- a rule that takes at a watcher
+abbrev pub lossy_words : Lists → ℕ → List ℕ
+lossy_words d u = rule_text d u ++ codes " takes at a reader that may miss samples, and may wait for one for ever"
+
 -- a note in words
 abbrev pub note_text : Lists → Certificate → Note → List ℕ
 note_text d c (note.Watcher r) = reader_name d r ++ codes " may miss samples, and a yes says nothing of that"
 note_text d c (note.Unlimited r) = reader_name d r ++ codes " has no limit, and no bound says how much it may store"
+note_text d c (note.IdleLimit r) = reader_name d r ++ codes " never reaches max_samples_per_instance: its depth is lower"
 note_text d c (note.UnwrittenKey t k) = unwritten_words d t k
 note_text d c (note.IdleWriter w) = codes "no rule writes at " ++ writer_name d w
 note_text d c note.NoRules = codes "there's no rule, so nothing is ever written"
 note_text d c note.NoStart = codes "no rule has a start, so nothing is ever written"
 note_text d c (note.StuckRule u) = stuck_words d u
+note_text d c (note.LossyTake u) = lossy_words d u
 note_text d c (note.UnusedRow n) = codes "no bound and no total names row " ++ row_name c n
 note_text d c (note.NeedlessBound i) = option_map_or (bound_words d) (slice_get c.bounds i) []
 note_text d c (note.NeedlessTotal i) = option_map_or (total_words d) (slice_get c.totals i) []

@@ -2,8 +2,8 @@
 ghost use Rattle.std.specs.Prelude.{◌≡◌, [], IfOk, flat_map, option_map, slice_get, string_bytes};
 ghost use Rattle.std.specs.Option.{option_map_or};
 ghost use Rattle.dds_weights.specs.Views.{certificate_view};
-ghost use Rattle.dds_explain.specs.Notes.{bound_words, held_up_words, note_line, note_lines, note_text, stuck_words};
-ghost use Rattle.dds_explain.specs.Notes.{takes_nothing, total_words, unwritten_words};
+ghost use Rattle.dds_explain.specs.Notes.{bound_words, held_up_words, lossy_words, note_line, note_lines, note_text};
+ghost use Rattle.dds_explain.specs.Notes.{stuck_words, takes_nothing, total_words, unwritten_words};
 
 use dds_base::{KeyNo, ReaderNo, RuleNo, TopicNo, WriterNo};
 use dds_lint::{Note, all_notes};
@@ -109,6 +109,16 @@ fn held_up_words(alloc: Global, plan: &Plan, writer: WriterNo, reader: ReaderNo)
     format!(in alloc; "{writer} keeps all within a limit, so it waits where {reader} is slow")
 }
 
+/// A rule that takes at a watcher.
+fn lossy_words(alloc: Global, lists: &Deployment, rule: RuleNo) -> TextResult
+    ensures { IfOk result (λ text. string_bytes text ≡ lossy_words lists.now rule) }
+{
+    let rule = rule_text(alloc, lists, rule)?;
+    format!(in alloc;
+        "{rule} takes at a reader that may miss samples, and may wait for one for ever"
+    )
+}
+
 /// A note in words, on one line: what a yes doesn't say of something. Of a bound or a total that isn't there, nothing.
 /// `NoMemory` is the only error.
 pub fn note_text(alloc: Global, plan: &Plan, certificate: &Certificate, note: Note) -> TextResult
@@ -124,6 +134,10 @@ pub fn note_text(alloc: Global, plan: &Plan, certificate: &Certificate, note: No
             let reader = reader_name(plan.lists(), reader);
             format!(in alloc; "{reader} has no limit, and no bound says how much it may store")
         }
+        Note::IdleLimit(reader) => {
+            let reader = reader_name(plan.lists(), reader);
+            format!(in alloc; "{reader} never reaches max_samples_per_instance: its depth is lower")
+        }
         Note::UnwrittenKey { topic, key } => unwritten_words(alloc, plan.lists(), topic, key),
         Note::IdleWriter(writer) => {
             let writer = writer_name(plan.lists(), writer);
@@ -134,6 +148,7 @@ pub fn note_text(alloc: Global, plan: &Plan, certificate: &Certificate, note: No
             String::from_str(alloc, "no rule has a start, so nothing is ever written")
         }
         Note::StuckRule(rule) => stuck_words(alloc, plan.lists(), rule),
+        Note::LossyTake(rule) => lossy_words(alloc, plan.lists(), rule),
         Note::UnusedRow(row) => {
             let name = row_name(certificate, row);
             format!(in alloc; "no bound and no total names row {name}")

@@ -1,12 +1,14 @@
 //! Lists of names: the keys of a topic, a filter, the endpoints of an application, and partitions.
 
 use crate::fault::Faults;
-use crate::fields::{Named, Side, Takes};
+use crate::fields::{Side, Takes};
 use crate::names::{PlacedNames, texts_of};
 use crate::owners::check_owner;
 use crate::values::{Spot, check_known, name_of, text_of};
 use crate::walk::{Walk, tell_kind, tell_length};
 use crate::wording::shown;
+use dds_base::grid::{ENDPOINTS, KEYS};
+use dds_base::limits::NAME_BYTES;
 use dds_base::{NoMemory, is_name_byte};
 use dds_fields::fault::FaultKind;
 use dds_fields::place::Place;
@@ -41,7 +43,7 @@ fn check_topic_keys(
     values: &[Value],
 ) -> Result<(), NoMemory> {
     let alloc = walk.alloc;
-    tell_length(walk, faults, "keys", 64, at, values)?;
+    tell_length(walk, faults, "keys", KEYS, at, values)?;
     if values.is_empty() {
         let message = String::from_str(alloc, "`keys` is empty, and a topic has at least one key")?;
         return faults.add(alloc, FaultKind::OutOfRange, at, message, None);
@@ -90,7 +92,7 @@ fn check_filter(
     value: &Value,
     values: &[Value],
 ) -> Result<(), NoMemory> {
-    tell_length(walk, faults, "keys", 64, at, values)?;
+    tell_length(walk, faults, "keys", KEYS, at, values)?;
     let listed = texts_of(walk.alloc, value)?;
     for (index, value) in values.iter().enumerate() {
         let at = Place::Index {
@@ -114,7 +116,7 @@ fn check_owned(
     value: &Value,
     values: &[Value],
 ) -> Result<(), NoMemory> {
-    tell_length(walk, faults, "endpoints", 256, at, values)?;
+    tell_length(walk, faults, "endpoints", ENDPOINTS, at, values)?;
     let listed = texts_of(walk.alloc, value)?;
     let section = side.section();
     for (index, value) in values.iter().enumerate() {
@@ -133,7 +135,7 @@ fn check_owned(
 }
 
 fn is_partition(text: &str) -> bool {
-    text.len() <= 64
+    text.len() <= NAME_BYTES
         && text
             .as_bytes()
             .iter()

@@ -113,7 +113,10 @@ fn check_owned_at(
         return Ok(());
     }
     let name = shown(walk.alloc, name)?;
-    let message = format!(in walk.alloc; "no application owns `{name}`")?;
+    let list = side.section().key();
+    let message = format!(in walk.alloc;
+        "no application owns `{name}`: add it to the `{list}` of one at its participant"
+    )?;
     tell_owner(walk, faults, at, message)
 }
 

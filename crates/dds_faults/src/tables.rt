@@ -2,37 +2,39 @@
 
 use crate::fault::FileKind;
 use crate::fields::{Elements, Entry, Field, Fields, Named, Need, Part, Side, Takes};
+use dds_base::grid::{ENDPOINTS, PLACES};
+use dds_base::limits::{APPLICATIONS, PARTICIPANTS, ROWS, RULES, TOPICS};
 
 static DEPLOYMENT: [Part; 7] = [
     Part {
         key: "participants",
         entry: Entry::Participant,
-        limit: 64,
+        limit: PARTICIPANTS,
     },
     Part {
         key: "topics",
         entry: Entry::Topic,
-        limit: 256,
+        limit: TOPICS,
     },
     Part {
         key: "writers",
         entry: Entry::Writer,
-        limit: 256,
+        limit: ENDPOINTS,
     },
     Part {
         key: "readers",
         entry: Entry::Reader,
-        limit: 256,
+        limit: ENDPOINTS,
     },
     Part {
         key: "applications",
         entry: Entry::Application,
-        limit: 64,
+        limit: APPLICATIONS,
     },
     Part {
         key: "rules",
         entry: Entry::Rule,
-        limit: 256,
+        limit: RULES,
     },
     Part {
         key: "connections",
@@ -45,17 +47,17 @@ static CERTIFICATE: [Part; 3] = [
     Part {
         key: "rows",
         entry: Entry::Row,
-        limit: 64,
+        limit: ROWS,
     },
     Part {
         key: "bounds",
         entry: Entry::Bound,
-        limit: 16_384,
+        limit: PLACES,
     },
     Part {
         key: "totals",
         entry: Entry::Total,
-        limit: 256,
+        limit: ENDPOINTS,
     },
 ];
 

@@ -74,7 +74,7 @@ WrongKind writers[0].depth: `depth` is a text, and has to be a whole number from
 Duplicate writers[1].name: there's already a writer `w`, writers[0] ()
 WrongKind writers[1].participant: `participant` is a number, and has to be a name in quotes ()
 BadName writers[1].topic: `a b` is no name: 1 to 64 letters, digits, `_`, `.`, `/` and `-` ()
-EndpointOwner writers[0]: no application owns `w` ()
+EndpointOwner writers[0]: no application owns `w`: add it to the `writers` of one at its participant ()
 "
     );
     Ok(())
@@ -124,7 +124,7 @@ RuleEntry rules[0].writes[0]: `v` isn't one of a's writers ()
 RuleEntry rules[0].writes[1]: `j` is no key of `w` (the only key is `k`)
 OutOfRange rules[0].writes[2].count: `count` is 70000, and has to be a whole number from 1 to 65535 ()
 RuleEntry rules[0].writes[3]: `k` at `w` stands in the list already ()
-WrongKind rules[0].start: `start` is a text, and has to be a whole number from 0 to 65535 ()
+WrongKind rules[0].start: `start = \"unlimited\"` needs version = 3 ()
 UnknownKey rules[1].writes[0].key: `key` is no field of a write of a rule with `each` (its fields are `writer` and `count`)
 RuleEntry rules[2]: no key is one of each of its endpoints, so `each` stands for no rule ()
 "

@@ -4,7 +4,8 @@ use crate::fault::Faults;
 use crate::fields::{Field, Named, Side, Takes};
 use crate::names::{PlacedNames, elements_of};
 use crate::walk::{Walk, help_with_names, help_with_words, quoted, tell_kind, tell_range};
-use crate::wording::{choice, expected, shown, subject};
+use crate::wording::{expected, shown, subject};
+use dds_base::limits::TYPE_BYTES;
 use dds_base::{NoMemory, is_name, is_name_byte};
 use dds_fields::fault::FaultKind;
 use dds_fields::place::Place;
@@ -129,7 +130,7 @@ fn check_name_in(
 
 fn is_type_name(text: &str) -> bool {
     1 <= text.len()
-        && text.len() <= 256
+        && text.len() <= TYPE_BYTES
         && text
             .as_bytes()
             .iter()
@@ -242,6 +243,10 @@ fn check_start(
 ) -> Result<(), NoMemory> {
     let alloc = walk.alloc;
     if walk.version <= 2 {
+        if value.as_str() == Some("unlimited") {
+            let message = String::from_str(alloc, "`start = \"unlimited\"` needs version = 3")?;
+            return faults.add(alloc, FaultKind::WrongKind, at, message, None);
+        }
         return check_number(walk, faults, 0, 65_535, expected, at, value);
     }
     if value.as_str() == Some("unlimited") && takes_something(rule) {

@@ -16,11 +16,13 @@ fn name_of(note: Note) -> &'static str {
     match note {
         Note::Watcher(_) => "Watcher",
         Note::Unlimited(_) => "Unlimited",
+        Note::IdleLimit(_) => "IdleLimit",
         Note::UnwrittenKey { .. } => "UnwrittenKey",
         Note::IdleWriter(_) => "IdleWriter",
         Note::NoRules => "NoRules",
         Note::NoStart => "NoStart",
         Note::StuckRule(_) => "StuckRule",
+        Note::LossyTake(_) => "LossyTake",
         Note::UnusedRow(_) => "UnusedRow",
         Note::NeedlessBound(_) => "NeedlessBound",
         Note::NeedlessTotal(_) => "NeedlessTotal",
@@ -51,12 +53,14 @@ fn help_of(lists: &Deployment, note: Note) -> &'static str {
     match note {
         Note::Watcher(reader) => watcher_cause(lists, reader),
         Note::Unlimited(_) => "give it a limit: `ddscheck limits` prints how much room it needs",
+        Note::IdleLimit(_) => "write `history = \"KEEP_ALL\"`, or a greater `depth`",
         Note::UnwrittenKey { .. } => "let a rule write it, or take it out of `keys`",
         Note::IdleWriter(_) =>
             "let a rule write there: after which takes, or `start = \"unlimited\"`",
         Note::NoRules => "say in `rules` what the applications do",
         Note::NoStart => "give a rule a `start`: how often it writes before anything was taken",
         Note::StuckRule(_) => "let something that it takes be written, or give it a `start`",
+        Note::LossyTake(_) => "a rule that needs each sample needs a strict reader",
         Note::UnusedRow(_) | Note::NeedlessBound(_) | Note::NeedlessTotal(_) => "take it out",
         Note::HeldUp { .. } =>
             "give the writer no limit of samples, or let a rule wait for the reader",
@@ -71,10 +75,16 @@ fn entry_of(judged: &Judged, note: Note) -> (Role, &'static str, usize, &'static
             (Role::Deployment, "readers", reader.number(), field)
         }
         Note::Unlimited(reader) => (Role::Deployment, "readers", reader.number(), "name"),
+        Note::IdleLimit(reader) => {
+            let field = "max_samples_per_instance";
+            (Role::Deployment, "readers", reader.number(), field)
+        }
         Note::UnwrittenKey { topic, .. } => (Role::Deployment, "topics", topic.number(), "keys"),
         Note::IdleWriter(writer) => (Role::Deployment, "writers", writer.number(), "name"),
         Note::NoRules | Note::NoStart => (Role::Deployment, "rules", 0, "name"),
-        Note::StuckRule(rule) => (Role::Deployment, "rules", rule_entry(judged, rule), "name"),
+        Note::StuckRule(rule) | Note::LossyTake(rule) => {
+            (Role::Deployment, "rules", rule_entry(judged, rule), "name")
+        }
         Note::UnusedRow(row) => (Role::Certificate, "rows", row, "name"),
         Note::NeedlessBound(place) => {
             let entry = judged.entries.get(place).copied().unwrap_or(place);

@@ -3,6 +3,7 @@ use Rattle.std.specs.Prelude.{ℕ, Bool, ◌&&◌, ◌||◌, ◌==◌, not, nat_
 use Rattle.std.specs.List.{list_any}
 use Rattle.std.specs.Option.{option_to_list}
 use Rattle.dds_base.specs.Sums.{any_below, count_below}
+use Rattle.dds_base.specs.declared.portion.Portion.{Portion}
 use Rattle.dds_lists.specs.Lists.{Lists, keys_at, writer_topic}
 use Rattle.dds_match.specs.Network.{Network, reach, is_written}
 use Rattle.dds_match.specs.Plan.{network_of}
@@ -10,7 +11,7 @@ use Rattle.dds_weights.specs.Lists as lists
 use Rattle.dds_weights.specs.declared.certificate.Bound.{Bound}
 use Rattle.dds_weights.specs.declared.certificate.Total.{Total}
 use Rattle.dds_runs.specs.Accepted.{instance_limit}
-use Rattle.dds_check.specs.Limits.{all_bounded}
+use Rattle.dds_check.specs.Limits.{all_bounded, is_over}
 use Rattle.dds_check.specs.Tables.{total_of}
 use Rattle.dds_lint.specs.declared.notes.Note.{Note}
 use Rattle.dds_lint.specs.declared.notes.Note.TheVariants as note
@@ -32,6 +33,10 @@ grows net cert r =
     ((is_none (net.reader_limits r).max_samples && is_none (instance_limit (net.reader_limits r)))
     && (is_none (total_of cert.totals r) && not (all_bounded net cert.bounds r)))
     (note.Unlimited r)
+
+-- the limit of an instance is above the depth of KEEP_LAST, so it's never reached
+abbrev pub idle_limit : Network → ℕ → Option Note
+idle_limit net r = noted (is_over (net.reader_limits r).max_samples_per_instance (net.reader_limits r).keep_last) (note.IdleLimit r)
 
 -- a rule writes the key at a writer of the topic
 abbrev pub is_key_written : Lists → ℕ → ℕ → Bool
@@ -61,6 +66,13 @@ is_stuck net live u = if has_takes net u then not (can_take_all net live u) else
 abbrev pub stuck_rule : Network → (ℕ → Bool) → ℕ → Option Note
 stuck_rule net live u = noted (is_stuck net live u) (note.StuckRule u)
 
+-- the rule takes at a watcher, which may miss what it waits for
+abbrev pub is_lossy : Network → ℕ → Bool
+is_lossy net u = list_any (λ (e : Portion ℕ). net.watcher e.endpoint) (net.rule u).takes
+
+abbrev pub lossy_take : Network → ℕ → Option Note
+lossy_take net u = noted (is_lossy net u) (note.LossyTake u)
+
 -- the row shows no bound and no total
 abbrev pub unused_row : lists.Certificate → ℕ → Option Note
 unused_row cert n =
@@ -89,7 +101,8 @@ unwritten_keys d t = those_below (length (keys_at d.topics t)) (unwritten_key d 
 
 -- of readers, of keys and writers, and of rules
 abbrev pub reader_notes : Network → lists.Certificate → List Note
-reader_notes net cert = those_below net.readers (watcher net) ++ those_below net.readers (grows net cert)
+reader_notes net cert =
+    those_below net.readers (watcher net) ++ those_below net.readers (grows net cert) ++ those_below net.readers (idle_limit net)
 
 abbrev pub writer_notes : Lists → List Note
 writer_notes d = every_below (length d.topics.entries) (unwritten_keys d) ++ those_below (network_of d).writers (idle_writer (network_of d))
@@ -98,7 +111,7 @@ abbrev pub absent_notes : Network → List Note
 absent_notes net = option_to_list (no_rules net) ++ option_to_list (no_start net)
 
 abbrev pub rule_notes : Network → (ℕ → Bool) → List Note
-rule_notes net live = absent_notes net ++ those_below net.rules (stuck_rule net live)
+rule_notes net live = absent_notes net ++ those_below net.rules (stuck_rule net live) ++ those_below net.rules (lossy_take net)
 
 -- of the rows, the bounds and the totals of a certificate
 abbrev pub certificate_notes : Network → lists.Certificate → List Note

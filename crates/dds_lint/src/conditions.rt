@@ -4,7 +4,7 @@ ghost use Rattle.dds_match.specs.Plan.{network_of};
 ghost use Rattle.dds_weights.specs.Fits.{fits};
 ghost use Rattle.dds_weights.specs.Views.{certificate_view};
 ghost use Rattle.dds_check.specs.Accepts.{first_no};
-ghost use Rattle.dds_check.specs.Tables.{IsTabled};
+ghost use Rattle.dds_check.specs.Tables.{HasFewRows};
 ghost use Rattle.dds_lint.specs.Conditions.{all_nos, bare_nos, limits_nos};
 
 use crate::limits::{push_bounds, push_depths, push_instances, push_written};
@@ -20,7 +20,6 @@ use std::alloc::Global;
 
 /// Adds what isn't within the limits of the endpoints: numbers 20 to 26.
 fn push_limits(nos: &mut Vec<No>, plan: &Plan, certificate: &Certificate) -> Result<(), NoMemory>
-    requires { IsTabled (certificate_view certificate.now) }
     ensures { OnOk result (nos.new.items ≡ nos.old.items
         ++ limits_nos (network_of plan.now) (certificate_view certificate.now)) }
 {
@@ -32,7 +31,7 @@ fn push_limits(nos: &mut Vec<No>, plan: &Plan, certificate: &Certificate) -> Res
 
 #[tactic(auto, unfolding(crate::specs::Conditions::all_nos))]
 fn push_all(nos: &mut Vec<No>, plan: &Plan, certificate: &Certificate) -> Result<(), NoMemory>
-    requires { IsTabled (certificate_view certificate.now) }
+    requires { HasFewRows (certificate_view certificate.now) }
     ensures { OnOk result (nos.new.items ≡ nos.old.items ++ all_nos plan.now (certificate_view certificate.now)) }
 {
     push_pairs(nos, plan)?;
@@ -53,8 +52,6 @@ pub fn all_nos(alloc: Global, plan: &Plan, certificate: &Certificate) -> Result<
     ensures first { IfOk result
         (λ nos. slice_get nos.items 0 ≡ first_no plan.now (certificate_view certificate.now)) }
 {
-    // What is known of every plan: its lists name nothing that isn't there.
-    let _lists = plan.lists();
     let mut nos = Vec::new(alloc);
     push_all(&mut nos, plan, certificate)?;
     Ok(nos)

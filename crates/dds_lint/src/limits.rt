@@ -3,7 +3,6 @@ ghost use Rattle.std.specs.Prelude.{◌≡◌, ◌++◌, ◌<◌, OnOk};
 ghost use Rattle.std.specs.Option.{option_to_list};
 ghost use Rattle.dds_match.specs.Plan.{network_of};
 ghost use Rattle.dds_weights.specs.Views.{certificate_view};
-ghost use Rattle.dds_check.specs.Tables.{IsTabled};
 ghost use Rattle.dds_check.specs.Limits.{reader_instances, no_total, samples_over, writer_instances};
 ghost use Rattle.dds_check.specs.Limits.{keep_last_filter, of_strict};
 ghost use Rattle.dds_lint.specs.Conditions.{bounds_nos, bounds_nos_by, bounds_over_nos, depth_nos, depths_nos};
@@ -169,7 +168,6 @@ pub(crate) fn push_bounds(
     plan: &Plan,
     certificate: &Certificate,
 ) -> Result<(), NoMemory>
-    requires { IsTabled (certificate_view certificate.now) }
     ensures { OnOk result (nos.new.items ≡ nos.old.items
         ++ bounds_nos (network_of plan.now) (certificate_view certificate.now)) }
 {
@@ -244,7 +242,6 @@ pub(crate) fn push_depths(
     plan: &Plan,
     certificate: &Certificate,
 ) -> Result<(), NoMemory>
-    requires { IsTabled (certificate_view certificate.now) }
     ensures { OnOk result (nos.new.items ≡ nos.old.items
         ++ depths_nos (network_of plan.now) (certificate_view certificate.now)) }
 {

@@ -7,21 +7,22 @@ ghost use Rattle.dds_match.specs.Network.{is_written};
 ghost use Rattle.dds_match.specs.Plan.{network_of};
 ghost use Rattle.dds_lists.specs.Lists.{writer_topic};
 ghost use Rattle.dds_weights.specs.Views.{certificate_view};
-ghost use Rattle.dds_check.specs.Limits.{all_bounded, is_bounded};
+ghost use Rattle.dds_check.specs.Limits.{all_bounded};
 ghost use Rattle.dds_lint.specs.Every.{every_below, those_below, those_in};
 ghost use Rattle.dds_lint.specs.Live.{IsLive, live_of, opens};
 ghost use Rattle.dds_lint.specs.Notes.{absent_notes, all_notes, certificate_notes, grows, held_up, idle_writer};
-ghost use Rattle.dds_lint.specs.Notes.{is_key_written, is_stuck};
+ghost use Rattle.dds_lint.specs.Notes.{idle_limit, is_key_written, is_lossy, is_stuck, lossy_take};
 ghost use Rattle.dds_lint.specs.Notes.{needless_bound, needless_total, no_rules, no_start, noted, pair_notes};
 ghost use Rattle.dds_lint.specs.Notes.{reader_notes, rule_notes, stuck_rule, unused_row, unwritten_key, unwritten_keys};
 ghost use Rattle.dds_lint.specs.Notes.{watcher, writer_notes};
 
 use crate::every::{push_below, push_some};
-use crate::live::{RULES, can_take_all, has_takes, live_rules, opens};
-use dds_base::grid::KEYS;
+use crate::live::{can_take_all, has_takes, live_rules, opens};
+use dds_base::limits::RULES;
 use dds_base::{KeyNo, NoMemory, ReaderNo, RuleNo, TopicNo, WriterNo};
+use dds_check::limits::{all_bounded, is_over};
 use dds_check::shown::{bound_at, total_at};
-use dds_check::{find_bound, find_total, instance_limit, reached, written};
+use dds_check::{Bounds, find_total, instance_limit, reached, written};
 use dds_conditions::{readers_of, rules_of, writers_of};
 use dds_match::Plan;
 use dds_weights::{Bound, Certificate, Total};
@@ -34,6 +35,8 @@ pub enum Note {
     Watcher(ReaderNo),
     /// The reader has no limit of samples, and no bound or total says how many it may have unread.
     Unlimited(ReaderNo),
+    /// The reader keeps the last samples of a key alone, and fewer than its limit of an instance, which does nothing.
+    IdleLimit(ReaderNo),
     /// No rule writes the key at a writer of its topic.
     UnwrittenKey { topic: TopicNo, key: KeyNo },
     /// No rule writes at the writer.
@@ -44,6 +47,8 @@ pub enum Note {
     NoStart,
     /// The rule can never fire.
     StuckRule(RuleNo),
+    /// The rule takes at a watcher: if that misses a sample, the rule may wait for it for ever.
+    LossyTake(RuleNo),
     /// No bound and no total is shown by the row with this place in the certificate, from 0.
     UnusedRow(usize),
     /// No condition asks for the bound with this place, from 0: its reader is a watcher, or no sample of its key can
@@ -68,24 +73,6 @@ fn watcher(plan: &Plan, reader: ReaderNo) -> Option<Note>
     note_if(plan.watcher(reader), Note::Watcher(reader))
 }
 
-fn is_bounded(plan: &Plan, bounds: &[Bound], reader: ReaderNo, key: KeyNo) -> bool
-    ensures { result ≡ is_bounded (network_of plan.now) bounds.now reader key }
-{
-    !plan.reaches(reader, key) || find_bound(bounds, reader, key).is_some()
-}
-
-/// Whether each key that can reach a reader has a bound.
-fn all_bounded(plan: &Plan, bounds: &[Bound], reader: ReaderNo) -> bool
-    ensures { result ≡ all_bounded (network_of plan.now) bounds.now reader }
-{
-    let mut all = true;
-    for k in 0..KEYS {
-        let bounded = is_bounded(plan, bounds, reader, KeyNo::new(k));
-        all = all && bounded;
-    }
-    all
-}
-
 fn grows(plan: &Plan, certificate: &Certificate, reader: ReaderNo) -> Option<Note>
     requires { reader < (network_of plan.now).readers }
     ensures { result ≡ grows (network_of plan.now) (certificate_view certificate.now) reader }
@@ -94,8 +81,17 @@ fn grows(plan: &Plan, certificate: &Certificate, reader: ReaderNo) -> Option<Not
     let is_unlimited = limits.max_samples.is_none() && instance_limit(&limits).is_none();
     let is_open = is_unlimited
         && find_total(&certificate.totals, reader).is_none()
-        && !all_bounded(plan, &certificate.bounds, reader);
+        && !all_bounded(plan, &Bounds::new(&certificate.bounds), reader);
     note_if(is_open, Note::Unlimited(reader))
+}
+
+fn idle_limit(plan: &Plan, reader: ReaderNo) -> Option<Note>
+    requires { reader < (network_of plan.now).readers }
+    ensures { result ≡ idle_limit (network_of plan.now) reader }
+{
+    let limits = plan.reader_limits(reader);
+    let is_idle = is_over(limits.max_samples_per_instance, limits.keep_last);
+    note_if(is_idle, Note::IdleLimit(reader))
 }
 
 /// Whether a writer is one of the topic, and a rule writes the key there.
@@ -176,6 +172,24 @@ fn stuck_rule(plan: &Plan, live: &[bool; RULES], rule: RuleNo) -> Option<Note>
     note_if(is_stuck(plan, live, rule), Note::StuckRule(rule))
 }
 
+/// Whether a rule takes at a watcher.
+fn is_lossy(plan: &Plan, rule: RuleNo) -> bool
+    requires { rule < (network_of plan.now).rules }
+    ensures { result ≡ is_lossy (network_of plan.now) rule }
+{
+    plan.rule(rule)
+        .takes
+        .iter()
+        .any(|e| plan.watcher(e.endpoint))
+}
+
+fn lossy_take(plan: &Plan, rule: RuleNo) -> Option<Note>
+    requires { rule < (network_of plan.now).rules }
+    ensures { result ≡ lossy_take (network_of plan.now) rule }
+{
+    note_if(is_lossy(plan, rule), Note::LossyTake(rule))
+}
+
 /// Whether a bound names the row.
 fn is_bounding(bounds: &[Bound], row: usize) -> bool
     ensures { result ≡ list_any (λ b. b.row == row) bounds.now }
@@ -223,6 +237,40 @@ fn held_up(plan: &Plan, writer: WriterNo, reader: ReaderNo) -> Option<Note>
     note_if(is_held_up, Note::HeldUp { writer, reader })
 }
 
+fn push_watchers(notes: &mut Vec<Note>, plan: &Plan) -> Result<(), NoMemory>
+    ensures { OnOk result (notes.new.items ≡ notes.old.items
+        ++ those_below (network_of plan.now).readers (watcher (network_of plan.now))) }
+{
+    push_below(notes, readers_of(plan), |r| watcher(plan, ReaderNo::new(r)))
+}
+
+fn push_growing(
+    notes: &mut Vec<Note>,
+    plan: &Plan,
+    certificate: &Certificate,
+) -> Result<(), NoMemory>
+    ensures { OnOk result (notes.new.items ≡ notes.old.items
+        ++ those_below (network_of plan.now).readers
+        (grows (network_of plan.now) (certificate_view certificate.now))) }
+{
+    push_below(
+        notes,
+        readers_of(plan),
+        |r| grows(plan, certificate, ReaderNo::new(r)),
+    )
+}
+
+fn push_idle_limits(notes: &mut Vec<Note>, plan: &Plan) -> Result<(), NoMemory>
+    ensures { OnOk result (notes.new.items ≡ notes.old.items
+        ++ those_below (network_of plan.now).readers (idle_limit (network_of plan.now))) }
+{
+    push_below(
+        notes,
+        readers_of(plan),
+        |r| idle_limit(plan, ReaderNo::new(r)),
+    )
+}
+
 fn push_readers(
     notes: &mut Vec<Note>,
     plan: &Plan,
@@ -231,12 +279,9 @@ fn push_readers(
     ensures { OnOk result (notes.new.items ≡ notes.old.items
         ++ reader_notes (network_of plan.now) (certificate_view certificate.now)) }
 {
-    push_below(notes, readers_of(plan), |r| watcher(plan, ReaderNo::new(r)))?;
-    push_below(
-        notes,
-        readers_of(plan),
-        |r| grows(plan, certificate, ReaderNo::new(r)),
-    )
+    push_watchers(notes, plan)?;
+    push_growing(notes, plan, certificate)?;
+    push_idle_limits(notes, plan)
 }
 
 fn push_keys(notes: &mut Vec<Note>, plan: &Plan) -> Result<(), NoMemory>
@@ -287,12 +332,20 @@ fn push_stuck(notes: &mut Vec<Note>, plan: &Plan, live: &[bool; RULES]) -> Resul
     )
 }
 
+fn push_lossy(notes: &mut Vec<Note>, plan: &Plan) -> Result<(), NoMemory>
+    ensures { OnOk result (notes.new.items ≡ notes.old.items
+        ++ those_below (network_of plan.now).rules (lossy_take (network_of plan.now))) }
+{
+    push_below(notes, rules_of(plan), |u| lossy_take(plan, RuleNo::new(u)))
+}
+
 fn push_rules(notes: &mut Vec<Note>, plan: &Plan, live: &[bool; RULES]) -> Result<(), NoMemory>
     ensures { OnOk result (notes.new.items ≡ notes.old.items
         ++ rule_notes (network_of plan.now) (λ u. slice_index_or live.now u false)) }
 {
     push_absent(notes, plan)?;
-    push_stuck(notes, plan, live)
+    push_stuck(notes, plan, live)?;
+    push_lossy(notes, plan)
 }
 
 fn push_unused_rows(notes: &mut Vec<Note>, certificate: &Certificate) -> Result<(), NoMemory>

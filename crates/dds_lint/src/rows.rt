@@ -1,9 +1,9 @@
 //! Numbers 30 to 32: the takes, firings of rules and writes that raise the weighted sum of a row.
 ghost use Rattle.std.specs.Prelude.{◌≡◌, ◌++◌, ◌<◌, ◌≤◌, OnOk};
+ghost use Rattle.dds_base.specs.Grid.{most_endpoints};
 ghost use Rattle.dds_match.specs.Plan.{network_of};
 ghost use Rattle.dds_weights.specs.Views.{certificate_view};
 ghost use Rattle.dds_runs.specs.Accepted.{row_of};
-ghost use Rattle.dds_check.specs.Tables.{IsTabled};
 ghost use Rattle.dds_check.specs.Rows.{write_raises, ShowsSpreads};
 ghost use Rattle.dds_lint.specs.Conditions.{row_rule_nos, row_take_nos, row_write_nos, rows_nos};
 ghost use Rattle.dds_lint.specs.Every.{every_in, those_below};
@@ -39,7 +39,6 @@ fn push_row_takes(
 }
 
 fn push_takes(nos: &mut Vec<No>, plan: &Plan, certificate: &Certificate) -> Result<(), NoMemory>
-    requires { IsTabled (certificate_view certificate.now) }
     ensures { OnOk result (nos.new.items ≡ nos.old.items
         ++ every_in (certificate_view certificate.now).rows (row_take_nos (network_of plan.now))) }
 {
@@ -66,7 +65,6 @@ fn push_row_rules(
 }
 
 fn push_rules(nos: &mut Vec<No>, plan: &Plan, certificate: &Certificate) -> Result<(), NoMemory>
-    requires { IsTabled (certificate_view certificate.now) }
     ensures { OnOk result (nos.new.items ≡ nos.old.items
         ++ every_in (certificate_view certificate.now).rows (row_rule_nos (network_of plan.now))) }
 {
@@ -87,7 +85,7 @@ fn push_writer_writes(
 ) -> Result<(), NoMemory>
     requires spreads { ShowsSpreads (network_of plan.now) (row_of weights.now) spreads.now }
     requires writer { writer < (network_of plan.now).writers }
-    requires few { (network_of plan.now).writers ≤ 256 }
+    requires few { (network_of plan.now).writers ≤ most_endpoints }
     ensures { OnOk result (nos.new.items ≡ nos.old.items ++ those_below (network_of plan.now).keys
         (write_raises (network_of plan.now) (row_of weights.now) n writer)) }
 {
@@ -114,7 +112,6 @@ fn push_row_writes(
 }
 
 fn push_writes(nos: &mut Vec<No>, plan: &Plan, certificate: &Certificate) -> Result<(), NoMemory>
-    requires { IsTabled (certificate_view certificate.now) }
     ensures { OnOk result (nos.new.items ≡ nos.old.items
         ++ every_in (certificate_view certificate.now).rows (row_write_nos (network_of plan.now))) }
 {
@@ -132,7 +129,6 @@ pub(crate) fn push_rows(
     plan: &Plan,
     certificate: &Certificate,
 ) -> Result<(), NoMemory>
-    requires { IsTabled (certificate_view certificate.now) }
     ensures { OnOk result (nos.new.items ≡ nos.old.items
         ++ rows_nos (network_of plan.now) (certificate_view certificate.now).rows) }
 {

@@ -4,14 +4,15 @@ ghost use Rattle.std.specs.Option.{option_map_or};
 ghost use Rattle.dds_match.specs.Plan.{network_of};
 ghost use Rattle.dds_weights.specs.Views.{certificate_view};
 ghost use Rattle.dds_runs.specs.Accepted.{row_of};
-ghost use Rattle.dds_check.specs.Tables.{IsTabled};
+ghost use Rattle.dds_check.specs.Tables.{HasFewRows};
 ghost use Rattle.dds_check.specs.Shown.{shows, bound_not_shown, total_not_shown, HasBudgets};
 ghost use Rattle.dds_lint.specs.Conditions.{shown_nos};
 ghost use Rattle.dds_lint.specs.Every.{those_in};
 
 use crate::every::push_below;
 use dds_base::NoMemory;
-use dds_check::shown::{ROWS, bound_at, budgets_of, find_row, shows, total_at, total_not_shown};
+use dds_base::limits::ROWS;
+use dds_check::shown::{bound_at, budgets_of, find_row, shows, total_at, total_not_shown};
 use dds_check::tables::Tables;
 use dds_check::verdict::refusal_if;
 use dds_check::{No, Number, Subject};
@@ -24,7 +25,7 @@ fn is_bound_shown(
     budgets: &[u128; ROWS],
     bound: &Bound,
 ) -> bool
-    requires tabled { IsTabled (certificate_view certificate.now) }
+    requires few { HasFewRows (certificate_view certificate.now) }
     requires opened { HasBudgets (network_of plan.now) (certificate_view certificate.now).rows budgets.now }
     ensures { result ≡ option_map_or
         (λ row. shows (network_of plan.now) (row_of row) bound.now.bound bound.now.reader bound.now.key)
@@ -53,7 +54,7 @@ fn bound_not_shown(
     i: usize,
     bound: &Bound,
 ) -> Option<No>
-    requires tabled { IsTabled (certificate_view certificate.now) }
+    requires few { HasFewRows (certificate_view certificate.now) }
     requires opened { HasBudgets (network_of plan.now) (certificate_view certificate.now).rows budgets.now }
     ensures { result ≡ bound_not_shown (network_of plan.now) (certificate_view certificate.now).rows bound.now i }
 {
@@ -72,7 +73,7 @@ fn push_bounds(
     certificate: &Certificate,
     budgets: &[u128; ROWS],
 ) -> Result<(), NoMemory>
-    requires tabled { IsTabled (certificate_view certificate.now) }
+    requires few { HasFewRows (certificate_view certificate.now) }
     requires opened { HasBudgets (network_of plan.now) (certificate_view certificate.now).rows budgets.now }
     ensures { OnOk result (nos.new.items ≡ nos.old.items ++ those_in (certificate_view certificate.now).bounds
         (bound_not_shown (network_of plan.now) (certificate_view certificate.now).rows)) }
@@ -90,7 +91,7 @@ fn push_totals(
     certificate: &Certificate,
     budgets: &[u128; ROWS],
 ) -> Result<(), NoMemory>
-    requires tabled { IsTabled (certificate_view certificate.now) }
+    requires few { HasFewRows (certificate_view certificate.now) }
     requires opened { HasBudgets (network_of plan.now) (certificate_view certificate.now).rows budgets.now }
     ensures { OnOk result (nos.new.items ≡ nos.old.items ++ those_in (certificate_view certificate.now).totals
         (total_not_shown (network_of plan.now) (certificate_view certificate.now).rows)) }
@@ -109,7 +110,7 @@ pub(crate) fn push_shown(
     plan: &Plan,
     certificate: &Certificate,
 ) -> Result<(), NoMemory>
-    requires { IsTabled (certificate_view certificate.now) }
+    requires { HasFewRows (certificate_view certificate.now) }
     ensures { OnOk result (nos.new.items ≡ nos.old.items
         ++ shown_nos (network_of plan.now) (certificate_view certificate.now)) }
 {
