@@ -1,3 +1,5 @@
+pub mod Grid
+pub mod Limits
 pub mod Names
 pub mod Sums
 pub mod Counts

@@ -2,6 +2,7 @@
 use Rattle.std.specs.Prelude.{◌≡◌, ℕ, Bool, not, ◌&&◌, ◌||◌, List, length, position, nat_le, ◌==◌, Option, Some, None, is_some, if◌then◌else◌}
 use Rattle.std.specs.List.{list_all}
 use Rattle.std.specs.Str.{bytes_eq}
+use Rattle.dds_base.specs.Limits.{most_name_bytes}
 use Rattle.dds_base.specs.declared.names.NameFault.{NameFault}
 use Rattle.dds_base.specs.declared.names.NameFault.TheVariants.{Duplicate, BadName, TooMany, NoMemory}
 
@@ -16,7 +17,7 @@ is_name_byte b =
 
 -- 1 to 64 bytes of the alphabet
 abbrev pub is_name : List ℕ → Bool
-is_name bytes = is_between 1 64 (length bytes) && list_all is_name_byte bytes
+is_name bytes = is_between 1 most_name_bytes (length bytes) && list_all is_name_byte bytes
 
 -- the place of a name in the list
 abbrev pub number_of : List (List ℕ) → List ℕ → Option ℕ

@@ -6,6 +6,10 @@ use Rattle.std.specs.List.{All, list_any, range_with_len}
 abbrev pub last_number : ℕ
 last_number = 2 ^ 63 - 1
 
+-- how many numbers from its base on a set may have
+abbrev pub set_width : ℕ
+set_width = 256
+
 -- numbers from a base on: flag k says whether base + k is among them, for k below 256.
 -- Equal sets have equal flags, so a set is given by its base and a test (`set_of`)
 pub record NumberSet : Type 0 where
@@ -14,7 +18,7 @@ pub record NumberSet : Type 0 where
 
 -- what the 256 numbers from a base on answer
 unfoldable pub flags_of : ℕ → (ℕ → Bool) → List Bool
-flags_of base p = map p (range_with_len base 256)
+flags_of base p = map p (range_with_len base set_width)
 
 -- the set with a base of the 256 numbers from it on that pass
 abbrev pub set_of : ℕ → (ℕ → Bool) → NumberSet

@@ -5,6 +5,7 @@
 
 pub mod events;
 pub mod grid;
+pub mod limits;
 pub mod messages;
 pub mod names;
 pub mod numbered;

@@ -6,6 +6,7 @@ ghost use Rattle.std.specs.List.{list_all};
 ghost use Rattle.dds_base.specs.Names.{is_name_byte, is_name, number_of, refusal, IsRefused};
 
 use crate::NoMemory;
+use crate::limits::NAME_BYTES;
 use indexmap::IndexSet;
 use std::alloc::{AllocFailed, Global};
 use std::marker::Model;
@@ -47,7 +48,7 @@ pub fn is_name_byte(byte: u8) -> bool
 pub fn is_name(text: &str) -> bool
     ensures { result ≡ is_name text.now }
 {
-    1 <= text.len() && text.len() <= 64 && has_name_bytes(text)
+    1 <= text.len() && text.len() <= NAME_BYTES && has_name_bytes(text)
 }
 
 fn has_name_bytes(text: &str) -> bool

@@ -4,7 +4,7 @@ ghost use Rattle.std.specs.Prelude.{◌≡◌, ℕ, ◌+◌, ◌<◌, ◌≤◌,
 ghost use Rattle.std.specs.Prelude.{MatchOption, length};
 ghost use Rattle.std.proofs.Common.{rules};
 ghost use Rattle.std.specs.Cmp.Rules.{comparing};
-ghost use Rattle.dds_base.specs.Sets.{has, set_of, last_number, is_listed, FitsAfter, FitsSet};
+ghost use Rattle.dds_base.specs.Sets.{has, set_of, last_number, is_listed, FitsAfter, FitsSet, set_width};
 
 use crate::words::{clear_flag, is_set, next_flag, set_flag};
 use std::marker::Model;
@@ -102,7 +102,7 @@ impl SnSet {
         ensures base { result ≡ self.now.base }
         ensures low { 1 ≤ result }
         ensures high { result ≤ last_number + 1 }
-        ensures long { length self.now.flags ≡ 256 }
+        ensures long { length self.now.flags ≡ set_width }
     {
         self.base
     }
@@ -142,8 +142,8 @@ impl SnSet {
 
 // How many of the 256 flags from a base on are of numbers below this one.
 fn flags_below(base: u64, n: u64) -> usize
-    ensures few { result ≤ 256 }
-    ensures answer { (k : ℕ) → k < 256 → leb result k ≡ leb n (base + k) }
+    ensures few { result ≤ set_width }
+    ensures answer { (k : ℕ) → k < set_width → leb result k ≡ leb n (base + k) }
 {
     if n < base {
         0
@@ -154,8 +154,8 @@ fn flags_below(base: u64, n: u64) -> usize
 
 // How many of them are of numbers up to this one.
 fn flags_up_to(base: u64, n: u64) -> usize
-    ensures few { result ≤ 256 }
-    ensures answer { (k : ℕ) → k < 256 → ltb k result ≡ leb (base + k) n }
+    ensures few { result ≤ set_width }
+    ensures answer { (k : ℕ) → k < set_width → ltb k result ≡ leb (base + k) n }
 {
     if n < base {
         0

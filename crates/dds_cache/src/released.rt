@@ -30,7 +30,7 @@ pub(crate) fn raise(writers: &mut [Released], rising: bool, writer: WriterNo, up
 {
     if !rising {
         raise_each(writers, writer, upto);
-    } else if let Some(at) = place_of(writers, true, writer.number()) {
+    } else if let Some(at) = place_of(writers, rising, writer.number()) {
         writers[at] = lift(writers[at], writer, upto);
     }
 }

@@ -1,6 +1,7 @@
 -- Adding an endpoint with keys to a list that does not name them yet.
 use Rattle.std.specs.Prelude.{ℕ, ◌+◌, Bool, List, ◌++◌, length, Ok, not, nat_le}
 use Rattle.std.specs.List.{list_any}
+use Rattle.dds_base.specs.Grid.{most_places}
 use Rattle.dds_fields.specs.declared.fault.FaultKind.TheVariants.{Duplicate, TooMany}
 use Rattle.dds_fields.specs.Reading.{◌>>=◌, Read, unless}
 use Rattle.dds_base.specs.Pairs.{stands}
@@ -14,7 +15,7 @@ any_stands pairs e ks = list_any (λ k. stands pairs e k) ks
 unfoldable pub may_add : (list path : List ℕ) (is_double : Bool) (count : ℕ) → Read (Unit {0})
 may_add list path is_double count = do
   _ ← unless Duplicate path (not is_double) (tt {0})
-  unless TooMany list (nat_le count 16384) (tt {0})
+  unless TooMany list (nat_le count most_places) (tt {0})
 
 -- the list with more in it, where they may stand there
 unfoldable pub and_more : {A : Type 0} (list path : List ℕ) (is_double : Bool) (before more : List A) → Read (List A)

@@ -1,6 +1,7 @@
 -- The section of the bounds, and the fields that bounds and totals share.
 use Rattle.std.specs.Prelude.{codes, ℕ, List, [], ◌∷◌, Ok, map}
 use Rattle.toml.specs.Data.{Data, Members}
+use Rattle.dds_base.specs.Grid.{most_places}
 use Rattle.dds_fields.specs.Reading.{◌>>=◌, Read, a_number, a_known_name, field, entry, a_section}
 use Rattle.dds_fields.specs.Document.{version}
 use Rattle.dds_lists.specs.Lists.{Lists}
@@ -35,4 +36,4 @@ bound version d names list before path x = do
   and_more list path (any_stands (map bound_place before) e.0 e.1) before (bounds_of e b)
 
 abbrev pub bounds : ℕ → Lists → List (List ℕ) → Members → Read (List Bound)
-bounds version d names = a_section (codes "bounds") 16384 (bound version d names (codes "bounds")) []
+bounds version d names = a_section (codes "bounds") most_places (bound version d names (codes "bounds")) []

@@ -1,6 +1,7 @@
 -- The section of the rows.
 use Rattle.std.specs.Prelude.{codes, ℕ, List, [], ◌∷◌, ◌++◌, Ok, map}
 use Rattle.toml.specs.Data.{Data, Members}
+use Rattle.dds_base.specs.Limits.{most_rows}
 use Rattle.dds_fields.specs.Reading.{◌>>=◌, Read, a_new_name, field, optional, entry, a_section}
 use Rattle.dds_fields.specs.Document.{version}
 use Rattle.dds_lists.specs.Lists.{Lists}
@@ -30,4 +31,4 @@ row version d before path x = do
   Ok (before ++ lists ∷ [])
 
 abbrev pub rows : ℕ → Lists → Members → Read (List Row)
-rows version d = a_section (codes "rows") 64 (row version d) []
+rows version d = a_section (codes "rows") most_rows (row version d) []

@@ -1,6 +1,7 @@
 -- The section of the totals.
 use Rattle.std.specs.Prelude.{codes, ℕ, List, [], ◌∷◌, ◌++◌, not}
 use Rattle.toml.specs.Data.{Data, Members}
+use Rattle.dds_base.specs.Grid.{most_endpoints}
 use Rattle.dds_fields.specs.declared.fault.FaultKind.TheVariants.{Duplicate}
 use Rattle.dds_fields.specs.Reading.{◌>>=◌, Read, unless, a_known_name, field, entry, a_section}
 use Rattle.dds_lists.specs.Lists.{Lists}
@@ -20,4 +21,4 @@ total d names before path x = do
   unless Duplicate path (not (has_total before r)) (before ++ record { reader = r; row = b.0; bound = b.1 } ∷ [])
 
 abbrev pub totals : Lists → List (List ℕ) → Members → Read (List Total)
-totals d names = a_section (codes "totals") 256 (total d names) []
+totals d names = a_section (codes "totals") most_endpoints (total d names) []

@@ -1,6 +1,7 @@
 -- The lists of weights of a row.
 use Rattle.std.specs.Prelude.{codes, ℕ, List, [], ◌∷◌, map}
 use Rattle.toml.specs.Data.{Data, Members}
+use Rattle.dds_base.specs.Grid.{most_places}
 use Rattle.dds_fields.specs.Reading.{◌>>=◌, Read, a_number, field, entry, a_list_of}
 use Rattle.dds_fields.specs.Document.{version}
 use Rattle.dds_lists.specs.Lists.{Lists}
@@ -33,7 +34,7 @@ weight number_of word endpoint_and_keys list before path x = do
   and_weights number_of list before path e n
 
 abbrev pub weights : {E : Type 0} → (E → ℕ) → (word : List ℕ) → (List ℕ → Members → Read (E × List ℕ)) → List ℕ → Data → Read (List (Weight E))
-weights number_of word endpoint_and_keys path = a_list_of 16384 (weight number_of word endpoint_and_keys path) [] path
+weights number_of word endpoint_and_keys path = a_list_of most_places (weight number_of word endpoint_and_keys path) [] path
 
 abbrev pub reader_weights : ℕ → Lists → List ℕ → Data → Read (List (Weight ℕ))
 reader_weights version d = weights (λ r. r) (codes "reader") (reader_and_keys version d)

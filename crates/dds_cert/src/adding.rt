@@ -1,10 +1,12 @@
 //! Lists that name each key of an endpoint once at most.
 ghost use Rattle.std.specs.Prelude.{◌≡◌, ◌+◌, ◌++◌, ◌∷◌, [], ℕ, length, map, nat_le, false, IfOk};
+ghost use Rattle.dds_base.specs.Grid.{most_places};
 ghost use Rattle.dds_base.specs.Pairs.{stands};
 ghost use Rattle.dds_fields.specs.Gives.{Gives};
 ghost use Rattle.dds_fields.specs.Places.{place_text};
 ghost use Rattle.dds_cert.specs.Adding.{any_stands, may_add};
 
+use dds_base::grid::PLACES;
 use dds_base::{KeyNo, NoMemory, Pairs};
 use dds_fields::fault::{FaultKind, ReadFault, refuse};
 use dds_fields::place::Place;
@@ -19,9 +21,9 @@ fn any_stands(named: &Pairs, endpoint: usize, keys: &[KeyNo]) -> bool
 
 // Whether so many may stand together.
 fn has_room(before: usize, more: usize) -> bool
-    ensures { result ≡ nat_le (before + more) 16384 }
+    ensures { result ≡ nat_le (before + more) most_places }
 {
-    before <= 16_384 && more <= 16_384 - before
+    before <= PLACES && more <= PLACES - before
 }
 
 /// What is of one key of an endpoint.

@@ -11,6 +11,7 @@ ghost use Rattle.dds_cert.specs.Bounds.{bound_number, row_and_bound, bound_entry
 
 use crate::adding::{NamedOnce, Placed};
 use crate::keys::{EndpointFields, ReaderFields};
+use dds_base::grid::PLACES;
 use dds_base::{KeyNo, Names, NoMemory, ReaderNo};
 use dds_fields::fault::ReadFault;
 use dds_fields::field::{entry, known_name_field, number_field};
@@ -139,6 +140,6 @@ pub(crate) fn bounds(
         list: &list,
     };
     let none = NamedOnce::new(alloc);
-    let all = section_of(alloc, 16_384, &entries, none, table, "bounds")?;
+    let all = section_of(alloc, PLACES, &entries, none, table, "bounds")?;
     Ok(all.items)
 }

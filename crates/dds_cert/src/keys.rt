@@ -5,7 +5,6 @@ ghost use Rattle.toml.specs.View.{view, table_view};
 ghost use Rattle.dds_lists.specs.Lists.{all_keys};
 ghost use Rattle.dds_lists.specs.WellFormed.{filter_at};
 ghost use Rattle.dds_match.specs.Plan.{hears};
-ghost use Rattle.dds_text.specs.Names.{reader_keys, writer_keys};
 ghost use Rattle.dds_weights.specs.Fits.{keys_differ};
 ghost use Rattle.dds_fields.specs.Reading.{Read as Reading, field, a_known_name};
 ghost use Rattle.dds_fields.specs.Gives.{Gives};
@@ -173,8 +172,8 @@ pub(crate) fn reader_field(
         (field (codes "reader") (a_known_name lists.now.readers.names) (place_text path.now) (table_view table.now)) }
     ensures within { IfOk result (λ r. r < length lists.now.readers.entries) }
 {
-    // What is known of every deployment: each name has a reader.
-    let _readers = lists.readers();
+    // Each name has a reader.
+    lists.assert_well_formed();
     let number = known_name_field(alloc, lists.reader_names(), path, table, "reader")?;
     Ok(ReaderNo::new(number))
 }
@@ -189,8 +188,8 @@ fn writer_field(
         (field (codes "writer") (a_known_name lists.now.writers.names) (place_text path.now) (table_view table.now)) }
     ensures within { IfOk result (λ w. w < length lists.now.writers.entries) }
 {
-    // What is known of every deployment: each name has a writer.
-    let _writers = lists.writers();
+    // Each name has a writer.
+    lists.assert_well_formed();
     let number = known_name_field(alloc, lists.writer_names(), path, table, "writer")?;
     Ok(WriterNo::new(number))
 }
@@ -249,8 +248,8 @@ impl EndpointFields for ReaderFields<'_> {
         path: &Place,
         table: &Table,
     ) -> Result<(ReaderNo, Vec<KeyNo>), ReadFault> {
-        // What is known of every deployment: no filter names a key twice.
-        let _applications = self.lists.applications();
+        // No filter names a key twice.
+        self.lists.assert_well_formed();
         let reader = reader_field(alloc, self.lists, path, table)?;
         let keys = heard_keys(alloc, self.version, self.lists, reader, path, table)?;
         Ok((reader, keys))

@@ -10,6 +10,7 @@ ghost use Rattle.dds_weights.specs.Views.{row_view};
 
 use crate::keys::{ReaderFields, WriterFields};
 use crate::weights::weights;
+use dds_base::limits::ROWS;
 use dds_base::{Names, NoMemory};
 use dds_fields::fault::ReadFault;
 use dds_fields::field::{entry, new_name_field};
@@ -128,5 +129,5 @@ pub(crate) fn rows(
     ensures { Gives (λ all. map row_view all.rows.items) result (rows version lists.now (table_view table.now)) }
 {
     let entries = RowEntries { version, lists };
-    section_of(alloc, 64, &entries, NamedRows::new(alloc), table, "rows")
+    section_of(alloc, ROWS, &entries, NamedRows::new(alloc), table, "rows")
 }

@@ -1,5 +1,5 @@
 //! The section of the totals.
-ghost use Rattle.std.specs.Prelude.{◌≡◌, List};
+ghost use Rattle.std.specs.Prelude.{List};
 ghost use Rattle.toml.specs.View.{view, table_view};
 ghost use Rattle.dds_fields.specs.Gives.{Gives};
 ghost use Rattle.dds_fields.specs.Places.{place_text};
@@ -10,6 +10,7 @@ ghost use Rattle.dds_cert.specs.Totals.{total_entry, total, totals};
 use crate::bounds::row_and_bound;
 use crate::keys::reader_field;
 use dds_base::Names;
+use dds_base::grid::ENDPOINTS;
 use dds_fields::fault::{FaultKind, ReadFault, refuse};
 use dds_fields::field::entry;
 use dds_fields::items::{Items, section_of};
@@ -73,5 +74,5 @@ pub(crate) fn totals(
     ensures { Gives (λ v. v.items) result (totals lists.now rows.now (table_view table.now)) }
 {
     let entries = TotalEntries { lists, rows };
-    section_of(alloc, 256, &entries, Vec::new(alloc), table, "totals")
+    section_of(alloc, ENDPOINTS, &entries, Vec::new(alloc), table, "totals")
 }

@@ -1,6 +1,6 @@
 //! The lists of weights of a row.
 ghost use Rattle.std.specs.Prelude.{◌≡◌, ◌++◌, [], List, map, true, false, IfOk};
-ghost use Rattle.toml.specs.View.{view, table_view};
+ghost use Rattle.toml.specs.View.{table_view};
 ghost use Rattle.dds_fields.specs.Reading.{optional};
 ghost use Rattle.dds_fields.specs.Gives.{Gives};
 ghost use Rattle.dds_fields.specs.Places.{place_text};
@@ -11,6 +11,7 @@ ghost use Rattle.dds_cert.specs.Weights.{weight_place, weights_of, weight_number
 
 use crate::adding::{NamedOnce, Placed};
 use crate::keys::EndpointFields;
+use dds_base::grid::PLACES;
 use dds_base::{Endpoint, KeyNo, NoMemory};
 use dds_fields::fault::ReadFault;
 use dds_fields::field::{entry, number_field};
@@ -112,6 +113,6 @@ pub(crate) fn weights<F: EndpointFields>(
         list: &list,
     };
     let none = NamedOnce::new(alloc);
-    let all = optional_list(alloc, 16_384, &entries, none, path, table, key)?;
+    let all = optional_list(alloc, PLACES, &entries, none, path, table, key)?;
     Ok(all.items)
 }

@@ -98,3 +98,17 @@ all_below_at (suc n) f h i l =
     (λ (before : i < n). all_below_at n f (both_first (all_below n f) (f n) h) i before)
     (λ (at : n ≤ i). let same : i ≡ n = omega arith in rw same (both_second (all_below n f) (f n) h))
     (cases_lt i n)
+
+and_false : (x y : Bool) → y ≡ false → (x && y) ≡ false
+and_false true y fails = fails
+and_false false y fails = refl
+
+-- one fails
+pub all_below_fails : (n : ℕ) (f : ℕ → Bool) (i : ℕ) → i < n → f i ≡ false → all_below n f ≡ false
+unfolding all_below
+all_below_fails zero f i l fails = absurd (omega arith)
+all_below_fails (suc n) f i l fails =
+    ⊎_elim
+    (λ (before : i < n). let earlier = all_below_fails n f i before fails in rw earlier refl)
+    (λ (at : n ≤ i). let same : i ≡ n = omega arith in and_false (all_below n f) (f n) (ap f (sym same) ∙ fails))
+    (cases_lt i n)

@@ -1,8 +1,9 @@
 -- Look-ups in the lists of a certificate, and tables that answer them at once.
-use Rattle.std.specs.Prelude.{ℕ, ◌≡◌, ◌+◌, ◌*◌, ◌<◌, ◌≤◌, ◌==◌, ◌&&◌, List, [], ◌∷◌, All, length, slice_index_or, Option, Some, None, if◌then◌else◌}
+use Rattle.std.specs.Prelude.{ℕ, ◌≡◌, ◌+◌, ◌*◌, ◌<◌, ◌≤◌, ◌==◌, ◌&&◌, List, [], ◌∷◌, length, slice_index_or, Option, Some, None, if◌then◌else◌}
+use Rattle.dds_base.specs.Grid.{most_endpoints, most_keys, most_places}
+use Rattle.dds_base.specs.Limits.{most_rows}
 use Rattle.dds_base.specs.declared.portion.Portion.{Portion}
-use Rattle.dds_weights.specs.Lists.{Row, Certificate}
-use Rattle.dds_weights.specs.declared.certificate.Weight.{Weight}
+use Rattle.dds_weights.specs.Lists.{Certificate}
 use Rattle.dds_weights.specs.declared.certificate.Bound.{Bound}
 use Rattle.dds_weights.specs.declared.certificate.Total.{Total}
 
@@ -21,37 +22,16 @@ abbrev pub weighed_by : {E : Type 0} → (E → ℕ) → List (Portion E) → (�
 weighed_by number [] f = 0
 weighed_by number (x ∷ xs) f = x.count * f (number x.endpoint) x.key + weighed_by number xs f
 
--- the entries name endpoints below 256 and keys below 64
-abbrev pub IsWithin : {E : Type 0} → (E → ℕ) → List (Weight E) → Type 0
-IsWithin number xs = All (λ x. (number x.endpoint < 256) × (x.key < 64)) xs
-
--- the entries of all lists of a row are within a table
-pub record IsRowWithin (row : Row) : Type 0 where
-  pub samples : IsWithin (λ n. n) row.samples
-  pub takes : IsWithin (λ n. n) row.takes
-  pub permits : IsWithin (λ n. n) row.permits
-
--- a bound names a reader below 256 and a key below 64
-abbrev pub IsBoundWithin : Bound → Type 0
-IsBoundWithin b = (b.reader < 256) × (b.key < 64)
-
--- a total names a reader below 256
-abbrev pub IsTotalWithin : Total → Type 0
-IsTotalWithin t = t.reader < 256
-
--- a certificate has at most 64 rows, and all that it names is within a table
-pub record IsTabled (cert : Certificate) : Type 0 where
-  pub few_rows : length cert.rows ≤ 64
-  pub rows : All IsRowWithin cert.rows
-  pub bounds : All IsBoundWithin cert.bounds
-  pub totals : All IsTotalWithin cert.totals
+-- a certificate has no more rows than one may have
+abbrev pub HasFewRows : Certificate → Type 0
+HasFewRows cert = length cert.rows ≤ most_rows
 
 -- the place of key k of reader r has its bound
 pub record ShowsBounds (cells : List (Option ℕ)) (entries : List Bound) : Type 0 where
-  pub len : length cells ≡ 16384
-  pub shown : (r k : ℕ) → r < 256 → k < 64 → slice_index_or cells (r * 64 + k) None ≡ bound_of entries r k
+  pub len : length cells ≡ most_places
+  pub shown : (r k : ℕ) → r < most_endpoints → k < most_keys → slice_index_or cells (r * most_keys + k) None ≡ bound_of entries r k
 
 -- the place of reader r has its total
 pub record ShowsTotals (cells : List (Option ℕ)) (entries : List Total) : Type 0 where
-  pub len : length cells ≡ 256
-  pub shown : (r : ℕ) → r < 256 → slice_index_or cells r None ≡ total_of entries r
+  pub len : length cells ≡ most_endpoints
+  pub shown : (r : ℕ) → r < most_endpoints → slice_index_or cells r None ≡ total_of entries r

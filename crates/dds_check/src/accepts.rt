@@ -1,14 +1,13 @@
 //! Whether a certificate is accepted for a plan.
 ghost use Rattle.std.specs.Prelude.{◌≡◌, true, OnOk};
 ghost use Rattle.std.specs.Result.{result_err};
-ghost use Rattle.dds_lists.specs.WellFormed.{IsWellFormed};
 ghost use Rattle.dds_match.specs.Plan.{network_of};
 ghost use Rattle.dds_weights.specs.Fits.{fits};
 ghost use Rattle.dds_weights.specs.Views.{certificate_view};
 ghost use Rattle.dds_runs.specs.Accepted.{Accepted, certificate_of};
 ghost use Rattle.dds_check.specs.Accepts.{first_no};
 ghost use Rattle.dds_runs.specs.Certified.{Safe};
-ghost use Rattle.dds_check.specs.Tables.{IsTabled};
+ghost use Rattle.dds_check.specs.Tables.{HasFewRows};
 
 use crate::limits::limits_no;
 use crate::pairs::pairs_no;
@@ -21,7 +20,7 @@ use dds_weights::Certificate;
 
 #[tactic(auto, unfolding(crate::specs::Accepts::first_no))]
 fn first_no(plan: &Plan, certificate: &Certificate) -> Option<No>
-    requires { IsTabled (certificate_view certificate.now) }
+    requires { HasFewRows (certificate_view certificate.now) }
     ensures { result ≡ first_no plan.now (certificate_view certificate.now) }
 {
     if let Some(no) = pairs_no(plan) {
@@ -54,8 +53,8 @@ pub fn accepts(plan: &Plan, certificate: &Certificate) -> Result<(), No>
     ensures holds { OnOk result (Accepted (network_of plan.now) (certificate_of (certificate_view certificate.now))) }
     ensures safe { OnOk result (Safe (network_of plan.now) (certificate_of (certificate_view certificate.now))) }
 {
-    // What is known of every plan: its lists name nothing that isn't there.
-    let _lists = plan.lists();
+    // Its lists name nothing that isn't there.
+    plan.assert_well_formed();
     match first_no(plan, certificate) {
         Some(no) => Err(no),
         None => Ok(()),

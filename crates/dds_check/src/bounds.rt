@@ -1,14 +1,15 @@
 //! The bounds and the totals of a certificate by reader and key, in arrays of fixed size: a look-up takes constant time
 //! and no memory.
-ghost use Rattle.std.specs.Prelude.{◌≡◌, ◌<◌, All, Some, None};
-ghost use Rattle.dds_check.specs.Tables.{bound_of, total_of, IsBoundWithin, IsTotalWithin, ShowsBounds, ShowsTotals};
+ghost use Rattle.std.specs.Prelude.{◌≡◌, ◌<◌, Some, None};
+ghost use Rattle.dds_check.specs.Tables.{bound_of, total_of, ShowsBounds, ShowsTotals};
 
 use dds_base::grid::{ENDPOINTS, KEYS, PLACES};
 use dds_base::{KeyNo, ReaderNo};
 use dds_weights::{Bound, Total};
 use std::marker::Model;
 
-/// The bounds of a certificate, with each where its reader and key say. Contracts see it as the list.
+/// The bounds of a certificate, with each where its reader and key say if that is a place. Contracts see it as the
+/// list.
 #[derive(Drop)]
 pub struct Bounds<'a> {
     entries: &'a [Bound],
@@ -16,18 +17,18 @@ pub struct Bounds<'a> {
 }
 
 impl<'a> Model for Bounds<'a> {
-    ghost use Rattle.std.specs.Prelude.{List, All};
+    ghost use Rattle.std.specs.Prelude.{List};
     ghost use Rattle.dds_weights.specs.declared.certificate.Bound.{Bound};
-    ghost use Rattle.dds_check.specs.Tables.{IsBoundWithin, ShowsBounds};
+    ghost use Rattle.dds_check.specs.Tables.{ShowsBounds};
 
     ghost Value = { List Bound };
 
     ghost view = { λ t. t.entries.now };
 
-    ghost invariant = { λ t. ShowsBounds t.cells t.entries.now × All IsBoundWithin t.entries.now };
+    ghost invariant = { λ t. ShowsBounds t.cells t.entries.now };
 }
 
-/// The totals of a certificate, with each where its reader says. Contracts see it as the list.
+/// The totals of a certificate, with each where its reader says if that is a place. Contracts see it as the list.
 #[derive(Drop)]
 pub struct Totals<'a> {
     entries: &'a [Total],
@@ -35,19 +36,18 @@ pub struct Totals<'a> {
 }
 
 impl<'a> Model for Totals<'a> {
-    ghost use Rattle.std.specs.Prelude.{List, All};
+    ghost use Rattle.std.specs.Prelude.{List};
     ghost use Rattle.dds_weights.specs.declared.certificate.Total.{Total};
-    ghost use Rattle.dds_check.specs.Tables.{IsTotalWithin, ShowsTotals};
+    ghost use Rattle.dds_check.specs.Tables.{ShowsTotals};
 
     ghost Value = { List Total };
 
     ghost view = { λ t. t.entries.now };
 
-    ghost invariant = { λ t. ShowsTotals t.cells t.entries.now × All IsTotalWithin t.entries.now };
+    ghost invariant = { λ t. ShowsTotals t.cells t.entries.now };
 }
 
 fn bound_cells(entries: &[Bound]) -> [Option<u32>; PLACES]
-    requires { All IsBoundWithin entries.now }
     ensures { ShowsBounds result entries.now }
 {
     let mut cells = [None; PLACES];
@@ -55,13 +55,16 @@ fn bound_cells(entries: &[Bound]) -> [Option<u32>; PLACES]
     while 0 < i {
         i -= 1;
         let x = &entries[i];
-        cells[x.reader.number() * KEYS + x.key.number()] = Some(x.bound);
+        let reader = x.reader.number();
+        let key = x.key.number();
+        if reader < ENDPOINTS && key < KEYS {
+            cells[reader * KEYS + key] = Some(x.bound);
+        }
     }
     cells
 }
 
 fn total_cells(entries: &[Total]) -> [Option<u32>; ENDPOINTS]
-    requires { All IsTotalWithin entries.now }
     ensures { ShowsTotals result entries.now }
 {
     let mut cells = [None; ENDPOINTS];
@@ -69,7 +72,10 @@ fn total_cells(entries: &[Total]) -> [Option<u32>; ENDPOINTS]
     while 0 < i {
         i -= 1;
         let x = &entries[i];
-        cells[x.reader.number()] = Some(x.bound);
+        let reader = x.reader.number();
+        if reader < ENDPOINTS {
+            cells[reader] = Some(x.bound);
+        }
     }
     cells
 }
@@ -77,7 +83,6 @@ fn total_cells(entries: &[Total]) -> [Option<u32>; ENDPOINTS]
 impl<'a> Bounds<'a> {
     /// The table of a list of bounds. Of entries for one reader and key the first counts.
     pub fn new(entries: &'a [Bound]) -> Bounds<'a>
-        requires { All IsBoundWithin entries.now }
         ensures { result ≡ entries.now }
     {
         Bounds {
@@ -95,7 +100,7 @@ impl<'a> Bounds<'a> {
         if r < ENDPOINTS && k < KEYS {
             self.cells[r * KEYS + k]
         } else {
-            None
+            find_bound(self.entries, reader, key)
         }
     }
 }
@@ -103,7 +108,6 @@ impl<'a> Bounds<'a> {
 impl<'a> Totals<'a> {
     /// The table of a list of totals. Of entries for one reader the first counts.
     pub fn new(entries: &'a [Total]) -> Totals<'a>
-        requires { All IsTotalWithin entries.now }
         ensures { result ≡ entries.now }
     {
         Totals {
@@ -117,7 +121,11 @@ impl<'a> Totals<'a> {
         ensures { result ≡ total_of self.now reader }
     {
         let r = reader.number();
-        if r < ENDPOINTS { self.cells[r] } else { None }
+        if r < ENDPOINTS {
+            self.cells[r]
+        } else {
+            find_total(self.entries, reader)
+        }
     }
 }
 

@@ -17,8 +17,8 @@ pub fn rule_at(plan: &Plan, u: RuleNo) -> &Rule
     ensures value { (network_of plan.now).rule u ≡ rule_view result.now }
     ensures short { length result.now.writes.items ≤ 16 }
 {
-    // What is known of every plan: a rule writes at most 16 keys.
-    let _lists = plan.lists();
+    // A rule writes at most 16 keys.
+    plan.assert_well_formed();
     plan.rule(u)
 }
 

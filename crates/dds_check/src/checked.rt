@@ -82,8 +82,6 @@ impl Checked {
         ensures value { result ≡ self.now.certificate.bounds }
         ensures least { (r k : ℕ) → IfSome (bound_of result r k) (IsLeastBound self.now.certificate r k) }
     {
-        // What is known of every plan: its lists name nothing that isn't there.
-        let _lists = self.plan.lists();
         Bounds::new(&self.certificate.bounds)
     }
 
@@ -93,8 +91,6 @@ impl Checked {
         ensures value { result ≡ self.now.certificate.totals }
         ensures least { (r : ℕ) → IfSome (total_of result r) (IsLeastTotal self.now.certificate r) }
     {
-        // What is known of every plan: its lists name nothing that isn't there.
-        let _lists = self.plan.lists();
         Totals::new(&self.certificate.totals)
     }
 

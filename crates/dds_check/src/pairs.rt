@@ -4,7 +4,7 @@ ghost use Rattle.dds_match.specs.Plan.{network_of};
 ghost use Rattle.dds_runs.specs.First.{first_below};
 ghost use Rattle.dds_check.specs.Pairs.{not_matched, not_intended, first_pair, pairs_no};
 
-use crate::first::first_below;
+use crate::below::first_below;
 use crate::verdict::{No, Number, Subject, refusal_if};
 use dds_base::{ReaderNo, WriterNo};
 use dds_conditions::{readers_of, writers_of};

@@ -1,31 +1,29 @@
 //! Number 33: each bound and each total is shown by its row.
-ghost use Rattle.std.specs.Prelude.{◌≡◌, ◌||◌, ℕ, not, false, slice_get, ◌<◌, ◌≤◌, Some, option_map, vec_len, length};
+ghost use Rattle.std.specs.Prelude.{◌≡◌, ◌||◌, not, false, slice_get, ◌<◌, ◌≤◌, Some, option_map, vec_len, length};
 ghost use Rattle.std.specs.Option.{option_map_or};
 ghost use Rattle.dds_match.specs.Network.{reach};
 ghost use Rattle.dds_match.specs.Plan.{network_of};
 ghost use Rattle.dds_weights.specs.Views.{row_view, certificate_view};
 ghost use Rattle.dds_runs.specs.First.{first_in, IsFirstBefore};
 ghost use Rattle.dds_runs.specs.Accepted.{row_of, budget};
-ghost use Rattle.dds_check.specs.Tables.{IsTabled};
+ghost use Rattle.dds_check.specs.Tables.{HasFewRows};
 ghost use Rattle.dds_check.specs.Shown.{shows, is_unshown, is_unshown_by, names_no_row, bound_not_shown, shows_all};
 ghost use Rattle.dds_check.specs.Shown.{total_not_shown, HasBudgets, shown_no};
 
+use crate::below::{all_below, first_below};
 use crate::budget::budget;
-use crate::first::first_below;
 use crate::tables::{Tables, tables_of};
 use crate::verdict::{No, Number, Subject, refusal_if};
 use dds_base::grid::KEYS;
+use dds_base::limits::ROWS;
 use dds_base::{KeyNo, ReaderNo};
 use dds_conditions::is_enough;
 use dds_match::Plan;
 use dds_weights::{Bound, Certificate, Row, Total};
 
-/// The most rows that a certificate has.
-pub const ROWS: usize = 64;
-
 /// By the number of the row, what the permits at the opening weigh by it.
 pub fn budgets_of(plan: &Plan, certificate: &Certificate) -> [u128; ROWS]
-    requires { IsTabled (certificate_view certificate.now) }
+    requires { HasFewRows (certificate_view certificate.now) }
     ensures { HasBudgets (network_of plan.now) (certificate_view certificate.now).rows result }
 {
     let mut budgets = [0; ROWS];
@@ -52,6 +50,7 @@ pub fn shows(
     is_enough(weights.sample(reader, key), opening, bound)
 }
 
+/// Whether a key can't reach the reader of a total, or the row shows the total for it.
 fn shows_reached(plan: &Plan, weights: &Tables, opening: u128, total: &Total, key: KeyNo) -> bool
     requires { opening ≡ budget (network_of plan.now) (row_of weights.now) }
     ensures { result ≡ (not (reach (network_of plan.now) total.now.reader key)
@@ -61,16 +60,15 @@ fn shows_reached(plan: &Plan, weights: &Tables, opening: u128, total: &Total, ke
         || shows(plan, weights, opening, total.bound, total.reader, key)
 }
 
-fn shows_all(plan: &Plan, weights: &Tables, opening: u128, total: &Total) -> bool
+/// Whether a row shows a total for each key that can reach its reader.
+pub fn shows_all(plan: &Plan, weights: &Tables, opening: u128, total: &Total) -> bool
     requires { opening ≡ budget (network_of plan.now) (row_of weights.now) }
     ensures { result ≡ shows_all (network_of plan.now) (row_of weights.now) total.now }
 {
-    let mut all = true;
-    for k in 0..KEYS {
-        let shown = shows_reached(plan, weights, opening, total, KeyNo::new(k));
-        all = all && shown;
-    }
-    all
+    all_below(
+        KEYS,
+        |k| shows_reached(plan, weights, opening, total, KeyNo::new(k)),
+    )
 }
 
 /// Row n of a certificate, from 0, if there is one.
@@ -143,7 +141,7 @@ fn first_without_row(certificate: &Certificate) -> usize
 /// The place of the first bound that its row doesn't show, else how many bounds there are. It fills the tables of each
 /// row once.
 fn first_unshown(plan: &Plan, certificate: &Certificate, budgets: &[u128; ROWS]) -> usize
-    requires tabled { IsTabled (certificate_view certificate.now) }
+    requires few { HasFewRows (certificate_view certificate.now) }
     requires opened { HasBudgets (network_of plan.now) (certificate_view certificate.now).rows budgets.now }
     ensures { IsFirstBefore (certificate_view certificate.now).bounds
         (is_unshown (network_of plan.now) (certificate_view certificate.now).rows)
@@ -162,7 +160,7 @@ fn first_bound_not_shown(
     certificate: &Certificate,
     budgets: &[u128; ROWS],
 ) -> Option<No>
-    requires tabled { IsTabled (certificate_view certificate.now) }
+    requires few { HasFewRows (certificate_view certificate.now) }
     requires opened { HasBudgets (network_of plan.now) (certificate_view certificate.now).rows budgets.now }
     ensures { result ≡ first_in (certificate_view certificate.now).bounds
         (bound_not_shown (network_of plan.now) (certificate_view certificate.now).rows) }
@@ -184,7 +182,7 @@ fn is_total_shown(
     budgets: &[u128; ROWS],
     total: &Total,
 ) -> bool
-    requires tabled { IsTabled (certificate_view certificate.now) }
+    requires few { HasFewRows (certificate_view certificate.now) }
     requires opened { HasBudgets (network_of plan.now) (certificate_view certificate.now).rows budgets.now }
     ensures { result ≡ option_map_or
         (λ row. shows_all (network_of plan.now) (row_of row) total.now)
@@ -207,7 +205,7 @@ pub fn total_not_shown(
     i: usize,
     total: &Total,
 ) -> Option<No>
-    requires tabled { IsTabled (certificate_view certificate.now) }
+    requires few { HasFewRows (certificate_view certificate.now) }
     requires opened { HasBudgets (network_of plan.now) (certificate_view certificate.now).rows budgets.now }
     ensures { result ≡ total_not_shown (network_of plan.now) (certificate_view certificate.now).rows total.now i }
 {
@@ -220,7 +218,7 @@ fn first_total_not_shown(
     certificate: &Certificate,
     budgets: &[u128; ROWS],
 ) -> Option<No>
-    requires tabled { IsTabled (certificate_view certificate.now) }
+    requires few { HasFewRows (certificate_view certificate.now) }
     requires opened { HasBudgets (network_of plan.now) (certificate_view certificate.now).rows budgets.now }
     ensures { result ≡ first_in (certificate_view certificate.now).totals
         (total_not_shown (network_of plan.now) (certificate_view certificate.now).rows) }
@@ -234,7 +232,7 @@ fn first_total_not_shown(
 /// The first bound that its row doesn't show, else the first total, each in the order of the certificate.
 #[tactic(auto, unfolding(crate::specs::Shown::shown_no))]
 pub fn shown_no(plan: &Plan, certificate: &Certificate) -> Option<No>
-    requires { IsTabled (certificate_view certificate.now) }
+    requires { HasFewRows (certificate_view certificate.now) }
     ensures { result ≡ shown_no (network_of plan.now) (certificate_view certificate.now) }
 {
     let budgets = budgets_of(plan, certificate);

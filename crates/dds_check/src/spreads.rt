@@ -1,6 +1,7 @@
 //! What a write puts in flight, weighed by a row: for each key of each writer, accumulated over the samples that the
 //! row weighs.
 ghost use Rattle.std.specs.Prelude.{◌<◌, ◌+◌};
+ghost use Rattle.dds_base.specs.Grid.{most_endpoints};
 ghost use Rattle.dds_match.specs.Plan.{network_of};
 ghost use Rattle.dds_runs.specs.Accepted.{row_of};
 ghost use Rattle.dds_check.specs.Rows.{ShowsSpreads};
@@ -14,7 +15,7 @@ use dds_match::Plan;
 
 /// Adds what one reader hears: a key that the row doesn't weigh costs no walk over the writers.
 fn add_reader(plan: &Plan, weights: &Tables, cells: &mut [u64; PLACES], reader: ReaderNo)
-    requires reader { reader < 256 }
+    requires reader { reader < most_endpoints }
     requires cells { ShowsHeard (network_of plan.now) (row_of weights.now) reader cells.old }
     ensures { ShowsHeard (network_of plan.now) (row_of weights.now) (reader + 1) cells.new }
 {

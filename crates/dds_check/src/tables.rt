@@ -4,7 +4,7 @@ ghost use Rattle.dds_match.specs.Network.{weighed};
 ghost use Rattle.dds_weights.specs.Views.{row_view, certificate_view};
 ghost use Rattle.dds_runs.specs.Accepted.{row_of};
 ghost use Rattle.dds_weights.specs.Weighing.{weight_by};
-ghost use Rattle.dds_check.specs.Tables.{weighed_by, IsWithin, IsRowWithin, IsTabled};
+ghost use Rattle.dds_check.specs.Tables.{weighed_by};
 
 use dds_base::grid::{ENDPOINTS, KEYS, PLACES};
 use dds_base::{Endpoint, KeyNo, Portion, ReaderNo, WriterNo};
@@ -12,7 +12,20 @@ use dds_weights::weighing::weights_by_place;
 use dds_weights::{Certificate, Row, Weight};
 use std::marker::Model;
 
-/// A list of weights, with each where its endpoint and key say. Contracts see it as the list.
+/// The weight of a key of an endpoint in a list of weights, 0 where none is named: the first counts. Each call goes
+/// over the list.
+pub fn find_weight<E: Endpoint>(weights: &[Weight<E>], endpoint: E, key: KeyNo) -> u32
+    ensures { result ≡ weight_by E.number_of weights.now (E.number_of endpoint) key }
+{
+    for x in weights {
+        if x.endpoint.place() == endpoint.place() && x.key == key {
+            return x.weight;
+        }
+    }
+    0
+}
+
+/// A list of weights, with each where its endpoint and key say if that is a place. Contracts see it as the list.
 #[derive(Drop)]
 pub struct Table<'a, E: Endpoint> {
     entries: &'a [Weight<E>],
@@ -23,19 +36,17 @@ impl<'a, E: Endpoint> Model for Table<'a, E> {
     ghost use Rattle.std.specs.Prelude.{List};
     ghost use Rattle.dds_weights.specs.declared.certificate.Weight.{Weight};
     ghost use Rattle.dds_weights.specs.Weighing.{ShowsWeights};
-    ghost use Rattle.dds_check.specs.Tables.{IsWithin};
 
     ghost Value = { List (Weight E) };
 
     ghost view = { λ t. t.entries.now };
 
-    ghost invariant = { λ t. ShowsWeights E.number_of t.cells t.entries.now × IsWithin E.number_of t.entries.now };
+    ghost invariant = { λ t. ShowsWeights E.number_of t.cells t.entries.now };
 }
 
 impl<'a, E: Endpoint> Table<'a, E> {
     /// The table of a list of weights. Of entries for one endpoint and key the first counts.
     pub fn new(entries: &'a [Weight<E>]) -> Table<'a, E>
-        requires { IsWithin E.number_of entries.now }
         ensures { result ≡ entries.now }
     {
         Table {
@@ -53,7 +64,7 @@ impl<'a, E: Endpoint> Table<'a, E> {
         if e < ENDPOINTS && k < KEYS {
             self.cells[e * KEYS + k]
         } else {
-            0
+            find_weight(self.entries, endpoint, key)
         }
     }
 }
@@ -83,7 +94,6 @@ impl<'a> Model for Tables<'a> {
 impl<'a> Tables<'a> {
     /// The tables of a row.
     pub fn new(row: &'a Row) -> Tables<'a>
-        requires { IsRowWithin (row_view row.now) }
         ensures { result ≡ row_view row.now }
     {
         Tables {
@@ -159,8 +169,7 @@ fn row_at(certificate: &Certificate, n: usize) -> &Row
 
 /// The tables of row n of a certificate, from 0.
 pub fn tables_of<'a>(certificate: &'a Certificate, n: usize) -> Tables<'a>
-    requires tabled { IsTabled (certificate_view certificate.now) }
-    requires there { n < length (certificate_view certificate.now).rows }
+    requires { n < length (certificate_view certificate.now).rows }
     ensures { slice_get (certificate_view certificate.now).rows n ≡ Some result }
 {
     Tables::new(row_at(certificate, n))

@@ -23,8 +23,8 @@ pub fn shows(plan: &Plan, certificate: &Certificate) -> bool
     ensures decided { result ≡ shows (network_of plan.now) (certificate_view certificate.now) }
     ensures shown { IsTrue result → IsShown (network_of plan.now) (certificate_of (certificate_view certificate.now)) }
 {
-    // What is known of every plan: its lists name nothing that isn't there.
-    let _lists = plan.lists();
+    // Its lists name nothing that isn't there.
+    plan.assert_well_formed();
     match rows_no(plan, certificate) {
         Some(_) => false,
         None => match shown_no(plan, certificate) {

@@ -1,5 +1,6 @@
 //! What a reader adds to what writes put in flight.
 ghost use Rattle.std.specs.Prelude.{ℕ, ◌<◌, ◌+◌, ◌*◌, ◌^◌, ◌==◌, ◌&&◌, if◌then◌else◌, slice_index};
+ghost use Rattle.dds_base.specs.Grid.{most_keys};
 ghost use Rattle.dds_match.specs.Plan.{network_of};
 ghost use Rattle.dds_conditions.specs.Heard.{Adds};
 
@@ -11,8 +12,8 @@ use dds_match::Plan;
 /// Adds the weight of a key that the reader hears at the place of that key for each writer that matches the reader: a
 /// write of it there puts a sample in flight for each matched reader (OMG DDSI-RTPS 2.5, clause 8.4.7).
 pub fn add_heard(plan: &Plan, cells: &mut [u64; PLACES], reader: ReaderNo, key: KeyNo, weight: u32)
-    requires key { key < 64 }
-    requires room { (w : ℕ) → w < (network_of plan.now).writers → slice_index cells.old (w * 64 + key) < 2 ^ 63 }
+    requires key { key < most_keys }
+    requires room { (w : ℕ) → w < (network_of plan.now).writers → slice_index cells.old (w * most_keys + key) < 2 ^ 63 }
     ensures { Adds (network_of plan.now).writers
         (λ w k. if (key == k) && (network_of plan.now).matched w reader then weight else 0) cells.old cells.new }
 {

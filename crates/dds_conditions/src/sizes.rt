@@ -1,5 +1,6 @@
 //! How many endpoints, rules and keys the conditions go over.
-ghost use Rattle.std.specs.Prelude.{◌≡◌, ◌≤◌, length};
+ghost use Rattle.std.specs.Prelude.{◌≡◌, ◌≤◌};
+ghost use Rattle.dds_base.specs.Grid.{most_endpoints};
 ghost use Rattle.dds_lists.specs.WellFormed.{IsWellFormed};
 ghost use Rattle.dds_match.specs.Plan.{network_of};
 
@@ -8,7 +9,7 @@ use dds_match::Plan;
 /// How many writers the plan has, at most 256.
 pub fn writers_of(plan: &Plan) -> usize
     ensures count { result ≡ (network_of plan.now).writers }
-    ensures few { result ≤ 256 }
+    ensures few { result ≤ most_endpoints }
     ensures well_formed { IsWellFormed plan.now }
 {
     plan.lists().writers()
@@ -17,7 +18,7 @@ pub fn writers_of(plan: &Plan) -> usize
 /// How many readers the plan has, at most 256.
 pub fn readers_of(plan: &Plan) -> usize
     ensures count { result ≡ (network_of plan.now).readers }
-    ensures few { result ≤ 256 }
+    ensures few { result ≤ most_endpoints }
     ensures well_formed { IsWellFormed plan.now }
 {
     plan.lists().readers()
@@ -26,7 +27,7 @@ pub fn readers_of(plan: &Plan) -> usize
 /// How many rules the plan has, at most 256.
 pub fn rules_of(plan: &Plan) -> usize
     ensures count { result ≡ (network_of plan.now).rules }
-    ensures few { result ≤ 256 }
+    ensures few { result ≤ most_endpoints }
     ensures well_formed { IsWellFormed plan.now }
 {
     plan.lists().rules()

@@ -1,5 +1,5 @@
 //! Entries made on a ledger, one after the other. A rule is fired when a write needs it.
-ghost use Rattle.std.specs.Prelude.{◌≡◌, ◌<◌, ◌≢◌, false, IfOk, length};
+ghost use Rattle.std.specs.Prelude.{◌≡◌, ◌<◌, false, IfOk};
 ghost use Rattle.dds_match.specs.Plan.{network_of};
 ghost use Rattle.dds_rules.specs.Counts.{count_at};
 ghost use Rattle.dds_rules.specs.Ledger.{IsLedgerOf};
@@ -86,8 +86,8 @@ fn take(ledger: &mut Ledger, plan: &Plan, reader: ReaderNo, key: KeyNo) -> Progr
     requires known { IsKnown (network_of plan.now) (Action.Take reader key) }
     ensures { IsProgress (network_of plan.now) (Action.Take reader key) ledger.old ledger.new result }
 {
-    // What is known of every plan: its network's numbers are below its counts.
-    let _lists = plan.lists();
+    // Its network's numbers are below its counts.
+    plan.assert_well_formed();
     match ledger.note_take(reader, key) {
         Ok(()) => Progress::Allowed,
         Err(_) => Progress::Full,

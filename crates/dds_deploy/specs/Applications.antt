@@ -2,6 +2,8 @@
 use Rattle.std.specs.Prelude.{codes, ℕ, Bool, List, [], ◌∷◌, ◌++◌, Option, Ok, not, ◌&&◌, ◌||◌, ◌==◌, unwrap_or, option_map, slice_get, length}
 use Rattle.std.specs.List.{list_any, range_with_len, find}
 use Rattle.toml.specs.Data.{Data, Members}
+use Rattle.dds_base.specs.Limits.{most_applications}
+use Rattle.dds_base.specs.Grid.{most_endpoints}
 use Rattle.dds_fields.specs.declared.fault.FaultKind.TheVariants.{EndpointOwner}
 use Rattle.dds_fields.specs.Reading.{◌>>=◌, Read, unless, nothing_or, a_known_name, field, optional, count, a_list_of, a_section}
 use Rattle.dds_base.specs.Section.{Listed, nothing}
@@ -28,10 +30,10 @@ own names owned_by participant_of others p before path d = do
   unless EndpointOwner path (may_own owned_by participant_of others p before n) (before ++ n ∷ [])
 
 abbrev pub own_writers : Listed Writer → Listed Application → ℕ → List ℕ → Data → Read (List ℕ)
-own_writers ws others p = a_list_of 256 (own ws.names (λ a. a.writers) (writer_participant ws) others p) []
+own_writers ws others p = a_list_of most_endpoints (own ws.names (λ a. a.writers) (writer_participant ws) others p) []
 
 abbrev pub own_readers : Listed Reader → Listed Application → ℕ → List ℕ → Data → Read (List ℕ)
-own_readers rs others p = a_list_of 256 (own rs.names (λ a. a.readers) (reader_participant rs) others p) []
+own_readers rs others p = a_list_of most_endpoints (own rs.names (λ a. a.readers) (reader_participant rs) others p) []
 
 abbrev pub application_keys : List (List ℕ)
 application_keys = codes "name" ∷ codes "participant" ∷ codes "writers" ∷ codes "readers" ∷ []
@@ -48,7 +50,7 @@ abbrev pub application : Listed Participant → Listed Writer → Listed Reader 
 application ps ws rs = one_more application_keys (application_fields ps ws rs)
 
 abbrev pub application_list : Listed Participant → Listed Writer → Listed Reader → Members → Read (Listed Application)
-application_list ps ws rs = a_section (codes "applications") 64 (application ps ws rs) nothing
+application_list ps ws rs = a_section (codes "applications") most_applications (application ps ws rs) nothing
 
 -- the first number below count of an endpoint that no application has
 abbrev pub without_owner : (Application → List ℕ) → Listed Application → ℕ → Option ℕ

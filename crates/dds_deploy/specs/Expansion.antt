@@ -3,6 +3,7 @@ use Rattle.std.specs.Prelude.{is_none, ℕ, ◌+◌, Bool, map, is_some, List, O
 use Rattle.std.specs.Option.{option_or}
 use Rattle.std.specs.List.{list_all, filter as only_those}
 use Rattle.toml.specs.Data.{Members}
+use Rattle.dds_base.specs.Limits.{most_rules}
 use Rattle.dds_base.specs.declared.portion.Portion.{Portion}
 use Rattle.dds_fields.specs.declared.fault.FaultKind.TheVariants.{RuleEntry}
 use Rattle.dds_fields.specs.Reading.{◌>>=◌, Read, or_fault}
@@ -59,7 +60,7 @@ expanded v ts ws rs apps name a path ms = do
 
 -- the rules of an entry, where they may stand after so many: at most 256 rules in all
 abbrev pub with_room : ℕ → List Origin × List Rule → Option (List Origin × List Rule)
-with_room before us = if nat_le (before + length us.1) 256 then Some us else None
+with_room before us = if nat_le (before + length us.1) most_rules then Some us else None
 
 -- what is read of an entry, or that there is no room for it
 abbrev pub within_room : ℕ → Read (List Origin × List Rule) → Read (Option (List Origin × List Rule))

@@ -1,6 +1,7 @@
 -- The section of the participants.
 use Rattle.std.specs.Prelude.{codes, ℕ, List, [], ◌∷◌, Ok}
 use Rattle.toml.specs.Data.{Data, Members}
+use Rattle.dds_base.specs.Limits.{most_participants}
 use Rattle.dds_fields.specs.Reading.{◌>>=◌, Read, a_number, field, a_section}
 use Rattle.dds_base.specs.Section.{Listed, nothing}
 use Rattle.dds_lists.specs.Lists.{Participant}
@@ -19,4 +20,4 @@ abbrev pub participant : Listed Participant → List ℕ → Data → Read (List
 participant = one_more participant_keys (λ _. participant_fields)
 
 abbrev pub participants : Members → Read (Listed Participant)
-participants = a_section (codes "participants") 64 participant nothing
+participants = a_section (codes "participants") most_participants participant nothing

@@ -2,6 +2,7 @@
 use Rattle.std.specs.Prelude.{codes, ℕ, Bool, false, List, [], ◌∷◌, ◌++◌, length, nat_le, ◌&&◌, ◌||◌, ◌==◌, Option, Some, None, Ok, is_none}
 use Rattle.std.specs.List.{list_all}
 use Rattle.toml.specs.Data.{Data, Members}
+use Rattle.dds_base.specs.Limits.{most_name_bytes}
 use Rattle.dds_base.specs.Names.{is_name_byte}
 use Rattle.dds_fields.specs.declared.fault.FaultKind.TheVariants.{BadName, Qos}
 use Rattle.dds_fields.specs.Reading.{Read, ◌>>=◌, unless, optional, a_text, a_number, a_list_of}
@@ -158,7 +159,7 @@ is_partition_byte b = is_name_byte b || (b == 42 || b == 63)
 
 -- 0 to 64 bytes of the alphabet of partition names
 abbrev pub is_partition_name : List ℕ → Bool
-is_partition_name bytes = nat_le (length bytes) 64 && list_all is_partition_byte bytes
+is_partition_name bytes = nat_le (length bytes) most_name_bytes && list_all is_partition_byte bytes
 
 -- one more name of a partition. Names may repeat
 unfoldable pub partition : List (List ℕ) → List ℕ → Data → Read (List (List ℕ))

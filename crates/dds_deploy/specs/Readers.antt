@@ -2,6 +2,7 @@
 use Rattle.std.specs.Prelude.{false, codes, ℕ, List, [], ◌∷◌, ◌++◌, Ok, not, ◌==◌, nat_le, if◌then◌else◌}
 use Rattle.std.specs.List.{list_any}
 use Rattle.toml.specs.Data.{Data, Members}
+use Rattle.dds_base.specs.Grid.{most_endpoints, most_keys}
 use Rattle.dds_qos.specs.declared.policies.Reliability.TheVariants.{BestEffort}
 use Rattle.dds_fields.specs.declared.fault.FaultKind.TheVariants.{Duplicate}
 use Rattle.dds_fields.specs.Reading.{◌>>=◌, Read, unless, a_known_name, field, optional, a_list_of, a_section}
@@ -18,7 +19,7 @@ filter_key keys before path d = do
   unless Duplicate path (not (list_any (λ m. m == n) before)) (before ++ n ∷ [])
 
 abbrev pub filter : List (List ℕ) → List ℕ → Data → Read (List ℕ)
-filter keys = a_list_of 64 (filter_key keys) []
+filter keys = a_list_of most_keys (filter_key keys) []
 
 unfoldable pub reader_fields : Listed Participant → Listed Topic → List ℕ → Members → Read Reader
 reader_fields ps ts path ms = do
@@ -39,4 +40,4 @@ abbrev pub reader : ℕ → Listed Participant → Listed Topic → Listed Reade
 reader v ps ts = one_more (reader_keys v) (λ _. consistent (λ r. r.qos.requested) (reader_fields ps ts))
 
 abbrev pub readers : ℕ → Listed Participant → Listed Topic → Members → Read (Listed Reader)
-readers v ps ts = a_section (codes "readers") 256 (reader v ps ts) nothing
+readers v ps ts = a_section (codes "readers") most_endpoints (reader v ps ts) nothing

@@ -2,6 +2,7 @@
 use Rattle.std.specs.Prelude.{codes, ℕ, ◌+◌, Bool, false, List, [], ◌∷◌, ◌++◌, Option, Some, None, Ok, is_none, nat_le, not, ◌&&◌, ◌==◌, unwrap_or, option_and_then, length, if◌then◌else◌}
 use Rattle.std.specs.List.{list_any}
 use Rattle.toml.specs.Data.{Data, Members}
+use Rattle.dds_base.specs.Limits.{most_rules}
 use Rattle.dds_base.specs.declared.portion.Portion.{Portion}
 use Rattle.dds_fields.specs.declared.fault.FaultKind.TheVariants.{RuleEntry, TooMany}
 use Rattle.dds_fields.specs.Reading.{◌>>=◌, Read, unless, or_fault, a_text, a_number, a_new_name, a_known_name, field, optional, entry, a_list_of, a_section}
@@ -69,7 +70,7 @@ rule v ts ws rs apps before path d = do
   ms ← rule_entry v path d
   name ← field (codes "name") (a_new_name before.names) path ms
   us ← rule_fields v ts ws rs apps (length before.names) path ms
-  unless TooMany path (nat_le (length before.entries + length us.1) 256) (and_rules before name us)
+  unless TooMany path (nat_le (length before.entries + length us.1) most_rules) (and_rules before name us)
 
 abbrev pub rules : ℕ → Listed Topic → Listed Writer → Listed Reader → Listed Application → Members → Read Rules
-rules v ts ws rs apps = a_section (codes "rules") 256 (rule v ts ws rs apps) no_rules
+rules v ts ws rs apps = a_section (codes "rules") most_rules (rule v ts ws rs apps) no_rules

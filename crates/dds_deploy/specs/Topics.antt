@@ -3,6 +3,8 @@ use Rattle.std.specs.Prelude.{codes, ℕ, Bool, List, [], ◌∷◌, ◌++◌, �
 use Rattle.std.specs.List.{list_all}
 use Rattle.dds_base.specs.Names.{is_name, is_name_byte, is_between}
 use Rattle.toml.specs.Data.{Data, Members}
+use Rattle.dds_base.specs.Limits.{most_topics, most_type_bytes}
+use Rattle.dds_base.specs.Grid.{most_keys}
 use Rattle.dds_fields.specs.declared.fault.FaultKind.TheVariants.{OutOfRange, BadName}
 use Rattle.dds_fields.specs.Reading.{◌>>=◌, Read, unless, a_text, a_new_name, field, each, count, an_array_of, a_section}
 use Rattle.dds_base.specs.Section.{Listed, nothing}
@@ -18,7 +20,7 @@ key before path d = do
 -- 1 to 64 distinct keys
 unfoldable pub keys : List ℕ → Data → Read (List (List ℕ))
 keys path d = do
-  ds ← an_array_of 64 path d
+  ds ← an_array_of most_keys path d
   some ← unless OutOfRange path (nat_le 1 (count ds)) ds
   each key path 0 [] some
 
@@ -28,7 +30,7 @@ is_type_byte b = is_name_byte b || (b == 58)
 
 -- 1 to 256 bytes of it
 abbrev pub is_type_name : List ℕ → Bool
-is_type_name text = is_between 1 256 (length text) && list_all is_type_byte text
+is_type_name text = is_between 1 most_type_bytes (length text) && list_all is_type_byte text
 
 -- the name of a type: in versions 1 and 2 a name, and since version 3 also one with parts, as `sensor_msgs::msg::dds_::Imu_`
 unfoldable pub a_type_name : ℕ → List ℕ → Data → Read (List ℕ)
@@ -50,4 +52,4 @@ abbrev pub topic : ℕ → Listed Topic → List ℕ → Data → Read (Listed T
 topic v = one_more topic_keys (λ _. topic_fields v)
 
 abbrev pub topics : ℕ → Members → Read (Listed Topic)
-topics v = a_section (codes "topics") 256 (topic v) nothing
+topics v = a_section (codes "topics") most_topics (topic v) nothing

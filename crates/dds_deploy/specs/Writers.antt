@@ -1,6 +1,7 @@
 -- The section of the writers.
 use Rattle.std.specs.Prelude.{codes, ℕ, List, Ok}
 use Rattle.toml.specs.Data.{Data, Members}
+use Rattle.dds_base.specs.Grid.{most_endpoints}
 use Rattle.dds_qos.specs.declared.policies.Reliability.TheVariants.{Reliable}
 use Rattle.dds_fields.specs.Reading.{◌>>=◌, Read, a_known_name, field, a_section}
 use Rattle.dds_base.specs.Section.{Listed, nothing}
@@ -21,4 +22,4 @@ abbrev pub writer : Listed Participant → Listed Topic → Listed Writer → Li
 writer ps ts = one_more endpoint_keys (λ _. consistent (λ w. w.qos.offered) (writer_fields ps ts))
 
 abbrev pub writers : Listed Participant → Listed Topic → Members → Read (Listed Writer)
-writers ps ts = a_section (codes "writers") 256 (writer ps ts) nothing
+writers ps ts = a_section (codes "writers") most_endpoints (writer ps ts) nothing

@@ -13,6 +13,8 @@ ghost use Rattle.dds_lists.specs.Views.{participant_view, writer_view, reader_vi
 
 use crate::endpoints::Endpoints;
 use crate::entries::{Entries, section};
+use dds_base::grid::ENDPOINTS;
+use dds_base::limits::APPLICATIONS;
 use dds_base::{ParticipantNo, Section};
 use dds_fields::fault::{FaultKind, ReadFault, refuse};
 use dds_fields::field::{known_name_field, known_name_of};
@@ -117,14 +119,14 @@ fn application_fields(
         participant,
     };
     let none = Vec::new(alloc);
-    let writers = optional_list(alloc, 256, &of_writers, none, path, table, "writers")?;
+    let writers = optional_list(alloc, ENDPOINTS, &of_writers, none, path, table, "writers")?;
     let of_readers = Own {
         endpoints: readers,
         others,
         participant,
     };
     let none = Vec::new(alloc);
-    let readers = optional_list(alloc, 256, &of_readers, none, path, table, "readers")?;
+    let readers = optional_list(alloc, ENDPOINTS, &of_readers, none, path, table, "readers")?;
     Ok(Application {
         participant,
         writers,
@@ -194,7 +196,7 @@ fn application_list(
         writers,
         readers,
     };
-    section(alloc, 64, &entries, table, "applications")
+    section(alloc, APPLICATIONS, &entries, table, "applications")
 }
 
 #[tactic(auto, using(dds_base::proofs::Ranges::range_none))]

@@ -1,15 +1,14 @@
 //! The section `participants`: their names, and the domain of each.
-ghost use Rattle.std.specs.Prelude.{◌≡◌};
 ghost use Rattle.toml.specs.View.{table_view};
 ghost use Rattle.dds_fields.specs.Gives.{Gives};
 ghost use Rattle.dds_base.specs.Section.{listed};
-ghost use Rattle.dds_fields.specs.Places.{place_text};
 ghost use Rattle.dds_lists.specs.Lists.{Participant as ParticipantView};
 ghost use Rattle.dds_deploy.specs.Participants.{participant_keys, participant_fields, participants};
 ghost use Rattle.dds_lists.specs.Views.{participant_view};
 
 use crate::entries::{Entries, section};
 use dds_base::Section;
+use dds_base::limits::PARTICIPANTS;
 use dds_fields::fault::ReadFault;
 use dds_fields::field::number_field;
 use dds_fields::place::Place;
@@ -53,5 +52,11 @@ impl Entries for ParticipantEntries {
 pub(crate) fn participants(alloc: Global, table: &Table) -> Result<Section<Participant>, ReadFault>
     ensures { Gives (listed participant_view) result (participants (table_view table.now)) }
 {
-    section(alloc, 64, &ParticipantEntries, table, "participants")
+    section(
+        alloc,
+        PARTICIPANTS,
+        &ParticipantEntries,
+        table,
+        "participants",
+    )
 }

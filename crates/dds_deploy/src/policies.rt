@@ -13,6 +13,7 @@ ghost use Rattle.dds_deploy.specs.Policies.{max_samples_per_instance, resource_l
 ghost use Rattle.dds_deploy.specs.Policies.{is_partition_byte, is_partition_name, partition, partitions};
 
 use dds_base::is_name_byte;
+use dds_base::limits::NAME_BYTES;
 use dds_fields::fault::{FaultKind, ReadFault, refuse};
 use dds_fields::field::{optional_number, text_of};
 use dds_fields::items::{Items, optional_list};
@@ -68,14 +69,14 @@ fn access_scope(alloc: Global, path: &Place, table: &Table) -> Result<AccessScop
 fn coherent(alloc: Global, path: &Place, table: &Table) -> Result<bool, ReadFault>
     ensures { Gives (λ x. x) result (coherent (place_text path.now) (table_view table.now)) }
 {
-    optional_flag(alloc, false, path, table, "coherent")
+    optional_flag(alloc, path, table, "coherent")
 }
 
 #[tactic(auto, unfolding(crate::specs::Policies::ordered))]
 fn read_ordered(alloc: Global, path: &Place, table: &Table) -> Result<bool, ReadFault>
     ensures { Gives (λ x. x) result (ordered (place_text path.now) (table_view table.now)) }
 {
-    optional_flag(alloc, false, path, table, "ordered")
+    optional_flag(alloc, path, table, "ordered")
 }
 
 #[tactic(auto, unfolding(crate::specs::Policies::presentation))]
@@ -361,7 +362,7 @@ fn has_partition_bytes(text: &str) -> bool
 fn is_partition_name(text: &str) -> bool
     ensures { result ≡ is_partition_name text.now }
 {
-    text.len() <= 64 && has_partition_bytes(text)
+    text.len() <= NAME_BYTES && has_partition_bytes(text)
 }
 
 // What reads the partitions of an endpoint.

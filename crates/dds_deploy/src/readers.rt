@@ -12,6 +12,7 @@ ghost use Rattle.dds_lists.specs.Views.{participant_view, topic_view, reader_vie
 
 use crate::entries::{Entries, section};
 use crate::policies::{READER_KEYS, partitions, policies};
+use dds_base::grid::{ENDPOINTS, KEYS};
 use dds_base::{KeyNo, Names, NoMemory, ParticipantNo, Section, TopicNo};
 use dds_fields::fault::{FaultKind, ReadFault, refuse};
 use dds_fields::field::{known_name_field, known_name_of, value_at};
@@ -95,7 +96,7 @@ fn filter_field(
             let at = Place::Key { parent: path, key };
             list_of(
                 alloc,
-                64,
+                KEYS,
                 &FilterKeys { names },
                 Vec::new(alloc),
                 &at,
@@ -121,7 +122,7 @@ fn reader_fields(
     let participant = known_name_field(alloc, &participants.names, path, table, "participant")?;
     let topic = known_name_field(alloc, &topics.names, path, table, "topic")?;
     let filter = filter_field(alloc, topic_keys(topics, topic), path, table, "filter")?;
-    let may_lose = match optional_flag(alloc, false, path, table, "may_lose") {
+    let may_lose = match optional_flag(alloc, path, table, "may_lose") {
         Ok(may_lose) => may_lose,
         Err(fault) => {
             drop(filter);
@@ -215,5 +216,5 @@ pub(crate) fn readers(
         participants,
         topics,
     };
-    section(alloc, 256, &entries, table, "readers")
+    section(alloc, ENDPOINTS, &entries, table, "readers")
 }

@@ -12,6 +12,8 @@ ghost use Rattle.dds_deploy.specs.Topics.{topic_fields, topics};
 ghost use Rattle.dds_lists.specs.Views.{topic_view};
 
 use crate::entries::{Entries, section};
+use dds_base::grid::KEYS;
+use dds_base::limits::{TOPICS, TYPE_BYTES};
 use dds_base::{Names, Section, is_name, is_name_byte};
 use dds_fields::fault::{FaultKind, ReadFault, refuse};
 use dds_fields::field::{array_of_limit, new_name_of, require, text_of};
@@ -52,7 +54,7 @@ impl Items for TopicKeys {
 fn keys_of(alloc: Global, path: &Place, value: &Value) -> Result<Names, ReadFault>
     ensures { Gives (λ n. n) result (keys (place_text path.now) (view value.now)) }
 {
-    let values = array_of_limit(alloc, 64, path, value)?;
+    let values = array_of_limit(alloc, KEYS, path, value)?;
     if values.is_empty() {
         return Err(refuse(alloc, FaultKind::OutOfRange, path));
     }
@@ -83,7 +85,7 @@ fn has_type_bytes(text: &str) -> bool
 fn is_type_name(text: &str) -> bool
     ensures { result ≡ is_type_name text.now }
 {
-    1 <= text.len() && text.len() <= 256 && has_type_bytes(text)
+    1 <= text.len() && text.len() <= TYPE_BYTES && has_type_bytes(text)
 }
 
 #[tactic(auto, unfolding(crate::specs::Topics::a_type_name))]
@@ -168,5 +170,5 @@ pub(crate) fn topics(
 ) -> Result<Section<Topic>, ReadFault>
     ensures { Gives (listed topic_view) result (topics version (table_view table.now)) }
 {
-    section(alloc, 256, &TopicEntries { version }, table, "topics")
+    section(alloc, TOPICS, &TopicEntries { version }, table, "topics")
 }

@@ -11,6 +11,7 @@ ghost use Rattle.dds_lists.specs.Views.{participant_view, topic_view, writer_vie
 
 use crate::entries::{Entries, section};
 use crate::policies::{READER_KEYS, partitions, policies};
+use dds_base::grid::ENDPOINTS;
 use dds_base::{ParticipantNo, Section, TopicNo};
 use dds_fields::fault::{FaultKind, ReadFault, refuse};
 use dds_fields::field::known_name_field;
@@ -100,5 +101,5 @@ pub(crate) fn writers(
         participants,
         topics,
     };
-    section(alloc, 256, &entries, table, "writers")
+    section(alloc, ENDPOINTS, &entries, table, "writers")
 }

@@ -9,7 +9,7 @@ use std::alloc::Global;
 use std::marker::Model;
 
 /// How many packets are under way at most.
-const PLACES: usize = 4096;
+const BUS_PLACES: usize = 4096;
 
 /// The places are searched in blocks of so many.
 const BLOCK: usize = 64;
@@ -43,7 +43,7 @@ impl Bus {
     pub(crate) fn new(alloc: Global) -> Result<Bus, NoMemory>
         ensures { IfOk result (λ b. b ≡ replicate places None) }
     {
-        let held = vec![in alloc; None; PLACES]?;
+        let held = vec![in alloc; None; BUS_PLACES]?;
         let taken = vec![in alloc; 0; BLOCKS]?;
         let count = 0;
         Ok(Bus { held, taken, count })

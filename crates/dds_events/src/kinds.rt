@@ -130,8 +130,8 @@ pub(crate) fn data_of(lists: &Deployment, text: &str) -> Option<Event>
     ensures some { IfSome result (IsSaidBy lists.now text.now) }
     ensures none { IfNone result ((w r n : ℕ) → IsUnsaidBy lists.now text.now (Event.SendData w r n)) }
 {
-    // What is known of every deployment: each name has an endpoint.
-    let _writers = lists.writers();
+    // Each name has an endpoint.
+    lists.assert_well_formed();
     let words = after_word(text, "send")?;
     let (writer, reader, sn) = numbered_pair_of(lists.writer_names(), lists.reader_names(), words)?;
     Some(Event::SendData {
@@ -147,8 +147,8 @@ pub(crate) fn gap_of(lists: &Deployment, text: &str) -> Option<Event>
     ensures some { IfSome result (IsSaidBy lists.now text.now) }
     ensures none { IfNone result ((w r n : ℕ) → IsUnsaidBy lists.now text.now (Event.SendGap w r n)) }
 {
-    // What is known of every deployment: each name has an endpoint.
-    let _writers = lists.writers();
+    // Each name has an endpoint.
+    lists.assert_well_formed();
     let words = after_word(text, "gap")?;
     let (writer, reader, start) = numbered_pair_of(
         lists.writer_names(),
@@ -168,8 +168,8 @@ pub(crate) fn heartbeat_of(lists: &Deployment, text: &str) -> Option<Event>
     ensures some { IfSome result (IsSaidBy lists.now text.now) }
     ensures none { IfNone result ((w r : ℕ) → IsUnsaidBy lists.now text.now (Event.SendHeartbeat w r)) }
 {
-    // What is known of every deployment: each name has an endpoint.
-    let _writers = lists.writers();
+    // Each name has an endpoint.
+    lists.assert_well_formed();
     let words = after_word(text, "heartbeat")?;
     let (writer, reader) = pair_of(lists.writer_names(), lists.reader_names(), words)?;
     Some(Event::SendHeartbeat {
@@ -184,8 +184,8 @@ pub(crate) fn acknack_of(lists: &Deployment, text: &str) -> Option<Event>
     ensures some { IfSome result (IsSaidBy lists.now text.now) }
     ensures none { IfNone result ((r w : ℕ) → IsUnsaidBy lists.now text.now (Event.SendAckNack r w)) }
 {
-    // What is known of every deployment: each name has an endpoint.
-    let _writers = lists.writers();
+    // Each name has an endpoint.
+    lists.assert_well_formed();
     let words = after_word(text, "acknack")?;
     let (reader, writer) = pair_of(lists.reader_names(), lists.writer_names(), words)?;
     Some(Event::SendAckNack {

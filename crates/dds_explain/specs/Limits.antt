@@ -2,6 +2,7 @@
 -- and 26 refuse a writer that keeps the last samples alone (DDS 1.4, clause 2.2.3.18).
 use Rattle.std.specs.Prelude.{codes, ℕ, List, [], ◌++◌, Option, Some, None, if◌then◌else◌}
 use Rattle.std.specs.Fmt.{decimal}
+use Rattle.dds_base.specs.Grid.{most_keys}
 use Rattle.dds_base.specs.Sums.{total, count_below}
 use Rattle.dds_lists.specs.Lists.{Lists}
 use Rattle.dds_match.specs.Network.{reach, is_written}
@@ -23,8 +24,8 @@ reached_key d r k = if reach (network_of d) r k then key_line (reader_key d r k)
 -- how many keys can reach a reader, and which
 abbrev pub reader_instances_lines : Lists → ℕ → List ℕ
 reader_instances_lines d r =
-    codes "because " ++ (decimal (count_below 64 (reach (network_of d) r)) ++ (codes " keys can reach " ++ (reader_name d r ++ (codes ", and its max_instances is "
-    ++ (limit_text ((network_of d).reader_limits r).max_instances ++ (codes "\n" ++ each_below 64 (reached_key d r)))))))
+    codes "because " ++ (decimal (count_below most_keys (reach (network_of d) r)) ++ (codes " keys can reach " ++ (reader_name d r ++ (codes ", and its max_instances is "
+    ++ (limit_text ((network_of d).reader_limits r).max_instances ++ (codes "\n" ++ each_below most_keys (reached_key d r)))))))
 
 -- ── 24
 -- a key in a line of its own, if a rule writes it at the writer
@@ -34,8 +35,8 @@ written_key d w k = if is_written (network_of d) w k then key_line (writer_key d
 -- how many keys rules write at a writer, and which
 abbrev pub writer_instances_lines : Lists → ℕ → List ℕ
 writer_instances_lines d w =
-    codes "because rules write " ++ (decimal (count_below 64 (is_written (network_of d) w)) ++ (codes " keys at " ++ (writer_name d w ++ (codes ", and its max_instances is "
-    ++ (limit_text ((network_of d).writer_limits w).max_instances ++ (codes "\n" ++ each_below 64 (written_key d w)))))))
+    codes "because rules write " ++ (decimal (count_below most_keys (is_written (network_of d) w)) ++ (codes " keys at " ++ (writer_name d w ++ (codes ", and its max_instances is "
+    ++ (limit_text ((network_of d).writer_limits w).max_instances ++ (codes "\n" ++ each_below most_keys (written_key d w)))))))
 
 -- ── 21
 -- a key without a bound that the limit of an instance asks for
@@ -52,7 +53,7 @@ unbounded_key d bounds r k = if is_bounded (network_of d) bounds r k then [] els
 abbrev pub no_total_lines : Lists → Certificate → ℕ → List ℕ
 no_total_lines d c r =
     codes "because " ++ (reader_name d r ++ (codes " has max_samples " ++ (limit_text ((network_of d).reader_limits r).max_samples
-    ++ (codes ", no total, and no bound for each key\n" ++ each_below 64 (unbounded_key d c.bounds r)))))
+    ++ (codes ", no total, and no bound for each key\n" ++ each_below most_keys (unbounded_key d c.bounds r)))))
 
 -- ── 22
 -- a bound in words
@@ -84,7 +85,7 @@ reached_bound_line d bounds r k = if reach (network_of d) r k then bound_line (r
 abbrev pub samples_over_lines : Lists → Certificate → ℕ → List ℕ
 samples_over_lines d c r =
     codes "because " ++ (reader_name d r ++ (codes " has max_samples " ++ (limit_text ((network_of d).reader_limits r).max_samples ++ (codes "\n"
-    ++ (total_line (total_of c.totals r) ++ (each_below 64 (reached_bound_line d c.bounds r) ++ (codes "  sum " ++ (decimal (total 64 (reached_bound (network_of d) c.bounds r)) ++ codes "\n"))))))))
+    ++ (total_line (total_of c.totals r) ++ (each_below most_keys (reached_bound_line d c.bounds r) ++ (codes "  sum " ++ (decimal (total most_keys (reached_bound (network_of d) c.bounds r)) ++ codes "\n"))))))))
 
 -- ── 25
 -- a key in a line of its own, if a rule writes it at the writer and the reader doesn't hear it
@@ -95,7 +96,7 @@ unheard_key d w r k = if is_heard (network_of d) w r k then [] else key_line (wr
 abbrev pub keep_last_filter_lines : Lists → ℕ → ℕ → List ℕ
 keep_last_filter_lines d w r =
     codes "because " ++ (writer_name d w ++ (codes " has history KEEP_LAST, and the filter of " ++ (reader_name d r ++ (codes " leaves out what rules write there\n"
-    ++ each_below 64 (unheard_key d w r)))))
+    ++ each_below most_keys (unheard_key d w r)))))
 
 -- ── 26
 -- the bound of a key at a reader in words

@@ -2,6 +2,7 @@
 use Rattle.std.specs.Prelude.{codes, ℕ, List, [], ◌++◌, ◌==◌, ◌&&◌, ◌/◌, flat_map, length, slice_get, if◌then◌else◌}
 use Rattle.std.specs.Fmt.{decimal}
 use Rattle.std.specs.Option.{option_map_or}
+use Rattle.dds_base.specs.Grid.{most_keys}
 use Rattle.dds_lists.specs.Lists.{Lists}
 use Rattle.dds_match.specs.Network.{reach}
 use Rattle.dds_match.specs.Plan.{network_of}
@@ -32,7 +33,7 @@ permit_line d row w k =
 
 -- the permits at the opening at a writer
 abbrev pub writer_permit_lines : Lists → Row → ℕ → List ℕ
-writer_permit_lines d row w = each_below 64 (permit_line d row w)
+writer_permit_lines d row w = each_below most_keys (permit_line d row w)
 
 -- the permits at the opening at all writers
 abbrev pub permit_lines : Lists → Row → List ℕ
@@ -74,7 +75,7 @@ reached_sample_line d row opening r k = if reach (network_of d) r k then sample_
 
 -- a total that its row doesn't show, with a sample of each key and the permits
 abbrev pub total_lines : Lists → Row → Total → ℕ → List ℕ
-total_lines d row t opening = unshown_line row (total_claim d t) opening ++ (each_below 64 (reached_sample_line d row opening t.reader) ++ permit_lines d row)
+total_lines d row t opening = unshown_line row (total_claim d t) opening ++ (each_below most_keys (reached_sample_line d row opening t.reader) ++ permit_lines d row)
 
 -- the same, if the row doesn't show it
 abbrev pub unshown_total_by : Lists → Row → Total → List ℕ

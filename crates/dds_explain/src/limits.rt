@@ -1,12 +1,12 @@
 //! Why numbers 20 to 24 refuse an endpoint: how much can come, and the limit that is too small for it; and why 25 and
 //! 26 refuse a writer that keeps the last samples alone.
-ghost use Rattle.std.specs.Prelude.{◌≡◌, ◌<◌, ◌^◌, IfOk, string_bytes};
+ghost use Rattle.std.specs.Prelude.{◌≡◌, ◌<◌, IfOk, string_bytes};
+ghost use Rattle.dds_base.specs.Grid.{most_keys};
 ghost use Rattle.dds_base.specs.Sums.{total};
-ghost use Rattle.dds_match.specs.Plan.{network_of};
 ghost use Rattle.dds_text.specs.Names.{reader_key, reader_name};
 ghost use Rattle.dds_text.specs.Texts.{each_below};
 ghost use Rattle.dds_weights.specs.Views.{certificate_view};
-ghost use Rattle.dds_check.specs.Limits.{is_bounded, is_heard, reached_bound};
+ghost use Rattle.dds_check.specs.Limits.{is_bounded, is_heard};
 ghost use Rattle.dds_check.specs.Tables.{bound_of};
 ghost use Rattle.dds_explain.specs.Limits.{bound_given, keep_last_filter_lines, unheard_key, writer_depth_lines};
 ghost use Rattle.dds_explain.specs.Limits.{bound_line, bound_over_line, bound_text, no_bound_line, no_total_lines};
@@ -16,11 +16,12 @@ ghost use Rattle.dds_explain.specs.Limits.{total_line, unbounded_key, writer_ins
 use crate::pieces::{instance_limit_name, key_line, limit_text, reader_limits, writer_limits};
 use dds_base::grid::KEYS;
 use dds_base::{KeyNo, ReaderNo, WriterNo};
-use dds_check::{find_bound, find_total, instance_limit, reached, written};
+use dds_check::limits::{is_bounded, is_heard, sum_of_bounds};
+use dds_check::{Bounds, find_bound, find_total, instance_limit, reached, written};
 use dds_match::Plan;
 use dds_text::names::{reader_key, reader_name, writer_key, writer_name};
 use dds_text::texts::{TextResult, number_or, text_below};
-use dds_weights::{Bound, Certificate};
+use dds_weights::Certificate;
 use std::alloc::Global;
 
 /// A key in a line of its own, if it can reach the reader.
@@ -36,7 +37,7 @@ fn reached_key(alloc: Global, plan: &Plan, reader: ReaderNo, key: KeyNo) -> Text
 
 /// The keys that can reach a reader.
 fn reached_keys(alloc: Global, plan: &Plan, reader: ReaderNo) -> TextResult
-    ensures { IfOk result (λ text. string_bytes text ≡ each_below 64 (reached_key plan.now reader)) }
+    ensures { IfOk result (λ text. string_bytes text ≡ each_below most_keys (reached_key plan.now reader)) }
 {
     text_below(
         alloc,
@@ -73,7 +74,7 @@ fn written_key(alloc: Global, plan: &Plan, writer: WriterNo, key: KeyNo) -> Text
 
 /// The keys that rules write at a writer.
 fn written_keys(alloc: Global, plan: &Plan, writer: WriterNo) -> TextResult
-    ensures { IfOk result (λ text. string_bytes text ≡ each_below 64 (written_key plan.now writer)) }
+    ensures { IfOk result (λ text. string_bytes text ≡ each_below most_keys (written_key plan.now writer)) }
 {
     text_below(
         alloc,
@@ -111,18 +112,11 @@ pub(crate) fn no_bound_line(alloc: Global, plan: &Plan, reader: ReaderNo, key: K
     )
 }
 
-/// Whether a key can't reach the reader or has a bound.
-fn is_bounded(plan: &Plan, bounds: &[Bound], reader: ReaderNo, key: KeyNo) -> bool
-    ensures { result ≡ is_bounded (network_of plan.now) bounds.now reader key }
-{
-    !plan.reaches(reader, key) || find_bound(bounds, reader, key).is_some()
-}
-
 /// A key in a line of its own, if it can reach the reader and has no bound.
 fn unbounded_key(
     alloc: Global,
     plan: &Plan,
-    bounds: &[Bound],
+    bounds: &Bounds,
     reader: ReaderNo,
     key: KeyNo,
 ) -> TextResult
@@ -136,8 +130,9 @@ fn unbounded_key(
 }
 
 /// The keys that can reach a reader and have no bound.
-fn unbounded_keys(alloc: Global, plan: &Plan, bounds: &[Bound], reader: ReaderNo) -> TextResult
-    ensures { IfOk result (λ text. string_bytes text ≡ each_below 64 (unbounded_key plan.now bounds.now reader)) }
+fn unbounded_keys(alloc: Global, plan: &Plan, bounds: &Bounds, reader: ReaderNo) -> TextResult
+    ensures { IfOk result
+        (λ text. string_bytes text ≡ each_below most_keys (unbounded_key plan.now bounds.now reader)) }
 {
     text_below(
         alloc,
@@ -160,7 +155,8 @@ pub(crate) fn no_total_lines(
 {
     let name = reader_name(plan.lists(), reader);
     let limit = limit_text(alloc, reader_limits(plan, reader).max_samples)?;
-    let keys = unbounded_keys(alloc, plan, certificate.bounds.as_slice(), reader)?;
+    let bounds = Bounds::new(&certificate.bounds);
+    let keys = unbounded_keys(alloc, plan, &bounds, reader)?;
     format!(in alloc;
         "because {name} has max_samples {limit}, no total, and no bound for each key\n{keys}"
     )
@@ -222,14 +218,14 @@ fn bound_line(alloc: Global, key: &str, bound: Option<u32>) -> TextResult
 fn reached_bound_line(
     alloc: Global,
     plan: &Plan,
-    bounds: &[Bound],
+    bounds: &Bounds,
     reader: ReaderNo,
     key: KeyNo,
 ) -> TextResult
     ensures { IfOk result (λ text. string_bytes text ≡ reached_bound_line plan.now bounds.now reader key) }
 {
     if plan.reaches(reader, key) {
-        let bound = find_bound(bounds, reader, key);
+        let bound = bounds.of(reader, key);
         bound_line(alloc, reader_key(plan.lists(), reader, key), bound)
     } else {
         Ok(String::new(alloc))
@@ -237,8 +233,9 @@ fn reached_bound_line(
 }
 
 /// The bounds of the keys that can reach a reader.
-fn reached_bound_lines(alloc: Global, plan: &Plan, bounds: &[Bound], reader: ReaderNo) -> TextResult
-    ensures { IfOk result (λ text. string_bytes text ≡ each_below 64 (reached_bound_line plan.now bounds.now reader)) }
+fn reached_bound_lines(alloc: Global, plan: &Plan, bounds: &Bounds, reader: ReaderNo) -> TextResult
+    ensures { IfOk result
+        (λ text. string_bytes text ≡ each_below most_keys (reached_bound_line plan.now bounds.now reader)) }
 {
     text_below(
         alloc,
@@ -248,28 +245,6 @@ fn reached_bound_lines(alloc: Global, plan: &Plan, bounds: &[Bound], reader: Rea
                 (λ text. string_bytes text ≡ reached_bound_line plan.entry.now bounds.entry.now reader k) }
         { reached_bound_line(alloc, plan, bounds, reader, KeyNo::new(k)) },
     )
-}
-
-fn reached_bound(plan: &Plan, bounds: &[Bound], reader: ReaderNo, key: KeyNo) -> u64
-    ensures value { result ≡ reached_bound (network_of plan.now) bounds.now reader key }
-    ensures small { result < 2 ^ 32 }
-{
-    if plan.reaches(reader, key) {
-        u64::from(find_bound(bounds, reader, key).unwrap_or(0))
-    } else {
-        0
-    }
-}
-
-/// The bounds of the keys that can reach a reader, added up.
-fn sum_of_bounds(plan: &Plan, bounds: &[Bound], reader: ReaderNo) -> u64
-    ensures { result ≡ total (network_of plan.now).keys (reached_bound (network_of plan.now) bounds.now reader) }
-{
-    let mut sum: u64 = 0;
-    for k in 0..KEYS {
-        sum += reached_bound(plan, bounds, reader, KeyNo::new(k));
-    }
-    sum
 }
 
 /// The total of a reader, and the bounds of its keys with their sum.
@@ -285,9 +260,10 @@ pub(crate) fn samples_over_lines(
     let name = reader_name(plan.lists(), reader);
     let limit = limit_text(alloc, reader_limits(plan, reader).max_samples)?;
     let total = total_line(alloc, find_total(certificate.totals.as_slice(), reader))?;
-    let bounds = reached_bound_lines(alloc, plan, certificate.bounds.as_slice(), reader)?;
-    let sum = sum_of_bounds(plan, certificate.bounds.as_slice(), reader);
-    format!(in alloc; "because {name} has max_samples {limit}\n{total}{bounds}  sum {sum}\n")
+    let bounds = Bounds::new(&certificate.bounds);
+    let lines = reached_bound_lines(alloc, plan, &bounds, reader)?;
+    let sum = sum_of_bounds(plan, &bounds, reader);
+    format!(in alloc; "because {name} has max_samples {limit}\n{total}{lines}  sum {sum}\n")
 }
 
 /// A key in a line of its own, if a rule writes it at the writer and the reader doesn't hear it.
@@ -300,7 +276,7 @@ fn unheard_key(
 ) -> TextResult
     ensures { IfOk result (λ text. string_bytes text ≡ unheard_key plan.now writer reader key) }
 {
-    if !plan.is_written(writer, key) || plan.hears(reader, key) {
+    if is_heard(plan, writer, reader, key) {
         Ok(String::new(alloc))
     } else {
         key_line(alloc, writer_key(plan.lists(), writer, key))
@@ -309,7 +285,7 @@ fn unheard_key(
 
 /// The keys that rules write at a writer and a reader doesn't hear.
 fn unheard_keys(alloc: Global, plan: &Plan, writer: WriterNo, reader: ReaderNo) -> TextResult
-    ensures { IfOk result (λ text. string_bytes text ≡ each_below 64 (unheard_key plan.now writer reader)) }
+    ensures { IfOk result (λ text. string_bytes text ≡ each_below most_keys (unheard_key plan.now writer reader)) }
 {
     text_below(
         alloc,

@@ -7,11 +7,14 @@ ghost use Rattle.dds_explain.specs.Margin.{bound_line, bound_margin, bound_words
 ghost use Rattle.dds_explain.specs.Margin.{named_instance_limit, named_limit, openings, total_line, total_margin};
 ghost use Rattle.dds_explain.specs.Margin.{total_words};
 
-use crate::pieces::{find_row, instance_limit_name, reader_limits};
+use crate::pieces::{instance_limit_name, reader_limits};
 use crate::shown::shown_text;
-use crate::weights::{budget, sample_weight};
+use crate::weights::sample_weight;
 use dds_base::{NoMemory, ReaderNo};
+use dds_check::budget::budget;
 use dds_check::instance_limit;
+use dds_check::shown::find_row;
+use dds_check::tables::Tables;
 use dds_match::Plan;
 use dds_text::names::{reader_key, reader_name};
 use dds_text::texts::{TextResult, text_of_each};
@@ -65,7 +68,7 @@ struct Openings<'a> {
 }
 
 impl<'a> Model for Openings<'a> {
-    ghost use Rattle.std.specs.Prelude.{◌≡◌, map};
+    ghost use Rattle.std.specs.Prelude.{◌≡◌};
     ghost use Rattle.dds_lists.specs.Lists.{Lists};
     ghost use Rattle.dds_match.specs.Plan.{network_of};
     ghost use Rattle.dds_weights.specs.Lists.{Certificate};
@@ -91,7 +94,8 @@ fn weigh_openings(
 {
     let mut weights = Vec::new(alloc);
     for row in &certificate.rows {
-        weights.push(budget(plan, row))?;
+        let opening = budget(plan, &Tables::new(row));
+        weights.push(opening)?;
     }
     Ok(weights)
 }

@@ -1,11 +1,12 @@
 //! Pieces of a reason: names, limits, rows, and terms of sums.
-ghost use Rattle.std.specs.Prelude.{◌≡◌, ℕ, List, [], IfOk, option_map, slice_get, string_bytes};
+ghost use Rattle.std.specs.Prelude.{◌≡◌, ℕ, List, [], IfOk, slice_get, string_bytes};
 ghost use Rattle.std.specs.Option.{option_map_or};
 ghost use Rattle.dds_match.specs.Plan.{network_of};
 ghost use Rattle.dds_weights.specs.Views.{certificate_view, row_view};
 ghost use Rattle.dds_explain.specs.Pieces.{instance_limit_name, key_line, limit_text, weighed_term};
 
 use dds_base::{ReaderNo, WriterNo};
+use dds_check::shown::find_row;
 use dds_match::Plan;
 use dds_qos::{ReaderLimits, WriterLimits};
 use dds_text::texts::{TextResult, number_or};
@@ -59,13 +60,6 @@ pub(crate) fn instance_limit_name(limits: &ReaderLimits) -> &'static str
         Some(_) => "depth",
         None => "max_samples_per_instance",
     }
-}
-
-/// The row at this place of a certificate, if there is one.
-pub(crate) fn find_row(certificate: &Certificate, n: usize) -> Option<&Row>
-    ensures { option_map (λ row. row_view row.now) result ≡ slice_get (certificate_view certificate.now).rows n }
-{
-    certificate.rows.get(n)
 }
 
 /// What the row at this place of a certificate gives, nothing where there is no such row.

@@ -8,10 +8,9 @@ ghost use Rattle.dds_explain.specs.Rows.{rule_raises_lines, take_line, take_rais
 ghost use Rattle.dds_explain.specs.Rows.{write_lines, write_raises_lines, write_term};
 
 use crate::pieces::{text_of_row, weighed_term};
-use crate::weights::{
-    permit_weight, permits_weighed, sample_weight, spread, take_weight, takes_weighed,
-};
+use crate::weights::{permit_weight, sample_weight, spread, take_weight};
 use dds_base::{KeyNo, Portion, ReaderNo, RuleNo, WriterNo};
+use dds_check::tables::Tables;
 use dds_lists::Rule;
 use dds_match::Plan;
 use dds_text::names::{reader_key, reader_name, rule_text, writer_key, writer_name};
@@ -88,8 +87,9 @@ fn take_terms(alloc: Global, plan: &Plan, row: &Row, portions: &[Portion<ReaderN
 fn firing_line(alloc: Global, row: &Row, name: &str, rule: &Rule) -> TextResult
     ensures { IfOk result (λ text. string_bytes text ≡ firing_line (row_view row.now) name.now (rule_view rule.now)) }
 {
-    let given = permits_weighed(row, &rule.writes);
-    let needed = takes_weighed(row, &rule.takes);
+    let weights = Tables::new(row);
+    let given = weights.permits_weighed(&rule.writes);
+    let needed = weights.takes_weighed(&rule.takes);
     let row = row.name.as_str();
     format!(in alloc;
         "because by {row} what {name} writes weighs {given}, and what it takes {needed}\n"

@@ -1,20 +1,22 @@
 //! Why number 33 refuses a bound or a total: what the permits at the opening weigh by its row, and what a sample does.
-ghost use Rattle.std.specs.Prelude.{◌≡◌, ◌&&◌, ◌||◌, ◌*◌, suc, not, nat_lt, IfOk, string_bytes};
-ghost use Rattle.dds_match.specs.Network.{reach};
-ghost use Rattle.dds_match.specs.Plan.{network_of};
+ghost use Rattle.std.specs.Prelude.{◌≡◌, ◌&&◌, IfOk, string_bytes};
+ghost use Rattle.dds_base.specs.Grid.{most_keys};
 ghost use Rattle.dds_text.specs.Texts.{each_below};
 ghost use Rattle.dds_weights.specs.Views.{certificate_view, row_view};
-ghost use Rattle.dds_runs.specs.Accepted.{budget, row_of};
+ghost use Rattle.dds_runs.specs.Accepted.{budget};
 ghost use Rattle.dds_check.specs.Shown.{shows, shows_all};
 ghost use Rattle.dds_explain.specs.Shown.{bound_claim, bound_lines, bound_not_shown_lines, permit_line, permit_lines};
 ghost use Rattle.dds_explain.specs.Shown.{reached_sample_line, sample_line, shown_text, total_claim, total_lines};
 ghost use Rattle.dds_explain.specs.Shown.{total_not_shown_lines, unshown_bound, unshown_bound_by, unshown_line};
 ghost use Rattle.dds_explain.specs.Shown.{unshown_total, unshown_total_by, writer_permit_lines};
 
-use crate::pieces::{find_row, text_of_row, weighed_term};
-use crate::weights::{budget, opening_permits, permit_weight, sample_weight};
+use crate::pieces::{text_of_row, weighed_term};
+use crate::weights::{opening_permits, permit_weight, sample_weight};
 use dds_base::grid::KEYS;
 use dds_base::{KeyNo, ReaderNo, WriterNo};
+use dds_check::budget::budget;
+use dds_check::shown::{find_row, shows, shows_all};
+use dds_check::tables::Tables;
 use dds_match::Plan;
 use dds_text::names::{reader_key, reader_name, writer_key, writer_name};
 use dds_text::texts::{TextResult, text_below, text_of_each};
@@ -102,21 +104,6 @@ fn unshown_line(alloc: Global, row: &Row, claim: &str, opening: u128) -> TextRes
     )
 }
 
-/// Whether a row shows a bound, by what a sample and the permits at the opening weigh.
-fn is_enough(weight: u32, opening: u128, bound: u32) -> bool
-    ensures { result ≡ (nat_lt 0 weight && nat_lt opening (suc bound * weight)) }
-{
-    let weight = u128::from(weight);
-    0 < weight && opening < (u128::from(bound) + 1) * weight
-}
-
-fn shows(plan: &Plan, row: &Row, opening: u128, bound: u32, reader: ReaderNo, key: KeyNo) -> bool
-    requires { opening ≡ budget (network_of plan.now) (row_of (row_view row.now)) }
-    ensures { result ≡ shows (network_of plan.now) (row_of (row_view row.now)) bound reader key }
-{
-    is_enough(sample_weight(row, reader, key), opening, bound)
-}
-
 /// A bound in words.
 fn bound_claim(alloc: Global, plan: &Plan, bound: &Bound) -> TextResult
     ensures { IfOk result (λ text. string_bytes text ≡ bound_claim plan.now bound.now) }
@@ -142,8 +129,16 @@ fn bound_lines(alloc: Global, plan: &Plan, row: &Row, bound: &Bound, opening: u1
 fn unshown_bound_by(alloc: Global, plan: &Plan, row: &Row, bound: &Bound) -> TextResult
     ensures { IfOk result (λ text. string_bytes text ≡ unshown_bound_by plan.now (row_view row.now) bound.now) }
 {
-    let opening = budget(plan, row);
-    if shows(plan, row, opening, bound.bound, bound.reader, bound.key) {
+    let weights = Tables::new(row);
+    let opening = budget(plan, &weights);
+    if shows(
+        plan,
+        &weights,
+        opening,
+        bound.bound,
+        bound.reader,
+        bound.key,
+    ) {
         return Ok(String::new(alloc));
     }
     bound_lines(alloc, plan, row, bound, opening)
@@ -186,29 +181,6 @@ pub(crate) fn bound_not_shown_lines(
     })
 }
 
-/// Whether a key can't reach the reader of a total, or the row shows the total for it.
-fn shows_reached(plan: &Plan, row: &Row, opening: u128, total: &Total, key: KeyNo) -> bool
-    requires { opening ≡ budget (network_of plan.now) (row_of (row_view row.now)) }
-    ensures { result ≡ (not (reach (network_of plan.now) total.now.reader key)
-        || shows (network_of plan.now) (row_of (row_view row.now)) total.now.bound total.now.reader key) }
-{
-    !plan.reaches(total.reader, key) || shows(plan, row, opening, total.bound, total.reader, key)
-}
-
-/// Whether a row shows a total for each key that can reach its reader.
-#[tactic(auto, using(dds_check::proofs::FirstLemmas::all_below_start, dds_check::proofs::FirstLemmas::all_below_more))]
-fn shows_all(plan: &Plan, row: &Row, opening: u128, total: &Total) -> bool
-    requires { opening ≡ budget (network_of plan.now) (row_of (row_view row.now)) }
-    ensures { result ≡ shows_all (network_of plan.now) (row_of (row_view row.now)) total.now }
-{
-    let mut all = true;
-    for k in 0..KEYS {
-        let shown = shows_reached(plan, row, opening, total, KeyNo::new(k));
-        all = all && shown;
-    }
-    all
-}
-
 /// A total in words.
 fn total_claim(alloc: Global, plan: &Plan, total: &Total) -> TextResult
     ensures { IfOk result (λ text. string_bytes text ≡ total_claim plan.now total.now) }
@@ -246,7 +218,8 @@ fn reached_sample_lines(
     reader: ReaderNo,
 ) -> TextResult
     ensures { IfOk result
-        (λ text. string_bytes text ≡ each_below 64 (reached_sample_line plan.now (row_view row.now) opening reader)) }
+        (λ text. string_bytes text
+        ≡ each_below most_keys (reached_sample_line plan.now (row_view row.now) opening reader)) }
 {
     text_below(
         alloc,
@@ -274,8 +247,9 @@ fn total_lines(alloc: Global, plan: &Plan, row: &Row, total: &Total, opening: u1
 fn unshown_total_by(alloc: Global, plan: &Plan, row: &Row, total: &Total) -> TextResult
     ensures { IfOk result (λ text. string_bytes text ≡ unshown_total_by plan.now (row_view row.now) total.now) }
 {
-    let opening = budget(plan, row);
-    if shows_all(plan, row, opening, total) {
+    let weights = Tables::new(row);
+    let opening = budget(plan, &weights);
+    if shows_all(plan, &weights, opening, total) {
         return Ok(String::new(alloc));
     }
     total_lines(alloc, plan, row, total, opening)

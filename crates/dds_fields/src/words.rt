@@ -1,5 +1,5 @@
 //! Fields with words, and numbers that may be a word.
-ghost use Rattle.std.specs.Prelude.{◌≡◌, map, List, ℕ, Option, option_map};
+ghost use Rattle.std.specs.Prelude.{◌≡◌, map, List, ℕ, Option, option_map, false};
 ghost use Rattle.toml.specs.View.{view, table_view};
 ghost use Rattle.dds_fields.specs.Reading.{optional};
 ghost use Rattle.dds_fields.specs.Words.{worded, words_view, a_word, a_flag, a_duration, a_limit, a_long};
@@ -73,23 +73,22 @@ pub fn flag_of(alloc: Global, path: &Place, value: &Value) -> Result<bool, ReadF
     }
 }
 
-/// The truth value at a key, `absent` where the key is absent: WrongKind where the value is none.
+/// The truth value at a key, false where the key is absent: WrongKind where the value is none.
 #[tactic(auto, unfolding(crate::specs::Reading::optional))]
 pub fn optional_flag(
     alloc: Global,
-    absent: bool,
     path: &Place,
     table: &Table,
     key: &str,
 ) -> Result<bool, ReadFault>
-    ensures { Gives (λ x. x) result (optional key.now absent a_flag (place_text path.now) (table_view table.now)) }
+    ensures { Gives (λ x. x) result (optional key.now false a_flag (place_text path.now) (table_view table.now)) }
 {
     match value_at(table, key) {
         Some(value) => {
             let at = Place::Key { parent: path, key };
             flag_of(alloc, &at, value)
         }
-        None => Ok(absent),
+        None => Ok(false),
     }
 }
 

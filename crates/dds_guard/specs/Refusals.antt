@@ -1,6 +1,7 @@
 -- What a guard answers, and why it refuses.
 use Rattle.std.specs.Prelude.{◌≡◌, ℕ, ◌^◌, ◌-◌, ◌<◌, ◌≤◌, Bool, not, ◌&&◌, if◌then◌else◌, nat_lt, List, Option, Some, None, option_map, Result, Ok, Err, position}
 use Rattle.std.specs.List.{list_any}
+use Rattle.dds_base.specs.Grid.{most_keys}
 use Rattle.dds_lists.specs.Lists.{has}
 use Rattle.dds_match.specs.Network.{is_named, named}
 use Rattle.dds_rules.specs.Counts.{IsMoreBy, count_at, only_at}
@@ -22,7 +23,7 @@ use Rattle.dds_guard.specs.Guard.{GuardState, RuleState, rule_at, takes_key, wit
 -- why a take isn't counted, the first reason
 abbrev pub take_refusal : GuardState → ℕ → ℕ → Option TakeRefused
 take_refusal g r k =
-    if not (takes_key g r k && nat_lt k 64) then Some taking.Foreign else
+    if not (takes_key g r k && nat_lt k most_keys) then Some taking.Foreign else
     (if nat_lt (count_at g.ledger.spare r k) (2 ^ 64 - 1) then None else Some taking.CountLimit)
 
 -- ── firings

@@ -36,7 +36,7 @@ fn application_of(alloc: Global, lists: &Deployment, name: &[u8]) -> Result<Opti
     ensures there { IfOk result (λ app. IfSome app (λ a. a < length lists.now.applications.entries)) }
 {
     let names = Texts::of(alloc, lists.application_names())?;
-    // What is known of every deployment: each name has an entry.
+    // Each name has an entry.
     let _well_formed = lists.writers();
     match names.number(name) {
         Some(number) => Ok(Some(AppNo::new(number))),
@@ -50,8 +50,8 @@ fn guard_of(alloc: Global, plan: &Plan, app: AppNo) -> Result<Guard, NoMemory>
     ensures { IfOk result (IsOpened plan.now app) }
 {
     let lists = plan.lists();
-    // What is known of every deployment: rules name each pair once, and count it.
-    let _applications = lists.applications();
+    // Rules name each pair once, and count it.
+    lists.assert_well_formed();
     let ledger = Ledger::open(alloc, plan)?;
     let writers = Vec::from_slice(alloc, &lists.application(app).writers)?;
     let filters = filters_of(alloc, lists, app)?;

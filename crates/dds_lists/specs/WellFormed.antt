@@ -1,5 +1,7 @@
 -- What every deployment keeps: the limits of its lists, that its numbers name what is there, that nothing is named twice, and who owns what.
 use Rattle.std.specs.Prelude.{ℕ, true, ◌≡◌, ◌<◌, ◌≤◌, List, All, Contains, length, slice_get, slice_index_or, Some, None, unwrap_or, option_map, []}
+use Rattle.dds_base.specs.Limits.{most_participants, most_topics, most_applications, most_rules}
+use Rattle.dds_base.specs.Grid.{most_endpoints, most_keys}
 use Rattle.dds_base.specs.Names.{number_of}
 use Rattle.dds_base.specs.declared.portion.Portion.{Portion}
 use Rattle.dds_qos.specs.declared.policies.HistoryKind.TheVariants.{KeepLast}
@@ -66,13 +68,13 @@ abbrev pub IsConnectionOf : Lists → ℕ × ℕ → Type 0
 IsConnectionOf d c = (c.0 < length d.writers.entries) × (c.1 < length d.readers.entries)
 
 pub record IsWellFormed (d : Lists) : Type 0 where
-  pub participants : IsListOf 64 d.participants
-  pub topics : IsListOf 256 d.topics
-  pub writers : IsListOf 256 d.writers
-  pub readers : IsListOf 256 d.readers
-  pub applications : IsListOf 64 d.applications
-  pub rules : AreRules 256 d.rules
-  pub few_keys : All (λ (t : Topic). length t.keys ≤ 64) d.topics.entries
+  pub participants : IsListOf most_participants d.participants
+  pub topics : IsListOf most_topics d.topics
+  pub writers : IsListOf most_endpoints d.writers
+  pub readers : IsListOf most_endpoints d.readers
+  pub applications : IsListOf most_applications d.applications
+  pub rules : AreRules most_rules d.rules
+  pub few_keys : All (λ (t : Topic). length t.keys ≤ most_keys) d.topics.entries
   pub each_writer : All (IsWriterOf d) d.writers.entries
   pub each_reader : All (IsReaderOf d) d.readers.entries
   pub each_rule : All (IsRuleOf d) d.rules.entries

@@ -72,6 +72,17 @@ impl Deployment {
         }
     }
 
+    /// What holds of every deployment, by this contract alone: each number names what is there, nothing is named twice,
+    /// and all agrees. A caller whose proof rests on that says so by this call, which does nothing.
+    pub fn assert_well_formed(&self)
+        ensures well_formed { IsWellFormed self.now }
+        ensures names_once { NamesOnce self.now }
+        ensures consistent { IsConsistent self.now }
+        ensures owned { IsOwned self.now }
+    {
+        let _ = &self.version;
+    }
+
     /// The version of the file.
     pub fn version(&self) -> u32
         ensures { result ≡ self.now.version }

@@ -1,6 +1,7 @@
 -- What the tables of a plan hold.
 use Rattle.std.specs.Prelude.{◌≡◌, ℕ, ◌+◌, ◌*◌, ◌<◌, Bool, List, Option, None, length}
 use Rattle.std.specs.List.{slice_index_or}
+use Rattle.dds_base.specs.Grid.{most_endpoints}
 use Rattle.dds_lists.specs.Lists.{Lists}
 use Rattle.dds_match.specs.declared.matching.WhyNot.{WhyNot}
 use Rattle.dds_match.specs.declared.tables.Tables.{Tables}
@@ -12,12 +13,12 @@ use Rattle.dds_match.specs.Plan.{hears, is_free, network_of}
 
 -- the reason at a writer and a reader: each writer has a row of 256 places
 abbrev pub reason_at : List (Option WhyNot) → ℕ → ℕ → Option WhyNot
-reason_at reasons w r = slice_index_or reasons (w * 256 + r) None
+reason_at reasons w r = slice_index_or reasons (w * most_endpoints + r) None
 
 -- a row for each writer, with the reason of each reader below 256
 pub record ShowsReasons (d : Lists) (reasons : List (Option WhyNot)) : Type 0 where
-  pub rows : length reasons ≡ length d.writers.entries * 256
-  pub each : (w r : ℕ) → w < length d.writers.entries → r < 256 → reason_at reasons w r ≡ why_not d w r
+  pub rows : length reasons ≡ length d.writers.entries * most_endpoints
+  pub each : (w r : ℕ) → w < length d.writers.entries → r < most_endpoints → reason_at reasons w r ≡ why_not d w r
 
 -- the keys of each reader's filter
 pub record ShowsHearing (d : Lists) (marks : List Bool) : Type 0 where

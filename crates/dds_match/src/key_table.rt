@@ -1,5 +1,6 @@
 //! Marks at endpoints and keys, each read in one step.
 ghost use Rattle.std.specs.Prelude.{◌≡◌, ◌+◌, ◌*◌, ◌<◌, ◌≤◌, ◌==◌, ◌&&◌, Bool, false, List, length, replicate, IfOk};
+ghost use Rattle.dds_base.specs.Grid.{most_endpoints, most_keys};
 ghost use Rattle.dds_match.specs.Marks.{AddsMarks, is_marked};
 
 use dds_base::NoMemory;
@@ -16,19 +17,20 @@ pub(crate) struct KeyTable {
 
 impl Model for KeyTable {
     ghost use Rattle.std.specs.Prelude.{◌≡◌, ◌*◌, Bool, List, length};
+    ghost use Rattle.dds_base.specs.Grid.{most_keys};
 
     ghost Value = { List Bool };
 
     ghost view = { λ t. t.marks.items };
 
-    ghost invariant = { λ t. length t.marks.items ≡ t.endpoints * 64 };
+    ghost invariant = { λ t. length t.marks.items ≡ t.endpoints * most_keys };
 }
 
 impl KeyTable {
     /// A table without marks, for so many endpoints, at most 256.
     pub(crate) fn new(alloc: Global, endpoints: usize) -> Result<KeyTable, NoMemory>
-        requires { endpoints ≤ 256 }
-        ensures { IfOk result (λ t. t ≡ replicate (endpoints * 64) false) }
+        requires { endpoints ≤ most_endpoints }
+        ensures { IfOk result (λ t. t ≡ replicate (endpoints * most_keys) false) }
     {
         let marks = vec![in alloc; false; endpoints * KEYS]?;
         Ok(KeyTable { endpoints, marks })
@@ -43,8 +45,8 @@ impl KeyTable {
 
     /// Makes a mark.
     pub(crate) fn mark(&mut self, endpoint: usize, key: usize)
-        requires endpoint { endpoint * 64 < length self.old }
-        requires key { key < 64 }
+        requires endpoint { endpoint * most_keys < length self.old }
+        requires key { key < most_keys }
         ensures { AddsMarks self.old self.new (λ i k. (endpoint == i) && (key == k)) }
     {
         self.marks[endpoint * KEYS + key] = true;

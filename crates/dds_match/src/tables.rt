@@ -1,6 +1,7 @@
 //! The tables of a plan, filled once, so that each question is answered by one look.
 ghost use Rattle.std.specs.Prelude.{◌≡◌, ◌+◌, ◌*◌, ◌<◌, ◌==◌, ◌&&◌, All, length, IfOk};
 ghost use Rattle.std.specs.List.{list_any};
+ghost use Rattle.dds_base.specs.Grid.{most_keys};
 ghost use Rattle.dds_lists.specs.Views.{rule_view};
 ghost use Rattle.dds_lists.specs.WellFormed.{IsWellFormed};
 ghost use Rattle.dds_match.specs.Marks.{AddsMarks};
@@ -12,12 +13,10 @@ ghost use Rattle.dds_match.specs.Tables.{ShowsPlan, ShowsHearing, ShowsReasons};
 use crate::key_table::KeyTable;
 use crate::matching::{WhyNot, why_not_by_lists};
 use crate::neighbours::Neighbours;
+use dds_base::grid::ENDPOINTS;
 use dds_base::{KeyNo, NoMemory, Portion, ReaderNo, RuleNo, WriterNo};
 use dds_lists::{Deployment, Rule};
 use std::alloc::Global;
-
-/// The most readers that a deployment has: a row of the reasons has a place for each.
-pub(crate) const READERS: usize = 256;
 
 /// The answers of matching.
 #[derive(Drop)]
@@ -40,10 +39,10 @@ pub(crate) struct Tables {
 fn reasons_of(alloc: Global, lists: &Deployment) -> Result<Vec<Option<WhyNot>>, NoMemory>
     ensures { IfOk result (λ reasons. ShowsReasons lists.now reasons.items) }
 {
-    let places = lists.writers() * READERS;
+    let places = lists.writers() * ENDPOINTS;
     let mut reasons = Vec::with_capacity(alloc, places)?;
     for place in 0..places {
-        reasons.push(reason_of(lists, place / READERS, place % READERS))?;
+        reasons.push(reason_of(lists, place / ENDPOINTS, place % ENDPOINTS))?;
     }
     Ok(reasons)
 }
@@ -71,13 +70,13 @@ pub(crate) fn is_matched(
 {
     w.number() < lists.writers()
         && r.number() < lists.readers()
-        && reasons[w.number() * READERS + r.number()].is_none()
+        && reasons[w.number() * ENDPOINTS + r.number()].is_none()
 }
 
 /// Marks the keys of a filter at a reader.
 fn mark_filter(hearing: &mut KeyTable, r: ReaderNo, filter: &[KeyNo])
-    requires reader { r * 64 < length hearing.old }
-    requires keys { All (λ k. k < 64) filter.now }
+    requires reader { r * most_keys < length hearing.old }
+    requires keys { All (λ k. k < most_keys) filter.now }
     ensures { AddsMarks hearing.old hearing.new (λ i k. (r == i) && list_any (λ y. y == k) filter.now) }
 {
     for key in filter {
@@ -87,7 +86,7 @@ fn mark_filter(hearing: &mut KeyTable, r: ReaderNo, filter: &[KeyNo])
 
 /// Marks the keys of all filters.
 fn mark_filters(hearing: &mut KeyTable, lists: &Deployment)
-    requires { length hearing.old ≡ length lists.now.readers.entries * 64 }
+    requires { length hearing.old ≡ length lists.now.readers.entries * most_keys }
     ensures { AddsMarks hearing.old hearing.new (hears lists.now) }
 {
     for r in 0..lists.readers() {
@@ -101,7 +100,7 @@ fn mark_filters(hearing: &mut KeyTable, lists: &Deployment)
 
 /// Marks what a rule writes.
 fn mark_writes(written: &mut KeyTable, writes: &[Portion<WriterNo>])
-    requires { All (λ e. (e.endpoint * 64 < length written.old) × (e.key < 64)) writes.now }
+    requires { All (λ e. (e.endpoint * most_keys < length written.old) × (e.key < most_keys)) writes.now }
     ensures { AddsMarks written.old written.new (is_named writes.now) }
 {
     for portion in writes {
@@ -112,7 +111,7 @@ fn mark_writes(written: &mut KeyTable, writes: &[Portion<WriterNo>])
 /// Marks what all rules write.
 fn mark_written(written: &mut KeyTable, lists: &Deployment)
     requires well_formed { IsWellFormed lists.now }
-    requires size { length written.old ≡ length lists.now.writers.entries * 64 }
+    requires size { length written.old ≡ length lists.now.writers.entries * most_keys }
     ensures { AddsMarks written.old written.new (is_written (network_of lists.now)) }
 {
     for u in 0..lists.rules() {
@@ -122,7 +121,7 @@ fn mark_written(written: &mut KeyTable, lists: &Deployment)
 
 /// Marks what a rule frees: what it writes, where it is free.
 fn mark_freed(free: &mut KeyTable, rule: &Rule)
-    requires { All (λ e. (e.endpoint * 64 < length free.old) × (e.key < 64)) rule.now.writes.items }
+    requires { All (λ e. (e.endpoint * most_keys < length free.old) × (e.key < most_keys)) rule.now.writes.items }
     ensures { AddsMarks free.old free.new (frees (rule_view rule.now)) }
 {
     if rule.free {
@@ -133,7 +132,7 @@ fn mark_freed(free: &mut KeyTable, rule: &Rule)
 /// Marks what all free rules name.
 fn mark_free(free: &mut KeyTable, lists: &Deployment)
     requires well_formed { IsWellFormed lists.now }
-    requires size { length free.old ≡ length lists.now.writers.entries * 64 }
+    requires size { length free.old ≡ length lists.now.writers.entries * most_keys }
     ensures { AddsMarks free.old free.new (is_free lists.now) }
 {
     for u in 0..lists.rules() {
@@ -166,8 +165,8 @@ fn mark_readers(
     w: WriterNo,
     key: KeyNo,
 )
-    requires size { length reached.old ≡ length lists.now.readers.entries * 64 }
-    requires key { key < 64 }
+    requires size { length reached.old ≡ length lists.now.readers.entries * most_keys }
+    requires key { key < most_keys }
     requires reasons { ShowsReasons lists.now reasons.now }
     requires hearing { ShowsHearing lists.now hearing.now }
     ensures { AddsMarks reached.old reached.new (λ r k. hears lists.now r k && ((key == k) && matched lists.now w r)) }
@@ -187,8 +186,8 @@ fn mark_coming(
     hearing: &KeyTable,
     writes: &[Portion<WriterNo>],
 )
-    requires size { length reached.old ≡ length lists.now.readers.entries * 64 }
-    requires keys { All (λ e. e.key < 64) writes.now }
+    requires size { length reached.old ≡ length lists.now.readers.entries * most_keys }
+    requires keys { All (λ e. e.key < most_keys) writes.now }
     requires reasons { ShowsReasons lists.now reasons.now }
     requires hearing { ShowsHearing lists.now hearing.now }
     ensures { AddsMarks reached.old reached.new
@@ -214,7 +213,7 @@ fn mark_reached(
     hearing: &KeyTable,
 )
     requires well_formed { IsWellFormed lists.now }
-    requires size { length reached.old ≡ length lists.now.readers.entries * 64 }
+    requires size { length reached.old ≡ length lists.now.readers.entries * most_keys }
     requires reasons { ShowsReasons lists.now reasons.now }
     requires hearing { ShowsHearing lists.now hearing.now }
     ensures { AddsMarks reached.old reached.new (reach (network_of lists.now)) }

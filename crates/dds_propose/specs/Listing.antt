@@ -2,6 +2,7 @@
 use Rattle.std.specs.Prelude.{ℕ, List, [], ◌∷◌, ◌++◌, ◌==◌, codes, flat_map, if◌then◌else◌}
 use Rattle.std.specs.Fmt.{decimal}
 use Rattle.std.specs.List.{range_with_len}
+use Rattle.dds_base.specs.Grid.{most_keys}
 use Rattle.dds_match.specs.Network.{Network}
 use Rattle.dds_weights.specs.declared.certificate.Weight.{Weight}
 use Rattle.dds_weights.specs.Lists as lists
@@ -17,7 +18,7 @@ entries_of e weight keys = flat_map (λ k. entry e k (weight k)) (range_with_len
 
 -- the entries of the first so many endpoints
 abbrev pub entries : (ℕ → ℕ → ℕ) → ℕ → List (Weight ℕ)
-entries weight endpoints = flat_map (λ e. entries_of e (weight e) 64) (range_with_len 0 endpoints)
+entries weight endpoints = flat_map (λ e. entries_of e (weight e) most_keys) (range_with_len 0 endpoints)
 
 -- the row with this place in the certificate, from 0
 abbrev pub listed : Network → ℕ → Row → lists.Row

@@ -1,6 +1,7 @@
 -- The rounds that raise the weights of a row until no write, no firing of a rule and no take can raise its sum.
 use Rattle.std.specs.Prelude.{ℕ, zero, suc, ◌≡◌, ◌+◌, ◌-◌, ◌<◌, ◌==◌, ◌&&◌, nat_lt, max, List, [], ◌∷◌, if◌then◌else◌}
 use Rattle.std.specs.Int.{div_ceil}
+use Rattle.dds_base.specs.Grid.{most_endpoints}
 use Rattle.dds_base.specs.declared.portion.Portion.{Portion}
 use Rattle.dds_match.specs.Network.{Network, weighed}
 use Rattle.dds_runs.specs.Accepted.{Row, spread}
@@ -58,6 +59,6 @@ rounds net row (suc n) = round net (rounds net row n)
 -- fewer than 256 rounds lead to the row, and one more changes nothing
 pub record IsRest (net : Network) (target : Target) (row : Row) : Type 0 where
   pub count : ℕ
-  pub few : count < 256
+  pub few : count < most_endpoints
   pub reached : IsSame row (rounds net (opening net target) count)
   pub still : IsSame (round net row) row

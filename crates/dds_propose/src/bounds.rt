@@ -21,8 +21,8 @@ fn short_rule(plan: &Plan, u: RuleNo) -> &Rule
     ensures value { rule_view result.now ≡ (network_of plan.now).rule u }
     ensures short { length result.now.writes.items ≤ 16 }
 {
-    // What is known of every deployment: its rules are short.
-    let _lists = plan.lists();
+    // Its rules are short.
+    plan.assert_well_formed();
     plan.rule(u)
 }
 

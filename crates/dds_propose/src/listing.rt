@@ -1,5 +1,6 @@
 //! The lists of a certificate from tables.
 ghost use Rattle.std.specs.Prelude.{◌≡◌, ◌++◌, IfOk};
+ghost use Rattle.dds_base.specs.Grid.{most_keys};
 ghost use Rattle.dds_match.specs.Plan.{network_of};
 ghost use Rattle.dds_weights.specs.Views.{row_view};
 ghost use Rattle.dds_propose.specs.Listing.{entries, entries_of, listed};
@@ -19,7 +20,8 @@ fn add_weights<E: Endpoint>(
     endpoint: E,
 ) -> Result<(), NoMemory>
     ensures { IfOk result
-        (λ _. list.new.items ≡ list.old.items ++ entries_of endpoint (cell table.now (E.number_of endpoint)) 64) }
+        (λ _. list.new.items
+        ≡ list.old.items ++ entries_of endpoint (cell table.now (E.number_of endpoint)) most_keys) }
 {
     for k in 0..KEYS {
         let key = KeyNo::new(k);

@@ -14,13 +14,11 @@ use crate::listing::listed_row;
 use crate::rounds::row_weights;
 use crate::targets::{Target, targets};
 use dds_base::NoMemory;
+use dds_base::limits::ROWS;
 use dds_check::accepts::accepts;
 use dds_match::Plan;
 use dds_weights::{Bound, Certificate, Total};
 use std::alloc::Global;
-
-/// The most rows that a certificate has.
-const ROWS: usize = 64;
 
 /// Adds the bound of a target, which the row at this place shows.
 fn add_bound(

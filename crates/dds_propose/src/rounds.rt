@@ -61,8 +61,8 @@ fn follow_samples(
     ensures followed { IfOk result (Follows (network_of plan.now) weights.old weights.new) }
     ensures done { IfOk result (λ _. cell weights.new.risen reader key ≡ 0) }
 {
-    // What is known of every plan: its lists name nothing that isn't there.
-    let _lists = plan.lists();
+    // Its lists name nothing that isn't there.
+    plan.assert_well_formed();
     let rise = weights.risen.at(reader, key);
     if rise == 0 {
         return Ok(false);
@@ -156,8 +156,8 @@ fn counted_rule(plan: &Plan, u: RuleNo) -> &Rule
     ensures known { (e : Portion ℕ) (es : List (Portion ℕ)) → result.now.takes.items ≡ e ∷ es
         → is_place e.endpoint e.key ≡ true }
 {
-    // What is known of every deployment: its counts are 1 to 65,535, and its rules take what is there.
-    let _applications = plan.lists().applications();
+    // Its counts are 1 to 65,535, and its rules take what is there.
+    plan.lists().assert_well_formed();
     plan.rule(u)
 }
 
@@ -229,8 +229,8 @@ fn round(plan: &Plan, target: &Target, weights: &mut Weights) -> Result<bool, No
     requires { IsMade (network_of plan.now) target.now weights.old }
     ensures { IfOk result (IsRound (network_of plan.now) target.now weights.old weights.new) }
 {
-    // What is known of every plan: its lists name nothing that isn't there.
-    let _lists = plan.lists();
+    // Its lists name nothing that isn't there.
+    plan.assert_well_formed();
     let by_target = follow_target(plan, target, weights)?;
     let by_needs = follow_needs(plan, weights)?;
     let takes = raise_takes(plan, weights)?;
@@ -258,8 +258,8 @@ fn opening_weights(alloc: Global, plan: &Plan, target: &Target) -> Result<Weight
     ensures made { IfOk result (IsMade (network_of plan.now) target.now) }
     ensures opened { IfOk result (λ weights. IsSame (row_of weights) (opening (network_of plan.now) target.now)) }
 {
-    // What is known of every plan: its lists name nothing that isn't there.
-    let _lists = plan.lists();
+    // Its lists name nothing that isn't there.
+    plan.assert_well_formed();
     let mut weights = Weights::zero(alloc)?;
     for k in 0..KEYS {
         let key = KeyNo::new(k);

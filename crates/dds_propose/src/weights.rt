@@ -5,7 +5,7 @@ ghost use Rattle.dds_propose.specs.Following.{IsZero};
 ghost use Rattle.dds_propose.specs.Tables.{cell, is_place};
 
 use dds_base::grid::{ENDPOINTS, KEYS, PLACES};
-use dds_base::{Endpoint, KeyNo, NoMemory, Portion, ReaderNo, WriterNo};
+use dds_base::{Endpoint, KeyNo, NoMemory, Portion};
 use std::alloc::Global;
 use std::marker::Model;
 
@@ -17,12 +17,13 @@ pub(crate) struct Table {
 
 impl Model for Table {
     ghost use Rattle.std.specs.Prelude.{◌≡◌, ℕ, List, length};
+    ghost use Rattle.dds_base.specs.Grid.{most_places};
 
     ghost Value = { List ℕ };
 
     ghost view = { λ t. t.cells.items };
 
-    ghost invariant = { λ t. length t.cells.items ≡ 16384 };
+    ghost invariant = { λ t. length t.cells.items ≡ most_places };
 }
 
 impl Table {

@@ -5,7 +5,7 @@ use Rattle.dds_base.specs.declared.sample.Arrival.TheVariants.{New, Repeat, Irre
 use Rattle.dds_base.specs.declared.sample.Arrival.TheVariants.{Overwrote as Overwrites, Rejected as Refuses}
 use Rattle.dds_base.specs.Sums.{least}
 use Rattle.dds_base.specs.Counts.{count_between}
-use Rattle.dds_base.specs.Sets.{NumberSet, last_number, set_of}
+use Rattle.dds_base.specs.Sets.{NumberSet, last_number, set_of, set_width}
 use Rattle.dds_base.specs.Messages.{GapFor, HeartbeatFor, covers}
 use Rattle.dds_qos.specs.declared.admission.Admit.{Admit}
 use Rattle.dds_qos.specs.declared.admission.Admit.TheVariants.{Stored, Overwrote, Rejected}
@@ -57,7 +57,7 @@ abbrev pub new_by_gap : (ℕ → Bool) → GapFor → ℕ → Bool
 new_by_gap marks g n = covers g n && not (marks n)
 
 abbrev pub gap_count : (ℕ → Bool) → GapFor → ℕ
-gap_count marks g = count_between (new_by_gap marks g) g.start (g.set.base + 256)
+gap_count marks g = count_between (new_by_gap marks g) g.start (g.set.base + set_width)
 
 -- at a watcher it marks nothing
 abbrev pub gap_arrival : (matched watcher : Bool) → (ℕ → Bool) → GapFor → Arrival

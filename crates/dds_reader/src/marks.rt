@@ -5,7 +5,7 @@ ghost use Rattle.std.proofs.Common.{◌⊎◌};
 ghost use Rattle.std.specs.List.{list_any};
 ghost use Rattle.dds_base.specs.Counts.{count_between};
 ghost use Rattle.dds_base.specs.Messages.{covers};
-ghost use Rattle.dds_base.specs.Sets.{last_number, set_of};
+ghost use Rattle.dds_base.specs.Sets.{last_number, set_of, set_width};
 ghost use Rattle.dds_qos.specs.Admission.{admission, is_rejected, stored_after, keys_after};
 ghost use Rattle.dds_qos.specs.Reading.{base_of, gap_count};
 ghost use Rattle.dds_qos.specs.Samples.{IsFresh};
@@ -152,8 +152,8 @@ fn wants(marks: &Marks, writer: WriterNo, n: u64, heard: u64) -> bool
 
 // How many of the 256 numbers from the base on are heard of.
 fn heard_of(base: u64, heard: u64) -> usize
-    ensures few { result ≤ 256 }
-    ensures rest { (k : ℕ) → result ≤ k → k < 256 → heard < base + k }
+    ensures few { result ≤ set_width }
+    ensures rest { (k : ℕ) → result ≤ k → k < set_width → heard < base + k }
 {
     if heard < base {
         return 0;

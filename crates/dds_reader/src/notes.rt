@@ -87,7 +87,7 @@ pub(crate) fn hear(proxies: &mut Vec<WriterProxy>, rising: bool, writer: WriterN
 {
     if !rising {
         hear_each(proxies, writer, last);
-    } else if let Some(at) = place_of(proxies, true, writer.number()) {
+    } else if let Some(at) = place_of(proxies, rising, writer.number()) {
         proxies[at] = hear_one(proxies[at], writer, last);
     }
 }
@@ -122,7 +122,7 @@ pub(crate) fn pay(proxies: &mut Vec<WriterProxy>, rising: bool, writer: WriterNo
 {
     if !rising {
         pay_each(proxies, writer);
-    } else if let Some(at) = place_of(proxies, true, writer.number()) {
+    } else if let Some(at) = place_of(proxies, rising, writer.number()) {
         proxies[at] = pay_one(proxies[at], writer);
     }
 }

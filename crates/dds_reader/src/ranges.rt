@@ -8,7 +8,7 @@ ghost use Rattle.std.proofs.Common.{◌⊎◌};
 ghost use Rattle.std.proofs.Props.{props};
 ghost use Rattle.dds_base.specs.Counts.{count_between};
 ghost use Rattle.dds_base.specs.Messages.{covers};
-ghost use Rattle.dds_base.specs.Sets.{has as has_number, last_number};
+ghost use Rattle.dds_base.specs.Sets.{has as has_number, last_number, set_width};
 ghost use Rattle.dds_qos.specs.Admission.{admission, is_rejected, stored_after, keys_after};
 ghost use Rattle.dds_qos.specs.Reading.{gap_count};
 ghost use Rattle.dds_qos.specs.Samples.{IsFresh};
@@ -242,8 +242,8 @@ impl Ranges {
         ensures count { IfOk result
             (λ k. k ≡ count_between
             (λ m. has_number set.now m
-            && not (has self.old.base self.old.above m)) set.now.base (set.now.base + 256)) }
-        ensures small { IfOk result (λ k. k ≤ 256) }
+            && not (has self.old.base self.old.above m)) set.now.base (set.now.base + set_width)) }
+        ensures small { IfOk result (λ k. k ≤ set_width) }
         ensures numbers { OnOk result (OnlyNumbers (has_number set.now)) }
     {
         let base = set.base();

@@ -1,5 +1,6 @@
 -- Counts by endpoint and key.
 use Rattle.std.specs.Prelude.{◌≡◌, ℕ, ◌+◌, ◌*◌, ◌&&◌, ◌==◌, if◌then◌else◌, nat_lt, List, replicate, slice_index}
+use Rattle.dds_base.specs.Grid.{most_keys}
 
 -- a row of 64 places for each endpoint
 pub record CountTable : Type 0 where
@@ -8,11 +9,11 @@ pub record CountTable : Type 0 where
 
 -- the count of an endpoint and a key, 0 where the table has no such place
 abbrev pub count_at : CountTable → ℕ → ℕ → ℕ
-count_at t i k = if nat_lt k 64 then slice_index t.places (i * 64 + k) else 0
+count_at t i k = if nat_lt k most_keys then slice_index t.places (i * most_keys + k) else 0
 
 -- a table in which each count is 0
 abbrev pub no_counts : ℕ → CountTable
-no_counts n = record { endpoints = n; places = replicate (n * 64) 0 }
+no_counts n = record { endpoints = n; places = replicate (n * most_keys) 0 }
 
 -- so many at one endpoint and key, none elsewhere
 abbrev pub only_at : ℕ → ℕ → ℕ → ℕ → ℕ → ℕ

@@ -1,5 +1,6 @@
 -- What a rule takes and what it writes, and what that asks of counts.
 use Rattle.std.specs.Prelude.{◌≡◌, ℕ, ◌+◌, ◌^◌, ◌<◌, Bool, ◌||◌, nat_lt, nat_le, List, All}
+use Rattle.dds_base.specs.Grid.{most_keys}
 use Rattle.dds_base.specs.declared.portion.Portion.{Portion}
 use Rattle.dds_lists.specs.Lists.{Rule}
 use Rattle.dds_match.specs.Network.{named}
@@ -23,7 +24,7 @@ lacks_room permits gives = any_entry (λ e. nat_le (2 ^ 64) (permits e.endpoint 
 
 -- the portion's endpoint and key have a place in a table of so many endpoints
 abbrev pub HasPlace : ℕ → Portion ℕ → Type 0
-HasPlace endpoints e = (e.endpoint < endpoints) × (e.key < 64)
+HasPlace endpoints e = (e.endpoint < endpoints) × (e.key < most_keys)
 
 -- no other element of the list names the endpoint and key of the portion
 abbrev pub IsAlone : List (Portion ℕ) → Portion ℕ → Type 0

@@ -99,8 +99,8 @@ fn readers_section(alloc: Global, lists: &Deployment) -> TextResult
             requires { i < length lists.now.readers.entries }
             ensures { IfOk result (λ text. line_start i ++ string_bytes text ≡ reader_item lists.entry.now i) }
         {
-            // What is known of every deployment: the topic is there.
-            let _readers = lists.readers();
+            // The topic is there.
+            lists.assert_well_formed();
             let name = name_at(lists.reader_names(), i);
             reader_entry(alloc, lists, name, lists.reader(ReaderNo::new(i)))
         },

@@ -12,8 +12,8 @@ pub fn keys_of_reader(lists: &Deployment, reader: ReaderNo) -> &Names
     requires { reader < length lists.now.readers.entries }
     ensures { result.now ≡ reader_keys lists.now reader }
 {
-    // What is known of every deployment: the topic is there.
-    let _readers = lists.readers();
+    // The topic is there.
+    lists.assert_well_formed();
     lists.keys(lists.reader(reader).topic)
 }
 
@@ -22,8 +22,8 @@ pub fn keys_of_writer(lists: &Deployment, writer: WriterNo) -> &Names
     requires { writer < length lists.now.writers.entries }
     ensures { result.now ≡ writer_keys lists.now writer }
 {
-    // What is known of every deployment: the topic is there.
-    let _writers = lists.writers();
+    // The topic is there.
+    lists.assert_well_formed();
     lists.keys(lists.writer(writer).topic)
 }
 

@@ -2,6 +2,7 @@
 use Rattle.std.specs.Prelude.{ℕ, ◌==◌, if◌then◌else◌, codes, count_by, List, [], ◌∷◌, ◌++◌, flat_map, length, Option, Some, None}
 use Rattle.std.specs.Fmt.{decimal}
 use Rattle.std.specs.List.{filter_map, range_with_len, zip}
+use Rattle.dds_base.specs.Grid.{most_keys}
 use Rattle.dds_base.specs.declared.events.Event.{Event}
 use Rattle.dds_base.specs.declared.events.Event.TheVariants as event
 use Rattle.dds_base.specs.declared.events.Reply.{Reply}
@@ -71,7 +72,7 @@ key_parts d what e keys k = part_of d what e k (count_by (λ j. j == k) keys)
 
 -- the same of each key
 unfoldable pub endpoint_parts : Lists → Act → List ℕ → ℕ → List (List ℕ)
-endpoint_parts d what keys e = flat_map (key_parts d what e keys) (range_with_len 0 64)
+endpoint_parts d what keys e = flat_map (key_parts d what e keys) (range_with_len 0 most_keys)
 
 -- the same of each endpoint of a run
 abbrev pub run_parts : Lists → Act → List Event → List Reply → ℕ → List (List ℕ)

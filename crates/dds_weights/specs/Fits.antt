@@ -3,6 +3,7 @@
 use Rattle.std.specs.Prelude.{ℕ, Bool, true, ◌&&◌, ◌==◌, not, nat_lt, nat_le, List, [], ◌∷◌, length, map}
 use Rattle.std.specs.List.{list_any, list_all}
 use Rattle.std.specs.Str.{bytes_eq}
+use Rattle.dds_base.specs.Limits.{most_rows}
 use Rattle.dds_match.specs.Network.{Network}
 use Rattle.dds_weights.specs.declared.certificate.Weight.{Weight}
 use Rattle.dds_weights.specs.declared.certificate.Bound.{Bound}
@@ -32,7 +33,7 @@ abbrev pub names_differ : List Row → Bool
 names_differ rows = is_distinct (λ x y. bytes_eq y x) (map (λ r. r.name) rows)
 
 abbrev pub rows_fit : Network → List Row → Bool
-rows_fit net rows = nat_le (length rows) 64 && (names_differ rows && list_all (row_fits net) rows)
+rows_fit net rows = nat_le (length rows) most_rows && (names_differ rows && list_all (row_fits net) rows)
 
 abbrev pub same_bound_place : Bound → Bound → Bool
 same_bound_place x y = (y.reader == x.reader) && (y.key == x.key)

@@ -1,15 +1,16 @@
 //! Whether a certificate fits a plan, found without memory.
-ghost use Rattle.std.specs.Prelude.{◌≡◌, ◌==◌, ◌&&◌, All, nat_lt, length, map, string_bytes};
+ghost use Rattle.std.specs.Prelude.{◌≡◌, ◌==◌, ◌&&◌, nat_lt, map, string_bytes};
 ghost use Rattle.std.specs.List.{list_any, list_all};
 ghost use Rattle.std.specs.Str.{bytes_eq};
 ghost use Rattle.dds_lists.specs.WellFormed.{IsWellFormed};
 ghost use Rattle.dds_match.specs.Plan.{network_of};
-ghost use Rattle.dds_weights.specs.Fits.{is_distinct, weights_fit, row_fits, names_differ, rows_fit, same_bound_place};
+ghost use Rattle.dds_weights.specs.Fits.{is_distinct, weights_fit, row_fits, names_differ, rows_fit};
 ghost use Rattle.dds_weights.specs.Fits.{bounds_fit, totals_fit, fits};
 ghost use Rattle.dds_weights.specs.Views.{row_view, certificate_view};
 
 use crate::certificate::{Bound, Certificate, Row, Total, Weight};
 use crate::named::{bounds_name_nothing_twice, has_total, weights_name_nothing_twice};
+use dds_base::limits::ROWS;
 use dds_base::{ReaderNo, WriterNo};
 use dds_match::Plan;
 
@@ -98,7 +99,7 @@ fn rows_fit(plan: &Plan, rows: &[Row]) -> bool
     requires { IsWellFormed plan.now }
     ensures { result ≡ rows_fit (network_of plan.now) (map row_view rows.now) }
 {
-    rows.len() <= 64 && named_rows_fit(plan, rows)
+    rows.len() <= ROWS && named_rows_fit(plan, rows)
 }
 
 fn bound_fits(plan: &Plan, rows: usize, bound: &Bound) -> bool

@@ -1,6 +1,7 @@
 //! The text of a certificate, as a certificate file has it.
-ghost use Rattle.std.specs.Prelude.{◌≡◌, ◌<◌, ◌≤◌, ◌+◌, ◌*◌, ◌++◌, IfOk, codes, flat_map, length, slice_index};
+ghost use Rattle.std.specs.Prelude.{◌≡◌, ◌<◌, ◌≤◌, ◌+◌, ◌*◌, ◌++◌, IfOk, flat_map, length, slice_index};
 ghost use Rattle.std.specs.Prelude.{string_bytes};
+ghost use Rattle.dds_base.specs.Grid.{most_endpoints, most_keys};
 ghost use Rattle.dds_weights.specs.Text.{weight_line, endpoint_lines, reader_lines, writer_lines, list_text, row_text};
 ghost use Rattle.dds_weights.specs.Text.{bound_text, total_text, certificate_text};
 ghost use Rattle.dds_weights.specs.Views.{row_view, certificate_view};
@@ -46,12 +47,12 @@ fn push_endpoint(
     number: usize,
     cells: &[u32; PLACES],
 ) -> Result<(), NoMemory>
-    requires few_endpoints { number < 256 }
-    requires few_keys { length keys.now ≤ 64 }
+    requires few_endpoints { number < most_endpoints }
+    requires few_keys { length keys.now ≤ most_keys }
     ensures { IfOk result
         (λ _. string_bytes text.new
         ≡ string_bytes text.old
-        ++ endpoint_lines side.now endpoint.now keys.now (λ k. slice_index cells.now (number * 64 + k))) }
+        ++ endpoint_lines side.now endpoint.now keys.now (λ k. slice_index cells.now (number * most_keys + k))) }
 {
     for k in 0..keys.len() {
         let weight = cells[number * KEYS + k];

@@ -107,8 +107,8 @@ fn subscriber_at(alloc: Global, lists: &Deployment, p: ParticipantNo, r: usize) 
     requires { r < length lists.now.readers.entries }
     ensures { IfOk result (λ text. string_bytes text ≡ subscriber_at lists.now p r) }
 {
-    // What is known of every deployment: the topic is there.
-    let _readers = lists.readers();
+    // The topic is there.
+    lists.assert_well_formed();
     let x = lists.reader(ReaderNo::new(r));
     if x.participant.number() != p.number() {
         return Ok(String::new(alloc));

@@ -22,4 +22,4 @@ mod writing;
 
 pub use layout::{Layout, ReaderLayout, RuleLayout, WriterLayout};
 pub use stepping::{step, step_as};
-pub use world::{PLACES, World, empty_bus};
+pub use world::{BUS_PLACES, World, empty_bus};

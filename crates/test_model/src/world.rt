@@ -8,7 +8,7 @@ use dds_base::{Data, KeyNo, NoMemory, Packet, ReaderNo, Sample, WriterNo};
 use std::alloc::Global;
 
 /// How many packets the bus holds at most.
-pub const PLACES: usize = 4096;
+pub const BUS_PLACES: usize = 4096;
 
 /// The greatest number that a sample may have.
 pub(crate) const LAST_NUMBER: u64 = (1 << 63) - 1;
@@ -133,7 +133,7 @@ fn new_readers(alloc: Global, layout: &Layout) -> Result<Vec<ReaderPast>, NoMemo
 /// A bus without a packet.
 pub fn empty_bus(alloc: Global) -> Result<Vec<Option<Packet>>, NoMemory> {
     let mut bus = Vec::new(alloc);
-    for _ in 0..PLACES {
+    for _ in 0..BUS_PLACES {
         bus.push(None)?;
     }
     Ok(bus)

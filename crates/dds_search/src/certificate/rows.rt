@@ -9,10 +9,8 @@ use crate::limits::Limited;
 use crate::lists::push;
 use crate::net::Net;
 use dds_base::NoMemory;
+use dds_base::limits::ROWS;
 use std::alloc::Global;
-
-/// The most rows that a certificate has.
-pub(crate) const ROWS: usize = 64;
 
 /// A limit, and a row with the bound that it shows for it.
 #[derive(Drop)]

@@ -1,11 +1,12 @@
 //! Sums of rows, where a certificate has no room for all that are needed. What two rows show of their places their sum
 //! shows too, with a greater bound; it serves what they serve as long as its bounds stay within the limits.
 
-use crate::certificate::rows::{Entry, ROWS};
+use crate::certificate::rows::Entry;
 use crate::certificate::weights::WeighedRow;
 use crate::lists::push;
 use crate::net::Net;
 use dds_base::NoMemory;
+use dds_base::limits::ROWS;
 use std::alloc::Global;
 
 /// A sum of rows.

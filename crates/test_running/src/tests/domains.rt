@@ -9,7 +9,7 @@ use dds_match::Plan;
 use std::alloc::Global;
 use std::process::Abort;
 use test_files::plans::proposed;
-use test_model::PLACES;
+use test_model::BUS_PLACES;
 use test_model::worked::{Move, RUNS, Run, Stage, Told, event_of, told_of, told_of_packet};
 
 /// The domain of a plan with the certificate that is proposed for it, before the first event.
@@ -204,7 +204,7 @@ fn a_list_of_events(rt: HostRuntime) {
 
 /// Sends a HEARTBEAT to each place of the bus.
 fn fill(rt: &impl Abort, domain: &mut Domain) {
-    for place in 0..PLACES {
+    for place in 0..BUS_PLACES {
         expect_move(
             rt,
             domain,

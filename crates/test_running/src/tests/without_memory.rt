@@ -11,7 +11,7 @@ use std::alloc::Global;
 use std::process::Abort;
 use std::test::Fail;
 use test_files::plans::{planned, proposed};
-use test_model::PLACES;
+use test_model::BUS_PLACES;
 use test_model::worked::{Move, RUNS, Run, Stage, Told, event_of, told_of};
 
 /// No worked run has more writers, readers or keys.
@@ -50,7 +50,7 @@ struct Twins {
 
 impl Twins {
     fn expect_same_bus(&self, rt: &impl Abort, about: &Event) {
-        for place in 0..PLACES {
+        for place in 0..BUS_PLACES {
             let same = self.first.at(place).copied() == self.second.at(place).copied();
             expect_equal(
                 rt,

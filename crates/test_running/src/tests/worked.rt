@@ -7,7 +7,7 @@ use dds_match::Plan;
 use std::alloc::Global;
 use std::process::Abort;
 use test_files::texts::{LOOP, SMALL};
-use test_model::PLACES;
+use test_model::BUS_PLACES;
 use test_model::worked::{
     KEEP_LAST_RUNS, Move, RUNS, Run, Stage, Told, event_of, told_of, told_of_packet,
 };
@@ -174,7 +174,7 @@ fn worked_runs_of_keep_last(rt: HostRuntime) {
 
 /// Sends a HEARTBEAT to each place of the bus.
 fn fill(rt: &impl Abort, both: &mut Both, plan: &Plan) {
-    for place in 0..PLACES {
+    for place in 0..BUS_PLACES {
         expect_move(
             rt,
             both,
@@ -192,7 +192,7 @@ pub(crate) const ON_A_FULL_BUS: [(Move, Told); 4] = [
     (Move::Lose(7), Told::Dropped),
     (Move::SendHeartbeat(0, 0), Told::Sent(7)),
     (
-        Move::Deliver(PLACES, false),
+        Move::Deliver(BUS_PLACES, false),
         Told::Refused(Refusal::NoPacket),
     ),
 ];

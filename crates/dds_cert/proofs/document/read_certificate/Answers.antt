@@ -18,7 +18,7 @@ cert_fault-requires c = fails_common c.in-Err.fault (read c.lists-lists.result.n
 pub returns-in-Ok-clause-fits : goal.returns-in-Ok-clause-fits
 returns-in-Ok-clause-fits c =
     subst (λ p. fits (network_of p) (certificate_view c.in-Ok.certificate) ≡ true) c.lists-lists.ensures.value
-    (read_fits c.lists-lists.result.now c.args.bytes.now (certificate_view c.in-Ok.certificate) (subst IsWellFormed (sym c.lists-lists.ensures.value) c.lists-lists.ensures.well_formed) c.applications-applications.ensures.names_once c.in-Ok.ensures)
+    (read_fits c.lists-lists.result.now c.args.bytes.now (certificate_view c.in-Ok.certificate) (subst IsWellFormed (sym c.lists-lists.ensures.value) c.lists-lists.ensures.well_formed) c.assert_well_formed.ensures.names_once c.in-Ok.ensures)
 
 pub returns-in-Err-clause-answers : goal.returns-in-Err-clause-answers
 returns-in-Err-clause-answers c =

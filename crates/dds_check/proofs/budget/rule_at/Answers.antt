@@ -5,4 +5,4 @@ use Rattle.dds_check.proofs.budget.rule_at.Goals as goal
 
 pub returns-clause-short : goal.returns-clause-short
 returns-clause-short c =
-    subst (λ (x : Rule). length x.writes ≤ 16) (sym c.rule.ensures) (writes_few c.args.plan.now c.args.u c.lists-lists.ensures.well_formed)
+    subst (λ (x : Rule). length x.writes ≤ 16) (sym c.rule.ensures) (writes_few c.args.plan.now c.args.u c.assert_well_formed.ensures.well_formed)

@@ -1,14 +1,7 @@
-use Rattle.std.proofs.Common.{Some, map, option_map, ap, sym, ◌∙◌}
+use Rattle.std.proofs.Common.{Some, option_map, ap, sym, ◌∙◌}
 use Rattle.std.proofs.lemmas.Option.{slice_get-map}
 use Rattle.dds_weights.specs.Views.{row_view}
-use Rattle.dds_check.specs.Tables.{IsRowWithin}
-use Rattle.dds_check.proofs.Mapped.{All_at}
 use Rattle.dds_check.proofs.tables.tables_of.Goals as goal
-
-pub new-requires : goal.new-requires
-new-requires c =
-    let rows = c.args.certificate.now.rows.items in
-    All_at IsRowWithin (map row_view rows) c.args.n _ c.requires.tabled.rows (slice_get-map row_view rows c.args.n ∙ ap (option_map row_view) c.row_at.ensures)
 
 pub returns : goal.returns
 returns c =

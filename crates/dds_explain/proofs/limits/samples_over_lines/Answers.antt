@@ -19,9 +19,10 @@ returns c =
     c.in_ok-limit.ensures ∙ ap (λ (x : ReaderLimits). limit_text x.max_samples) c.reader_limits.ensures in
     let total : string_bytes c.in_ok-total.total ≡ total_line (total_of c.args.certificate.now.totals.items c.args.reader) =
     c.in_ok-total.ensures ∙ (ap total_line c.find_total.ensures ∙ ap (λ (ts : List Total). total_line (total_of ts c.args.reader)) c.as_slice.ensures.value) in
-    let bounds : string_bytes c.in_ok-bounds.bounds ≡ each_below 64 (reached_bound_line c.args.plan.now c.args.certificate.now.bounds.items c.args.reader) =
-    c.in_ok-bounds.ensures ∙ ap (λ (bs : List Bound). each_below 64 (reached_bound_line c.args.plan.now bs c.args.reader)) c.as_slice-2.ensures.value in
+    let entries : c.new-bounds.result ≡ c.args.certificate.now.bounds.items = c.new-bounds.ensures ∙ c.deref.ensures.value in
+    let lines : string_bytes c.in_ok-lines.lines ≡ each_below 64 (reached_bound_line c.args.plan.now c.args.certificate.now.bounds.items c.args.reader) =
+    c.in_ok-lines.ensures ∙ ap (λ (bs : List Bound). each_below 64 (reached_bound_line c.args.plan.now bs c.args.reader)) entries in
     let sum : c.sum_of_bounds-sum.result ≡ sums.total 64 (reached_bound (network_of c.args.plan.now) c.args.certificate.now.bounds.items c.args.reader) =
-    c.sum_of_bounds-sum.ensures ∙ ap (λ (bs : List Bound). sums.total 64 (reached_bound (network_of c.args.plan.now) bs c.args.reader)) c.as_slice-3.ensures.value in
+    c.sum_of_bounds-sum.ensures ∙ ap (λ (bs : List Bound). sums.total 64 (reached_bound (network_of c.args.plan.now) bs c.args.reader)) entries in
     let name : c.reader_name-name.result.now ≡ reader_name c.args.plan.now c.args.reader = c.reader_name-name.ensures ∙ ap (λ (d : Lists). reader_name d c.args.reader) c.lists.ensures.value in
-    rw (name, limit, total, bounds, sum) at c.format.ensures.ok
+    rw (name, limit, total, lines, sum) at c.format.ensures.ok

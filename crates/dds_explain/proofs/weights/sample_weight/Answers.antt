@@ -3,4 +3,4 @@ use Rattle.dds_check.proofs.Outside.{weight_as}
 use Rattle.dds_explain.proofs.weights.sample_weight.Goals as goal
 
 pub returns : goal.returns
-returns c = c.weight_of.ensures ∙ weight_as _ _ _ _ c.deref.ensures.value
+returns c = c.find_weight.ensures ∙ weight_as _ _ _ _ c.deref.ensures.value

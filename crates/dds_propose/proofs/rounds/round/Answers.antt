@@ -19,5 +19,5 @@ returns c =
     let w3 = c.raise_takes.new.weights in
     let w4 = c.raise_samples-samples.new.weights in
     let none = all_followed net c.args.target.now w0 w1 w2 _ _ c.requires c.in_ok-by_target.ensures.followed c.in_ok-by_target.ensures.done c.in_ok-by_needs.ensures.followed c.in_ok-by_needs.ensures.done in
-    one_round net c.lists-lists.ensures.network c.args.target.now w0 w1 w2 w3 w4 c.in_ok-by_target.by_target c.in_ok-by_needs.by_needs c.in_ok-takes.takes c.raise_samples-samples.result _ refl
+    one_round net c.assert_well_formed.ensures.network c.args.target.now w0 w1 w2 w3 w4 c.in_ok-by_target.by_target c.in_ok-by_needs.by_needs c.in_ok-takes.takes c.raise_samples-samples.result _ refl
     c.requires c.in_ok-by_target.ensures.followed c.in_ok-by_needs.ensures.followed none c.in_ok-takes.ensures c.raise_samples-samples.ensures.raised c.raise_samples-samples.ensures.done

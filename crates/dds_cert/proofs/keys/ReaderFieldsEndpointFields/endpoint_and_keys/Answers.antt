@@ -7,4 +7,4 @@ use Rattle.dds_cert.proofs.keys.ReaderFieldsEndpointFields.endpoint_and_keys.Goa
 
 pub returns-clause-distinct : goal.returns-clause-distinct
 unfolding reader_and_keys
-returns-clause-distinct c = (reader_and_keys_are c.args.self.now.version c.args.self.now.lists.now (place_text c.args.path.now) (table_view c.args.table.now) (c.in_ok-reader.reader, c.in_ok-keys.keys.items) c.applications-applications.ensures.names_once (rw (c.in_ok-reader.ensures.gives, c.in_ok-keys.ensures) refl)).differ
+returns-clause-distinct c = (reader_and_keys_are c.args.self.now.version c.args.self.now.lists.now (place_text c.args.path.now) (table_view c.args.table.now) (c.in_ok-reader.reader, c.in_ok-keys.keys.items) c.assert_well_formed.ensures.names_once (rw (c.in_ok-reader.ensures.gives, c.in_ok-keys.ensures) refl)).differ

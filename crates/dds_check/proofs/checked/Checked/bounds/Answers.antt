@@ -1,14 +1,9 @@
-use Rattle.std.proofs.Common.{All, sym, ap, ◌∙◌, subst}
+use Rattle.std.proofs.Common.{ap, ◌∙◌}
 use Rattle.dds_match.specs.Plan.{network_of}
 use Rattle.dds_weights.specs.Views.{certificate_view}
-use Rattle.dds_check.specs.Tables.{bound_of, IsBoundWithin}
-use Rattle.dds_check.proofs.Fitting.{tabled_of}
+use Rattle.dds_check.specs.Tables.{bound_of}
 use Rattle.dds_check.proofs.Least.{least_bound}
 use Rattle.dds_check.proofs.checked.Checked.bounds.Goals as goal
-
-pub new-requires : goal.new-requires
-new-requires c =
-    subst (All IsBoundWithin) (sym c.deref.ensures.value) (tabled_of _ (certificate_view c.self.inside.certificate) c.lists-lists.ensures.well_formed c.self.invariant.fits).bounds
 
 pub returns-clause-least : goal.returns-clause-least
 returns-clause-least c r k =

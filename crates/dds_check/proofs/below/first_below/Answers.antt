@@ -1,6 +1,6 @@
 use Rattle.std.proofs.Common.{sym, ◌∙◌, refl, arith}
 use Rattle.dds_check.proofs.FirstLemmas.{first_below_found}
-use Rattle.dds_check.proofs.first.first_below.Goals as goal
+use Rattle.dds_check.proofs.below.first_below.Goals as goal
 
 pub returns-in-Some : goal.returns-in-Some
 returns-in-Some g c end f ends gives =

@@ -1,6 +1,6 @@
 use Rattle.std.proofs.Common.{◌≡◌, drop}
 use Rattle.dds_weights.specs.Weighing.{weight_by}
-use Rattle.dds_explain.proofs.weights.weight_of.Given as goal
+use Rattle.dds_check.proofs.tables.find_weight.Given as goal
 
 -- no weight so far is one of the key
 abbrev pub invariant-loop-x : goal.invariant-loop-x

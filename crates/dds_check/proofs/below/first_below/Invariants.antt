@@ -1,6 +1,6 @@
 use Rattle.std.proofs.Common.{◌≡◌, ◌<◌, ℕ, None}
 use Rattle.dds_runs.specs.First.{first_below}
-use Rattle.dds_check.proofs.first.first_below.Given as goal
+use Rattle.dds_check.proofs.below.first_below.Given as goal
 
 -- none so far is there
 abbrev pub invariant-loop-i : goal.invariant-loop-i

@@ -1,8 +1,0 @@
-use Rattle.std.proofs.Common.{◌≡◌, ◌≤◌}
-use Rattle.dds_base.specs.Sums.{count_below}
-use Rattle.dds_match.specs.Network.{reach}
-use Rattle.dds_match.specs.Plan.{network_of}
-use Rattle.dds_check.proofs.limits.reached.Given as goal
-
-abbrev pub invariant-loop-k : goal.invariant-loop-k
-invariant-loop-k l = (l.count ≡ count_below l.k (reach (network_of l.plan) l.reader)) × (l.count ≤ l.k)
