@@ -7,13 +7,15 @@ import gc
 import os
 import sys
 from dataclasses import dataclass
+from enum import IntEnum
 
 from model import Deployment
 from names import is_name
-from notes import Notes
+from notes import Harm, Notes
 from profiles import Profiles
-from reading import Element, Refused, parse, printable, read_bytes
+from reading import Element, Refused, parse, printable, quoted, read_bytes
 from systems import System
+from unread import add_unread
 from vendors import Endpoints, add_fast_dds, add_profiles
 from writing import deployment_text
 
@@ -28,39 +30,56 @@ profiles alone gives a writer for each QoS of a writer and a reader for each QoS
                     that the filter matches, or on one that is named like the filter where there is none
   Fast DDS          on the topic that the profile names, else on the one of the profile's name
 
-What isn't imported, or has another name in the deployment, is listed on standard error, with its line and path."""
-EPILOG = "Status: 0 written; 2 the file is refused, and a line says why; 3 a file, the output or memory failed; 4 a fault of usage."
+What isn't imported, or has another name in the deployment, is listed on standard error, with its line and path,
+below a heading for each kind that there is, in this order:
+
+{headings}"""
+EPILOG = """\
+Status: 0 written; 2 the file is refused, and a line says why; 3 a file, the output or memory failed; 4 a fault of
+usage; 5 written, but something is lost: an endpoint, a profile that one is based on, the value of a field, or what
+has a name that isn't known and may be a misspelt one of these."""
+
+
+class Status(IntEnum):
+    """What the program ends with."""
+
+    WRITTEN = 0
+    REFUSED = 2
+    FAILED = 3
+    MISUSED = 4
+    LOST = 5
 
 
 @dataclass(frozen=True)
 class Converted:
-    """A deployment, its text, and what isn't in it."""
+    """A deployment, its text, what isn't in it, and whether something of that is lost."""
 
     deployment: Deployment
     text: str
     notes: list[str]
+    has_losses: bool
 
 
 def convert(data: bytes, topic: str | None = None) -> Converted:
     """What a file becomes; with a topic all that its profiles stand for is on that one. Raises `Refused`."""
     root = parse(data)
     if root.tag not in ("dds", "profiles"):
-        raise Refused(f"line {root.line}: the outermost element is {printable(root.tag)}, and neither dds nor profiles")
+        raise Refused(f"line {root.line}: the outermost element is {printable(root.tag)}, which is neither dds nor profiles")
     root.is_read = True
     notes = Notes()
     deployment = Deployment(notes)
     profiles = Profiles(root, notes)
     system = System(root, profiles, deployment)
     system.read()
-    if any(deployment.endpoints.values()):
+    if system.names_endpoints:
         if topic:
-            notes.add(root, "it has endpoints, so --topic isn't used")
+            notes.add(root, "it has endpoints, so --topic isn't used", Harm.NONE)
     else:
         add_what_profiles_say(root, profiles, Endpoints(deployment, system.topics, topic))
     if not deployment.participants and not deployment.topics:
         raise Refused("it has no participant, no topic, and no profile of a writer or reader")
-    notes.add_unread(root)
-    return Converted(deployment, deployment_text(deployment), notes.lines())
+    add_unread(root, notes)
+    return Converted(deployment, deployment_text(deployment), notes.lines(), notes.have_losses())
 
 
 def add_what_profiles_say(root: Element, profiles: Profiles, endpoints: Endpoints) -> None:
@@ -71,18 +90,28 @@ def add_what_profiles_say(root: Element, profiles: Profiles, endpoints: Endpoint
 
 class Parser(argparse.ArgumentParser):
     def error(self, message: str) -> None:
-        self.exit(4, f"import.py: {printable(message, 200)}\n")
+        self.exit(Status.MISUSED, f"import.py: {printable(message, 200)}\n")
+
+
+class StoreOnce(argparse.Action):
+    """Stores the value of an option that can't be repeated."""
+
+    def __call__(self, parser: argparse.ArgumentParser, found: argparse.Namespace, value: object, option: str | None = None) -> None:
+        if getattr(found, self.dest) is not None:
+            parser.error(f"{option} can be given only once")
+        setattr(found, self.dest, value)
 
 
 def arguments(words: list[str]) -> argparse.Namespace:
     form = argparse.RawDescriptionHelpFormatter
-    parser = Parser(prog="import.py", description=DESCRIPTION, epilog=EPILOG, formatter_class=form, allow_abbrev=False)
+    described = DESCRIPTION.format(headings="\n".join(f"  {harm.value}" for harm in Harm))
+    parser = Parser(prog="import.py", description=described, epilog=EPILOG, formatter_class=form, allow_abbrev=False)
     topic = "put all that profiles stand for on this topic, so that `ddscheck match` says which go together"
-    parser.add_argument("--topic", metavar="NAME", help=topic)
+    parser.add_argument("--topic", metavar="NAME", help=topic, action=StoreOnce)
     parser.add_argument("file", metavar="FILE")
     found = parser.parse_args(words)
     if found.topic is not None and not is_name(found.topic):
-        parser.error(f"{printable(found.topic)} is no name of a topic")
+        parser.error(f"{quoted(found.topic)} can't be the name of a topic")
     return found
 
 
@@ -100,7 +129,7 @@ def say(*lines: str) -> None:
 def write(text: str) -> str | None:
     """Writes the text to standard output, and says why that failed, if it did."""
     if sys.stdout is None:
-        return "it is closed"
+        return "it's closed"
     try:
         sys.stdout.write(text)
         sys.stdout.flush()
@@ -110,7 +139,7 @@ def write(text: str) -> str | None:
     return None
 
 
-def main(words: list[str]) -> int:
+def main(words: list[str]) -> Status:
     found = arguments(words)
     gc.disable()  # the tree is one large cycle that lives to the end, and looking for garbage takes half of the time
     name = printable(found.file, 200)
@@ -118,16 +147,16 @@ def main(words: list[str]) -> int:
         converted = convert(read_bytes(found.file), found.topic)
     except Refused as why:
         say(f"{name}: {why}")
-        return 2
+        return Status.REFUSED
     except OSError as why:
         say(f"{name}: {why.strerror}")
-        return 3
+        return Status.FAILED
     except MemoryError:
         say(f"{name}: memory ran out")
-        return 3
+        return Status.FAILED
     failed = write(converted.text)
     if failed:
         say(f"the output failed: {failed}")
-        return 3
+        return Status.FAILED
     say(*converted.notes)
-    return 0
+    return Status.LOST if converted.has_losses else Status.WRITTEN

@@ -1,10 +1,12 @@
-"""Files that attack an importer, with the status and the last line that they owe. `test` imports each within two seconds and 200 MiB."""
+"""Files that attack an importer, with the status and a line that they owe. `test` imports each within two seconds and 200 MiB."""
 
 from __future__ import annotations
 
 from dataclasses import dataclass
 
 MIB = 1024 * 1024
+# The status of a deployment without something that the file has.
+WITH_LOSSES = 5
 # The most writers, and as many topics, that a deployment has, and the most lines that are printed of what isn't in it.
 MOST_WRITERS = 256
 MOST_LINES = 1000
@@ -48,7 +50,7 @@ def entities() -> list[Attack]:
         Attack("laughs after a comment and an instruction", hidden, 2, f"line 3: {NO_ENTITIES}"),
         Attack("laughs in UTF-16", declared["billion laughs"].decode().encode("utf-16"), 2, f"line 2: {NO_ENTITIES}"),
         Attack("laughs in UTF-16 without a mark", declared["billion laughs"].decode().encode("utf-16-be"), 2, f"line 2: {NO_ENTITIES}"),
-        Attack("an entity that isn't declared", b"<dds>&a;</dds>", 2, "line 1: it is no XML: undefined entity"),
+        Attack("an entity that isn't declared", b"<dds>&a;</dds>", 2, "line 1: it isn't XML: undefined entity"),
         Attack("a document type in a comment", b"<!-- <!DOCTYPE dds> --><dds/>", 2, NOTHING),
     ]
 
@@ -64,18 +66,18 @@ def encodings() -> list[Attack]:
         Attack("UTF-16, big end first", b"\xfe\xff" + plain.encode("utf-16-be"), 0, became),
         Attack("UTF-16 without a mark", plain.encode("utf-16-le"), 0, became),
         Attack("ISO-8859-1", (named % "ISO-8859-1").encode("latin-1"), 0, became),
-        Attack("ISO-8859-1 that isn't declared", plain.encode("latin-1"), 2, "line 1: it is no XML: not well-formed (invalid token)"),
-        Attack("UTF-16 that is cut", plain.encode("utf-16")[:-1], 2, "it begins as UTF-16 and isn't"),
-        Attack("UTF-16 that is declared alone", (named % "UTF-16").encode(), 2, "its encoding utf-16 is none of UTF-8, UTF-16, ISO-8859-1 and US-ASCII"),
-        Attack("EBCDIC", (named % "cp037").encode(), 2, "its encoding cp037 is none of UTF-8, UTF-16, ISO-8859-1 and US-ASCII"),
-        Attack("UTF-7", (named % "utf-7").encode(), 2, "its encoding utf-7 is none of UTF-8, UTF-16, ISO-8859-1 and US-ASCII"),
-        Attack("a zero byte", b"<dds>\0</dds>", 2, "line 1: it is no XML: not well-formed (invalid token)"),
-        Attack("zero bytes alone", bytes(1000), 2, "line 1: it is no XML: not well-formed (invalid token)"),
-        Attack("a zero byte by number", b"<dds>&#0;</dds>", 2, "line 1: it is no XML: reference to invalid character number"),
-        Attack("nothing", b"", 2, "line 1: it is no XML: no element found"),
-        Attack("half of a file", b"<dds>\n<types>", 2, "line 2: it is no XML: no element found"),
-        Attack("two documents", b"<dds/>\n<dds/>", 2, "line 2: it is no XML: junk after document element"),
-        Attack("another document", b"<CycloneDDS/>", 2, "line 1: the outermost element is CycloneDDS, and neither dds nor profiles"),
+        Attack("ISO-8859-1 that isn't declared", plain.encode("latin-1"), 2, "line 1: it isn't XML: not well-formed (invalid token)"),
+        Attack("UTF-16 that is cut", plain.encode("utf-16")[:-1], 2, "it begins as UTF-16, but it isn't that"),
+        Attack("UTF-16 that is declared alone", (named % "UTF-16").encode(), 2, "its encoding utf-16 isn't UTF-8, UTF-16, ISO-8859-1 or US-ASCII"),
+        Attack("EBCDIC", (named % "cp037").encode(), 2, "its encoding cp037 isn't UTF-8, UTF-16, ISO-8859-1 or US-ASCII"),
+        Attack("UTF-7", (named % "utf-7").encode(), 2, "its encoding utf-7 isn't UTF-8, UTF-16, ISO-8859-1 or US-ASCII"),
+        Attack("a zero byte", b"<dds>\0</dds>", 2, "line 1: it isn't XML: not well-formed (invalid token)"),
+        Attack("zero bytes alone", bytes(1000), 2, "line 1: it isn't XML: not well-formed (invalid token)"),
+        Attack("a zero byte by number", b"<dds>&#0;</dds>", 2, "line 1: it isn't XML: reference to invalid character number"),
+        Attack("nothing", b"", 2, "line 1: it isn't XML: no element found"),
+        Attack("half of a file", b"<dds>\n<types>", 2, "line 2: it isn't XML: no element found"),
+        Attack("two documents", b"<dds/>\n<dds/>", 2, "line 2: it isn't XML: junk after document element"),
+        Attack("another document", b"<CycloneDDS/>", 2, "line 1: the outermost element is CycloneDDS, which is neither dds nor profiles"),
     ]
 
 
@@ -84,7 +86,7 @@ def large() -> list[Attack]:
     text = b"x" * (MIB - 100)
     return [
         Attack("64 levels", b"<dds>" + b"<a>" * 63 + b"</a>" * 63 + b"</dds>", 2, NOTHING),
-        Attack("65 levels", b"<dds>" + b"<a>" * 64 + b"</a>" * 64 + b"</dds>", 2, "line 1: elements lie more than 64 deep"),
+        Attack("65 levels", b"<dds>" + b"<a>" * 64 + b"</a>" * 64 + b"</dds>", 2, "line 1: elements are nested more than 64 deep"),
         Attack("10 MiB of levels", b"<a>" * (10 * MIB // 3), 2, "it has more than 131072 tags"),
         Attack("10 MiB of elements", b"<dds>" + b"<a/>" * (10 * MIB // 4) + b"</dds>", 2, "it has more than 131072 tags"),
         Attack("65,536 elements", b"<dds>" + b"<a/>" * 65_535 + b"</dds>", 2, NOTHING),
@@ -102,16 +104,26 @@ def large() -> list[Attack]:
 
 
 def work() -> list[Attack]:
-    """Files that ask for much work on little text."""
+    """Files whose profiles ask for much work on little text."""
     chain = b"".join(b'<qos_profile name="p%d" base_name="p%d"><datawriter_qos/></qos_profile>' % (i, i - 1) for i in range(30_000))
     twice = b"<base_name><element>p%d</element><element>p%d</element></base_name>"
     diamond = b"".join(b'<qos_profile name="p%d">' % i + twice % (i - 1, i - 1) + b"<datawriter_qos/></qos_profile>" for i in range(60))
     stars = b"".join(b'<datawriter_qos topic_filter="%d%s"/>' % (i, b"*a" * 120) for i in range(20_000))
+    policies = b'<qos_profile name="all"><datawriter_qos>' + b"<durability><kind>VOLATILE</kind></durability>" * 30_000
+    policies += b"</datawriter_qos></qos_profile>" + b"".join(b'<qos_profile name="p%d" base_name="all"/>' % i for i in range(200))
+    return [
+        Attack("30,000 profiles, each of which inherits the last one", library(chain), 2, TOO_MUCH),
+        Attack("200 profiles that inherit 30,000 policies", library(policies), 2, TOO_MUCH),
+        Attack("profiles that inherit one twice", library(diamond), 2, TOO_MUCH),
+        Attack("20,000 topic filters with 120 stars", library(b'<qos_profile name="p">' + stars + b"</qos_profile>"), 2, TOO_MUCH),
+    ]
+
+
+def floods() -> list[Attack]:
+    """Files with very much of one thing, of which a deployment is made all the same."""
     blanks = b'<dds><domain_participant_library name="L"><domain_participant name="p" domain_id="0"><topic name="t" register_type_ref="T"/>'
     blanks += b'<data_reader name="r" topic_ref="t">\n<content_filter><expression>key' + b" " * 500_000
     blanks += b"&lt;</expression></content_filter></data_reader></domain_participant></domain_participant_library></dds>"
-    policies = b'<qos_profile name="all"><datawriter_qos>' + b"<durability><kind>VOLATILE</kind></durability>" * 30_000
-    policies += b"</datawriter_qos></qos_profile>" + b"".join(b'<qos_profile name="p%d" base_name="all"/>' % i for i in range(200))
     count = 60_000
     named = b"<profiles>" + b"".join(b'<data_writer profile_name="%d"/>' % i for i in range(count)) + b"</profiles>"
     # each that is past the limit is left out
@@ -119,27 +131,29 @@ def work() -> list[Attack]:
     crowd = b"".join(b'\n<domain_participant name="p%d" domain_id="0"/>' % i for i in range(70))
     crowd = b'<dds><domain_participant_library name="L">' + crowd + b"</domain_participant_library></dds>"
     same = b"<profiles>" + b'<data_writer profile_name="w"/>' * count + b"</profiles>"
+    lifespans = b'<profiles><data_writer profile_name="w"><qos>' + b"<lifespan>" * 55 + b"<sec/>" * count + b"</lifespan>" * 55
+    lifespans += b"</qos></data_writer></profiles>"
     # of all but the first is told that they stand above too, and what their names became or that they are left out
     of_same = 2 * (count - 1)
     return [
-        Attack("30,000 profiles, each of which inherits the last one", library(chain), 2, TOO_MUCH),
-        Attack("200 profiles that inherit 30,000 policies", library(policies), 2, TOO_MUCH),
-        Attack("profiles that inherit one twice", library(diamond), 2, TOO_MUCH),
-        Attack("20,000 topic filters with 120 stars", library(b'<qos_profile name="p">' + stars + b"</qos_profile>"), 2, TOO_MUCH),
         Attack(
-            "a content filter of 500,000 blanks", blanks, 0,
+            "a content filter of 500,000 blanks", blanks, WITH_LOSSES,
             "line 2: /dds/domain_participant_library[L]/domain_participant[p]/data_reader[r]/content_filter: "
             "it isn't one filter by keys of the topic alone, and isn't imported",
         ),
         Attack(
-            "70 participants", crowd, 0,
+            "70 participants", crowd, WITH_LOSSES,
             "line 71: /dds/domain_participant_library[L]/domain_participant[p69]: a deployment has at most 64 participants, "
             "and this one is left out",
         ),
-        Attack("60,000 profiles", named, 0, f"{of_named - MOST_LINES} more notes are left out"),
-        Attack("a profile 60,000 times", same, 0, f"{of_same - MOST_LINES} more notes are left out"),
+        Attack(
+            "60,000 elements in 55 lifespans that say nothing", lifespans, 0,
+            "line 1: /profiles/data_writer[w]/qos/lifespan: the element isn't imported",
+        ),
+        Attack("60,000 profiles", named, WITH_LOSSES, f"{of_named - MOST_LINES} more notes are left out"),
+        Attack("a profile 60,000 times", same, WITH_LOSSES, f"{of_same - MOST_LINES} more notes are left out"),
     ]
 
 
 def attacks() -> list[Attack]:
-    return entities() + encodings() + large() + work()
+    return entities() + encodings() + large() + work() + floods()

@@ -5,7 +5,7 @@ from __future__ import annotations
 from dataclasses import dataclass, field
 
 from names import Names, is_name, type_like
-from notes import Notes
+from notes import Harm, Notes
 from policies import Dialect, Settings, Side, consistent
 from reading import Element, quoted
 
@@ -62,14 +62,14 @@ class Deployment:
     def _has_room(self, element: Element, section: list, limit: int, what: str) -> bool:
         if len(section) < limit:
             return True
-        self.notes.add(element, f"a deployment has at most {limit} {what}, and this one is left out")
+        self.notes.add(element, f"a deployment has at most {limit} {what}, and this one is left out", Harm.LOST)
         return False
 
     def _name(self, element: Element, section: str, *wanted: str) -> str:
         """A name of its own, noted where it isn't the first that was wanted."""
         name = self._names[section].give(*wanted)
         if name != wanted[0]:
-            self.notes.add(element, f"the name {quoted(wanted[0])} became {name}")
+            self.notes.add(element, f"the name {quoted(wanted[0])} became {name}", Harm.NONE)
         return name
 
     def add_participant(self, element: Element, name: str, domain: int) -> Participant | None:
@@ -85,7 +85,7 @@ class Deployment:
             return None
         type_found = type_like(type_name) or "Type"
         if type_found != type_name:
-            self.notes.add(element, f"the type {quoted(type_name)} became {type_found}")
+            self.notes.add(element, f"the type {quoted(type_name)} became {type_found}", Harm.NONE)
         topic = Topic(self._name(element, "topics", *names), type_found, keys or ["key"], keys is not None)
         self.topics.append(topic)
         return topic
@@ -98,7 +98,7 @@ class Deployment:
             return None
         found, why = consistent(dialect.defaults(side) | settings)
         if why:
-            self.notes.add(element, why)
+            self.notes.add(element, why, Harm.LOST)
         endpoint = Endpoint(side, self._name(element, side.section, *names), participant, topic, found)
         self.endpoints[side].append(endpoint)
         return endpoint
@@ -116,11 +116,11 @@ def distinct_keys(notes: Notes, texts: list[tuple[Element, str]]) -> list[str]:
     keys: dict[str, None] = {}
     for element, text in texts:
         if not is_name(text):
-            notes.add(element, f"{quoted(text)} is no key of a deployment, and is left out")
+            notes.add(element, f"{quoted(text)} can't be a key of a deployment, and is left out", Harm.LOST)
         elif text in keys:
-            notes.add(element, f"the key {text} stands twice")
+            notes.add(element, f"the key {text} stands twice", Harm.NONE)
         elif len(keys) == MAX_KEYS:
-            notes.add(element, f"a topic has at most {MAX_KEYS} keys, and this one is left out")
+            notes.add(element, f"a topic has at most {MAX_KEYS} keys, and this one is left out", Harm.LOST)
         else:
             keys[text] = None
     return list(keys)

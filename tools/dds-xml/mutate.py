@@ -30,6 +30,7 @@ sys.dont_write_bytecode = True
 
 from converting import Converted, convert  # noqa: E402
 from model import Deployment  # noqa: E402
+from notes import Harm  # noqa: E402
 from policies import Side, defaults  # noqa: E402
 from reading import Refused  # noqa: E402
 
@@ -37,7 +38,7 @@ HERE = Path(__file__).resolve().parent
 PROGRAM = shlex.split(os.environ.get("DDSCHECK", str(HERE.parent.parent / "crates/ddscheck/out/ddscheck")))
 SECONDS = 2
 LINE = re.compile(r"[ -~]+")
-NOTE = re.compile(r"line \d+: /[ -~]+|\d+ more notes are left out")
+NOTE = re.compile(r"line \d+: /[ -~]+|\d+ more notes are left out|" + "|".join(re.escape(harm.value) for harm in Harm))
 SEEDS = sorted((HERE / "cases").glob("*.xml"))
 TOKENS = [
     b"<", b">", b"</", b"/>", b"&", b"&amp;", b"&lt;", b"&#10;", b"&#34;", b"&#x10FFFF;", b"&#xD800;", b"&a;", b"\"", b"'", b"\n", b"\0", b"\xff",
@@ -131,6 +132,8 @@ def fault_of(converted: Converted) -> str | None:
     for note in converted.notes:
         if not NOTE.fullmatch(note):
             return f"a note is no line: {note!r}"
+    if converted.has_losses != (converted.notes[:1] == [Harm.LOST.value]):
+        return "the losses, which come first"
     document = tomllib.loads(converted.text)
     if document.pop("version") != 3:
         return "the version"

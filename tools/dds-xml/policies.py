@@ -8,7 +8,7 @@ from dataclasses import dataclass
 from enum import Enum
 
 import names
-from notes import Notes
+from notes import Harm, Notes
 from reading import Element, quoted
 
 Value = bool | int | str | list[str]
@@ -86,7 +86,7 @@ def plain(text: str) -> str:
 def whole_number(text: str, least: int, greatest: int) -> int:
     """A number of this range, in decimal digits alone. Raises `BadValue`."""
     if not DIGITS.fullmatch(text) or not least <= int(text) <= greatest:
-        raise BadValue(f"{quoted(text)} is no whole number from {least} to {greatest}")
+        raise BadValue(f"{quoted(text)} isn't a whole number from {least} to {greatest}")
     return int(text)
 
 
@@ -94,7 +94,7 @@ def read_word(field: str, element: Element) -> str:
     ending, words = WORDS[field]
     word = plain(element.value()).removesuffix(ending)
     if word not in words:
-        raise BadValue(f"{quoted(element.value())} is no {field} of a deployment")
+        raise BadValue(f"{quoted(element.value())} isn't a value of {field}")
     return word
 
 
@@ -129,7 +129,7 @@ def read_duration(_field: str, element: Element) -> int | str:
             raise BadValue(f"{part.tag} stands twice")
         parts[part.tag] = plain(part.value())
     if element.value() or not parts:
-        raise BadValue(f"{quoted(element.value())} is no duration")
+        raise BadValue(f"{quoted(element.value())} isn't a duration")
     if parts.get("sec", parts.get("nanosec")) in INFINITE:
         return "infinite"
     digits = {tag: "0" if text in ZERO else text for tag, text in parts.items()}
@@ -138,7 +138,7 @@ def read_duration(_field: str, element: Element) -> int | str:
     if seconds == INFINITE_SECONDS and nanoseconds in INFINITE_NANOSECONDS:
         return "infinite"
     if seconds * SECOND + nanoseconds > GREATEST_DURATION:
-        raise BadValue(f"it is longer than {GREATEST_DURATION} nanoseconds")
+        raise BadValue(f"it's longer than {GREATEST_DURATION} nanoseconds")
     return seconds * SECOND + nanoseconds
 
 
@@ -146,10 +146,10 @@ def read_partitions(_field: str, element: Element) -> list[str]:
     """The list of partitions, all of whose names have to be ones that a deployment can have."""
     found = [one.value() for one in element.elements("element", "name")]
     if element.value():
-        raise BadValue(f"{quoted(element.value())} is no list of partitions")
+        raise BadValue(f"{quoted(element.value())} isn't a list of partitions")
     for name in found:
         if not names.is_partition(name):
-            raise BadValue(f"{quoted(name)} is no partition of a deployment")
+            raise BadValue(f"{quoted(name)} can't be a partition of a deployment")
     if len(found) > MAX_PARTITIONS:
         raise BadValue(f"it has more than {MAX_PARTITIONS} partitions")
     return found
@@ -222,11 +222,11 @@ def read_policies(element: Element, dialect: Dialect, notes: Notes) -> Settings:
         for part in policy.elements(*parts):
             field, read = parts[part.tag]
             if field in found:
-                notes.add(part, f"{field} stands twice here, and the last one holds")
+                notes.add(part, f"{field} stands twice here, and the last one holds", Harm.LOST)
             try:
                 found[field] = read(field, part)
             except BadValue as why:
-                notes.add(part, f"{why}: the field {field} isn't imported")
+                notes.add(part, f"{why}: the field {field} isn't imported", Harm.LOST)
     return found
 
 

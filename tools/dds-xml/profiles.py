@@ -7,7 +7,7 @@ import re
 from collections.abc import Iterator
 from dataclasses import dataclass
 
-from notes import Notes
+from notes import Harm, Notes
 from policies import OMG, Settings, Side, read_policies
 from reading import Element, Refused, quoted
 
@@ -16,6 +16,7 @@ MAX_PATTERN = 256
 # How much inheritance and matching of topic filters a file may ask for: a unit takes some four microseconds.
 MAX_WORK = 80_000
 ENTITIES = {side.entity for side in Side} | {side.group for side in Side}
+BASES = {"base_name", "base_profile_name"}
 # The libraries that RTI Connext has built in, whose values no file has.
 BUILT_IN = ("BuiltinQosLib", "BuiltinQosLibExp", "BuiltinQosSnippetLib")
 WILDCARD = re.compile(r"\[(.)[^\]]*\]|[*?]", re.DOTALL)
@@ -79,14 +80,16 @@ class Profiles:
         self.filters = TopicFilters(self._work)
         for library in root.elements("qos_library"):
             library_name = library.attribute("name") or ""
-            for element in library.elements("qos_profile", *ENTITIES):
+            library.elements("qos_profile")
+            # the QoS beside profiles are read where something is based on them
+            for element in [child for child in library.children if child.tag == "qos_profile" or child.tag in ENTITIES]:
                 self._add(element, library_name)
 
     def _add(self, element: Element, library: str) -> None:
         name = element.attribute("name") or ""
         key = f"{library}::{name}"
         if key in self.all:
-            self.notes.add(element, f"a profile {quoted(key)} stands above, and is the one that holds")
+            self.notes.leave_out(element, f"a profile {quoted(key)} stands above, and is the one that holds")
         else:
             self.all[key] = Profile(library, name, element, len(self.all))
 
@@ -97,8 +100,12 @@ class Profiles:
         if found is None:
             built_in = base.split("::")[0] in BUILT_IN
             why = "is built in at RTI Connext, and its values aren't in this file" if built_in else "isn't in this file"
-            self.notes.add(element, f"the profile {quoted(base)} {why}")
+            self.notes.add(element, f"the profile {quoted(base)} {why}", Harm.LOST)
         return found
+
+    def names_base(self, element: Element) -> bool:
+        """Whether an element says what it inherits, if only by a name that isn't in the file."""
+        return bool(element.attributes.keys() & BASES) or any(child.tag == "base_name" for child in element.children)
 
     def bases(self, element: Element, library: str | None) -> Iterator[Profile]:
         """What an element inherits: first the attribute's profile, then those of the list."""
@@ -106,7 +113,7 @@ class Profiles:
         for several in element.elements("base_name"):
             named += [one.value() for one in several.elements("element")]
             if several.value():
-                self.notes.add(several, f"{quoted(several.value())} stands in no element of a list, and isn't inherited")
+                self.notes.add(several, f"{quoted(several.value())} isn't in an element of the list, and isn't inherited", Harm.LOST)
         for base in named:
             found = self._find(base, library, element) if base else None
             if found:
@@ -130,9 +137,9 @@ class Profiles:
         found: Settings = {}
         for base in self.bases(element, library):
             if base.element in above or base.element is element:
-                self.notes.add(element, f"it inherits itself by {quoted(base.name)}")
+                self.notes.add(element, f"it inherits from itself through {quoted(base.name)}", Harm.LOST)
             elif len(above) >= MAX_STEPS:
-                self.notes.add(element, f"it inherits in more than {MAX_STEPS} steps, and {quoted(base.name)} isn't followed")
+                self.notes.add(element, f"it inherits in more than {MAX_STEPS} steps, and {quoted(base.name)} isn't followed", Harm.LOST)
             else:
                 found |= self.settings(base.element, entity, base.library, topic, (*above, element))
         if element.tag == "qos_profile":
@@ -140,9 +147,12 @@ class Profiles:
                 found |= self.settings(own, entity, library, topic, (*above, element))
         elif element.tag == entity:
             self._work.spend(len(element.children))
+            element.is_read = True
             found |= read_policies(element, OMG, self.notes)
         else:
-            self.notes.add(element, f"a {entity} inherits nothing of it")
+            # of a whole profile that names it as a base, other parts may inherit from it
+            is_wrong = bool(above) and above[-1].tag == entity
+            self.notes.add(element, f"a {entity} inherits nothing from it", Harm.LOST if is_wrong else Harm.NONE)
         return found
 
     def sources(self, element: Element, entity: str, library: str | None, above: tuple[Element, ...] = ()) -> Iterator[Element]:

@@ -101,7 +101,7 @@ def as_utf_8(data: bytes) -> bytes:
         if data[:2] in UTF_16_STARTS:
             return data.decode(UTF_16_STARTS[data[:2]]).encode()
     except UnicodeError:
-        raise Refused("it begins as UTF-16 and isn't") from None
+        raise Refused("it begins as UTF-16, but it isn't that") from None
     if data.startswith(UTF_8_MARK):
         return data[len(UTF_8_MARK):]
     declared = DECLARATION.match(data)
@@ -109,7 +109,7 @@ def as_utf_8(data: bytes) -> bytes:
     if name in LATIN_1_NAMES:
         return data.decode("latin-1").encode()
     if name not in ASCII_NAMES:
-        raise Refused(f"its encoding {name} is none of UTF-8, UTF-16, ISO-8859-1 and US-ASCII")
+        raise Refused(f"its encoding {name} isn't UTF-8, UTF-16, ISO-8859-1 or US-ASCII")
     return data
 
 
@@ -144,7 +144,7 @@ class Builder:
     def start(self, tag: str, attributes: dict[str, str]) -> None:
         line = self.parser.CurrentLineNumber
         if len(self.open) == MAX_LEVELS:
-            raise Refused(f"line {line}: elements lie more than {MAX_LEVELS} deep")
+            raise Refused(f"line {line}: elements are nested more than {MAX_LEVELS} deep")
         self.count += 1
         if self.count > MAX_ELEMENTS:
             raise Refused(f"line {line}: it has more than {MAX_ELEMENTS} elements")
@@ -170,13 +170,13 @@ class Builder:
 
 
 def parse(data: bytes) -> Element:
-    """The outermost element. Raises `Refused` where the bytes are no XML document within the limits."""
+    """The outermost element. Raises `Refused` where the bytes aren't an XML document within the limits."""
     data = as_utf_8(data)
     refuse_bombs(data)
     builder = Builder()
     try:
         builder.parser.Parse(data, True)
     except expat.ExpatError as fault:
-        raise Refused(f"line {fault.lineno}: it is no XML: {expat.ErrorString(fault.code)}") from None
+        raise Refused(f"line {fault.lineno}: it isn't XML: {expat.ErrorString(fault.code)}") from None
     assert builder.root is not None
     return builder.root

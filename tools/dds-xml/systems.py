@@ -6,8 +6,9 @@ from dataclasses import dataclass, field
 
 import filters
 from model import MAX_DOMAIN, Application, Deployment, Endpoint, Participant, Topic, distinct_keys
+from notes import Harm
 from policies import OMG, BadValue, Settings, Side, whole_number
-from profiles import Profiles
+from profiles import Profile, Profiles
 from reading import Element, quoted
 
 # The members that a sample of a deployment has.
@@ -54,7 +55,7 @@ class Types:
         for struct in element.elements("struct"):
             name = struct.attribute("name") or ""
             if scope + name in self.all:
-                self._notes.add(struct, "a type of this name stands above, and is the one that holds")
+                self._notes.leave_out(struct, "a type of this name stands above, and is the one that holds")
                 continue
             self.all[scope + name] = Type(name if keys else scope + name, keys)
             self._report_members(struct)
@@ -66,7 +67,7 @@ class Types:
         found = None
         for enum in module.elements("enum"):
             if enum.attribute("name") != "keys" or found is not None:
-                self._notes.add(enum, "an enum that doesn't list the keys of a topic isn't imported")
+                self._notes.add(enum, "an enum that doesn't list the keys of a topic isn't imported", Harm.NONE)
                 continue
             texts = [(one, one.attribute("name") or "") for one in enum.elements("enumerator")]
             found = distinct_keys(self._notes, texts)
@@ -84,7 +85,7 @@ class Types:
                 for inner in member.children:
                     inner.is_read = True
         if strange:
-            self._notes.add(struct, f"its members ({strange}) aren't imported: a sample of a deployment has a key and bytes")
+            self._notes.add(struct, f"its members ({strange}) aren't imported: a sample of a deployment has a key and bytes", Harm.NONE)
 
 
 class System:
@@ -99,6 +100,8 @@ class System:
         self._all: list[tuple[Element, Contents]] = []
         self._claims: list[Claim] = []
         self._places: dict[Endpoint, int] = {}
+        self._unbased: set[str] = set()
+        self.names_endpoints = False
 
     def read(self) -> None:
         for element in self.root.elements("types"):
@@ -110,6 +113,7 @@ class System:
         for library in self.root.elements("application_library"):
             for element in library.elements("application"):
                 self._read_application(element)
+        self._report_defaults()
         self._give_owners()
         self._sort_by_profiles()
 
@@ -121,7 +125,7 @@ class System:
                 domain.attribute("domain_id")
                 key = f"{library.attribute('name')}::{domain.attribute('name')}"
                 if key in self._domains:
-                    self.notes.add(domain, f"a domain {quoted(key)} stands above, and is the one that holds")
+                    self.notes.add(domain, f"a domain {quoted(key)} stands above, and is the one that holds", Harm.LOST)
                 self._domains.setdefault(key, domain)
                 self._read_topics(domain)
 
@@ -135,18 +139,25 @@ class System:
 
     def _read_topic(self, element: Element, type_name: str) -> None:
         name = element.attribute("name") or "topic"
-        found = self.types.all.get(type_name, Type(type_name or "Type", None))
+        found = self._find_type(element, type_name)
         standing = self.topics.get(name)
         if standing is not None:
             if standing.type != found.name or standing.are_keys_known and standing.keys != found.keys:
-                self.notes.add(element, "a topic of this name with another type or keys stands above, and is the one that holds")
+                self.notes.add(element, "a topic of this name with another type or keys stands above, and is the one that holds", Harm.LOST)
             return
         topic = self.deployment.add_topic(element, [name], found.name, found.keys)
         if topic is None:
             return
         if not topic.are_keys_known:
-            self.notes.add(element, "its keys aren't in this file: write them")
+            self.notes.add(element, "its keys aren't in this file: write a name for each value of its key fields", Harm.OPEN)
         self.topics[name] = topic
+
+    def _find_type(self, element: Element, name: str) -> Type:
+        """The type of this name, or one without keys where the file has none."""
+        found = self.types.all.get(name)
+        if found is None and self.types.all:
+            self.notes.add(element, f"the type {quoted(name)} isn't in this file", Harm.LOST)
+        return found or Type(name or "Type", None)
 
     # Participants and endpoints
 
@@ -154,13 +165,16 @@ class System:
         text, reference = element.attribute("domain_id"), element.attribute("domain_ref") or ""
         if text is None and reference in self._domains:
             text = self._domains[reference].attributes.get("domain_id")
+        if text is None and reference and reference not in self._domains:
+            self.notes.add(element, f"the domain {quoted(reference)} isn't in this file, and became 0", Harm.LOST)
+            return 0
         if text is None:
-            self.notes.add(element, "its domain has no number in this file, and became 0")
+            self.notes.add(element, "its domain has no number in this file, and became 0", Harm.OPEN)
             return 0
         try:
             return whole_number(text, 0, MAX_DOMAIN)
         except BadValue as why:
-            self.notes.add(element, f"{why}: its domain became 0")
+            self.notes.add(element, f"{why}: its domain became 0", Harm.LOST)
             return 0
 
     def _read_participant(self, element: Element, key: str | None) -> Contents | None:
@@ -169,14 +183,14 @@ class System:
         if participant is None:
             return None
         if element.attribute("base_name"):
-            self.notes.add(element, f"what it inherits of {quoted(element.attributes['base_name'])} isn't imported")
+            self.notes.add(element, f"what it inherits from {quoted(element.attributes['base_name'])} isn't imported", Harm.LOST)
         contents = Contents(participant)
         self._read_topics(element)
         self._read_groups(element, contents, "publisher", "data_writer", Side.WRITER)
         self._read_groups(element, contents, "subscriber", "data_reader", Side.READER)
         self._all.append((element, contents))
         if key in self._libraries:
-            self.notes.add(element, f"a participant {quoted(key)} stands above, and is the one that applications mean")
+            self.notes.add(element, f"a participant {quoted(key)} stands above, and is the one that applications mean", Harm.OPEN)
         elif key is not None:
             self._libraries[key] = contents
         return contents
@@ -190,10 +204,11 @@ class System:
         contents.groups.setdefault((side, None), []).extend(end for end in ends if end)
 
     def _read_endpoint(self, element: Element, group: Element | None, participant: Participant, side: Side) -> Endpoint | None:
+        self.names_endpoints = True
         topic_name = element.attribute("topic_ref") or ""
         topic = self.topics.get(topic_name)
         if topic is None:
-            self.notes.add(element, f"there is no topic {quoted(topic_name)} for it, and it is left out")
+            self.notes.leave_out(element, f"there's no topic {quoted(topic_name)} for it, and it's left out")
             return None
         implied = f"{participant.name}_{topic.name}_{side.letter}"
         name = element.attribute("name") or implied
@@ -209,9 +224,24 @@ class System:
 
     def _settings(self, holder: Element | None, entity: str, topic: str) -> Settings:
         found: Settings = {}
-        for qos in holder.elements(entity) if holder else []:
+        own = holder.elements(entity) if holder else []
+        if not any(self.profiles.names_base(qos) for qos in own):
+            self._unbased.add(entity)
+        for qos in own:
             found |= self.profiles.settings(qos, entity, None, topic)
         return found
+
+    def _report_defaults(self) -> None:
+        """Notes the profiles that RTI Connext takes where an endpoint, or what it's in, names none."""
+        for profile in self.profiles.all.values():
+            if profile.element.attributes.get("is_default_qos") in ("true", "1") and self._is_missed(profile):
+                profile.element.attribute("is_default_qos")
+                self.notes.add(profile.element, "what names no profile has this one by default, and that isn't imported", Harm.LOST)
+
+    def _is_missed(self, profile: Profile) -> bool:
+        """Whether a profile has QoS for what names no profile."""
+        sources = self.profiles.sources
+        return any(True for entity in self._unbased for _ in sources(profile.element, entity, profile.library))
 
     def _read_filter(self, element: Element, reader: Endpoint) -> None:
         for one in element.elements("content_filter", "filter"):
@@ -222,7 +252,7 @@ class System:
             parameters = [inner.value() for several in lists for inner in several.elements("param", "element")]
             keys = filters.keys_of(expressions[0], parameters) if len(expressions) == 1 else None
             if keys is None or not set(keys) <= set(reader.topic.keys) or not reader.topic.are_keys_known or reader.filter is not None:
-                self.notes.add(one, "it isn't one filter by keys of the topic alone, and isn't imported")
+                self.notes.add(one, "it isn't one filter by keys of the topic alone, and isn't imported", Harm.LOST)
             else:
                 reader.filter = list(dict.fromkeys(keys))
 
@@ -237,7 +267,7 @@ class System:
                 contents: Contents | None = self._libraries[base]
                 owned: list[Endpoint] | None = self._listed(one, contents, base)
                 if one.attribute("name") not in (None, base.rpartition("::")[2]):
-                    self.notes.add(one, f"a participant of its own that inherits of {quoted(base)} became one with that")
+                    self.notes.add(one, f"a participant of its own that inherits from {quoted(base)} became one with that", Harm.NONE)
             else:
                 contents = self._read_participant(one, None)
                 owned = contents.endpoints() if contents else []
@@ -254,7 +284,7 @@ class System:
         named += [(Side.READER, one.attribute("name") or "") for one in element.elements("subscriber")]
         for side, name in named:
             if (side, name) not in contents.groups:
-                self.notes.add(element, f"{quoted(name or '')} is no publisher or subscriber of {quoted(base)}")
+                self.notes.add(element, f"{quoted(name or '')} isn't a publisher or subscriber of {quoted(base)}", Harm.LOST)
         return [end for group in named for end in contents.groups.get(group, [])] if named else None
 
     def _give_owners(self) -> None:
@@ -263,7 +293,7 @@ class System:
         for claim in self._claims:
             for end in claim.endpoints or []:
                 if owners.setdefault(end, claim.application) is not claim.application:
-                    self.notes.add(claim.element, f"{end.name} is owned by {owners[end].name}, which stands above")
+                    self.notes.add(claim.element, f"{end.name} is owned by {owners[end].name}, which stands above", Harm.LOST)
         for element, contents in self._all:
             free = [end for end in contents.endpoints() if end not in owners]
             heir = self._heir(element, contents, free)
@@ -271,7 +301,7 @@ class System:
                 if heir:
                     owners[end] = heir
                 else:
-                    self.notes.add(element, f"{end.name} has no application, and is left out")
+                    self.notes.add(element, f"{end.name} has no application, and is left out", Harm.LOST)
                     self.deployment.endpoints[end.side].remove(end)
         for end, application in owners.items():
             application.endpoints.append(end)
@@ -282,13 +312,14 @@ class System:
         if not free:
             return None
         for claim in heirs[1:]:
-            self.notes.add(claim.element, f"{heirs[0].application.name} owns the endpoints of this participant: write which are this one's")
+            owner = heirs[0].application.name
+            self.notes.add(claim.element, f"{owner} owns the endpoints of this participant: write which are this one's", Harm.OPEN)
         if heirs:
             return heirs[0].application
         application = self.deployment.add_application(element, contents.participant.name, contents.participant)
         if application:
             names = ", ".join(end.name for end in free)
-            self.notes.add(element, f"no application owns {names}: {application.name} does now")
+            self.notes.add(element, f"no application owns {names}: {application.name} does now", Harm.OPEN)
         return application
 
     # The order of endpoints

@@ -11,9 +11,10 @@ from dataclasses import dataclass
 
 from model import MAX_DOMAIN, Application, Deployment, Topic
 from names import type_like
+from notes import Harm
 from policies import FAST_DDS, OMG, BadValue, Dialect, Settings, Side, read_policies, whole_number
 from profiles import Profile, Profiles, parts_of, topic_of
-from reading import Element, quoted
+from reading import Element, printable, quoted
 
 FAST_DDS_SIDES = {"data_writer": Side.WRITER, "publisher": Side.WRITER, "data_reader": Side.READER, "subscriber": Side.READER}
 
@@ -25,6 +26,15 @@ class TopicName:
     name: str
     type: str | None = None
     keys: tuple[str, ...] | None = None
+
+
+@dataclass(frozen=True)
+class Domain:
+    """A domain that a participant's profile names."""
+
+    element: Element
+    number: int
+    is_default: bool
 
 
 class Endpoints:
@@ -52,7 +62,7 @@ class Endpoints:
             if found:
                 self.topics[topic.name] = found
         elif topic.type and type_like(topic.type) != found.type:
-            self.notes.add(element, f"its topic {found.name} has the type {found.type} above, which is the one that holds")
+            self.notes.add(element, f"its topic {found.name} has the type {found.type} above, which is the one that holds", Harm.LOST)
         return found
 
     def _application(self, element: Element, side: Side) -> Application | None:
@@ -71,10 +81,12 @@ def add_patterns(profiles: Profiles, endpoints: Endpoints, names: list[str]) -> 
         if any(profiles.filters.matches(part, name) for name in names):
             continue
         name = topic_of(part)
-        if name and profiles.filters.matches(part, name):
-            names.append(name)
-        else:
-            endpoints.notes.add(element, f"no topic can be made of the topic filter {quoted(part)}, and it is left out")
+        if not name or not profiles.filters.matches(part, name):
+            endpoints.notes.add(element, f"no topic can be made of the topic filter {quoted(part)}, and it's left out", Harm.LOST)
+            continue
+        names.append(name)
+        if name != part:
+            endpoints.notes.add(element, f"the topic filter {quoted(part)} became the topic {printable(name)}", Harm.NONE)
 
 
 def patterns_of(profiles: Profiles) -> Iterator[tuple[Element, str]]:
@@ -139,27 +151,33 @@ def fast_dds_settings(element: Element, endpoints: Endpoints) -> Settings:
     return found
 
 
+def read_domains(participant: Element, endpoints: Endpoints) -> list[Domain]:
+    """The domains that a participant's profile names."""
+    found = []
+    is_default = participant.attribute("is_default_profile") == "true"
+    for element in participant.elements("domainId"):
+        try:
+            found.append(Domain(element, whole_number(element.value(), 0, MAX_DOMAIN), is_default))
+        except BadValue as why:
+            endpoints.notes.add(element, f"{why}: the domain isn't imported", Harm.LOST)
+    return found
+
+
 def fast_dds_domain(holders: list[Element], endpoints: Endpoints) -> int:
     """The domain of the participants' profiles, where they agree on one or a default one has it, and else 0."""
-    numbers: dict[int, Element] = {}
-    for holder in holders:
-        for participant in holder.elements("participant"):
-            participant.attribute("profile_name")
-            is_default = participant.attribute("is_default_profile") == "true"
-            for element in participant.elements("domainId"):
-                try:
-                    number = whole_number(element.value(), 0, MAX_DOMAIN)
-                except BadValue as why:
-                    endpoints.notes.add(element, f"{why}: the domain isn't imported")
-                    continue
-                if is_default:
-                    return number
-                numbers.setdefault(number, element)
-    if len(numbers) > 1:
-        for element in numbers.values():
-            endpoints.notes.add(element, "profiles name several domains, and none of them is the default: 0 was taken")
-        return 0
-    return next(iter(numbers), 0)
+    participants = [one for holder in holders for one in holder.elements("participant")]
+    found = [domain for one in participants for domain in read_domains(one, endpoints)]
+    defaults = [domain.number for domain in found if domain.is_default]
+    numbers = {domain.number for domain in found}
+    if not defaults and len(numbers) > 1:
+        why, harm, taken = "profiles name several domains, and none of them is the default: 0 was taken", Harm.LOST, 0
+    else:
+        taken = next(iter(defaults or numbers), 0)
+        why, harm = f"the default profile names the domain {taken}, which was taken", Harm.OPEN
+    for domain in found:
+        if domain.number != taken or harm is Harm.LOST:
+            endpoints.notes.add(domain.element, why, harm)
+    return taken
 
 
 def add_fast_dds(holders: list[Element], endpoints: Endpoints) -> None:
@@ -169,7 +187,7 @@ def add_fast_dds(holders: list[Element], endpoints: Endpoints) -> None:
         side = FAST_DDS_SIDES[element.tag]
         name = element.attribute("profile_name") or element.tag
         if (side, name) in standing:
-            endpoints.notes.add(element, f"a profile {quoted(name)} stands above too, and became another endpoint")
+            endpoints.notes.add(element, f"a profile {quoted(name)} stands above too, and became another endpoint", Harm.NONE)
         standing.add((side, name))
         topic = fast_dds_topic(element, name)
         settings = fast_dds_settings(element, endpoints)

@@ -7,6 +7,7 @@ from policies import Value, defaults, Side
 from reading import Refused
 
 MAX_TEXT = 1_048_576
+KEYS_TO_WRITE = "  # its keys: write a name here for each value of its key fields (each instance), not the names of the fields"
 NOTES = """
 # XML has no rules: write here, as [[rules]], what each application may write at first and after which takes.
 
@@ -41,7 +42,7 @@ def participants_text(deployment: Deployment) -> str:
 def topics_text(deployment: Deployment) -> str:
     entries = ""
     for one in deployment.topics:
-        to_write = "" if one.are_keys_known else "  # its keys are to be written here"
+        to_write = "" if one.are_keys_known else KEYS_TO_WRITE
         entries += f"  {{ name = {quote(one.name)}, type = {quote(one.type)}, keys = {toml_value(one.keys)} }},{to_write}\n"
     return f"\ntopics = [\n{entries}]\n" if entries else ""
 
