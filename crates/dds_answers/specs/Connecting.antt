@@ -1,7 +1,6 @@
 -- How a command ends that prints the connections that the pairs which match would be.
-use Rattle.std.specs.Prelude.{ℕ, List, Ok, Err}
+use Rattle.std.specs.Prelude.{Ok, Err}
 use Rattle.dds_fields.specs.Reading.{Read}
-use Rattle.dds_deploy.specs.Document as deployment
 use Rattle.dds_lists.specs.Lists.{Lists}
 use Rattle.dds_match.specs.Plan.{network_of}
 use Rattle.dds_show.specs.Connections.{connections_text}
@@ -16,7 +15,3 @@ connected d = said (connections_text d) (is_as_intended (network_of d))
 abbrev pub connecting : Read Lists → Outcome
 connecting (Ok lists) = connected lists
 connecting (Err flaw) = bad_deployment flaw
-
--- how that ends for a deployment with these bytes
-unfoldable pub connections_outcome : List ℕ → Outcome
-connections_outcome d = connecting (deployment.read d)

@@ -106,10 +106,6 @@ abbrev pub showing : Format → Read Lists → Outcome
 showing format (Ok lists) = shown format lists
 showing format (Err flaw) = bad_deployment flaw
 
--- how a showing of a deployment with these bytes ends
-unfoldable pub show_outcome : Format → List ℕ → Outcome
-show_outcome format d = showing format (deployment.read d)
-
 -- a deployment is drawn with its certificate, if it is one for these lists
 abbrev pub drawing_with : Lists → Read Certificate → Outcome
 drawing_with lists (Ok cert) = drawn lists (Some cert)
@@ -120,7 +116,3 @@ abbrev pub drawing : Read Lists → Option (List ℕ) → Outcome
 drawing (Ok lists) None = drawn lists None
 drawing (Ok lists) (Some bytes) = drawing_with lists (certificate.read lists bytes)
 drawing (Err flaw) c = bad_deployment flaw
-
--- how a drawing of a deployment with these bytes ends
-unfoldable pub draw_outcome : List ℕ → Option (List ℕ) → Outcome
-draw_outcome d c = drawing (deployment.read d) c

@@ -1,5 +1,5 @@
 -- How a search for a certificate may end.
-use Rattle.std.specs.Prelude.{ℕ, List, ◌≡◌, ◌⊎◌, None, Ok, Err, true}
+use Rattle.std.specs.Prelude.{◌≡◌, ◌⊎◌, Option, Some, None, Ok, Err, true}
 use Rattle.dds_fields.specs.Reading.{Read}
 use Rattle.dds_lists.specs.Lists.{Lists}
 use Rattle.dds_deploy.specs.Document as deployment
@@ -18,6 +18,11 @@ IsProposed lists cert = (fits (network_of lists) cert ≡ true) × (first_no lis
 abbrev pub MaySeek : (Lists → Certificate → Type 0) → Read Lists → Outcome → Type 0
 MaySeek IsSought (Ok lists) end = (end ≡ unproposed) ⊎ ((cert : Certificate) × IsSought lists cert × (end ≡ proposed lists cert))
 MaySeek IsSought (Err flaw) end = end ≡ bad_deployment flaw
+
+-- how a search ends that found this certificate, or none
+abbrev pub proposal_end : Lists → Option Certificate → Outcome
+proposal_end lists (Some cert) = proposed lists cert
+proposal_end lists None = unproposed
 
 -- the certificate of the rounds, which is accepted, or none
 abbrev pub MayPropose : Read Lists → Outcome → Type 0

@@ -3,11 +3,11 @@ ghost use Rattle.std.specs.Prelude.{◌≡◌, ◌≤◌, IfErr, IfOk, IsOk, Ok,
 ghost use Rattle.dds_weights.specs.Views.{certificate_view};
 ghost use Rattle.dds_answers.specs.Answers.{Gives, GivesOneOf, answer_exit};
 ghost use Rattle.dds_answers.specs.Fault.{IsAnswerFault};
-ghost use Rattle.dds_answers.specs.Outcome.{Outcome, compared, match_outcome, outcome, proposed, show_outcome, shown};
+ghost use Rattle.dds_answers.specs.Outcome.{Outcome, compared, match_outcome, migrated, outcome, proposed, shown};
 ghost use Rattle.dds_answers.specs.Outcome.{told, unproposed};
 ghost use Rattle.dds_answers.specs.Migrations.{MayMigrate};
 ghost use Rattle.dds_answers.specs.Notes.{length_note};
-ghost use Rattle.dds_answers.specs.Proposals.{MayPropose};
+ghost use Rattle.dds_answers.specs.Proposals.{MayPropose, proposal_end};
 ghost use Rattle.dds_answers.specs.Report.{outcome_of, shown_text};
 ghost use Rattle.dds_answers.specs.Syntax.{IsFaultTold};
 ghost use Rattle.dds_deploy.specs.Document.{read as deployment_read, read_up_to};
@@ -20,7 +20,7 @@ use crate::planning::read_plan;
 use crate::reading::MAX_FILE;
 use crate::report::{Detail, Report, deployment_fault, detailed_check, detailed_text};
 use dds_base::NoMemory;
-use dds_deploy::{migrate, read_deployment};
+use dds_deploy::migrate;
 use dds_lists::Deployment;
 use dds_match::Plan;
 use dds_propose::propose;
@@ -97,9 +97,10 @@ pub fn check_answer(
 
 /// The answer to which endpoints of a plan match, which is needed no longer.
 #[tactic(auto, unfolding(crate::specs::Report::output_of, crate::specs::Report::status_of))]
-fn answer_pairs(alloc: Global, plan: Plan) -> Result<Answer, ToolFault>
+pub fn answer_pairs(alloc: Global, plan: Plan) -> Result<Answer, ToolFault>
     ensures gives { Gives result (compared plan) }
     ensures fault { IfErr result IsAnswerFault }
+    ensures memory { IfErr result (λ e. e ≡ ToolFault.NoMemory) }
 {
     let answer = answer_with(match_text(alloc, &plan), is_as_intended(&plan));
     drop(plan);
@@ -127,24 +128,13 @@ fn lists_text(alloc: Global, lists: &Deployment, format: Format) -> Result<Strin
 
 /// The answer that shows a deployment, which is needed no longer.
 #[tactic(auto, unfolding(crate::specs::Report::output_of, crate::specs::Report::status_of))]
-fn answer_lists(alloc: Global, lists: Deployment, format: Format) -> Result<Answer, ToolFault>
+pub fn answer_lists(alloc: Global, lists: Deployment, format: Format) -> Result<Answer, ToolFault>
     ensures gives { Gives result (shown format lists) }
-    ensures fault { IfErr result IsAnswerFault }
+    ensures memory { IfErr result (λ e. e ≡ ToolFault.NoMemory) }
 {
     let answer = answer_with(lists_text(alloc, &lists, format), true);
     drop(lists);
     answer
-}
-
-/// The answer of `show` to the bytes of a deployment: yes with the deployment as it was read, in this format.
-pub fn show_answer(alloc: Global, deployment: &[u8], format: Format) -> Result<Answer, ToolFault>
-    ensures gives { Gives result (show_outcome format deployment.now) }
-    ensures fault { IfErr result IsAnswerFault }
-{
-    match read_deployment(alloc, deployment) {
-        Ok(lists) => answer_lists(alloc, lists, format),
-        Err(fault) => Err(deployment_fault(fault)),
-    }
 }
 
 /// The line for a text that commands read: that it's longer than a file may be, if it is.
@@ -192,6 +182,7 @@ pub fn answer_certificate(
     ensures gives { Gives result (proposed plan.now (certificate_view certificate.now)) }
     ensures note { IfOk result (λ a. option_map string_bytes a.note ≡ length_note (string_bytes a.text)) }
     ensures fault { IfErr result IsAnswerFault }
+    ensures memory { IfErr result (λ e. e ≡ ToolFault.NoMemory) }
 {
     answer_file(alloc, certificate_text(alloc, plan, certificate))
 }
@@ -200,20 +191,54 @@ pub fn answer_certificate(
 #[tactic(auto, unfolding(crate::specs::Report::output_of, crate::specs::Report::status_of))]
 fn answer_none(alloc: Global) -> Result<Answer, ToolFault>
     ensures gives { Gives result unproposed }
-    ensures fault { IfErr result IsAnswerFault }
+    ensures memory { IfErr result (λ e. e ≡ ToolFault.NoMemory) }
 {
     answer_with(String::from_str(alloc, "none\n"), false)
 }
 
+/// The answer with the text of the certificate that was proposed, or that none was.
+fn answer_found(
+    alloc: Global,
+    plan: &Plan,
+    certificate: &Option<Certificate>,
+) -> Result<Answer, ToolFault>
+    ensures gives { Gives result (proposal_end plan.now (option_map certificate_view certificate.now)) }
+    ensures memory { IfErr result (λ e. e ≡ ToolFault.NoMemory) }
+{
+    match certificate {
+        Some(certificate) => answer_certificate(alloc, plan, certificate),
+        None => answer_none(alloc),
+    }
+}
+
+/// The answer to what the rounds proposed for a plan, both of which are needed no longer: yes with the text of the
+/// certificate, or no where there's none.
+pub fn answer_proposal(
+    alloc: Global,
+    plan: Plan,
+    certificate: Option<Certificate>,
+) -> Result<Answer, ToolFault>
+    ensures gives { Gives result (proposal_end plan (option_map certificate_view certificate)) }
+    ensures fault { IfErr result IsAnswerFault }
+    ensures memory { IfErr result (λ e. e ≡ ToolFault.NoMemory) }
+{
+    let answer = answer_found(alloc, &plan, &certificate);
+    drop(plan);
+    drop(certificate);
+    answer
+}
+
 /// The answer to what is proposed for a plan.
-fn answer_proposal(alloc: Global, plan: &Plan) -> Result<Answer, ToolFault>
-    ensures gives { (end : Outcome) × MayPropose (Ok plan.now) end × Gives result end }
+fn propose_for(alloc: Global, plan: Plan) -> Result<Answer, ToolFault>
+    ensures gives { (end : Outcome) × MayPropose (Ok plan) end × Gives result end }
     ensures fault { IfErr result IsAnswerFault }
 {
-    match propose(alloc, plan) {
-        Ok(Some(certificate)) => answer_certificate(alloc, plan, &certificate),
-        Ok(None) => answer_none(alloc),
-        Err(_) => Err(ToolFault::NoMemory),
+    match propose(alloc, &plan) {
+        Ok(certificate) => answer_proposal(alloc, plan, certificate),
+        Err(_) => {
+            drop(plan);
+            Err(ToolFault::NoMemory)
+        }
     }
 }
 
@@ -224,9 +249,18 @@ pub fn propose_answer(alloc: Global, deployment: &[u8]) -> Result<Answer, ToolFa
     ensures fault { IfErr result IsAnswerFault }
 {
     let plan = read_plan(alloc, deployment)?;
-    let answer = answer_proposal(alloc, &plan);
-    drop(plan);
-    answer
+    propose_for(alloc, plan)
+}
+
+/// The answer with the text of a deployment that was migrated. A line says so where it's longer than a file may be.
+#[tactic(auto, unfolding(crate::specs::Report::output_of, crate::specs::Report::status_of))]
+pub fn answer_migration(alloc: Global, text: String) -> Result<Answer, ToolFault>
+    ensures gives { Gives result (migrated (string_bytes text)) }
+    ensures note { IfOk result (λ a. option_map string_bytes a.note ≡ length_note (string_bytes a.text)) }
+    ensures fault { IfErr result IsAnswerFault }
+    ensures memory { IfErr result (λ e. e ≡ ToolFault.NoMemory) }
+{
+    answer_file(alloc, Ok(text))
 }
 
 /// The answer of `migrate` to the bytes of a deployment of version 1: yes with a text of version 2 that stands for the
@@ -237,7 +271,7 @@ pub fn migrate_answer(alloc: Global, deployment: &[u8]) -> Result<Answer, ToolFa
     ensures fault { IfErr result IsAnswerFault }
 {
     match migrate(alloc, deployment) {
-        Ok(text) => answer_file(alloc, Ok(text)),
+        Ok(text) => answer_migration(alloc, text),
         Err(fault) => Err(deployment_fault(fault)),
     }
 }

@@ -24,13 +24,13 @@ mod structure;
 mod syntax;
 
 pub use answer::{
-    Answer, answer_certificate, answer_report, answer_with, check_answer, match_answer,
-    migrate_answer, propose_answer, show_answer,
+    Answer, answer_certificate, answer_lists, answer_migration, answer_pairs, answer_proposal,
+    answer_report, answer_with, check_answer, match_answer, migrate_answer, propose_answer,
 };
-pub use connecting::connections_answer;
+pub use connecting::answer_connections;
 pub use counted::Counted;
 pub use disk::Disk;
-pub use drawing::draw_answer;
+pub use drawing::answer_drawing;
 pub use exit::Exit;
 pub use fault::{ToolFault, exit_of, fault_text};
 pub use files::{read_file, read_file_up_to, read_files};
@@ -41,8 +41,8 @@ pub use output::{Output, Stream};
 pub use planning::{plan_of, read_plan};
 pub use reading::{MAX_FILE, read_all, read_up_to};
 pub use report::{
-    Detail, Report, answer_check, because_text, deployment_fault, detailed_check, detailed_text,
-    report_text,
+    Detail, Report, answer_check, because_text, certificate_fault, deployment_fault,
+    detailed_check, detailed_text, report_text,
 };
 pub use sources::Sources;
 pub use structure::structure_text;

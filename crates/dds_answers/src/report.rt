@@ -54,7 +54,8 @@ pub fn deployment_fault(fault: DeployFault) -> ToolFault
     }
 }
 
-pub(crate) fn certificate_fault(fault: CertFault) -> ToolFault
+/// The fault of a certificate that could not be read.
+pub fn certificate_fault(fault: CertFault) -> ToolFault
     ensures { IsCertificateFault fault result }
 {
     match fault {

@@ -16,12 +16,11 @@ use Rattle.dds_lint.proofs.FirstOfAll.{first_of_all}
 use Rattle.dds_answers.specs.Outcome.{judged, outcome, planned, verdict}
 use Rattle.dds_answers.specs.declared.answer.Answer.{Answer}
 use Rattle.dds_findings.specs.Agreement.{AgreesWithCheck, AnswersAsCheck, has_error, says_yes}
-use Rattle.dds_findings.specs.Answers.{IsLintAnswer, is_clean}
-use Rattle.dds_findings.specs.Blocks.{FileNames, errors_of, notes_of}
+use Rattle.dds_findings.specs.Answers.{is_clean}
+use Rattle.dds_findings.specs.Blocks.{denied_notes_of, errors_of}
 use Rattle.dds_findings.specs.Findings.{AreFaults, IsBare, IsFound, IsJudged, IsLint, abouts, is_error, is_fault, of_lists}
 use Rattle.dds_findings.specs.declared.answer.Deny.{Deny}
 use Rattle.dds_findings.specs.declared.answer.Deny.TheVariants as deny
-use Rattle.dds_findings.specs.declared.answer.LintStyle.{LintStyle}
 use Rattle.dds_findings.specs.declared.finding.About.{About}
 use Rattle.dds_findings.specs.declared.finding.About.TheVariants as about
 use Rattle.dds_findings.specs.declared.finding.Finding.{Finding}
@@ -163,20 +162,18 @@ and_left : (a b : Bool) → (a && b) ≡ true → a ≡ true
 and_left true b h = refl
 and_left false b h = h
 
-as_check : (denied : Deny) (d : List ℕ) (c : Option (List ℕ)) (answer : Answer) (findings : List Finding) → IsLint d c (abouts findings) → answer.is_yes ≡ is_clean denied findings
-    → AnswersAsCheck denied d c answer
-as_check deny.Errors d (Some c) answer findings lint clean =
-    clean ∙ (none_counted findings ∙ (ap not (lint_agrees d (Some c) (abouts findings) lint) ∙ not_not (says_yes (outcome d c))))
-as_check deny.Errors d None answer findings lint clean =
-    λ denies c. lint_agrees d None (abouts findings) lint (not_false (has_error (abouts findings)) (sym (clean ∙ none_counted findings) ∙ denies)) c
-as_check deny.Notes d (Some c) answer findings lint clean =
+as_check : (denied : Deny) (d : List ℕ) (c : Option (List ℕ)) (answer : Answer) (findings : List Finding) → AgreesWithCheck d c (abouts findings)
+    → answer.is_yes ≡ is_clean denied findings → AnswersAsCheck denied d c answer
+as_check deny.Errors d (Some c) answer findings agrees clean = clean ∙ (none_counted findings ∙ (ap not agrees ∙ not_not (says_yes (outcome d c))))
+as_check deny.Errors d None answer findings agrees clean =
+    λ denies c. agrees (not_false (has_error (abouts findings)) (sym (clean ∙ none_counted findings) ∙ denies)) c
+as_check deny.Notes d (Some c) answer findings agrees clean =
     λ yes. not_false (says_yes (outcome d c))
-    (sym (lint_agrees d (Some c) (abouts findings) lint)
-    ∙ not_true (has_error (abouts findings)) (sym (none_counted findings) ∙ and_left (errors_of findings == 0) (notes_of findings == 0) (sym clean ∙ yes)))
-as_check deny.Notes d None answer findings lint clean = tt
+    (sym agrees ∙ not_true (has_error (abouts findings)) (sym (none_counted findings) ∙ and_left (errors_of findings == 0) (denied_notes_of findings == 0) (sym clean ∙ yes)))
+as_check deny.Notes d None answer findings agrees clean = tt
 
--- an answer that tells what lint finds agrees with the check
-pub answered_as_check : {E : Type 0} (form : LintStyle) (denied : Deny) (names : FileNames) (d : List ℕ) (c : Option (List ℕ)) (r : Result Answer E)
-    → IfOk r (IsLintAnswer form denied names d c) → IfOk r (AnswersAsCheck denied d c)
-answered_as_check form denied names d c (Ok answer) (fs, lint, text, clean) = as_check denied d c answer fs lint clean
-answered_as_check form denied names d c (Err e) said = tt
+-- an answer that is yes where findings are clean agrees with the check as they do
+pub answers_as_check : {E : Type 0} (P : Answer → Type 0) (denied : Deny) (d : List ℕ) (c : Option (List ℕ)) (findings : List Finding) (b : Bool) (r : Result Answer E)
+    → b ≡ is_clean denied findings → IfOk r (λ a. (a.is_yes ≡ b) × P a) → AgreesWithCheck d c (abouts findings) → IfOk r (AnswersAsCheck denied d c)
+answers_as_check P denied d c findings b (Ok answer) clean is agrees = as_check denied d c answer findings agrees (is.0 ∙ clean)
+answers_as_check P denied d c findings b (Err e) clean is agrees = tt

@@ -1,20 +1,18 @@
 -- What lint answers.
-use Rattle.std.specs.Prelude.{ℕ, ◌≡◌, Bool, ◌&&◌, ◌==◌, List, [], Option, string_bytes, unwrap_or}
-use Rattle.dds_answers.specs.declared.answer.Answer.{Answer}
+use Rattle.std.specs.Prelude.{ℕ, Bool, ◌&&◌, ◌==◌, List, [], Option, unwrap_or}
 use Rattle.dds_json.specs.Line.{line_of}
-use Rattle.dds_findings.specs.Blocks.{FileNames, blocks, errors_of, notes_of}
+use Rattle.dds_findings.specs.Blocks.{FileNames, blocks, denied_notes_of, errors_of}
 use Rattle.dds_findings.specs.Documents.{findings_document, sarif_document}
-use Rattle.dds_findings.specs.Findings.{IsLint, abouts}
 use Rattle.dds_findings.specs.declared.answer.Deny.{Deny}
 use Rattle.dds_findings.specs.declared.answer.Deny.TheVariants as deny
 use Rattle.dds_findings.specs.declared.answer.LintStyle.{LintStyle}
 use Rattle.dds_findings.specs.declared.answer.LintStyle.TheVariants as style
 use Rattle.dds_findings.specs.declared.finding.Finding.{Finding}
 
--- there are none of the findings that are denied
+-- there are none of the findings that are denied; of a reader that may lose samples by its deployment the note isn't
 abbrev pub is_clean : Deny → List Finding → Bool
 is_clean deny.Errors findings = errors_of findings == 0
-is_clean deny.Notes findings = (errors_of findings == 0) && (notes_of findings == 0)
+is_clean deny.Notes findings = (errors_of findings == 0) && (denied_notes_of findings == 0)
 
 -- findings in this form
 abbrev pub findings_text : LintStyle → FileNames → List Finding → (is_yes : Bool) → List ℕ
@@ -25,8 +23,3 @@ findings_text style.Sarif names findings is_yes = line_of (sarif_document names 
 -- what the files are called, where there may be no certificate
 abbrev pub names_of : (deployment : List ℕ) → (certificate : Option (List ℕ)) → FileNames
 names_of deployment certificate = (deployment, unwrap_or certificate [])
-
--- the answer says in this form what lint finds in files with these names and bytes, and is yes where none of it is denied
-abbrev pub IsLintAnswer : LintStyle → Deny → FileNames → (deployment : List ℕ) → (certificate : Option (List ℕ)) → Answer → Type 0
-IsLintAnswer form denied names d c answer =
-    (fs : List Finding) × IsLint d c (abouts fs) × (string_bytes answer.text ≡ findings_text form names fs (is_clean denied fs)) × (answer.is_yes ≡ is_clean denied fs)

@@ -1,7 +1,7 @@
 -- Findings as people read them.
 use Rattle.std.specs.Prelude.{ℕ, Bool, not, ◌==◌, List, [], ◌++◌, codes, flat_map, count_by, string_bytes, if◌then◌else◌}
 use Rattle.std.specs.Fmt.{decimal}
-use Rattle.dds_findings.specs.Findings.{is_error, level_of, level_word}
+use Rattle.dds_findings.specs.Findings.{is_denied_note, is_error, level_of, level_word}
 use Rattle.dds_findings.specs.declared.finding.Finding.{Finding}
 use Rattle.dds_findings.specs.declared.finding.Role.{Role}
 use Rattle.dds_findings.specs.declared.finding.Role.TheVariants as role
@@ -53,6 +53,9 @@ errors_of findings = count_by (λ f. is_error f.about) findings
 abbrev pub notes_of : List Finding → ℕ
 notes_of findings = count_by (λ f. not (is_error f.about)) findings
 
+abbrev pub denied_notes_of : List Finding → ℕ
+denied_notes_of findings = count_by (λ f. is_denied_note f.about) findings
+
 -- the end of a word for so many things
 abbrev pub plural : ℕ → List ℕ
 plural n = if n == 1 then [] else codes "s"
@@ -61,6 +64,11 @@ abbrev pub sum_line : List Finding → List ℕ
 sum_line findings =
     decimal (errors_of findings) ++ (codes " error" ++ (plural (errors_of findings) ++ (codes ", " ++ (decimal (notes_of findings) ++ (codes " note" ++ (plural (notes_of findings) ++ codes "\n"))))))
 
--- the blocks, and how many errors and notes there are
+-- without a certificate, that no limit is compared with a bound
+abbrev pub bare_line : (certificate : List ℕ) → List ℕ
+bare_line [] = codes "limits aren't checked without a certificate: `ddscheck limits` prints what they need\n"
+bare_line certificate = []
+
+-- the blocks, how many errors and notes there are, and what isn't checked
 abbrev pub blocks : FileNames → List Finding → List ℕ
-blocks names findings = flat_map (block names) findings ++ sum_line findings
+blocks names findings = flat_map (block names) findings ++ (sum_line findings ++ bare_line names.1)

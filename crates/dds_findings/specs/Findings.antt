@@ -12,6 +12,7 @@ use Rattle.dds_lint.specs.Conditions.{all_nos, bare_nos}
 use Rattle.dds_lint.specs.Live.{IsLive}
 use Rattle.dds_lint.specs.Notes.{all_notes}
 use Rattle.dds_lint.specs.declared.notes.Note.{Note}
+use Rattle.dds_lint.specs.declared.notes.Note.TheVariants as note
 use Rattle.dds_findings.specs.declared.finding.About.{About}
 use Rattle.dds_findings.specs.declared.finding.About.TheVariants as about
 use Rattle.dds_findings.specs.declared.finding.Finding.{Finding}
@@ -32,6 +33,16 @@ abbrev pub is_error : About → Bool
 is_error about.Fault = true
 is_error (about.Condition refused) = true
 is_error (about.Note note) = false
+
+-- a note that is denied where notes are: not one that says of a reader what its deployment says itself
+abbrev pub is_denied : Note → Bool
+is_denied (note.MayLose r) = false
+is_denied _ = true
+
+abbrev pub is_denied_note : About → Bool
+is_denied_note about.Fault = false
+is_denied_note (about.Condition refused) = false
+is_denied_note (about.Note note) = is_denied note
 
 -- what findings are about, in their order
 abbrev pub abouts : List Finding → List About

@@ -1,12 +1,12 @@
 //! What `lint` answers.
-ghost use Rattle.std.specs.Prelude.{◌≡◌, IfErr, IfOk, option_map, string_bytes};
-ghost use Rattle.dds_findings.specs.Agreement.{AnswersAsCheck};
-ghost use Rattle.dds_findings.specs.Answers.{IsLintAnswer, findings_text, is_clean, names_of};
+ghost use Rattle.std.specs.Prelude.{◌≡◌, ℕ, List, Option, IfErr, IfOk, option_map, string_bytes};
+ghost use Rattle.dds_findings.specs.Agreement.{AgreesWithCheck, AnswersAsCheck};
+ghost use Rattle.dds_findings.specs.Answers.{findings_text, is_clean, names_of};
+ghost use Rattle.dds_findings.specs.Findings.{abouts};
 
-use crate::block::{FileNames, blocks_text, errors_of, notes_of};
+use crate::block::{FileNames, blocks_text, denied_notes_of, errors_of};
 use crate::document::findings_line;
 use crate::finding::Finding;
-use crate::linting::lint;
 use crate::sarif::sarif_line;
 use dds_answers::{Answer, ToolFault, answer_with};
 use dds_base::NoMemory;
@@ -28,7 +28,7 @@ pub enum LintStyle {
 pub enum Deny {
     /// With errors alone.
     Errors,
-    /// With errors and with notes.
+    /// With errors and with notes, but for those on readers of which the deployment says that they may lose samples.
     Notes,
 }
 
@@ -45,7 +45,7 @@ fn is_clean(deny: Deny, findings: &[Finding]) -> bool
 {
     match deny {
         Deny::Errors => errors_of(findings) == 0,
-        Deny::Notes => errors_of(findings) == 0 && notes_of(findings) == 0,
+        Deny::Notes => errors_of(findings) == 0 && denied_notes_of(findings) == 0,
     }
 }
 
@@ -67,7 +67,7 @@ fn findings_text(
 }
 
 /// What the two files are called.
-fn names_of<'a>(deployment: &Named<'a>, certificate: Option<Named<'a>>) -> FileNames<'a>
+pub fn names_of<'a>(deployment: &Named<'a>, certificate: Option<Named<'a>>) -> FileNames<'a>
     ensures { result ≡ names_of deployment.now.name.now (option_map (λ c. c.name.now) certificate.entry) }
 {
     FileNames {
@@ -79,51 +79,23 @@ fn names_of<'a>(deployment: &Named<'a>, certificate: Option<Named<'a>>) -> FileN
     }
 }
 
-/// The answer that says everything that `lint` finds, in this form, and is yes where there are none of the findings
-/// that are denied.
-fn findings_answer(
+/// The answer with what `lint` found in files with these names, in this form: yes where there are none of the findings
+/// that are denied. Where errors alone are denied it agrees with the check of the files as far as the findings do: of
+/// two files it's yes exactly where the check of them says yes. `NoMemory` is the only error.
+pub fn answer_findings(
     alloc: Global,
-    deployment: &Named,
-    certificate: Option<Named>,
+    names: &FileNames,
+    findings: &[Finding],
     style: LintStyle,
     deny: Deny,
 ) -> Result<Answer, ToolFault>
-    ensures said { IfOk result (IsLintAnswer style deny
-        (names_of deployment.now.name.now (option_map (λ c. c.name.now) certificate.entry)) deployment.now.bytes.now
-        (option_map (λ c. c.bytes.now) certificate.entry)) }
+    ensures text { IfOk result
+        (λ a. string_bytes a.text ≡ findings_text style names.now findings.now (is_clean deny findings.now)) }
+    ensures yes { IfOk result (λ a. a.is_yes ≡ is_clean deny findings.now) }
+    ensures agrees { (d : List ℕ) → (c : Option (List ℕ)) → AgreesWithCheck d c (abouts findings.now)
+        → IfOk result (AnswersAsCheck deny d c) }
     ensures memory { IfErr result (λ e. e ≡ ToolFault.NoMemory) }
 {
-    let bytes = match certificate {
-        Some(certificate) => Some(certificate.bytes),
-        None => None,
-    };
-    let Ok(findings) = lint(alloc, deployment.bytes, bytes) else {
-        return Err(ToolFault::NoMemory);
-    };
-    let names = names_of(deployment, certificate);
-    let is_yes = is_clean(deny, &findings);
-    answer_with(
-        findings_text(alloc, &names, &findings, style, is_yes),
-        is_yes,
-    )
-}
-
-/// The answer of `lint` to the bytes of a deployment and of a certificate, if there is one: everything that `lint`
-/// finds, in this form. It is yes where there are none of the findings that are denied: of two files, where errors
-/// alone are denied, exactly where the check of them says yes. Its only fault is `NoMemory`.
-pub fn lint_answer(
-    alloc: Global,
-    deployment: &Named,
-    certificate: Option<Named>,
-    style: LintStyle,
-    deny: Deny,
-) -> Result<Answer, ToolFault>
-    ensures said { IfOk result (IsLintAnswer style deny
-        (names_of deployment.now.name.now (option_map (λ c. c.name.now) certificate.entry)) deployment.now.bytes.now
-        (option_map (λ c. c.bytes.now) certificate.entry)) }
-    ensures agrees { IfOk result
-        (AnswersAsCheck deny deployment.now.bytes.now (option_map (λ c. c.bytes.now) certificate.entry)) }
-    ensures memory { IfErr result (λ e. e ≡ ToolFault.NoMemory) }
-{
-    findings_answer(alloc, deployment, certificate, style, deny)
+    let is_yes = is_clean(deny, findings);
+    answer_with(findings_text(alloc, names, findings, style, is_yes), is_yes)
 }

@@ -1,7 +1,8 @@
 //! Findings as people read them: a block each, with the line of the file.
-ghost use Rattle.std.specs.Prelude.{◌≡◌, IfOk, flat_map, string_bytes};
-ghost use Rattle.dds_findings.specs.Blocks.{block, blocks, detail_line, errors_of, file_name, head_line, help_words};
-ghost use Rattle.dds_findings.specs.Blocks.{notes_of, place_lines, plural, source_lines, sum_line};
+ghost use Rattle.std.specs.Prelude.{◌≡◌, ◌++◌, IfOk, flat_map, string_bytes};
+ghost use Rattle.dds_findings.specs.Blocks.{bare_line, block, blocks, denied_notes_of, detail_line, errors_of};
+ghost use Rattle.dds_findings.specs.Blocks.{file_name, head_line, help_words, notes_of, place_lines, plural};
+ghost use Rattle.dds_findings.specs.Blocks.{source_lines, sum_line};
 
 use crate::finding::{Finding, Level, Role};
 use dds_base::NoMemory;
@@ -130,6 +131,16 @@ pub(crate) fn notes_of(findings: &[Finding]) -> usize
         .count()
 }
 
+/// How many findings are notes that are denied where notes are.
+pub(crate) fn denied_notes_of(findings: &[Finding]) -> usize
+    ensures { result ≡ denied_notes_of findings.now }
+{
+    findings
+        .iter()
+        .filter(|finding| finding.about.is_denied_note())
+        .count()
+}
+
 /// The end of a word for so many things.
 fn plural(count: usize) -> &'static str
     ensures { result.now ≡ plural count }
@@ -148,7 +159,28 @@ fn sum_text(alloc: Global, findings: &[Finding]) -> Result<String, NoMemory>
     format!(in alloc; "{errors} error{of_errors}, {notes} note{of_notes}\n")
 }
 
-/// The blocks of findings, in their order, and how many there are. `NoMemory` is the only error.
+/// That no limit is compared with a bound, where there's no certificate.
+fn bare_line(certificate: &str) -> &'static str
+    ensures { result.now ≡ bare_line certificate.now }
+{
+    if certificate.is_empty() {
+        "limits aren't checked without a certificate: `ddscheck limits` prints what they need\n"
+    } else {
+        ""
+    }
+}
+
+/// How many errors and notes there are, and what isn't checked.
+fn last_lines(alloc: Global, names: &FileNames, findings: &[Finding]) -> Result<String, NoMemory>
+    ensures { IfOk result
+        (λ text. string_bytes text ≡ sum_line findings.now ++ bare_line names.now.1) }
+{
+    let sum = sum_text(alloc, findings)?;
+    let bare = bare_line(names.certificate);
+    format!(in alloc; "{sum}{bare}")
+}
+
+/// The blocks of findings, in their order, how many there are, and what isn't checked. `NoMemory` is the only error.
 pub(crate) fn blocks_text(
     alloc: Global,
     names: &FileNames,
@@ -161,7 +193,7 @@ pub(crate) fn blocks_text(
         let next = block(alloc, names, finding)?;
         text.push_str(next.as_str())?;
     }
-    let sum = sum_text(alloc, findings)?;
-    text.push_str(sum.as_str())?;
+    let last = last_lines(alloc, names, findings)?;
+    text.push_str(last.as_str())?;
     Ok(text)
 }

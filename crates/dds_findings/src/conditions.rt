@@ -10,6 +10,7 @@ use crate::words::{first_line, later_lines};
 use dds_base::{KeyNo, NoMemory, ReaderNo, RuleNo, WriterNo};
 use dds_check::{No, Number, Subject};
 use dds_explain::reason;
+use dds_match::{Plan, WhyNot};
 use std::alloc::Global;
 
 /// Where a condition fails: an entry of a file, and the field of it that says so.
@@ -47,6 +48,27 @@ fn cure(number: Number) -> &'static str {
     }
 }
 
+/// What would be right for a pair that a connection names and that doesn't match.
+fn pair_cure(plan: &Plan, writer: WriterNo, reader: ReaderNo) -> &'static str {
+    match plan.why_not(writer, reader) {
+        Some(WhyNot::OtherDomain) =>
+            "put their participants into one domain, or take the connection out",
+        Some(WhyNot::OtherTopic) => "give both the same topic, or take the connection out",
+        Some(WhyNot::Partitions) => "let their partitions agree, or take the connection out",
+        Some(WhyNot::Policies(_)) | None => cure(Number::IntendedNotMatched),
+    }
+}
+
+/// What would be right where a condition fails for something.
+fn cure_of(plan: &Plan, no: &No) -> &'static str {
+    match (no.number, no.subject) {
+        (Number::IntendedNotMatched, Subject::Pair { writer, reader }) => {
+            pair_cure(plan, writer, reader)
+        }
+        _ => cure(no.number),
+    }
+}
+
 /// The field that a condition reads of an endpoint.
 fn field(number: Number) -> &'static str {
     match number {
@@ -59,7 +81,6 @@ fn field(number: Number) -> &'static str {
         Number::BoundOverSamples => "max_samples",
         Number::KeepLastFilter => "filter",
         Number::WriterDepth => "depth",
-        Number::BoundOverInstanceLimit => "max_samples_per_instance",
         _ => "name",
     }
 }
@@ -119,7 +140,43 @@ fn pair_place(
     }
 }
 
-/// The place of a key of a reader: of 33 that of its bound.
+/// Whether a reader keeps the last samples of a key alone, and fewer than its limit of an instance.
+fn is_depth_lower(plan: &Plan, reader: ReaderNo) -> bool {
+    if reader.number() >= plan.lists().readers() {
+        return false;
+    }
+    let limits = plan.reader_limits(reader);
+    match (limits.keep_last, limits.max_samples_per_instance) {
+        (Some(depth), Some(most)) => depth <= most,
+        (depth, _) => depth.is_some(),
+    }
+}
+
+/// The place of the field of a reader that limits a key: its depth where that's the lower limit, or its history where
+/// the depth is left out.
+fn limit_place(
+    alloc: Global,
+    files: &Files,
+    judged: &Judged,
+    reader: ReaderNo,
+) -> Result<Spotted, NoMemory> {
+    let place = reader.number();
+    let path = format!(in alloc; "readers[{place}]")?;
+    let depth = format!(in alloc; "readers[{place}].depth")?;
+    let field = match is_depth_lower(judged.plan, reader) {
+        false => "max_samples_per_instance",
+        true if files.deployment.has(depth.as_str()) => "depth",
+        true => "history",
+    };
+    let spot = files.deployment.field_spot(alloc, path.as_str(), field)?;
+    Ok(Spotted {
+        role: Role::Deployment,
+        path,
+        spot,
+    })
+}
+
+/// The place of a key of a reader: of 22 that of its limit, of 33 that of its bound.
 fn instance_place(
     alloc: Global,
     files: &Files,
@@ -134,6 +191,7 @@ fn instance_place(
             let entry = judged.entries.get(place).copied().unwrap_or(place);
             in_certificate(alloc, files, "bounds", entry)
         }
+        Number::BoundOverInstanceLimit => limit_place(alloc, files, judged, reader),
         _ => in_deployment(alloc, files, "readers", reader.number(), number),
     }
 }
@@ -205,7 +263,7 @@ pub(crate) fn condition(
     let because = reason(alloc, judged.plan, judged.certificate, *no)?;
     let message = first_line(alloc, because.as_str())?;
     let details = later_lines(alloc, because.as_str())?;
-    let help = String::from_str(alloc, cure(no.number))?;
+    let help = String::from_str(alloc, cure_of(judged.plan, no))?;
     let place = place_of(alloc, files, judged, no.number, no.subject)?;
     Ok(Finding {
         about: About::Condition(*no),

@@ -53,6 +53,15 @@ fn document_fault(
     })
 }
 
+/// What a text that is no TOML would be right with; nothing where that isn't known.
+fn syntax_help(file: &Located) -> &'static str {
+    if file.is_text("none\n") {
+        "this is what `propose` prints where it finds no certificate; standard error says why"
+    } else {
+        ""
+    }
+}
+
 /// The finding of a text that is no TOML: where the parser stopped, and what it says.
 fn syntax_fault(alloc: Global, file: &Located, role: Role) -> Result<Finding, NoMemory>
     ensures { IfOk result (λ finding. finding.about ≡ about.Fault) }
@@ -64,7 +73,7 @@ fn syntax_fault(alloc: Global, file: &Located, role: Role) -> Result<Finding, No
         role,
         path: String::new(alloc),
         message,
-        help: String::new(alloc),
+        help: String::from_str(alloc, syntax_help(file))?,
         details: Vec::new(alloc),
         spot: file.spot(alloc, at)?,
     })

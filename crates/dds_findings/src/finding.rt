@@ -1,6 +1,6 @@
 //! A finding: what it is about, what it says, and where it is.
 ghost use Rattle.std.specs.Prelude.{◌≡◌};
-ghost use Rattle.dds_findings.specs.Findings.{level_of, level_word};
+ghost use Rattle.dds_findings.specs.Findings.{is_denied_note, level_of, level_word};
 
 use crate::spot::Spot;
 use dds_check::No;
@@ -59,6 +59,17 @@ impl About {
         match self {
             About::Fault | About::Condition(_) => Level::Error,
             About::Note(_) => Level::Note,
+        }
+    }
+
+    /// Whether it's a note that is denied where notes are: not one that says of a reader what its deployment says
+    /// itself.
+    pub fn is_denied_note(self) -> bool
+        ensures { result ≡ is_denied_note self }
+    {
+        match self {
+            About::Note(Note::MayLose(_)) | About::Fault | About::Condition(_) => false,
+            About::Note(_) => true,
         }
     }
 }

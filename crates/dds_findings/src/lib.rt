@@ -16,7 +16,7 @@ mod sarif;
 mod spot;
 mod words;
 
-pub use answer::{Deny, LintStyle, Named, lint_answer};
+pub use answer::{Deny, LintStyle, Named, answer_findings, names_of};
 pub use block::FileNames;
 pub use finding::{About, Finding, Level, Role};
 pub use linting::lint;

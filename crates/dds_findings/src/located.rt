@@ -137,6 +137,11 @@ impl<'a> Located<'a> {
         self.places.find(path).is_exact
     }
 
+    /// Whether the file is this text.
+    pub(crate) fn is_text(&self, text: &str) -> bool {
+        self.bytes == text.as_bytes()
+    }
+
     /// The spot of the name or the header of what a path leads to.
     pub(crate) fn name_spot(&self, alloc: Global, path: &str) -> Result<Spot, NoMemory> {
         self.spot(alloc, self.places.find(path).name)

@@ -5,7 +5,7 @@ ghost use Rattle.dds_findings.specs.declared.finding.About.TheVariants as about;
 use crate::conditions::{Spotted, rule_entry};
 use crate::finding::{About, Finding, Role};
 use crate::linting::{Files, Judged};
-use dds_base::{NoMemory, ReaderNo};
+use dds_base::{NoMemory, RuleNo};
 use dds_explain::note_text;
 use dds_lint::Note;
 use dds_lists::Deployment;
@@ -15,6 +15,7 @@ use std::alloc::Global;
 fn name_of(note: Note) -> &'static str {
     match note {
         Note::Watcher(_) => "Watcher",
+        Note::MayLose(_) => "MayLose",
         Note::Unlimited(_) => "Unlimited",
         Note::IdleLimit(_) => "IdleLimit",
         Note::UnwrittenKey { .. } => "UnwrittenKey",
@@ -30,50 +31,49 @@ fn name_of(note: Note) -> &'static str {
     }
 }
 
-/// Why a reader is a watcher.
-fn watcher_cause(lists: &Deployment, reader: ReaderNo) -> &'static str {
-    if reader.number() < lists.readers() && lists.reader(reader).may_lose {
-        "it has `may_lose = true`"
+/// What would be right for a rule that can never fire once its start is used up.
+fn stuck_help(lists: &Deployment, rule: RuleNo) -> &'static str {
+    if rule.number() < lists.rules() && 0 < lists.rule(rule).start {
+        "once its `start` is used up, it waits for a sample that no rule writes"
     } else {
-        "a strict reader has `reliability = \"RELIABLE\"`"
+        "let something that it takes be written, or give it a `start`"
     }
 }
 
-/// The field that makes a reader a watcher.
-fn watcher_field(lists: &Deployment, reader: ReaderNo) -> &'static str {
-    if reader.number() < lists.readers() && lists.reader(reader).may_lose {
-        "may_lose"
+/// What would be right for a reader that may miss samples.
+fn watcher_help(lists: &Deployment) -> &'static str {
+    if lists.version() < 3 {
+        "a strict reader has `reliability = \"RELIABLE\"`"
     } else {
-        "reliability"
+        "a strict reader has `reliability = \"RELIABLE\"`; one that may lose samples says `may_lose = true`"
     }
 }
 
 /// What would be right, or why it is so.
 fn help_of(lists: &Deployment, note: Note) -> &'static str {
     match note {
-        Note::Watcher(reader) => watcher_cause(lists, reader),
+        Note::Watcher(_) => watcher_help(lists),
+        Note::MayLose(_) => "it has `may_lose = true`",
         Note::Unlimited(_) => "give it a limit: `ddscheck limits` prints how much room it needs",
         Note::IdleLimit(_) => "write `history = \"KEEP_ALL\"`, or a greater `depth`",
-        Note::UnwrittenKey { .. } => "let a rule write it, or take it out of `keys`",
+        Note::UnwrittenKey { .. } =>
+            "let a rule write it, or take it out of `keys`; a rule with `each` leaves out what one of its topics lacks",
         Note::IdleWriter(_) =>
             "let a rule write there: after which takes, or `start = \"unlimited\"`",
         Note::NoRules => "say in `rules` what the applications do",
         Note::NoStart => "give a rule a `start`: how often it writes before anything was taken",
-        Note::StuckRule(_) => "let something that it takes be written, or give it a `start`",
+        Note::StuckRule(rule) => stuck_help(lists, rule),
         Note::LossyTake(_) => "a rule that needs each sample needs a strict reader",
         Note::UnusedRow(_) | Note::NeedlessBound(_) | Note::NeedlessTotal(_) => "take it out",
-        Note::HeldUp { .. } =>
-            "give the writer no limit of samples, or let a rule wait for the reader",
+        Note::HeldUp { .. } => "where it mustn't wait, give the writer no limit of samples",
     }
 }
 
 /// The section, the place and the field of the deployment that a note is about.
 fn entry_of(judged: &Judged, note: Note) -> (Role, &'static str, usize, &'static str) {
     match note {
-        Note::Watcher(reader) => {
-            let field = watcher_field(judged.plan.lists(), reader);
-            (Role::Deployment, "readers", reader.number(), field)
-        }
+        Note::Watcher(reader) => (Role::Deployment, "readers", reader.number(), "reliability"),
+        Note::MayLose(reader) => (Role::Deployment, "readers", reader.number(), "may_lose"),
         Note::Unlimited(reader) => (Role::Deployment, "readers", reader.number(), "name"),
         Note::IdleLimit(reader) => {
             let field = "max_samples_per_instance";

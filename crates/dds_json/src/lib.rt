@@ -17,4 +17,4 @@ pub use line::line_of;
 pub use matching::answer_word;
 pub use structure::structure_document;
 pub use style::Style;
-pub use styled::{check_in_style, match_in_style, proposal_in_style, report_in_style};
+pub use styled::{pairs_in_style, proposal_in_style, report_in_style};

@@ -3,15 +3,14 @@ ghost use Rattle.std.specs.Prelude.{◌≡◌, ◌++◌, IfErr, IfOk, None, Some
 ghost use Rattle.serde_json.specs.View.{view};
 ghost use Rattle.dds_match.specs.Plan.{network_of};
 ghost use Rattle.dds_answers.specs.Answers.{Gives};
-ghost use Rattle.dds_answers.specs.Fault.{IsAnswerFault};
 ghost use Rattle.dds_answers.specs.Matches.{is_as_intended};
-ghost use Rattle.dds_answers.specs.Outcome.{compared, match_outcome};
+ghost use Rattle.dds_answers.specs.Outcome.{compared};
 ghost use Rattle.dds_json.specs.Ends.{in_json};
 ghost use Rattle.dds_json.specs.Line.{line_of};
 ghost use Rattle.dds_json.specs.Matching.{answer_word, match_document, named_pair, pair_document, pairs, writer_pairs};
 
 use crate::line::line_of;
-use dds_answers::{Answer, ToolFault, answer_with, is_as_intended, read_plan};
+use dds_answers::{Answer, ToolFault, answer_with, is_as_intended};
 use dds_base::{NoMemory, ReaderNo, WriterNo};
 use dds_match::{Plan, WhyNot};
 use dds_show::reasons::reason_text;
@@ -114,21 +113,12 @@ fn match_line(alloc: Global, plan: &Plan) -> Result<String, NoMemory>
     line_of(alloc, &document)
 }
 
-/// The answer to which endpoints of a plan match, which is needed no longer.
-fn answer_pairs_in_json(alloc: Global, plan: Plan) -> Result<Answer, ToolFault>
+/// The answer to which endpoints of a plan match, which is needed no longer, as a document.
+pub(crate) fn answer_pairs_in_json(alloc: Global, plan: Plan) -> Result<Answer, ToolFault>
     ensures gives { Gives result (in_json (compared plan)) }
-    ensures fault { IfErr result IsAnswerFault }
+    ensures memory { IfErr result (λ e. e ≡ ToolFault.NoMemory) }
 {
     let answer = answer_with(match_line(alloc, &plan), is_as_intended(&plan));
     drop(plan);
     answer
-}
-
-/// The answer of `match` to the bytes of a deployment, as a document.
-pub(crate) fn match_answer_in_json(alloc: Global, deployment: &[u8]) -> Result<Answer, ToolFault>
-    ensures gives { Gives result (in_json (match_outcome deployment.now)) }
-    ensures fault { IfErr result IsAnswerFault }
-{
-    let plan = read_plan(alloc, deployment)?;
-    answer_pairs_in_json(alloc, plan)
 }

@@ -1,5 +1,5 @@
--- Sizes that are explained, target by target, and what is given of an answer that tells them.
-use Rattle.std.proofs.Common.{ℕ, ◌≡◌, ◌+◌, ◌<◌, ◌≤◌, false, List, [], ◌∷◌, ◌++◌, All, Option, Some, None, Result, Ok, Err, IfOk, IfErr, get_or, inl, length, map, take, refl, sym, ap, ◌∙◌, subst, add-one}
+-- Sizes that are explained, target by target.
+use Rattle.std.proofs.Common.{ℕ, ◌≡◌, ◌+◌, ◌<◌, ◌≤◌, false, List, [], ◌∷◌, ◌++◌, All, Option, Some, None, get_or, length, map, take, refl, sym, ap, ◌∙◌, subst, add-one}
 use Rattle.std.proofs.Math.Seq.{take-suc}
 use Rattle.std.proofs.lemmas.List.{map_push, take_all}
 use Rattle.std.proofs.lemmas.List.Elements.{All-push}
@@ -8,20 +8,12 @@ use Rattle.dds_match.specs.Plan.{network_of}
 use Rattle.dds_propose.specs.declared.targets.Target.{Target}
 use Rattle.dds_search.specs.Sizes.{every_target}
 use Rattle.dds_search.specs.declared.answer.Least.{Least}
-use Rattle.dds_answers.specs.declared.answer.Answer.{Answer}
-use Rattle.dds_answers.specs.declared.fault.ToolFault.{ToolFault}
-use Rattle.dds_answers.specs.declared.fault.ToolFault.TheVariants as fault
-use Rattle.dds_answers.specs.Answers.{GivesOneOf}
-use Rattle.dds_answers.specs.Outcome.{said}
 use Rattle.dds_json.proofs.Documents.{no_fractions}
-use Rattle.dds_json.proofs.Ends.{says}
-use Rattle.dds_json.specs.declared.style.Style.{Style}
 use Rattle.serde_json.specs.Data.{Data}
 use Rattle.serde_json.specs.Written.{has_float}
-use Rattle.dds_sizing.specs.Limits.{IsSaid, MayTellReasons, reasons_told}
-use Rattle.dds_sizing.specs.Needs.{are_bounded, needs_of, room_of}
+use Rattle.dds_sizing.specs.Needs.{room_of}
 use Rattle.dds_sizing.specs.LimitsDocument.{subject_document}
-use Rattle.dds_sizing.specs.Reasons.{AreExplained, IsExplained, because_of, sizes_of}
+use Rattle.dds_sizing.specs.Reasons.{AreExplained, IsExplained, because_of}
 use Rattle.dds_sizing.specs.ReasonsDocument.{explained_document, reason_document, reasons_document}
 use Rattle.dds_sizing.specs.declared.needs.Limit.{Limit}
 use Rattle.dds_sizing.specs.declared.needs.Need.{Need}
@@ -43,16 +35,6 @@ next_explained d targets i t old new e lt at before added same is = (
 -- with the last target they are those of all
 pub last_explained : (d : Lists) (targets : List Target) (i : ℕ) (es : List Explained) → length targets ≤ i → targets ≡ every_target (network_of d) → AreFirst d targets i es → AreExplained d es
 last_explained d targets i es all are first = (first.0 ∙ (take_all i targets all ∙ are), first.1)
-
--- what is needed by the sizes that were explained is told, or there was no memory
-pub reasons_give : (style : Style) (d : Lists) (es found : List Explained) (r : Result Answer ToolFault) → es ≡ found → AreExplained d found
-    → IfOk r (IsSaid (reasons_told style d es (needs_of (network_of d) (sizes_of es))) (are_bounded (needs_of (network_of d) (sizes_of es)))) → IfErr r (λ e. e ≡ fault.NoMemory)
-    → GivesOneOf (MayTellReasons style d) r
-reasons_give style d es found (Err e) same are is memory = rw memory (inl tt)
-reasons_give style d es found (Ok answer) same are is memory =
-    let needs = needs_of (network_of d) (sizes_of es) in
-    let text = reasons_told style d es needs in
-    (said text (are_bounded needs), (es, subst (AreExplained d) (sym same) are, refl), says answer text (are_bounded needs) is.0 is.1)
 
 -- ── documents without fractions
 explained_plain : (line : List ℕ) (subject : Data) (least : Least) (limit : Option Limit) → has_float subject ≡ false → has_float (explained_document line subject least limit) ≡ false

@@ -1,4 +1,4 @@
 mod NeedsLists
-mod LimitEnds
+pub mod LimitEnds
 mod Explanations
-mod Founds
+pub mod Founds

@@ -1,11 +1,13 @@
--- What is given of an answer to which limits are needed.
-use Rattle.std.proofs.Common.{◌≡◌, Bool, true, false, ℕ, List, Option, Some, None, Result, Ok, Err, IfSome, IfOk, IfErr, inl, inr, option_map, refl, subst, sym}
+-- How an answer to which limits are needed ends.
+use Rattle.std.proofs.Common.{◌≡◌, ◌≤◌, ◌<◌, Bool, true, false, ℕ, List, Option, Some, None, Result, Ok, Err, IfSome, IfOk, IfErr, length, nat_le, option_map, refl, subst, sym, if◌then◌else◌}
+use Rattle.std.proofs.lemmas.Bool.{le-leb, lt-leb, leb-true}
 use Rattle.dds_lists.specs.Lists.{Lists}
 use Rattle.dds_match.specs.Plan.{network_of}
 use Rattle.dds_weights.specs.Fits.{fits}
+use Rattle.dds_weights.specs.Lists as lists
 use Rattle.dds_weights.specs.Text.{certificate_text}
 use Rattle.dds_weights.specs.Views.{certificate_view}
-use Rattle.dds_weights.specs.declared.certificate.Certificate.{Certificate}
+use Rattle.dds_weights.specs.declared.certificate.Certificate.{Certificate as CodeCertificate}
 use Rattle.dds_runs.specs.Accepted.{certificate_of}
 use Rattle.dds_claims.specs.Claims.{IsShown}
 use Rattle.dds_search.specs.Sizes.{AreSizes, claims_all}
@@ -13,53 +15,68 @@ use Rattle.dds_search.specs.declared.certificate.sizes.Size.{Size}
 use Rattle.dds_answers.specs.declared.answer.Answer.{Answer}
 use Rattle.dds_answers.specs.declared.fault.ToolFault.{ToolFault}
 use Rattle.dds_answers.specs.declared.fault.ToolFault.TheVariants as fault
-use Rattle.dds_answers.specs.Answers.{GivesOneOf}
-use Rattle.dds_answers.specs.Outcome.{Outcome, said}
+use Rattle.dds_answers.specs.Answers.{Gives}
+use Rattle.dds_answers.specs.Outcome.{said}
+use Rattle.dds_answers.specs.Reading.{most_bytes}
+use Rattle.dds_answers.specs.Report.{Ends}
 use Rattle.dds_json.proofs.Documents.{no_fractions}
 use Rattle.dds_json.proofs.Ends.{says}
 use Rattle.dds_json.specs.declared.style.Style.{Style}
 use Rattle.serde_json.specs.Data.{Data}
 use Rattle.serde_json.specs.Written.{has_float}
+use Rattle.dds_request.specs.declared.request.Sizing.{Sizing}
+use Rattle.dds_request.specs.declared.request.Sizing.TheVariants.{Bounds, Reasons, Certificate}
 use Rattle.dds_sizing.specs.LimitsDocument.{least_document, limited_document, limits_document, need_document, subject_document}
-use Rattle.dds_sizing.specs.Limits.{IsSaid, MayTellClaim, MayTellNeeds, TellsFound, needs_told, none_told, text_told}
+use Rattle.dds_sizing.specs.Limits.{IsLimitsReport, IsSaid, MayLimitLists, MayTellClaim, claim_end, limits_end, none_told, text_told}
 use Rattle.dds_sizing.specs.Needs.{are_bounded, needs_of, room_of}
+use Rattle.dds_sizing.specs.declared.limits.LimitsReport.{LimitsReport}
+use Rattle.dds_sizing.specs.declared.limits.LimitsReport.TheVariants as report
 use Rattle.dds_sizing.specs.declared.needs.Limit.{Limit}
 use Rattle.dds_sizing.specs.declared.needs.Need.{Need}
 use Rattle.dds_sizing.specs.declared.needs.Need.TheVariants as need
 use Rattle.dds_search.specs.declared.answer.Least.{Least}
 use Rattle.dds_search.specs.declared.answer.Least.TheVariants.{Shown, Unbounded, Unknown}
 
--- an answer that says what may be said is given
-said_gives : (May : Outcome → Type 0) (text : List ℕ) (is_yes : Bool) (answer : Answer) → May (said text is_yes) → IsSaid text is_yes answer → GivesOneOf May (Ok answer)
-said_gives May text is_yes answer may is = (said text is_yes, may, says answer text is_yes is.0 is.1)
+-- an answer that says something is what is given of an end that says it, or there was no memory
+pub said_end : (text : List ℕ) (is_yes : Bool) (r : Result Answer ToolFault) → IfOk r (IsSaid text is_yes) → IfErr r (λ e. e ≡ fault.NoMemory) → Gives r (said text is_yes)
+said_end text is_yes (Ok answer) is memory = says answer text is_yes is.0 is.1
+said_end text is_yes (Err e) is memory = subst (λ (x : ToolFault). Ends x (said text is_yes)) (sym memory) tt
 
--- what is needed by the sizes that were found is told, or there was no memory
-pub needs_give : (style : Style) (d : Lists) (sizes found : List Size) (r : Result Answer ToolFault) → sizes ≡ found → AreSizes (network_of d) found
-    → IfOk r (IsSaid (needs_told style d (needs_of (network_of d) sizes)) (are_bounded (needs_of (network_of d) sizes))) → IfErr r (λ e. e ≡ fault.NoMemory)
-    → GivesOneOf (MayTellNeeds style d) r
-needs_give style d sizes found (Err e) same are is memory = rw memory (inl tt)
-needs_give style d sizes found (Ok answer) same are is memory =
-    let needs = needs_of (network_of d) sizes in
-    said_gives (MayTellNeeds style d) (needs_told style d needs) (are_bounded needs) answer (sizes, subst (AreSizes (network_of d)) (sym same) are, refl) is
+-- a certificate whose text is short enough is printed, and of another one it's said that there is none
+pub claim_short : (style : Style) (d : Lists) (b : Bool) (cert : lists.Certificate) (r : Result Answer ToolFault) → length (certificate_text d cert) ≤ most_bytes
+    → Gives r (said (text_told style (certificate_text d cert) b) b) → Gives r (claim_end style d b (Some cert))
+claim_short style d b cert r short gives = rw (le-leb (length (certificate_text d cert)) most_bytes short) gives
 
--- so is a certificate of them, or that there is none
-none_gives : (style : Style) (d : Lists) (sizes : List Size) (answer : Answer) → AreSizes (network_of d) sizes → IsSaid (none_told style) false answer → GivesOneOf (MayTellClaim style d) (Ok answer)
-none_gives style d sizes answer are is = said_gives (MayTellClaim style d) (none_told style) false answer (sizes, None, are, tt, refl) is
+pub claim_long : (style : Style) (d : Lists) (b : Bool) (cert : lists.Certificate) (r : Result Answer ToolFault) → most_bytes < length (certificate_text d cert)
+    → Gives r (said (none_told style) false) → Gives r (claim_end style d b (Some cert))
+claim_long style d b cert r long gives = rw (lt-leb (length (certificate_text d cert)) most_bytes long) gives
 
-pub claim_gives : (style : Style) (d : Lists) (sizes found : List Size) (cert : Option Certificate) (r : Result Answer ToolFault) → sizes ≡ found → AreSizes (network_of d) found
-    → IfSome cert (λ c. fits (network_of d) (certificate_view c) ≡ true) → IfSome cert (λ c. IsShown (network_of d) (certificate_of (certificate_view c)))
-    → IfSome cert (λ c. claims_all (certificate_view c) found ≡ true)
-    → IfOk r (TellsFound style d (are_bounded (needs_of (network_of d) sizes)) (option_map certificate_view cert)) → IfErr r (λ e. e ≡ fault.NoMemory)
-    → GivesOneOf (MayTellClaim style d) r
-claim_gives style d sizes found cert (Err e) same are fit shown all is memory = rw memory (inl tt)
-claim_gives style d sizes found None (Ok answer) same are fit shown all is memory = none_gives style d sizes answer (subst (AreSizes (network_of d)) (sym same) are) is
-claim_gives style d sizes found (Some c) (Ok answer) same are fit shown all (inr is) memory = none_gives style d sizes answer (subst (AreSizes (network_of d)) (sym same) are) is
-claim_gives style d sizes found (Some c) (Ok answer) same are fit shown all (inl is) memory =
-    let cert = certificate_view c in
-    let b = are_bounded (needs_of (network_of d) sizes) in
-    let claims : claims_all cert sizes ≡ true = subst (λ (xs : List Size). claims_all cert xs ≡ true) (sym same) all in
-    said_gives (MayTellClaim style d) (text_told style (certificate_text d cert) b) b answer
-    (sizes, Some cert, subst (AreSizes (network_of d)) (sym same) are, (fit, shown, claims, is.1), refl) is.0
+-- what is found of a certificate may be answered
+claim_may : (style : Style) (d : Lists) (sizes : List Size) (cert : Option CodeCertificate) → AreSizes (network_of d) sizes
+    → IfSome cert (λ c. (fits (network_of d) (certificate_view c) ≡ true) × IsShown (network_of d) (certificate_of (certificate_view c)) × (claims_all (certificate_view c) sizes ≡ true))
+    → MayTellClaim style d (claim_end style d (are_bounded (needs_of (network_of d) sizes)) (option_map certificate_view cert))
+claim_may style d sizes None are is = (sizes, None, are, tt, refl)
+claim_may style d sizes (Some c) are is = by (nat_le (length (certificate_text d (certificate_view c))) most_bytes) refl
+  where
+    b : Bool
+    b = are_bounded (needs_of (network_of d) sizes)
+
+    by : (few : Bool) → nat_le (length (certificate_text d (certificate_view c))) most_bytes ≡ few
+        → MayTellClaim style d (if few then said (text_told style (certificate_text d (certificate_view c)) b) b else said (none_told style) false)
+    by true short = (sizes, Some (certificate_view c), are, (is.0, is.1, is.2, leb-true (length (certificate_text d (certificate_view c))) most_bytes short), refl)
+    by false long = (sizes, None, are, tt, refl)
+
+-- so may what is found of limits
+pub limits_may : (what : Sizing) (style : Style) (d : Lists) (found : LimitsReport) → IsLimitsReport what d found → MayLimitLists what style d (limits_end style d found)
+limits_may Bounds style d (report.Bounds sizes) are = (sizes.items, are, refl)
+limits_may Bounds style d (report.Reasons es) are = absurd are
+limits_may Bounds style d (report.Certificate found) are = absurd are
+limits_may Reasons style d (report.Bounds sizes) are = absurd are
+limits_may Reasons style d (report.Reasons es) are = (es.items, are, refl)
+limits_may Reasons style d (report.Certificate found) are = absurd are
+limits_may Certificate style d (report.Bounds sizes) are = absurd are
+limits_may Certificate style d (report.Reasons es) are = absurd are
+limits_may Certificate style d (report.Certificate found) are = claim_may style d found.list.items found.certificate are.0 are.1
 
 -- ── documents without fractions
 pub least_plain : (least : Least) → has_float (least_document least) ≡ false

@@ -1,5 +1,5 @@
 -- What is answered to which limits a deployment needs.
-use Rattle.std.specs.Prelude.{ℕ, ◌≡◌, ◌≤◌, ◌⊎◌, Bool, true, false, List, ◌++◌, flat_map, length, Option, Some, None, IfSome, Ok, Err, codes, string_bytes}
+use Rattle.std.specs.Prelude.{ℕ, ◌≡◌, ◌≤◌, Bool, true, false, List, ◌++◌, flat_map, length, nat_le, Option, Some, None, IfSome, option_map, Ok, Err, codes, string_bytes, if◌then◌else◌}
 use Rattle.dds_fields.specs.Reading.{Read}
 use Rattle.dds_lists.specs.Lists.{Lists}
 use Rattle.dds_deploy.specs.Document as deployment
@@ -7,6 +7,7 @@ use Rattle.dds_match.specs.Plan.{network_of}
 use Rattle.dds_weights.specs.Fits.{fits}
 use Rattle.dds_weights.specs.Lists as lists
 use Rattle.dds_weights.specs.Text.{certificate_text}
+use Rattle.dds_weights.specs.Views.{certificate_view}
 use Rattle.dds_runs.specs.Accepted.{certificate_of}
 use Rattle.dds_claims.specs.Claims.{IsShown}
 use Rattle.dds_search.specs.Sizes.{AreSizes, claims_all}
@@ -19,12 +20,14 @@ use Rattle.dds_json.specs.Proposing.{none_document}
 use Rattle.dds_json.specs.declared.style.Style.{Style}
 use Rattle.dds_json.specs.declared.style.Style.TheVariants.{Text, Json}
 use Rattle.dds_sizing.specs.LimitsDocument.{claim_document, limits_document}
-use Rattle.dds_sizing.specs.Needs.{are_bounded, needs_of}
+use Rattle.dds_sizing.specs.Needs.{are_bounded, are_met, needs_of}
 use Rattle.dds_sizing.specs.NeedsText.{needs_lines}
 use Rattle.dds_sizing.specs.Reasons.{AreExplained, because_of, sizes_of}
 use Rattle.dds_sizing.specs.ReasonsDocument.{reasons_document}
 use Rattle.dds_request.specs.declared.request.Sizing.{Sizing}
 use Rattle.dds_request.specs.declared.request.Sizing.TheVariants.{Bounds, Reasons, Certificate}
+use Rattle.dds_sizing.specs.declared.limits.LimitsReport.{LimitsReport}
+use Rattle.dds_sizing.specs.declared.limits.LimitsReport.TheVariants as report
 use Rattle.dds_sizing.specs.declared.needs.Need.{Need}
 use Rattle.dds_sizing.specs.declared.reasons.Explained.{Explained}
 
@@ -64,13 +67,13 @@ is_claimed is_bounded None = false
 abbrev pub MayTellNeeds : Style → Lists → Outcome → Type 0
 MayTellNeeds style d end =
     (sizes : List Size) × AreSizes (network_of d) sizes
-    × (end ≡ said (needs_told style d (needs_of (network_of d) sizes)) (are_bounded (needs_of (network_of d) sizes)))
+    × (end ≡ said (needs_told style d (needs_of (network_of d) sizes)) (are_met (needs_of (network_of d) sizes)))
 
 -- the same where each size is explained
 abbrev pub MayTellReasons : Style → Lists → Outcome → Type 0
 MayTellReasons style d end =
     (es : List Explained) × AreExplained d es
-    × (end ≡ said (reasons_told style d es (needs_of (network_of d) (sizes_of es))) (are_bounded (needs_of (network_of d) (sizes_of es))))
+    × (end ≡ said (reasons_told style d es (needs_of (network_of d) (sizes_of es))) (are_met (needs_of (network_of d) (sizes_of es))))
 
 -- the certificate fits the deployment, no event raises the weighted sum of any of its rows, they show its bounds, it has all bounds of the sizes, and its text is
 -- no longer than a file may be
@@ -95,17 +98,32 @@ abbrev pub MayLimit : Sizing → Style → Read Lists → Outcome → Type 0
 MayLimit what style (Ok d) end = MayLimitLists what style d end
 MayLimit what style (Err flaw) end = end ≡ bad_deployment flaw
 
+-- ── by what is found
+-- what is found of the limits that a deployment needs is so, and it's what is asked for
+abbrev pub IsLimitsReport : Sizing → Lists → LimitsReport → Type 0
+IsLimitsReport Bounds d (report.Bounds sizes) = AreSizes (network_of d) sizes.items
+IsLimitsReport Reasons d (report.Reasons es) = AreExplained d es.items
+IsLimitsReport Certificate d (report.Certificate found) =
+    AreSizes (network_of d) found.list.items
+    × IfSome found.certificate (λ c. (fits (network_of d) (certificate_view c) ≡ true) × IsShown (network_of d) (certificate_of (certificate_view c))
+    × (claims_all (certificate_view c) found.list.items ≡ true))
+IsLimitsReport what d found = ⊥
+
+-- how the answer ends with a certificate that was found: its text is printed where it's no longer than a file may be, else that there is none
+abbrev pub claim_end : Style → Lists → Bool → Option lists.Certificate → Outcome
+claim_end style d is_bounded (Some cert) =
+    if nat_le (length (certificate_text d cert)) most_bytes then said (text_told style (certificate_text d cert) is_bounded) is_bounded else said (none_told style) false
+claim_end style d is_bounded None = said (none_told style) false
+
+-- how it ends with what was found
+abbrev pub limits_end : Style → Lists → LimitsReport → Outcome
+limits_end style d (report.Bounds sizes) = said (needs_told style d (needs_of (network_of d) sizes.items)) (are_met (needs_of (network_of d) sizes.items))
+limits_end style d (report.Reasons es) =
+    said (reasons_told style d es.items (needs_of (network_of d) (sizes_of es.items))) (are_met (needs_of (network_of d) (sizes_of es.items)))
+limits_end style d (report.Certificate found) =
+    claim_end style d (are_bounded (needs_of (network_of d) found.list.items)) (option_map certificate_view found.certificate)
+
 -- ── for the parts of an answer
 -- the answer has this text, and is a yes or a no
 abbrev pub IsSaid : List ℕ → Bool → Answer → Type 0
 IsSaid text is_yes answer = (string_bytes answer.text ≡ text) × (answer.is_yes ≡ is_yes)
-
--- it prints the certificate, whose text is no longer than a file may be, or that there is none
-abbrev pub TellsClaim : Style → Lists → Bool → lists.Certificate → Answer → Type 0
-TellsClaim style d is_bounded cert answer =
-    (IsSaid (text_told style (certificate_text d cert) is_bounded) is_bounded answer × (length (certificate_text d cert) ≤ most_bytes)) ⊎ IsSaid (none_told style) false answer
-
--- the same of a certificate that may be there
-abbrev pub TellsFound : Style → Lists → Bool → Option lists.Certificate → Answer → Type 0
-TellsFound style d is_bounded (Some cert) answer = TellsClaim style d is_bounded cert answer
-TellsFound style d is_bounded None answer = IsSaid (none_told style) false answer

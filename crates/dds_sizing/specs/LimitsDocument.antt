@@ -11,8 +11,8 @@ use Rattle.dds_sizing.specs.declared.needs.Limit.{Limit}
 use Rattle.dds_sizing.specs.declared.needs.Need.{Need}
 use Rattle.dds_sizing.specs.declared.needs.Need.TheVariants as need
 use Rattle.dds_sizing.specs.declared.needs.Room.{Room}
-use Rattle.dds_sizing.specs.Needs.{are_bounded, room_of}
-use Rattle.dds_sizing.specs.NeedsText.{is_low, policy_word}
+use Rattle.dds_sizing.specs.Needs.{are_met, is_low, room_of}
+use Rattle.dds_sizing.specs.NeedsText.{policy_word}
 
 -- the endpoint whose samples count, and the key, if only those of one do
 abbrev pub subject_document : Lists → Need → Data
@@ -44,10 +44,10 @@ room_document subject room = limited_document subject room.least room.limit
 abbrev pub need_document : Lists → Need → Data
 need_document d one = room_document (subject_document d one) (room_of one)
 
--- yes where a bound is known of each need, with each need
+-- yes where a bound is known of each need and no limit is lower, with each need
 abbrev pub limits_document : Lists → List Need → Data
 limits_document d needs =
-    object (member (codes "answer") (string (answer_word (are_bounded needs))) (member (codes "needs") (array (items_of (map (need_document d) needs))) no_members))
+    object (member (codes "answer") (string (answer_word (are_met needs))) (member (codes "needs") (array (items_of (map (need_document d) needs))) no_members))
 
 -- yes where a bound is known of each need, with the text of a certificate
 abbrev pub claim_document : List ℕ → Bool → Data

@@ -1,6 +1,7 @@
 -- How much room each strict reader needs, and how deep the history of each writer with KEEP_LAST has to be.
-use Rattle.std.specs.Prelude.{ℕ, ◌==◌, ◌&&◌, Bool, true, false, nat_lt, max, List, [], ◌∷◌, ◌++◌, Option, Some, None, flat_map, map, if◌then◌else◌}
+use Rattle.std.specs.Prelude.{ℕ, ◌==◌, ◌&&◌, not, Bool, true, false, nat_lt, max, List, [], ◌∷◌, ◌++◌, Option, Some, None, flat_map, map, if◌then◌else◌}
 use Rattle.std.specs.List.{list_all, range_with_len}
+use Rattle.std.specs.Option.{option_map_or}
 use Rattle.dds_qos.specs.declared.limits.ReaderLimits.{ReaderLimits}
 use Rattle.dds_match.specs.Network.{Network, is_written}
 use Rattle.dds_propose.specs.declared.targets.Target.{Target}
@@ -125,3 +126,21 @@ is_bounded one = is_shown (room_of one).least
 -- a bound is known of each need
 unfoldable pub are_bounded : List Need → Bool
 are_bounded needs = list_all is_bounded needs
+
+-- the limit is lower than what is needed
+abbrev pub is_low : Least → ℕ → Bool
+is_low (Shown n) most = nat_lt most n
+is_low Unbounded most = false
+is_low Unknown most = false
+
+-- the same of a limit, if there is one
+abbrev pub is_short : Room → Bool
+is_short room = option_map_or (λ (limit : Limit). is_low room.least limit.most) room.limit false
+
+-- a bound is known, and the limit, if there is one, is no lower
+abbrev pub is_met : Need → Bool
+is_met one = is_bounded one && not (is_short (room_of one))
+
+-- the same of each need
+unfoldable pub are_met : List Need → Bool
+are_met needs = list_all is_met needs

@@ -1,5 +1,5 @@
 -- The lines that list needs.
-use Rattle.std.specs.Prelude.{ℕ, Bool, false, nat_lt, List, [], ◌++◌, codes, flat_map, Option, Some, None, if◌then◌else◌}
+use Rattle.std.specs.Prelude.{Bool, List, [], ℕ, ◌++◌, codes, flat_map, Option, Some, None, if◌then◌else◌}
 use Rattle.std.specs.Fmt.{decimal}
 use Rattle.dds_lists.specs.Lists.{Lists}
 use Rattle.dds_text.specs.Names.{reader_key, reader_name, writer_key, writer_name}
@@ -11,7 +11,7 @@ use Rattle.dds_sizing.specs.declared.needs.Need.TheVariants as need
 use Rattle.dds_sizing.specs.declared.needs.Policy.{Policy}
 use Rattle.dds_sizing.specs.declared.needs.Policy.TheVariants.{Depth, MaxSamplesPerInstance, MaxSamples}
 use Rattle.dds_sizing.specs.declared.needs.Room.{Room}
-use Rattle.dds_sizing.specs.Needs.{room_of}
+use Rattle.dds_sizing.specs.Needs.{is_low, room_of}
 
 -- the endpoint whose samples count, and the key, or `total` for all of them
 abbrev pub subject_words : Lists → Need → List ℕ
@@ -30,12 +30,6 @@ abbrev pub policy_word : Policy → List ℕ
 policy_word Depth = codes "depth"
 policy_word MaxSamplesPerInstance = codes "max_samples_per_instance"
 policy_word MaxSamples = codes "max_samples"
-
--- the limit is lower than what is needed
-abbrev pub is_low : Least → ℕ → Bool
-is_low (Shown n) most = nat_lt most n
-is_low Unbounded most = false
-is_low Unknown most = false
 
 abbrev pub low_words : Bool → List ℕ
 low_words low = if low then codes " too low" else []

@@ -6,7 +6,7 @@ use Rattle.dds_lists.specs.Lists.{Lists}
 use Rattle.dds_json.specs.Matching.{answer_word}
 use Rattle.dds_search.specs.declared.answer.Least.{Least}
 use Rattle.dds_sizing.specs.LimitsDocument.{least_document, limit_document, subject_document}
-use Rattle.dds_sizing.specs.Needs.{are_bounded, room_of}
+use Rattle.dds_sizing.specs.Needs.{are_met, room_of}
 use Rattle.dds_sizing.specs.Reasons.{because_of}
 use Rattle.dds_sizing.specs.declared.needs.Limit.{Limit}
 use Rattle.dds_sizing.specs.declared.needs.Need.{Need}
@@ -24,7 +24,7 @@ explained_document line subject least None =
 abbrev pub reason_document : Lists → List Explained → Need → Data
 reason_document d es one = explained_document (because_of d es one) (subject_document d one) (room_of one).least (room_of one).limit
 
--- yes where a bound is known of each need, with each need
+-- yes where a bound is known of each need and no limit is lower, with each need
 abbrev pub reasons_document : Lists → List Explained → List Need → Data
 reasons_document d es needs =
-    object (member (codes "answer") (string (answer_word (are_bounded needs))) (member (codes "needs") (array (items_of (map (reason_document d es) needs))) no_members))
+    object (member (codes "answer") (string (answer_word (are_met needs))) (member (codes "needs") (array (items_of (map (reason_document d es) needs))) no_members))

@@ -1,5 +1,5 @@
 -- How a thorough search for a certificate may end.
-use Rattle.std.specs.Prelude.{ℕ, List, ◌≡◌, ◌≤◌, None, length, true}
+use Rattle.std.specs.Prelude.{◌≡◌, ◌≤◌, None, length, nat_le, true, if◌then◌else◌}
 use Rattle.dds_fields.specs.Reading.{Read}
 use Rattle.dds_lists.specs.Lists.{Lists}
 use Rattle.dds_match.specs.Plan.{network_of}
@@ -7,7 +7,10 @@ use Rattle.dds_weights.specs.Fits.{fits}
 use Rattle.dds_weights.specs.Lists.{Certificate}
 use Rattle.dds_weights.specs.Text.{certificate_text}
 use Rattle.dds_check.specs.Accepts.{first_no}
-use Rattle.dds_answers.specs.Outcome.{Outcome}
+use Rattle.dds_weights.specs.Views.{certificate_view}
+use Rattle.dds_search.specs.declared.answer.Found.{Found}
+use Rattle.dds_search.specs.declared.answer.Found.TheVariants as found
+use Rattle.dds_answers.specs.Outcome.{Outcome, proposed, unproposed}
 use Rattle.dds_answers.specs.Proposals.{MaySeek}
 use Rattle.dds_answers.specs.Reading.{most_bytes}
 
@@ -18,3 +21,13 @@ IsFound lists cert = (fits (network_of lists) cert ≡ true) × (first_no lists 
 -- a certificate that is accepted, or none
 abbrev pub MayFind : Read Lists → Outcome → Type 0
 MayFind read end = MaySeek IsFound read end
+
+-- a certificate that was found fits the lists, and no condition refuses it
+abbrev pub IsAccepted : Lists → Found → Type 0
+IsAccepted lists (found.Certificate c) = (fits (network_of lists) (certificate_view c) ≡ true) × (first_no lists (certificate_view c) ≡ None)
+IsAccepted lists (found.Missing why) = Unit {0}
+
+-- how the command ends that found it: its text is printed where it's no longer than a file may be, else that there is none
+abbrev pub found_end : Lists → Found → Outcome
+found_end lists (found.Certificate c) = if nat_le (length (certificate_text lists (certificate_view c))) most_bytes then proposed lists (certificate_view c) else unproposed
+found_end lists (found.Missing why) = unproposed

@@ -1,23 +1,20 @@
-//! What `limits` answers.
-ghost use Rattle.std.specs.Prelude.{◌≡◌, Ok, IfErr, IfOk, false, option_map, string_bytes};
+//! What `limits` finds of a plan, and what it answers.
+ghost use Rattle.std.specs.Prelude.{◌≡◌, IfErr, IfOk, Some, false, option_map, string_bytes};
 ghost use Rattle.dds_match.specs.Plan.{network_of};
 ghost use Rattle.dds_weights.specs.Views.{certificate_view};
-ghost use Rattle.dds_answers.specs.Answers.{GivesOneOf};
-ghost use Rattle.dds_answers.specs.Fault.{IsAnswerFault};
-ghost use Rattle.dds_deploy.specs.Document.{read as deployment_read};
-ghost use Rattle.dds_sizing.specs.Limits.{IsSaid, MayLimit, MayLimitLists, MayTellClaim, MayTellNeeds};
-ghost use Rattle.dds_sizing.specs.Limits.{MayTellReasons, TellsClaim, TellsFound, needs_told, none_told, reasons_told};
-ghost use Rattle.dds_sizing.specs.Limits.{text_told};
-ghost use Rattle.dds_sizing.specs.Needs.{are_bounded, needs_of};
+ghost use Rattle.dds_answers.specs.Answers.{Gives};
+ghost use Rattle.dds_sizing.specs.Limits.{IsLimitsReport, IsSaid, claim_end, limits_end, needs_told};
+ghost use Rattle.dds_sizing.specs.Limits.{none_told, reasons_told, text_told};
+ghost use Rattle.dds_sizing.specs.Needs.{are_bounded, are_met, needs_of};
 ghost use Rattle.dds_sizing.specs.Reasons.{sizes_of};
 
 use crate::limits_document::{claim_line, limits_line, none_line};
-use crate::needs::{Need, are_bounded, needs_of};
+use crate::needs::{Need, are_bounded, are_met, needs_of};
 use crate::needs_text::needs_text;
 use crate::reasons::{Explained, explain_sizes, reasons_text, sizes_of};
 use crate::reasons_document::reasons_line;
 use crate::thorough::length_text;
-use dds_answers::{Answer, MAX_FILE, ToolFault, answer_with, read_plan};
+use dds_answers::{Answer, MAX_FILE, ToolFault, answer_with};
 use dds_base::NoMemory;
 use dds_json::Style;
 use dds_lists::Deployment;
@@ -27,6 +24,44 @@ use dds_search::{Budget, Size, Sizes, find_limits_certificate, find_sizes};
 use dds_weights::{Certificate, certificate_text};
 use std::alloc::Global;
 use std::time::Clock;
+
+/// What is found of the limits that a deployment needs.
+#[derive(Drop)]
+pub enum LimitsReport {
+    /// The least bounds that weights show.
+    Bounds(Vec<Size>),
+    /// The same, each with the reason for it.
+    Reasons(Vec<Explained>),
+    /// The same, with a certificate that shows them, if there is one.
+    Certificate(Sizes),
+}
+
+/// What is found of the limits that a plan needs: how much room each strict reader and each writer with KEEP_LAST
+/// needs, with the reasons or with a certificate that shows as much where that is asked for. `NoMemory` is the only
+/// error.
+pub fn find_limits<C: Clock>(
+    alloc: Global,
+    plan: &Plan,
+    what: Sizing,
+    budget: Budget<C>,
+) -> Result<LimitsReport, NoMemory>
+    ensures { IfOk result (IsLimitsReport what plan.now) }
+{
+    match what {
+        Sizing::Bounds => {
+            let sizes = find_sizes(alloc, plan, budget)?;
+            Ok(LimitsReport::Bounds(sizes))
+        }
+        Sizing::Reasons => {
+            let explained = explain_sizes(alloc, plan, budget)?;
+            Ok(LimitsReport::Reasons(explained))
+        }
+        Sizing::Certificate => {
+            let found = find_limits_certificate(alloc, plan, budget)?;
+            Ok(LimitsReport::Certificate(found))
+        }
+    }
+}
 
 /// The line that says that there is no certificate.
 const NO_ROWS: &str = "ddscheck: no 64 rows were found that show these bounds\n";
@@ -46,11 +81,17 @@ fn needs_in_style(
     }
 }
 
-/// The answer with what is needed by the sizes of a plan: yes where a bound is known of each need.
-fn tell_needs(alloc: Global, plan: &Plan, sizes: &[Size], style: Style) -> Result<Answer, ToolFault>
+/// The answer with what is needed by the sizes of a plan: yes where a bound is known of each need
+/// and no limit is lower.
+fn answer_bounds(
+    alloc: Global,
+    plan: &Plan,
+    sizes: &[Size],
+    style: Style,
+) -> Result<Answer, ToolFault>
     ensures said { IfOk result
         (IsSaid (needs_told style plan.now (needs_of (network_of plan.now) sizes.now))
-        (are_bounded (needs_of (network_of plan.now) sizes.now))) }
+        (are_met (needs_of (network_of plan.now) sizes.now))) }
     ensures memory { IfErr result (λ e. e ≡ ToolFault.NoMemory) }
 {
     let Ok(needs) = needs_of(alloc, plan, sizes) else {
@@ -58,24 +99,8 @@ fn tell_needs(alloc: Global, plan: &Plan, sizes: &[Size], style: Style) -> Resul
     };
     answer_with(
         needs_in_style(alloc, plan.lists(), needs.as_slice(), style),
-        are_bounded(needs.as_slice()),
+        are_met(needs.as_slice()),
     )
-}
-
-/// The answer with the least bounds of a plan.
-fn tell_bounds<C: Clock>(
-    alloc: Global,
-    plan: &Plan,
-    style: Style,
-    budget: Budget<C>,
-) -> Result<Answer, ToolFault>
-    ensures gives { GivesOneOf (MayTellNeeds style plan.now) result }
-    ensures fault { IfErr result IsAnswerFault }
-{
-    let Ok(sizes) = find_sizes(alloc, plan, budget) else {
-        return Err(ToolFault::NoMemory);
-    };
-    tell_needs(alloc, plan, sizes.as_slice(), style)
 }
 
 /// What is needed and why, in lines.
@@ -123,8 +148,8 @@ fn explained_needs(
 }
 
 /// The answer with what is needed and why, by sizes of a plan that are explained: yes where a bound is known of
-/// each need.
-fn tell_explained(
+/// each need and no limit is lower.
+fn answer_reasons(
     alloc: Global,
     plan: &Plan,
     explained: &[Explained],
@@ -132,7 +157,7 @@ fn tell_explained(
 ) -> Result<Answer, ToolFault>
     ensures said { IfOk result
         (IsSaid (reasons_told style plan.now explained.now (needs_of (network_of plan.now) (sizes_of explained.now)))
-        (are_bounded (needs_of (network_of plan.now) (sizes_of explained.now)))) }
+        (are_met (needs_of (network_of plan.now) (sizes_of explained.now)))) }
     ensures memory { IfErr result (λ e. e ≡ ToolFault.NoMemory) }
 {
     let Ok(needs) = explained_needs(alloc, plan, explained) else {
@@ -140,24 +165,8 @@ fn tell_explained(
     };
     answer_with(
         reasons_in_style(alloc, plan, explained, needs.as_slice(), style),
-        are_bounded(needs.as_slice()),
+        are_met(needs.as_slice()),
     )
-}
-
-/// The answer with the least bounds of a plan, and why they are what they are.
-fn tell_reasons<C: Clock>(
-    alloc: Global,
-    plan: &Plan,
-    style: Style,
-    budget: Budget<C>,
-) -> Result<Answer, ToolFault>
-    ensures gives { GivesOneOf (MayTellReasons style plan.now) result }
-    ensures fault { IfErr result IsAnswerFault }
-{
-    let Ok(explained) = explain_sizes(alloc, plan, budget) else {
-        return Err(ToolFault::NoMemory);
-    };
-    tell_explained(alloc, plan, explained.as_slice(), style)
 }
 
 /// That there is no certificate, in this style.
@@ -171,7 +180,7 @@ fn none_text(alloc: Global, style: Style) -> Result<String, NoMemory>
 }
 
 /// The answer where there is no certificate, with this note for the user.
-fn tell_none(
+fn answer_none(
     alloc: Global,
     style: Style,
     note: Result<String, NoMemory>,
@@ -209,14 +218,14 @@ fn claim_text(
 
 /// The answer with a certificate, unless its text is longer than a file may be, so that `check` couldn't read it: then
 /// it is `none`, and a line says why.
-fn tell_claim(
+fn answer_claim(
     alloc: Global,
     plan: &Plan,
     certificate: &Certificate,
     is_bounded: bool,
     style: Style,
 ) -> Result<Answer, ToolFault>
-    ensures tells { IfOk result (TellsClaim style plan.now is_bounded (certificate_view certificate.now)) }
+    ensures gives { Gives result (claim_end style plan.now is_bounded (Some (certificate_view certificate.now))) }
     ensures memory { IfErr result (λ e. e ≡ ToolFault.NoMemory) }
 {
     let Ok(text) = certificate_text(alloc, plan, certificate) else {
@@ -227,100 +236,79 @@ fn tell_claim(
         return answer_with(claim_text(alloc, text, is_bounded, style), is_bounded);
     }
     drop(text);
-    tell_none(alloc, style, length_text(alloc, length))
+    answer_none(alloc, style, length_text(alloc, length))
 }
 
 /// The answer to whether there is a certificate.
-fn tell_found(
+fn answer_found(
     alloc: Global,
     plan: &Plan,
     certificate: &Option<Certificate>,
     is_bounded: bool,
     style: Style,
 ) -> Result<Answer, ToolFault>
-    ensures tells { IfOk result
-        (TellsFound style plan.now is_bounded (option_map certificate_view certificate.now)) }
+    ensures gives { Gives result (claim_end style plan.now is_bounded (option_map certificate_view certificate.now)) }
     ensures memory { IfErr result (λ e. e ≡ ToolFault.NoMemory) }
 {
     match certificate {
-        Some(certificate) => tell_claim(alloc, plan, certificate, is_bounded, style),
-        None => tell_none(alloc, style, String::from_str(alloc, NO_ROWS)),
+        Some(certificate) => answer_claim(alloc, plan, certificate, is_bounded, style),
+        None => answer_none(alloc, style, String::from_str(alloc, NO_ROWS)),
     }
 }
 
 /// The answer to whether there is a certificate of these sizes: yes where there is one, and a bound is known of each
 /// need.
-fn tell_sizes(
+fn answer_sizes(
     alloc: Global,
     plan: &Plan,
-    sizes: &[Size],
-    certificate: &Option<Certificate>,
+    found: &Sizes,
     style: Style,
 ) -> Result<Answer, ToolFault>
-    ensures tells { IfOk result
-        (TellsFound style plan.now (are_bounded (needs_of (network_of plan.now) sizes.now))
-        (option_map certificate_view certificate.now)) }
+    ensures gives { Gives result
+        (claim_end style plan.now (are_bounded (needs_of (network_of plan.now) found.now.list.items))
+        (option_map certificate_view found.now.certificate)) }
     ensures memory { IfErr result (λ e. e ≡ ToolFault.NoMemory) }
 {
-    let Ok(needs) = needs_of(alloc, plan, sizes) else {
+    let Ok(needs) = needs_of(alloc, plan, &found.list) else {
         return Err(ToolFault::NoMemory);
     };
-    let is_bounded = are_bounded(needs.as_slice());
-    tell_found(alloc, plan, certificate, is_bounded, style)
+    let is_bounded = are_bounded(&needs);
+    answer_found(alloc, plan, &found.certificate, is_bounded, style)
 }
 
-/// The answer with a certificate that shows the least bounds of a plan.
-fn tell_certificate<C: Clock>(
+/// The answer to what was found of a plan.
+fn answer_report(
     alloc: Global,
     plan: &Plan,
+    report: &LimitsReport,
     style: Style,
-    budget: Budget<C>,
 ) -> Result<Answer, ToolFault>
-    ensures gives { GivesOneOf (MayTellClaim style plan.now) result }
-    ensures fault { IfErr result IsAnswerFault }
+    ensures gives { Gives result (limits_end style plan.now report.now) }
+    ensures memory { IfErr result (λ e. e ≡ ToolFault.NoMemory) }
 {
-    let Ok(found) = find_limits_certificate(alloc, plan, budget) else {
-        return Err(ToolFault::NoMemory);
-    };
-    let Sizes { list, certificate } = found;
-    let answer = tell_sizes(alloc, plan, list.as_slice(), &certificate, style);
-    drop(certificate);
-    answer
-}
-
-/// The answer to a plan.
-fn tell_limits<C: Clock>(
-    alloc: Global,
-    plan: &Plan,
-    what: Sizing,
-    style: Style,
-    budget: Budget<C>,
-) -> Result<Answer, ToolFault>
-    ensures gives { GivesOneOf (MayLimitLists what style plan.now) result }
-    ensures fault { IfErr result IsAnswerFault }
-{
-    match what {
-        Sizing::Bounds => tell_bounds(alloc, plan, style, budget),
-        Sizing::Reasons => tell_reasons(alloc, plan, style, budget),
-        Sizing::Certificate => tell_certificate(alloc, plan, style, budget),
+    match report {
+        LimitsReport::Bounds(sizes) => answer_bounds(alloc, plan, sizes.as_slice(), style),
+        LimitsReport::Reasons(explained) => {
+            answer_reasons(alloc, plan, explained.as_slice(), style)
+        }
+        LimitsReport::Certificate(found) => answer_sizes(alloc, plan, found, style),
     }
 }
 
-/// The answer of `limits` to the bytes of a deployment, in this style: how much room each strict reader and each
-/// writer with KEEP_LAST needs, beside its limits, with the reasons where they are asked for, or a certificate that
-/// shows as much, of at most 1,048,576 bytes. It is yes where a bound is known of each need.
-pub fn limits_answer<C: Clock>(
+/// The answer of `limits` to what was found of a plan, both of which are needed no longer, in this style: how much room
+/// each strict reader and each writer with KEEP_LAST needs, beside its limits, or a certificate of at most 1,048,576
+/// bytes. It is yes where a bound is known of each need and, but for a certificate, no limit is lower.
+pub fn answer_limits(
     alloc: Global,
-    deployment: &[u8],
-    what: Sizing,
+    plan: Plan,
+    report: LimitsReport,
     style: Style,
-    budget: Budget<C>,
 ) -> Result<Answer, ToolFault>
-    ensures gives { GivesOneOf (MayLimit what style (deployment_read deployment.now)) result }
-    ensures fault { IfErr result IsAnswerFault }
+    ensures gives { Gives result (limits_end style plan report) }
+    ensures memory { IfErr result (λ e. e ≡ ToolFault.NoMemory) }
 {
-    let plan = read_plan(alloc, deployment)?;
-    let answer = tell_limits(alloc, &plan, what, style, budget);
+    let answer = answer_report(alloc, &plan, &report, style);
     drop(plan);
+    drop(report);
     answer
 }

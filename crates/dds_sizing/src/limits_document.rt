@@ -7,8 +7,8 @@ ghost use Rattle.dds_json.specs.Proposing.{none_document};
 ghost use Rattle.dds_sizing.specs.LimitsDocument.{claim_document, least_document, limit_document};
 ghost use Rattle.dds_sizing.specs.LimitsDocument.{limits_document, need_document, subject_document};
 
-use crate::needs::{Limit, Need, are_bounded, room_of};
-use crate::needs_text::{is_low, policy_word};
+use crate::needs::{Limit, Need, are_met, is_low, room_of};
+use crate::needs_text::policy_word;
 use dds_base::NoMemory;
 use dds_json::{answer_word, line_of};
 use dds_lists::Deployment;
@@ -91,12 +91,12 @@ fn needs_array(alloc: Global, lists: &Deployment, needs: &[Need]) -> Result<Valu
     Ok(Value::Array(documents))
 }
 
-/// The document of all needs: yes where a bound is known of each.
+/// The document of all needs: yes where a bound is known of each and no limit is lower.
 fn limits_document(alloc: Global, lists: &Deployment, needs: &[Need]) -> Result<Value, NoMemory>
     ensures { IfOk result (λ v. view v ≡ limits_document lists.now needs.now) }
 {
     let documents = needs_array(alloc, lists, needs)?;
-    let answer = answer_word(are_bounded(needs));
+    let answer = answer_word(are_met(needs));
     json!(in alloc; {"answer": answer, "needs": documents})
 }
 

@@ -4,7 +4,8 @@ ghost use Rattle.std.specs.Prelude.{◌≡◌, ◌<◌, ◌++◌, IfOk, None, fl
 ghost use Rattle.std.specs.List.{range_with_len};
 ghost use Rattle.dds_match.specs.Plan.{network_of};
 ghost use Rattle.dds_runs.specs.Accepted.{instance_limit};
-ghost use Rattle.dds_sizing.specs.Needs.{are_bounded, depth_need, greater, greatest_of, is_bounded, is_for, key_limit};
+ghost use Rattle.dds_sizing.specs.Needs.{are_bounded, are_met, depth_need, greater, greatest_of, is_bounded, is_for};
+ghost use Rattle.dds_sizing.specs.Needs.{is_low, is_met, is_short, key_limit};
 ghost use Rattle.dds_sizing.specs.Needs.{limit_of_key, limit_of_total, limit_by, list_of, need_at, need_of, needs_of};
 ghost use Rattle.dds_sizing.specs.Needs.{room_of, with_least, with_size, writer_needs};
 
@@ -303,4 +304,39 @@ pub(crate) fn are_bounded(needs: &[Need]) -> bool
     ensures { result ≡ are_bounded needs.now }
 {
     needs.iter().all(|need| is_bounded(need))
+}
+
+/// Whether a limit is lower than what is needed.
+pub(crate) fn is_low(least: Least, most: u32) -> bool
+    ensures { result ≡ is_low least most }
+{
+    match least {
+        Least::Shown(bound) => most < bound,
+        Least::Unbounded | Least::Unknown => false,
+    }
+}
+
+/// Whether the limit, if there is one, is lower than what is needed.
+fn is_short(room: Room) -> bool
+    ensures { result ≡ is_short room }
+{
+    match room.limit {
+        Some(limit) => is_low(room.least, limit.most),
+        None => false,
+    }
+}
+
+/// Whether a bound is known and the limit, if there is one, is no lower.
+fn is_met(need: &Need) -> bool
+    ensures { result ≡ is_met need.now }
+{
+    is_bounded(need) && !is_short(room_of(need))
+}
+
+/// Whether a bound is known of each need and no limit is lower.
+#[tactic(auto, unfolding(crate::specs::Needs::are_met))]
+pub(crate) fn are_met(needs: &[Need]) -> bool
+    ensures { result ≡ are_met needs.now }
+{
+    needs.iter().all(|need| is_met(need))
 }

@@ -1,9 +1,9 @@
 //! The lines of needs.
 ghost use Rattle.std.specs.Prelude.{◌≡◌, IfOk, string_bytes};
-ghost use Rattle.dds_sizing.specs.NeedsText.{is_low, least_word, limit_words, low_words, need_line};
+ghost use Rattle.dds_sizing.specs.NeedsText.{least_word, limit_words, low_words, need_line};
 ghost use Rattle.dds_sizing.specs.NeedsText.{needs_lines, policy_word, subject_words};
 
-use crate::needs::{Limit, Need, Policy, room_of};
+use crate::needs::{Limit, Need, Policy, is_low, room_of};
 use dds_base::NoMemory;
 use dds_lists::Deployment;
 use dds_search::Least;
@@ -51,16 +51,6 @@ pub(crate) fn policy_word(policy: Policy) -> &'static str
         Policy::Depth => "depth",
         Policy::MaxSamplesPerInstance => "max_samples_per_instance",
         Policy::MaxSamples => "max_samples",
-    }
-}
-
-/// Whether a limit is lower than what is needed.
-pub(crate) fn is_low(least: Least, most: u32) -> bool
-    ensures { result ≡ is_low least most }
-{
-    match least {
-        Least::Shown(bound) => most < bound,
-        Least::Unbounded | Least::Unknown => false,
     }
 }
 

@@ -6,7 +6,7 @@ ghost use Rattle.dds_json.specs.Line.{line_of};
 ghost use Rattle.dds_sizing.specs.ReasonsDocument.{reason_document, reasons_document};
 
 use crate::limits_document::{least_document, limit_document, subject_document};
-use crate::needs::{Need, are_bounded, room_of};
+use crate::needs::{Need, are_met, room_of};
 use crate::reasons::{Explained, because_of};
 use dds_base::NoMemory;
 use dds_json::{answer_word, line_of};
@@ -64,7 +64,7 @@ fn reasons_document(
     ensures { IfOk result (λ v. view v ≡ reasons_document plan.now explained.now needs.now) }
 {
     let documents = reasons_array(alloc, plan, explained, needs)?;
-    let answer = answer_word(are_bounded(needs));
+    let answer = answer_word(are_met(needs));
     json!(in alloc; {"answer": answer, "needs": documents})
 }
 

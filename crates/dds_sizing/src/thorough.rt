@@ -1,27 +1,25 @@
-//! What `propose --thorough` answers to the bytes of a deployment.
-ghost use Rattle.std.specs.Prelude.{◌≡◌, ◌∷◌, ◌≤◌, ◌<◌, ℕ, List, [], IfErr, IfOk, IfSome, IsOk, None, Ok, OnOk, Some};
-ghost use Rattle.std.specs.Prelude.{string_bytes, true};
+//! What `propose --thorough` finds for a plan, and what it answers.
+ghost use Rattle.std.specs.Prelude.{◌≡◌, ◌<◌, ℕ, IfErr, IfOk, IfSome, IsOk, OnOk, Some, string_bytes, true};
 ghost use Rattle.dds_match.specs.Plan.{network_of};
 ghost use Rattle.dds_weights.specs.Fits.{fits};
 ghost use Rattle.dds_weights.specs.Views.{certificate_view};
 ghost use Rattle.dds_runs.specs.Accepted.{instance_limit};
-ghost use Rattle.dds_check.specs.Accepts.{first_no};
-ghost use Rattle.dds_deploy.specs.Document.{read as deployment_read};
 ghost use Rattle.dds_answers.specs.Answers.{Gives};
 ghost use Rattle.dds_answers.specs.Fault.{IsAnswerFault};
-ghost use Rattle.dds_answers.specs.Outcome.{Outcome, unproposed};
+ghost use Rattle.dds_answers.specs.Outcome.{unproposed};
 ghost use Rattle.dds_sizing.specs.Missing.{IsDepthFor, IsLimitText, IsMissingText, least_line, length_line, own_name};
 ghost use Rattle.dds_sizing.specs.Missing.{short_line, shower};
-ghost use Rattle.dds_sizing.specs.Searches.{MayFind};
+ghost use Rattle.dds_sizing.specs.Searches.{IsAccepted, found_end};
 
 use crate::shortages::shortage_word;
-use dds_answers::{Answer, MAX_FILE, ToolFault, answer_certificate, read_plan, structure_text};
+use dds_answers::{Answer, MAX_FILE, ToolFault, answer_certificate, structure_text};
 use dds_base::{KeyNo, NoMemory, ReaderNo, WriterNo};
 use dds_check::No;
+use dds_check::accepts::accepts;
 use dds_match::Plan;
 use dds_propose::propose;
 use dds_propose::targets::Target;
-use dds_search::{Budget, Found, Least, Missing, Shortage, search};
+use dds_search::{Budget, Found, Least, Missing, Shortage, Sizes, find_limits_certificate, search};
 use dds_text::names::{reader_key, reader_name, writer_key, writer_name};
 use dds_weights::Certificate;
 use std::alloc::Global;
@@ -191,7 +189,7 @@ fn answer_none_with(alloc: Global, note: Result<String, NoMemory>) -> Result<Ans
     ensures gives { Gives result unproposed }
     ensures note { IfOk result (λ a. IfOk note (λ note. a.note ≡ Some note)) }
     ensures there { OnOk result (IsOk note) }
-    ensures fault { IfErr result IsAnswerFault }
+    ensures memory { IfErr result (λ e. e ≡ ToolFault.NoMemory) }
 {
     let Ok(note) = note else {
         return Err(ToolFault::NoMemory);
@@ -211,7 +209,7 @@ fn answer_missing(alloc: Global, plan: &Plan, missing: Missing) -> Result<Answer
     ensures gives { Gives result unproposed }
     ensures note { IfOk result
         (λ a. (note : _) × (a.note ≡ Some note) × IsMissingText plan.now missing (string_bytes note)) }
-    ensures fault { IfErr result IsAnswerFault }
+    ensures memory { IfErr result (λ e. e ≡ ToolFault.NoMemory) }
 {
     answer_none_with(alloc, missing_text(alloc, plan, missing))
 }
@@ -225,13 +223,15 @@ pub(crate) fn length_text(alloc: Global, length: usize) -> Result<String, NoMemo
     )
 }
 
-/// The answer with a certificate that is accepted, unless its text is longer than a file may be, so that `check`
-/// couldn't read it: then it is `none`, and a line says why.
-fn answer_found(alloc: Global, plan: &Plan, certificate: &Certificate) -> Result<Answer, ToolFault>
-    requires fit { fits (network_of plan.now) (certificate_view certificate.now) ≡ true }
-    requires accepted { first_no plan.now (certificate_view certificate.now) ≡ None }
-    ensures gives { (end : Outcome) × MayFind (Ok plan.now) end × Gives result end }
-    ensures fault { IfErr result IsAnswerFault }
+/// The answer with a certificate, unless its text is longer than a file may be, so that `check` couldn't read it: then
+/// it is `none`, and a line says why.
+fn answer_certified(
+    alloc: Global,
+    plan: &Plan,
+    certificate: &Certificate,
+) -> Result<Answer, ToolFault>
+    ensures gives { Gives result (found_end plan.now (Found.Certificate certificate.now)) }
+    ensures memory { IfErr result (λ e. e ≡ ToolFault.NoMemory) }
 {
     match answer_certificate(alloc, plan, certificate) {
         Ok(answer) => {
@@ -246,46 +246,98 @@ fn answer_found(alloc: Global, plan: &Plan, certificate: &Certificate) -> Result
     }
 }
 
-/// The answer where the search found nothing: the rounds may still find a certificate, since their numbers are smaller.
-fn by_rounds(alloc: Global, plan: &Plan, missing: Missing) -> Result<Answer, ToolFault>
-    ensures gives { (end : Outcome) × MayFind (Ok plan.now) end × Gives result end }
-    ensures fault { IfErr result IsAnswerFault }
+/// The answer to what a search for a certificate found.
+fn answer_found(alloc: Global, plan: &Plan, found: Found) -> Result<Answer, ToolFault>
+    ensures gives { Gives result (found_end plan.now found) }
+    ensures memory { IfErr result (λ e. e ≡ ToolFault.NoMemory) }
 {
-    match propose(alloc, plan) {
-        Ok(Some(certificate)) => answer_found(alloc, plan, &certificate),
-        Ok(None) => answer_missing(alloc, plan, missing),
-        Err(_) => Err(ToolFault::NoMemory),
+    match found {
+        Found::Certificate(certificate) => answer_certified(alloc, plan, &certificate),
+        Found::Missing(missing) => answer_missing(alloc, plan, missing),
     }
 }
 
-/// The answer to what is found for a plan.
-fn answer_search<C: Clock>(
+/// The answer of `propose --thorough` to what was found for a plan, both of which are needed no longer: yes with the
+/// text of the certificate, of at most 1,048,576 bytes, or no where there's none, and then with a note that says why.
+pub fn answer_search(alloc: Global, plan: Plan, found: Found) -> Result<Answer, ToolFault>
+    ensures gives { Gives result (found_end plan found) }
+    ensures fault { IfErr result IsAnswerFault }
+    ensures memory { IfErr result (λ e. e ≡ ToolFault.NoMemory) }
+{
+    let answer = answer_found(alloc, &plan, found);
+    drop(plan);
+    answer
+}
+
+/// The certificate, where it's accepted.
+fn accepted(plan: &Plan, certificate: Certificate) -> Option<Certificate>
+    requires { fits (network_of plan.now) (certificate_view certificate) ≡ true }
+    ensures { IfSome result (λ c. IsAccepted plan.now (Found.Certificate c)) }
+{
+    match accepts(plan, &certificate) {
+        Ok(()) => Some(certificate),
+        Err(_) => None,
+    }
+}
+
+/// A certificate with the least bounds, where that is accepted. It needs no row for a limit of all samples of a reader
+/// that the sum of the bounds of its keys shows.
+fn find_by_sums<C: Clock>(
     alloc: Global,
     plan: &Plan,
     budget: Budget<C>,
-) -> Result<Answer, ToolFault>
-    ensures gives { (end : Outcome) × MayFind (Ok plan.now) end × Gives result end }
-    ensures fault { IfErr result IsAnswerFault }
+) -> Result<Option<Certificate>, NoMemory>
+    ensures { IfOk result (λ found. IfSome found (λ c. IsAccepted plan.now (Found.Certificate c))) }
 {
-    match search(alloc, plan, budget) {
-        Ok(Found::Certificate(certificate)) => answer_found(alloc, plan, &certificate),
-        Ok(Found::Missing(missing)) => by_rounds(alloc, plan, missing),
-        Err(_) => Err(ToolFault::NoMemory),
+    let Sizes { certificate, .. } = find_limits_certificate(alloc, plan, budget)?;
+    match certificate {
+        Some(certificate) => Ok(accepted(plan, certificate)),
+        None => Ok(None),
     }
 }
 
-/// The answer of `propose --thorough` to the bytes of a deployment: yes with the text of a certificate that is
-/// accepted, of at most 1,048,576 bytes, or no where none was found, and then with a note that says why.
-pub fn thorough_answer<C: Clock>(
-    alloc: Global,
-    deployment: &[u8],
-    budget: Budget<C>,
-) -> Result<Answer, ToolFault>
-    ensures gives { (end : Outcome) × MayFind (deployment_read deployment.now) end × Gives result end }
-    ensures fault { IfErr result IsAnswerFault }
+/// What is found where the search found nothing: the rounds may still find a certificate, since their numbers are
+/// smaller.
+fn find_by_rounds(alloc: Global, plan: &Plan, missing: Missing) -> Result<Found, NoMemory>
+    ensures { IfOk result (IsAccepted plan.now) }
 {
-    let plan = read_plan(alloc, deployment)?;
-    let answer = answer_search(alloc, &plan, budget);
-    drop(plan);
-    answer
+    match propose(alloc, plan) {
+        Ok(Some(certificate)) => Ok(Found::Certificate(certificate)),
+        Ok(None) => Ok(Found::Missing(missing)),
+        Err(no) => Err(no),
+    }
+}
+
+/// What is found where the search found no certificate of so few rows as one may have.
+fn find_with_fewer_rows<C: Clock>(
+    alloc: Global,
+    plan: &Plan,
+    budget: Budget<C>,
+) -> Result<Found, NoMemory>
+    ensures { IfOk result (IsAccepted plan.now) }
+{
+    match find_by_sums(alloc, plan, budget) {
+        Ok(Some(certificate)) => Ok(Found::Certificate(certificate)),
+        Ok(None) => find_by_rounds(alloc, plan, Missing::Rows),
+        Err(no) => Err(no),
+    }
+}
+
+/// A certificate of a plan that is accepted, or why none was found: by the search for weights, then, where that has
+/// too many rows, by the least bounds, and at last by the rounds. Each of the two budgets is for one search, and both
+/// are of one command. `NoMemory` is the only error.
+pub fn find_certificate<C: Clock>(
+    alloc: Global,
+    plan: &Plan,
+    budget: Budget<C>,
+    other: Budget<C>,
+) -> Result<Found, NoMemory>
+    ensures { IfOk result (IsAccepted plan.now) }
+{
+    match search(alloc, plan, budget) {
+        Ok(Found::Certificate(certificate)) => Ok(Found::Certificate(certificate)),
+        Ok(Found::Missing(Missing::Rows)) => find_with_fewer_rows(alloc, plan, other),
+        Ok(Found::Missing(missing)) => find_by_rounds(alloc, plan, missing),
+        Err(no) => Err(no),
+    }
 }

@@ -1,58 +1,20 @@
 -- What is given of an end of a command, of its bytes and of its files.
 use Rattle.std.proofs.Common.{◌≡◌, ◌≤◌, ◌⊎◌, ◌&&◌, Bool, true, ℕ, List, [], ◌∷◌, Option, Some, None, length, nat_le, Result, Ok, Err, IfErr, IsErrOf, OnOk, inl, inr, refl, subst, sym, arith}
-use Rattle.dds_fields.specs.Reading.{Read}
-use Rattle.dds_lists.specs.Lists.{Lists}
-use Rattle.dds_weights.specs.Lists.{Certificate}
 use Rattle.dds_answers.specs.declared.answer.Answer.{Answer}
 use Rattle.dds_answers.specs.declared.fault.ToolFault.{ToolFault}
 use Rattle.dds_answers.specs.declared.fault.ToolFault.TheVariants as fault
-use Rattle.dds_answers.specs.Answers.{Gives, GivesOneOf}
 use Rattle.dds_answers.specs.Causes.{IsFileFault}
 use Rattle.dds_answers.specs.Fault.{IsAnswerFault}
 use Rattle.dds_answers.specs.Opened.{Opens, OpensAll}
-use Rattle.dds_answers.specs.Outcome.{MayIf, MayOfFiles, Outcome, bad_deployment, file_outcome, outcome, proposed, unproposed}
-use Rattle.dds_answers.specs.Proposals.{MaySeek}
+use Rattle.dds_answers.specs.Outcome.{MayOfFiles, Outcome, file_outcome, outcome}
 use Rattle.dds_answers.specs.Reading.{IsReadingFault, most_bytes}
-use Rattle.dds_answers.proofs.FileEnds.{few, few_gives, few_of_files, one_of}
-use Rattle.dds_json.specs.Ends.{EndsProposal, in_style}
-use Rattle.dds_json.specs.declared.style.Style.{Style}
+use Rattle.dds_answers.proofs.FileEnds.{few, few_gives, few_of_files}
 use Rattle.dds_request.specs.declared.request.PairTask.{PairTask}
 use Rattle.dds_request.specs.declared.request.PairTask.TheVariants as pair
 use Rattle.dds_request.specs.declared.request.Request.{Request}
 use Rattle.dds_tool.specs.Causes.{IsPairFault, IsRequestFault, IsRunTask}
-use Rattle.dds_tool.specs.Commands.{IsToldOf, MayBreakOff, MayInStyle, most_of}
-use Rattle.dds_tool.specs.RunEnds.{GivesUnless, IsAccepted}
-
--- what is given of an end is given of the only one that may be
-pub one_gives : (end : Outcome) (r : Result Answer ToolFault) → Gives r end → GivesOneOf (λ (e : Outcome). e ≡ end) r
-one_gives end r gives = one_of (λ (e : Outcome). e ≡ end) end r refl gives
-
--- a search for a certificate ends as one
-seeks : (IsSought : Lists → Certificate → Type 0) (read : Read Lists) (end : Outcome) → MaySeek IsSought read end → EndsProposal end
-seeks IsSought (Ok lists) end (inl none) = subst EndsProposal (sym none) tt
-seeks IsSought (Ok lists) end (inr (cert, is, same)) = subst EndsProposal (sym same) tt
-seeks IsSought (Err flaw) end is = subst EndsProposal (sym is) tt
-
--- so what it gives in a style is what may be given
-pub sought_gives : (IsSought : Lists → Certificate → Type 0) (style : Style) (read : Read Lists) (answer r : Result Answer ToolFault)
-    → ((end : Outcome) × MaySeek IsSought read end × Gives answer end)
-    → ((end : Outcome) → EndsProposal end → Gives answer end → Gives r (in_style style end)) → GivesOneOf (MayInStyle style (MaySeek IsSought read)) r
-sought_gives IsSought style read answer r (end, may, gives) styled =
-    one_of (MayInStyle style (MaySeek IsSought read)) (in_style style end) r (end, may, refl) (styled end (seeks IsSought read end may) gives)
-
--- and its fault is one of an answer
-pub sought_fault : (answer r : Result Answer ToolFault) → IfErr answer IsAnswerFault → IfErr r (λ e. (e ≡ fault.NoMemory) ⊎ IsErrOf answer e) → IfErr r IsAnswerFault
-sought_fault answer (Ok a) is own = tt
-sought_fault answer (Err e) is (inl memory) = subst IsAnswerFault (sym memory) tt
-sought_fault answer (Err e) is (inr same) = subst (λ (a : Result Answer ToolFault). IfErr a IsAnswerFault) same is
-
--- what is given of ends that may be is given unless a run is broken off
-pub unless_gives : (Breaks : Type 0) (May : Outcome → Type 0) (r : Result Answer ToolFault) → GivesOneOf May r → GivesUnless Breaks May r
-unless_gives Breaks May (Ok answer) gives = gives
-unless_gives Breaks May (Err e) gives = inr gives
-
-pub only_gives : (Breaks : Type 0) (end : Outcome) (r : Result Answer ToolFault) → Gives r end → GivesUnless Breaks (λ (e : Outcome). e ≡ end) r
-only_gives Breaks end r gives = unless_gives Breaks (λ (e : Outcome). e ≡ end) r (one_gives end r gives)
+use Rattle.dds_tool.specs.Commands.{IsToldOf, MayBreakOff, most_of}
+use Rattle.dds_tool.specs.RunEnds.{GivesUnless}
 
 -- a run of files that aren't too large is broken off where one of their bytes is
 breaks : (asks : PairTask) (d s : List ℕ) → length d ≤ most_bytes → length s ≤ most_bytes → MayBreakOff asks (outcome d s) → MayBreakOff asks (file_outcome d s)
@@ -85,7 +47,7 @@ read_told pair.Draw d s f is = tt
 read_told (pair.Lint form denied) d s f is = tt
 
 -- of a task that isn't a check nothing has to be said
-pub untold : (r : Result Answer ToolFault) → IfErr r (λ (e : ToolFault). Unit {0})
+pub untold : {V : Type 0} (r : Result V ToolFault) → IfErr r (λ (e : ToolFault). Unit {0})
 untold (Ok answer) = tt
 untold (Err e) = tt
 
@@ -135,16 +97,29 @@ pair_causes asks failed (Err e) (inl run) = inl run
 pair_causes asks failed (Err e) (inr is) = inr (of_answer failed e is)
 
 -- a fault of an answer to the bytes of files is one of an answer about two files
-pub pair_fault : (asks : PairTask) (r : Result Answer ToolFault) → IfErr r IsAnswerFault → IfErr r (IsPairFault asks)
+pub pair_fault : {V : Type 0} (asks : PairTask) (r : Result V ToolFault) → IfErr r IsAnswerFault → IfErr r (IsPairFault asks)
 pair_fault asks (Ok answer) is = tt
 pair_fault asks (Err e) is = inr is
 
-pub run_fault : (asks : PairTask) (r : Result Answer ToolFault) → IsRunTask asks → IfErr r (λ (e : ToolFault). (e ≡ fault.Run) ⊎ IsAnswerFault e) → IfErr r (IsPairFault asks)
+pub run_fault : {V : Type 0} (asks : PairTask) (r : Result V ToolFault) → IsRunTask asks → IfErr r (λ (e : ToolFault). (e ≡ fault.Run) ⊎ IsAnswerFault e) → IfErr r (IsPairFault asks)
 run_fault asks (Ok answer) run is = tt
 run_fault asks (Err e) run (inl same) = inl (run, same)
 run_fault asks (Err e) run (inr is) = inr is
 
 -- want of memory is a fault of an answer
-pub memory_fault : (r : Result Answer ToolFault) → IfErr r (λ (e : ToolFault). e ≡ fault.NoMemory) → IfErr r IsAnswerFault
+pub memory_fault : {V : Type 0} (r : Result V ToolFault) → IfErr r (λ (e : ToolFault). e ≡ fault.NoMemory) → IfErr r IsAnswerFault
 memory_fault (Ok answer) is = tt
 memory_fault (Err e) is = subst IsAnswerFault (sym is) tt
+
+-- and a check that runs out of it says nothing about the syntax
+memory_told_of : (asks : PairTask) (d s : List ℕ) → IsToldOf asks d s fault.NoMemory
+memory_told_of (pair.Check detail style) d s = tt
+memory_told_of (pair.Run wishes style) d s = tt
+memory_told_of (pair.Replay style) d s = tt
+memory_told_of (pair.Conform style) d s = tt
+memory_told_of pair.Draw d s = tt
+memory_told_of (pair.Lint form denied) d s = tt
+
+pub memory_told : (asks : PairTask) (d s : List ℕ) (r : Result Answer ToolFault) → IfErr r (λ (e : ToolFault). e ≡ fault.NoMemory) → IfErr r (IsToldOf asks d s)
+memory_told asks d s (Ok answer) is = tt
+memory_told asks d s (Err e) is = subst (IsToldOf asks d s) (sym is) (memory_told_of asks d s)

@@ -1,4 +1,5 @@
 mod Ending
+mod Outcomes
 mod Requests
 mod Tallies
 mod Told
@@ -8,4 +9,3 @@ mod Refutes
 mod Replays
 mod Conforms
 mod Summaries
-mod Lints

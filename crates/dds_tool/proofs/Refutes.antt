@@ -1,13 +1,7 @@
--- What a refutation gives.
-use Rattle.std.proofs.Common.{false, true, Bool, ◌≡◌, ◌≢◌, Some, None, Ok, Result, IfErr, IfOk, IsOk, OnOk, String, refl, string_bytes, subst}
-use Rattle.std.specs.declared.alloc.Global.{Global}
+-- What a refutation comes to.
+use Rattle.std.proofs.Common.{false, true, ◌≡◌, ◌≢◌, Some, None, Ok, refl, ap}
 use Rattle.dds_lists.specs.Lists.{Lists}
-use Rattle.dds_answers.specs.declared.answer.Answer.{Answer}
-use Rattle.dds_answers.specs.declared.fault.ToolFault.{ToolFault}
-use Rattle.dds_answers.specs.declared.fault.ToolFault.TheVariants as fault
-use Rattle.dds_answers.specs.Answers.{Gives, GivesOneOf}
 use Rattle.dds_answers.specs.Outcome.{said}
-use Rattle.dds_answers.proofs.FileEnds.{one_of}
 use Rattle.dds_weights.specs.Fits.{fits}
 use Rattle.dds_weights.specs.Lists.{Certificate}
 use Rattle.dds_weights.specs.Views.{certificate_view}
@@ -25,7 +19,6 @@ use Rattle.dds_json.specs.declared.style.Style.{Style}
 use Rattle.serde_json.specs.Written.{has_float}
 use Rattle.dds_answers.specs.Structure.{nothing}
 use Rattle.dds_json.proofs.Documents.{refusal_plain}
-use Rattle.dds_json.proofs.Ends.{line_gives}
 
 -- what is promised of a refutation is what is known
 known_is : (lists : Lists) (known : Refutation) → IfUnsafe known (IsCounterexample (network_of lists)) → IfUnsafe known (λ c. (cert : Certificate) → first_no lists cert ≢ None)
@@ -37,15 +30,13 @@ known_is lists (refutation.Unsafe c) run unaccepted fit safe accepted structure 
 known_is lists (refutation.Unknown why) run unaccepted fit safe accepted structure = tt
 
 -- so is it of a plan that was given back
-pub refuted_gives : {E : Type 0} (style : Style) (lists plan : Lists) (known : Refutation) (text : Result (String Global) E) (r : Result Answer ToolFault) (b : Bool) → plan ≡ lists
+pub may_refute : (style : Style) (lists plan : Lists) (known : Refutation) → plan ≡ lists
     → IfUnsafe known (IsCounterexample (network_of lists)) → IfUnsafe known (λ c. (cert : Certificate) → first_no lists cert ≢ None)
     → IfSafe known (λ c. fits (network_of lists) (certificate_view c) ≡ true) → IfSafe known (λ c. Safe (network_of lists) (certificate_of (certificate_view c)))
-    → IfSafe known (λ c. first_no lists (certificate_view c) ≡ None) → IfStructure known (λ cause. structure_no lists ≡ Some cause) → b ≡ is_safe known
-    → IfOk r (λ a. (a.is_yes ≡ b) × IfOk text (λ t. a.text ≡ t)) → OnOk r (IsOk text) → IfErr r (λ e. e ≡ fault.NoMemory) → IfOk text (λ t. string_bytes t ≡ told_known style plan known)
-    → GivesOneOf (MayRefute style (Ok lists)) r
-refuted_gives style lists plan known text r b still run unaccepted fit safe accepted structure same has there memory is =
-    one_of (MayRefute style (Ok lists)) (said (told_known style lists known) (is_safe known)) r (known, known_is lists known run unaccepted fit safe accepted structure, refl)
-    (subst (λ (l : Lists). Gives r (said (told_known style l known) (is_safe known))) still (line_gives text r (told_known style plan known) (is_safe known) b same has there memory is))
+    → IfSafe known (λ c. first_no lists (certificate_view c) ≡ None) → IfStructure known (λ cause. structure_no lists ≡ Some cause)
+    → MayRefute style (Ok lists) (said (told_known style plan known) (is_safe known))
+may_refute style lists plan known still run unaccepted fit safe accepted structure =
+    (known, known_is lists known run unaccepted fit safe accepted structure, ap (λ (l : Lists). said (told_known style l known) (is_safe known)) still)
 
 -- the document for what is known has no fraction
 pub known_plain : (lists : Lists) (known : Refutation) → has_float (known_document lists known) ≡ false

@@ -3,10 +3,9 @@ use Rattle.std.specs.Prelude.{ℕ, Err, IfErr, ◌≡◌, ◌≢◌, ◌⊎◌, 
 use Rattle.std.specs.Io.KnownBytes.{Appends}
 use Rattle.dds_deploy.specs.Document.{read, read_up_to}
 use Rattle.dds_answers.specs.Answers.{GivesOneOf, IsAnswer, SaysNothing}
-use Rattle.dds_answers.specs.Connecting.{connections_outcome}
 use Rattle.dds_answers.specs.Fault.{exit_of, fault_line, fault_status}
 use Rattle.dds_answers.specs.Migrations.{MayMigrate}
-use Rattle.dds_answers.specs.Outcome.{MayOfFile, MayOfFiles, Outcome, draw_outcome, file_outcome, match_outcome, outcome, show_outcome, told}
+use Rattle.dds_answers.specs.Outcome.{MayOfFile, MayOfFiles, Outcome, drawing, file_outcome, outcome, showing, told}
 use Rattle.dds_answers.specs.Proposals.{MayPropose}
 use Rattle.dds_answers.specs.Report.{Ends, output_of, status_of}
 use Rattle.dds_answers.specs.Reading.{most_bytes, most_event_bytes}
@@ -22,8 +21,6 @@ use Rattle.dds_json.specs.Line.{line_of}
 use Rattle.dds_json.specs.declared.style.Style.{Style}
 use Rattle.dds_json.specs.declared.style.Style.TheVariants as style
 use Rattle.dds_request.specs.Request.{style_of}
-use Rattle.dds_request.specs.declared.request.Comparison.{Comparison}
-use Rattle.dds_request.specs.declared.request.Comparison.TheVariants.{Pairs, Connections}
 use Rattle.dds_request.specs.declared.request.PairTask.{PairTask}
 use Rattle.dds_request.specs.declared.request.PairTask.TheVariants as pair
 use Rattle.dds_request.specs.declared.request.Request.{Request}
@@ -34,6 +31,7 @@ use Rattle.dds_sizing.specs.Limits.{MayLimit}
 use Rattle.dds_sizing.specs.Searches.{MayFind}
 use Rattle.dds_tool.specs.Conforming.{MayConform}
 use Rattle.dds_tool.specs.Linting.{MayLint}
+use Rattle.dds_tool.specs.Outcome.{compared}
 use Rattle.dds_tool.specs.Refuting.{MayRefute}
 use Rattle.dds_tool.specs.Replaying.{MayReplay}
 use Rattle.dds_tool.specs.RunEnds.{GivesUnless, IsAccepted, MayRun}
@@ -43,21 +41,16 @@ use Rattle.dds_tool.specs.RunEnds.{GivesUnless, IsAccepted, MayRun}
 abbrev pub MayInStyle : Style → (Outcome → Type 0) → Outcome → Type 0
 MayInStyle style May end = (plain : Outcome) × May plain × (end ≡ in_style style plain)
 
--- a comparison of the endpoints: the pairs in this style, or the connections
-abbrev pub compared : Comparison → Style → List ℕ → Outcome
-compared Pairs style d = in_style style (match_outcome d)
-compared Connections style d = connections_outcome d
-
 -- a command on a deployment with this name and these bytes
 abbrev pub MayEnd : Task → (name : List ℕ) → List ℕ → Outcome → Type 0
-MayEnd (task.Match what style) name d end = end ≡ compared what style d
+MayEnd (task.Match what style) name d end = end ≡ compared what style (read d)
 MayEnd (task.Propose style) name d end = MayInStyle style (MayPropose (read d)) end
 MayEnd (task.ProposeThoroughly seconds style) name d end = MayInStyle style (MayFind (read d)) end
 MayEnd task.Migrate name d end = MayMigrate d (read_up_to 1 d) end
 MayEnd (task.Refute seconds style) name d end = MayRefute style (read d) end
 MayEnd (task.Limits what seconds style) name d end = MayLimit what style (read d) end
-MayEnd (task.Show format) name d end = end ≡ show_outcome format d
-MayEnd task.Draw name d end = end ≡ draw_outcome d None
+MayEnd (task.Show format) name d end = end ≡ showing format (read d)
+MayEnd task.Draw name d end = end ≡ drawing (read d) None
 MayEnd (task.Lint form denied) name d end = MayLint form denied (names_of name None) d None end
 
 -- a command on a deployment and a second file with these names and bytes
@@ -66,7 +59,7 @@ MayEndPair (pair.Check detail style) deployment second d s end = end ≡ in_styl
 MayEndPair (pair.Run wishes style) deployment second d s end = MayRun wishes style (outcome d s) end
 MayEndPair (pair.Replay style) deployment second d s end = MayReplay style (read d) s end
 MayEndPair (pair.Conform style) deployment second d s end = MayConform style (read d) s end
-MayEndPair pair.Draw deployment second d s end = end ≡ draw_outcome d (Some s)
+MayEndPair pair.Draw deployment second d s end = end ≡ drawing (read d) (Some s)
 MayEndPair (pair.Lint form denied) deployment second d s end = MayLint form denied (names_of deployment (Some second)) d (Some s) end
 
 -- how many bytes the second file may have: 64 MiB of events or of a trace, else as many as a deployment

@@ -1,5 +1,5 @@
 -- What is answered to whether a trace keeps the rules of a deployment.
-use Rattle.std.specs.Prelude.{codes, ℕ, ◌≡◌, ◌⊎◌, Bool, true, false, List, map, Ok, Err, IsUtf8, string_bytes}
+use Rattle.std.specs.Prelude.{codes, ℕ, ◌≡◌, ◌⊎◌, Bool, true, false, List, map, Ok, Err, IsUtf8}
 use Rattle.std.specs.Str.Lines.{lines}
 use Rattle.dds_fields.specs.Reading.{Read}
 use Rattle.dds_lists.specs.Lists.{Lists}
@@ -22,7 +22,6 @@ use Rattle.serde_json.specs.View.{items_of}
 use Rattle.dds_json.specs.Line.{line_of}
 use Rattle.dds_json.specs.declared.style.Style.{Style}
 use Rattle.dds_json.specs.declared.style.Style.TheVariants.{Text, Json}
-use Rattle.dds_answers.specs.declared.answer.Answer.{Answer}
 use Rattle.dds_answers.specs.declared.fault.ToolFault.{ToolFault}
 use Rattle.dds_answers.specs.declared.fault.ToolFault.TheVariants as fault
 use Rattle.dds_answers.specs.Outcome.{Outcome, bad_deployment, bad_trace, said}
@@ -70,13 +69,7 @@ abbrev pub MayConform : Style → Read Lists → List ℕ → Outcome → Type 0
 MayConform style (Ok lists) bytes end = MayConformLists style lists bytes end
 MayConform style (Err flaw) bytes end = end ≡ bad_deployment flaw
 
--- ── for the parts of an answer
--- the answer says in this style whether the entries keep the rules, and it is so
-abbrev pub IsJudged : Style → Lists → List Entry → Answer → Type 0
-IsJudged style lists entries answer =
-    (conformance : Conformance) × judging.IsAnswer (network_of lists) entries conformance × (string_bytes answer.text ≡ told_conformance style lists conformance)
-    × (answer.is_yes ≡ is_kept conformance)
-
+-- ── faults
 -- the fault of a trace that could not be read
 abbrev pub IsTraceFault : TraceFault → ToolFault → Type 0
 IsTraceFault (At kind line) told = told ≡ fault.Trace kind line

@@ -6,5 +6,6 @@ pub mod Refuting
 pub mod Replaying
 pub mod Conforming
 pub mod Linting
+pub mod Outcome
 pub mod Commands
 pub mod Causes

@@ -17,7 +17,6 @@ use Rattle.serde_json.specs.Data.{Data, member, no_members, object, string}
 use Rattle.dds_json.specs.Line.{line_of}
 use Rattle.dds_json.specs.declared.style.Style.{Style}
 use Rattle.dds_json.specs.declared.style.Style.TheVariants.{Text, Json}
-use Rattle.dds_answers.specs.declared.answer.Answer.{Answer}
 use Rattle.dds_answers.specs.declared.fault.ToolFault.{ToolFault}
 use Rattle.dds_answers.specs.declared.fault.ToolFault.TheVariants as fault
 use Rattle.dds_answers.specs.Outcome.{MayIf, Outcome, bad_deployment, bad_events, said}
@@ -47,13 +46,7 @@ abbrev pub MayReplay : Style → Read Lists → List ℕ → Outcome → Type 0
 MayReplay style (Ok lists) bytes end = MayReplayLists style lists bytes end
 MayReplay style (Err flaw) bytes end = end ≡ bad_deployment flaw
 
--- ── for the parts of an answer
--- the answer gives the events in this style, with replies that make them a run of the plan
-abbrev pub IsReplayed : Style → Lists → List Event → Answer → Type 0
-IsReplayed style lists events answer =
-    (replies : List Reply) × (length replies ≡ length events) × IsRun (network_of lists) (paired events replies)
-    × (string_bytes answer.text ≡ told_replay style lists events replies) × (answer.is_yes ≡ true)
-
+-- ── faults
 -- the fault of events that could not be read
 abbrev pub IsEventsFault : EventsFault → ToolFault → Type 0
 IsEventsFault (At kind line) told = told ≡ fault.Events kind line

@@ -14,19 +14,21 @@ use Rattle.dds_json.specs.declared.style.Style.{Style}
 use Rattle.dds_tool.specs.RunDocument.{told_run}
 use Rattle.dds_lists.specs.Lists.{Lists}
 use Rattle.dds_tool.specs.Running.{app_names, because_of}
+use Rattle.dds_answers.specs.declared.report.Detail.{Detail}
 use Rattle.dds_recap.specs.Ends.{all_good}
+use Rattle.dds_recap.specs.declared.ends.GoodEnds.{GoodEnds}
 use Rattle.dds_request.specs.declared.wishes.Wishes.{Wishes}
 
 -- what is said of a run by its journal and the ends of its applications' threads
-abbrev pub ran : Wishes → Style → Lists → List Entry → List AppEnd → Outcome
-ran wishes style d journal ends =
-    let is_yes = all_good wishes.good ends in said (told_run style is_yes (because_of wishes.detail d journal ends) (app_names d) journal ends) is_yes
+abbrev pub ran : GoodEnds → Detail → Style → Lists → List Entry → List AppEnd → Outcome
+ran good detail style d journal ends =
+    let is_yes = all_good good ends in said (told_run style is_yes (because_of detail d journal ends) (app_names d) journal ends) is_yes
 
 -- how a run of files may end whose check ends so, in this style: where the certificate is accepted, the deployment ran, by a journal of its plan,
 -- and the thread of each application ended; every other end is the check's
 abbrev pub MayRun : Wishes → Style → Outcome → Outcome → Type 0
 MayRun wishes style (accepted d c) end =
-    (journal : List Entry) × (ends : List AppEnd) × IsJournal d journal × (length ends ≡ length d.applications.entries) × (end ≡ ran wishes style d journal ends)
+    (journal : List Entry) × (ends : List AppEnd) × IsJournal d journal × (length ends ≡ length d.applications.entries) × (end ≡ ran wishes.good wishes.detail style d journal ends)
 MayRun wishes style checked end = end ≡ in_style style checked
 
 -- the certificate is accepted
@@ -39,7 +41,3 @@ IsAccepted _ = ⊥
 abbrev pub GivesUnless : (Breaks : Type 0) → (Outcome → Type 0) → Result Answer ToolFault → Type 0
 GivesUnless Breaks May (Ok answer) = (end : Outcome) × May end × IsAnswer answer end
 GivesUnless Breaks May (Err e) = (Breaks × (e ≡ fault.Run)) ⊎ (SaysNothing e ⊎ ((end : Outcome) × May end × Ends e end))
-
--- what is given for a run of files whose check ends so; it may be broken off where the certificate is accepted
-abbrev pub GivesRun : Wishes → Style → Outcome → Result Answer ToolFault → Type 0
-GivesRun wishes style checked result = GivesUnless (IsAccepted checked) (MayRun wishes style checked) result

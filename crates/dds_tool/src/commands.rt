@@ -1,12 +1,12 @@
 //! The commands, over any files and any two outputs.
-ghost use Rattle.std.specs.Prelude.{◌≡◌, ◌≢◌, ℕ, List, [], ◌∷◌, ◌≤◌, ◌⊎◌, Some, true, false, map, IfOk, IfErr, OnOk};
-ghost use Rattle.std.specs.Prelude.{OnErr, Err};
+ghost use Rattle.std.specs.Prelude.{◌≡◌, ◌≢◌, ℕ, List, [], ◌∷◌, ◌≤◌, ◌⊎◌, None, Some, true, false, map, IfOk};
+ghost use Rattle.std.specs.Prelude.{IfErr, OnOk, OnErr, Err};
 ghost use Rattle.std.specs.Io.KnownBytes.{Appends, Keeps};
 ghost use Rattle.clap.specs.Words.{takes};
 ghost use Rattle.dds_json.specs.declared.style.Style.TheVariants.{Json};
 ghost use Rattle.dds_request.specs.Asking.{AreRefused, AskForHelp, Asks, IsHelp};
 ghost use Rattle.dds_request.specs.Command.{whole};
-ghost use Rattle.dds_request.specs.Request.{paths_of, style_of};
+ghost use Rattle.dds_request.specs.Request.{paths_of, style_of, style_of_pair, style_of_task};
 ghost use Rattle.dds_answers.specs.Answers.{GivesOneOf};
 ghost use Rattle.dds_answers.specs.Causes.{IsFileFault};
 ghost use Rattle.dds_answers.specs.Exit.{exit_status};
@@ -14,25 +14,33 @@ ghost use Rattle.dds_answers.specs.Fault.{IsAnswerFault, fault_status};
 ghost use Rattle.dds_answers.specs.Opened.{Opens, OpensAll};
 ghost use Rattle.dds_answers.specs.Outcome.{file_outcome, outcome};
 ghost use Rattle.dds_answers.specs.Telling.{TellsFault};
+ghost use Rattle.dds_findings.specs.Answers.{names_of};
 ghost use Rattle.dds_tool.specs.Causes.{IsCaused, IsPairFault, IsRequestFault, IsRunTask};
 ghost use Rattle.dds_tool.specs.Commands.{Answers, GivesTo, IsAcceptedRun, IsToldOf, MayBreakOff, MayEnd};
 ghost use Rattle.dds_tool.specs.Commands.{MayEndFile, MayEndFiles, MayEndPair, Tells, TellsBadFile, most_of};
+ghost use Rattle.dds_tool.specs.Outcome.{ComesTo};
 ghost use Rattle.dds_tool.specs.RunEnds.{GivesUnless};
 
-use crate::conforming::conform_answer;
-use crate::refuting::refute_answer;
-use crate::replaying::replay_answer;
-use crate::running::run_answer;
+use crate::checking::check_files;
+use crate::comparing::compare_endpoints;
+use crate::conforming::conform_trace;
+use crate::linting::lint_files;
+use crate::outcome::Outcome;
+use crate::proposing::{propose_certificate, search_certificate};
+use crate::refuting::refute_deployment;
+use crate::rendering::render;
+use crate::replaying::replay_files;
+use crate::running::run_files;
+use crate::showing::{draw_deployment, migrate_deployment, show_deployment};
+use crate::sizing::size_limits;
 use crate::telling::tell_in_style;
 use dds_answers::{
-    Answer, Exit, MAX_FILE, Output, Sources, ToolFault, connections_answer, draw_answer, give,
-    migrate_answer, print, propose_answer, read_file, read_files, show_answer, tell_fault,
+    Answer, Exit, MAX_FILE, Output, Sources, ToolFault, give, print, read_file, read_files,
+    tell_fault,
 };
-use dds_findings::{Named, lint_answer};
-use dds_json::{check_in_style, match_in_style, proposal_in_style};
-use dds_request::{Comparison, NoRequest, PairTask, Request, Task, read_request};
+use dds_findings::{Named, names_of};
+use dds_request::{NoRequest, PairTask, Request, Task, read_request};
 use dds_search::Budget;
-use dds_sizing::{limits_answer, thorough_answer};
 use std::alloc::Global;
 use std::convert::AsStr;
 use std::sync::Wait;
@@ -41,6 +49,32 @@ use std::time::Clock;
 
 /// The most bytes that a file of events or a trace may have: 64 MiB. The longest run that `refute` prints has fewer.
 const MAX_LINES: usize = 67_108_864;
+
+/// What a command comes to that is asked for of the bytes of a deployment.
+fn find_outcome<C: Clock>(
+    rt: &C,
+    alloc: Global,
+    bytes: &[u8],
+    task: Task,
+) -> Result<Outcome, ToolFault>
+    ensures comes { (name : List ℕ) → ComesTo (names_of name None) (style_of_task task) ⊥
+        (MayEnd task name bytes.now) result }
+    ensures fault { IfErr result IsAnswerFault }
+{
+    match task {
+        Task::Match { what, .. } => compare_endpoints(alloc, bytes, what),
+        Task::Propose { .. } => propose_certificate(alloc, bytes),
+        Task::ProposeThoroughly { seconds, .. } => search_certificate(rt, alloc, bytes, seconds),
+        Task::Migrate => migrate_deployment(alloc, bytes),
+        Task::Refute { seconds, .. } => refute_deployment(alloc, bytes, Budget::new(rt, seconds)),
+        Task::Limits { what, seconds, .. } => {
+            size_limits(alloc, bytes, what, Budget::new(rt, seconds))
+        }
+        Task::Show { format } => show_deployment(alloc, bytes, format),
+        Task::Draw => draw_deployment(alloc, bytes, None),
+        Task::Lint { form, deny } => lint_files(alloc, bytes, None, form, deny),
+    }
+}
 
 /// The answer to what is asked for of the bytes of a deployment.
 fn answer_task<C: Clock>(
@@ -52,29 +86,34 @@ fn answer_task<C: Clock>(
     ensures gives { GivesOneOf (MayEnd task file.now.name.now file.now.bytes.now) result }
     ensures fault { IfErr result IsAnswerFault }
 {
-    let bytes = file.bytes;
+    let names = names_of(file, None);
+    match find_outcome(rt, alloc, file.bytes, task) {
+        Ok(outcome) => render(alloc, outcome, &names, task.style()),
+        Err(fault) => Err(fault),
+    }
+}
+
+/// What a command comes to that is asked for of the bytes of a deployment and of a second file.
+fn find_pair_outcome<R: Threads + Wait + Clock + Sync>(
+    rt: &R,
+    alloc: Global,
+    given: &[u8],
+    bytes: &[u8],
+    task: PairTask,
+) -> Result<Outcome, ToolFault>
+    ensures comes { (deployment second : List ℕ) → ComesTo (names_of deployment (Some second)) (style_of_pair task)
+        (MayBreakOff task (outcome given.now bytes.now))
+        (MayEndPair task deployment second given.now bytes.now) result }
+    ensures told { IfErr result (IsToldOf task given.now bytes.now) }
+    ensures fault { IfErr result (IsPairFault task) }
+{
     match task {
-        Task::Match { what, style } => match what {
-            Comparison::Pairs => match_in_style(alloc, bytes, style),
-            Comparison::Connections => connections_answer(alloc, bytes),
-        },
-        Task::Propose { style } => proposal_in_style(alloc, propose_answer(alloc, bytes), style),
-        Task::ProposeThoroughly { seconds, style } => {
-            let answer = thorough_answer(alloc, bytes, Budget::new(rt, seconds));
-            proposal_in_style(alloc, answer, style)
-        }
-        Task::Migrate => migrate_answer(alloc, bytes),
-        Task::Refute { seconds, style } => {
-            refute_answer(alloc, bytes, style, Budget::new(rt, seconds))
-        }
-        Task::Limits {
-            what,
-            seconds,
-            style,
-        } => limits_answer(alloc, bytes, what, style, Budget::new(rt, seconds)),
-        Task::Show { format } => show_answer(alloc, bytes, format),
-        Task::Draw => draw_answer(alloc, bytes, None),
-        Task::Lint { form, deny } => lint_answer(alloc, file, None, form, deny),
+        PairTask::Check { detail, .. } => check_files(alloc, given, bytes, detail),
+        PairTask::Run { wishes, .. } => run_files(rt, alloc, given, bytes, &wishes),
+        PairTask::Replay { .. } => replay_files(alloc, given, bytes),
+        PairTask::Conform { .. } => conform_trace(alloc, given, bytes),
+        PairTask::Draw => draw_deployment(alloc, given, Some(bytes)),
+        PairTask::Lint { form, deny } => lint_files(alloc, given, Some(bytes), form, deny),
     }
 }
 
@@ -93,15 +132,11 @@ fn answer_pair<R: Threads + Wait + Clock + Sync>(
     ensures told { IfErr result (IsToldOf task deployment.now.bytes.now second.entry.bytes.now) }
     ensures fault { IfErr result (IsPairFault task) }
 {
-    let given = deployment.bytes;
-    let bytes = second.bytes;
-    match task {
-        PairTask::Check { detail, style } => check_in_style(alloc, given, bytes, detail, style),
-        PairTask::Run { wishes, style } => run_answer(rt, alloc, given, bytes, &wishes, style),
-        PairTask::Replay { style } => replay_answer(alloc, given, bytes, style),
-        PairTask::Conform { style } => conform_answer(alloc, given, bytes, style),
-        PairTask::Draw => draw_answer(alloc, given, Some(bytes)),
-        PairTask::Lint { form, deny } => lint_answer(alloc, deployment, Some(second), form, deny),
+    let style = task.style();
+    let names = names_of(deployment, Some(second));
+    match find_pair_outcome(rt, alloc, deployment.bytes, second.bytes, task) {
+        Ok(outcome) => render(alloc, outcome, &names, style),
+        Err(fault) => Err(fault),
     }
 }
 

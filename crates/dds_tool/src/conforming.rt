@@ -1,14 +1,20 @@
-//! What `conform` answers.
-ghost use Rattle.std.specs.Prelude.{◌≡◌, IfErr, IfOk, string_bytes};
+//! What `conform` comes to, and what it answers.
+ghost use Rattle.std.specs.Prelude.{◌≡◌, ℕ, List, IfErr, IfOk, IsUtf8, Ok, string_bytes};
+ghost use Rattle.std.specs.Str.Lines.{lines};
 ghost use Rattle.dds_match.specs.Plan.{network_of};
 ghost use Rattle.dds_conform.specs.Judging.{AreKnown};
-ghost use Rattle.dds_answers.specs.Answers.{GivesOneOf};
+ghost use Rattle.dds_conform.specs.Reading.{AreEntries};
+ghost use Rattle.dds_answers.specs.Answers.{Gives};
 ghost use Rattle.dds_answers.specs.Fault.{IsAnswerFault};
+ghost use Rattle.dds_answers.specs.Outcome.{said};
 ghost use Rattle.dds_deploy.specs.Document.{read as deployment_read};
-ghost use Rattle.dds_tool.specs.Conforming.{IsJudged, IsTraceFault, MayConform, MayConformLists, is_kept};
-ghost use Rattle.dds_tool.specs.Conforming.{told_conformance};
+ghost use Rattle.dds_findings.specs.Blocks.{FileNames};
+ghost use Rattle.dds_json.specs.declared.style.Style.{Style};
+ghost use Rattle.dds_tool.specs.Conforming.{IsTraceFault, MayConform, is_kept, told_conformance};
+ghost use Rattle.dds_tool.specs.Outcome.{ComesTo};
 
 use crate::conformance_document::conformance_line;
+use crate::outcome::Outcome;
 use dds_answers::{Answer, ToolFault, answer_with, read_plan};
 use dds_base::NoMemory;
 use dds_conform::{Conformance, Entry, TraceFault, answer_text, conform, read_trace};
@@ -38,19 +44,25 @@ fn is_kept(conformance: &Conformance) -> bool
     matches!(conformance, Conformance::Kept)
 }
 
-/// The answer to the entries of a trace.
-fn judge(alloc: Global, plan: &Plan, entries: &[Entry], style: Style) -> Result<Answer, ToolFault>
-    requires { AreKnown (network_of plan.now) entries.now }
-    ensures judged { IfOk result (IsJudged style plan.now entries.now) }
+/// The answer with whether a trace keeps the rules of a plan, both of which are needed no longer, in this style: yes
+/// with `kept` where firings of rules can be put between the lines so that each write has its permit and each firing
+/// its takes; no with the first line of a write that has none and what the rules lack there, or with `unknown`. Where
+/// no two rules give permits for the same writes, no firings make the lines up to that one keep the rules, and
+/// `unknown` comes only where a count would pass 2^64 - 1.
+pub(crate) fn answer_conformance(
+    alloc: Global,
+    plan: Plan,
+    conformance: Conformance,
+    style: Style,
+) -> Result<Answer, ToolFault>
+    ensures gives { Gives result (said (told_conformance style plan conformance) (is_kept conformance)) }
     ensures memory { IfErr result (λ e. e ≡ ToolFault.NoMemory) }
 {
-    let Ok(conformance) = conform(alloc, plan, entries) else {
-        return Err(ToolFault::NoMemory);
-    };
     let answer = answer_with(
-        tell_conformance(alloc, plan, &conformance, style),
+        tell_conformance(alloc, &plan, &conformance, style),
         is_kept(&conformance),
     );
+    drop(plan);
     drop(conformance);
     answer
 }
@@ -65,33 +77,50 @@ fn trace_fault(fault: TraceFault) -> ToolFault
     }
 }
 
-/// The answer to the trace that bytes are, on a plan.
-fn judge_trace(alloc: Global, plan: &Plan, trace: &[u8], style: Style) -> Result<Answer, ToolFault>
-    ensures gives { GivesOneOf (MayConformLists style plan.now trace.now) result }
+/// Whether the entries of a trace keep the rules of a plan.
+fn judge(alloc: Global, plan: Plan, entries: &[Entry]) -> Result<Outcome, ToolFault>
+    requires { AreKnown (network_of plan) entries.now }
+    ensures judged { (names : FileNames) → (style : Style) → (bytes : List ℕ) → IsUtf8 bytes
+        → AreEntries plan (lines bytes) entries.now
+        → ComesTo names style ⊥ (MayConform style (Ok plan) bytes) result }
     ensures fault { IfErr result IsAnswerFault }
 {
-    match read_trace(alloc, plan, trace) {
-        Ok(entries) => judge(alloc, plan, entries.as_slice(), style),
-        Err(fault) => Err(trace_fault(fault)),
+    match conform(alloc, &plan, entries) {
+        Ok(conformance) => Ok(Outcome::Conformed { plan, conformance }),
+        Err(_) => {
+            drop(plan);
+            Err(ToolFault::NoMemory)
+        }
     }
 }
 
-/// The answer of `conform` to the bytes of a deployment and of a trace, in this style: yes with `kept` where
-/// firings of rules can be put between the lines so that each write has its permit and each firing its takes; no with
-/// the first line of a write that has none and what the rules lack there, or with `unknown`. Where no two rules give
-/// permits for the same writes, no firings make the lines up to that one keep the rules, and `unknown` comes only where
-/// a count would pass 2^64 - 1.
-pub fn conform_answer(
+/// Whether the trace that bytes are keeps the rules of a plan.
+fn judge_trace(alloc: Global, plan: Plan, trace: &[u8]) -> Result<Outcome, ToolFault>
+    ensures comes { (names : FileNames) → (style : Style) → ComesTo names style ⊥
+        (MayConform style (Ok plan) trace.now) result }
+    ensures fault { IfErr result IsAnswerFault }
+{
+    match read_trace(alloc, &plan, trace) {
+        Ok(entries) => judge(alloc, plan, entries.as_slice()),
+        Err(fault) => {
+            drop(plan);
+            Err(trace_fault(fault))
+        }
+    }
+}
+
+/// What `conform` comes to for the bytes of a deployment and of a trace.
+pub(crate) fn conform_trace(
     alloc: Global,
     deployment: &[u8],
     trace: &[u8],
-    style: Style,
-) -> Result<Answer, ToolFault>
-    ensures gives { GivesOneOf (MayConform style (deployment_read deployment.now) trace.now) result }
+) -> Result<Outcome, ToolFault>
+    ensures comes { (names : FileNames) → (style : Style) → ComesTo names style ⊥
+        (MayConform style (deployment_read deployment.now) trace.now) result }
     ensures fault { IfErr result IsAnswerFault }
 {
-    let plan = read_plan(alloc, deployment)?;
-    let answer = judge_trace(alloc, &plan, trace, style);
-    drop(plan);
-    answer
+    match read_plan(alloc, deployment) {
+        Ok(plan) => judge_trace(alloc, plan, trace),
+        Err(fault) => Err(fault),
+    }
 }

@@ -4,20 +4,24 @@
 //! of its applications ended.
 #![tactic(auto)]
 
+mod checking;
 mod commands;
+mod comparing;
 mod conformance_document;
 mod conforming;
+mod linting;
+mod outcome;
+mod proposing;
 mod refute_document;
 mod refuting;
+mod rendering;
 mod replaying;
 mod run_document;
 mod running;
+mod showing;
+mod sizing;
 mod summary;
 mod telling;
 
 pub use commands::tool;
-pub use conforming::conform_answer;
 pub use dds_answers::{Counted, Report, ToolFault, answer_check, read_all, report_text};
-pub use refuting::refute_answer;
-pub use replaying::replay_answer;
-pub use running::run_answer;

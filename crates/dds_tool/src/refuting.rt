@@ -1,11 +1,16 @@
-//! What `refute` answers.
+//! What `refute` comes to, and what it answers.
 ghost use Rattle.std.specs.Prelude.{◌≡◌, Ok, IfErr, IfOk, string_bytes};
 ghost use Rattle.dds_deploy.specs.Document.{read as deployment_read};
-ghost use Rattle.dds_answers.specs.Answers.{GivesOneOf};
+ghost use Rattle.dds_answers.specs.Answers.{Gives};
 ghost use Rattle.dds_answers.specs.Fault.{IsAnswerFault};
+ghost use Rattle.dds_answers.specs.Outcome.{said};
+ghost use Rattle.dds_findings.specs.Blocks.{FileNames};
+ghost use Rattle.dds_json.specs.declared.style.Style.{Style};
+ghost use Rattle.dds_tool.specs.Outcome.{ComesTo};
 ghost use Rattle.dds_tool.specs.Refuting.{MayRefute, is_safe, known_text, loss_name, refuted_text, told_known};
 ghost use Rattle.dds_tool.specs.Refuting.{unknown_line, unsafe_line};
 
+use crate::outcome::Outcome;
 use crate::refute_document::known_line;
 use crate::summary::summary_line;
 use dds_answers::{Answer, ToolFault, answer_with, read_plan, structure_text};
@@ -107,19 +112,18 @@ fn known_in_style(
     }
 }
 
-/// The answer to a plan, which is needed no longer.
-fn refute_plan<C: Clock>(
+/// The answer with what is known of the runs of a plan, both of which are needed no longer, in this style: yes with
+/// `safe` where a certificate is accepted, or no with a run that loses a sample, with a condition that fails whatever
+/// the certificate, or with `unknown`, which names what ran out where the searches were ended.
+pub(crate) fn answer_refutation(
     alloc: Global,
     plan: Plan,
+    refutation: Refutation,
     style: Style,
-    budget: Budget<C>,
 ) -> Result<Answer, ToolFault>
-    ensures gives { GivesOneOf (MayRefute style (Ok plan)) result }
-    ensures fault { IfErr result IsAnswerFault }
+    ensures gives { Gives result (said (told_known style plan refutation) (is_safe refutation)) }
+    ensures memory { IfErr result (λ e. e ≡ ToolFault.NoMemory) }
 {
-    let Ok((refutation, plan)) = refute(alloc, plan, budget) else {
-        return Err(ToolFault::NoMemory);
-    };
     let answer = answer_with(
         known_in_style(alloc, &plan, &refutation, style),
         is_safe(&refutation),
@@ -129,18 +133,29 @@ fn refute_plan<C: Clock>(
     answer
 }
 
-/// The answer of `refute` to the bytes of a deployment, in this style: yes with `safe` where a certificate is
-/// accepted, or no with a run that loses a sample, with a condition that fails whatever the certificate, or with
-/// `unknown`, which names what ran out where the searches were ended.
-pub fn refute_answer<C: Clock>(
-    alloc: Global,
-    deployment: &[u8],
-    style: Style,
-    budget: Budget<C>,
-) -> Result<Answer, ToolFault>
-    ensures gives { GivesOneOf (MayRefute style (deployment_read deployment.now)) result }
+/// What is known of the runs of a plan.
+fn refute_plan<C: Clock>(alloc: Global, plan: Plan, budget: Budget<C>) -> Result<Outcome, ToolFault>
+    ensures comes { (names : FileNames) → (style : Style) → ComesTo names style ⊥ (MayRefute style (Ok plan)) result }
     ensures fault { IfErr result IsAnswerFault }
 {
-    let plan = read_plan(alloc, deployment)?;
-    refute_plan(alloc, plan, style, budget)
+    match refute(alloc, plan, budget) {
+        Ok((refutation, plan)) => Ok(Outcome::Refuted { plan, refutation }),
+        Err(_) => Err(ToolFault::NoMemory),
+    }
+}
+
+/// What `refute` comes to for the bytes of a deployment.
+pub(crate) fn refute_deployment<C: Clock>(
+    alloc: Global,
+    deployment: &[u8],
+    budget: Budget<C>,
+) -> Result<Outcome, ToolFault>
+    ensures comes { (names : FileNames) → (style : Style) → ComesTo names style ⊥
+        (MayRefute style (deployment_read deployment.now)) result }
+    ensures fault { IfErr result IsAnswerFault }
+{
+    match read_plan(alloc, deployment) {
+        Ok(plan) => refute_plan(alloc, plan, budget),
+        Err(fault) => Err(fault),
+    }
 }

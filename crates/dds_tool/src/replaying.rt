@@ -1,25 +1,29 @@
-//! What `replay` answers.
-ghost use Rattle.std.specs.Prelude.{◌≡◌, Ok, IfErr, IfOk, length, string_bytes};
+//! What `replay` comes to, and what it answers.
+ghost use Rattle.std.specs.Prelude.{◌≡◌, ℕ, List, Ok, IfErr, IfOk, IsUtf8, length, map, string_bytes, true};
 ghost use Rattle.dds_match.specs.Plan.{network_of};
 ghost use Rattle.dds_runs.specs.Runs.{IsRun};
 ghost use Rattle.dds_domain.specs.Standing.{paired};
-ghost use Rattle.dds_answers.specs.Answers.{GivesOneOf};
+ghost use Rattle.dds_events.specs.Events.{event_text};
+ghost use Rattle.dds_events.specs.Reading.{said_of};
+ghost use Rattle.dds_answers.specs.Answers.{Gives};
 ghost use Rattle.dds_answers.specs.Fault.{IsAnswerFault};
+ghost use Rattle.dds_answers.specs.Outcome.{said};
 ghost use Rattle.dds_deploy.specs.Document.{read as deployment_read};
+ghost use Rattle.dds_findings.specs.Blocks.{FileNames};
 ghost use Rattle.serde_json.specs.View.{view};
 ghost use Rattle.dds_json.specs.Line.{line_of};
-ghost use Rattle.dds_tool.specs.Replaying.{IsEventsFault, IsReplayed, MayReplay, MayReplayLists, replay_document};
-ghost use Rattle.dds_tool.specs.Replaying.{told_replay};
+ghost use Rattle.dds_json.specs.declared.style.Style.{Style};
+ghost use Rattle.dds_tool.specs.Outcome.{ComesTo};
+ghost use Rattle.dds_tool.specs.Replaying.{IsEventsFault, MayReplay, replay_document, told_replay};
 
-use dds_answers::{Answer, ToolFault, deployment_fault};
+use crate::outcome::Outcome;
+use dds_answers::{Answer, ToolFault, answer_with, read_plan};
 use dds_base::{Event, NoMemory, Reply};
-use dds_deploy::read_deployment;
 use dds_domain::Simulator;
 use dds_events::{EventsFault, lines_text, read_events};
 use dds_json::{Style, line_of};
 use dds_lists::Deployment;
 use dds_match::Plan;
-use dds_match::planning::plan;
 use serde_json::{Value, json};
 use std::alloc::Global;
 
@@ -85,26 +89,48 @@ fn replay_in_style(
     }
 }
 
-/// The answer to events that are made on a plan.
-fn replay_on_plan(
+/// Events on a plan with their replies, both of which are needed no longer, in this style.
+fn replay_text(
+    alloc: Global,
+    plan: &Plan,
+    events: Vec<Event>,
+    replies: Vec<Reply>,
+    style: Style,
+) -> Result<String, NoMemory>
+    ensures { IfOk result (λ text. string_bytes text ≡ told_replay style plan.now events.items replies.items) }
+{
+    replay_in_style(alloc, plan.lists(), &events, &replies, style)
+}
+
+/// The answer with events on a plan and their replies, all of which are needed no longer, in this style: yes with the
+/// lines of the events, each with its reply.
+pub(crate) fn answer_replay(
     alloc: Global,
     plan: Plan,
     events: Vec<Event>,
+    replies: Vec<Reply>,
     style: Style,
 ) -> Result<Answer, ToolFault>
-    ensures gives { IfOk result (λ a. IsReplayed style plan events.items a) }
-    ensures fault { IfErr result (λ e. e ≡ ToolFault.NoMemory) }
+    ensures gives { Gives result (said (told_replay style plan events.items replies.items) true) }
+    ensures memory { IfErr result (λ e. e ≡ ToolFault.NoMemory) }
 {
-    let Ok((replies, plan)) = replies_of(alloc, plan, &events) else {
-        return Err(ToolFault::NoMemory);
-    };
-    let text = replay_in_style(alloc, plan.lists(), &events, &replies, style);
+    let text = replay_text(alloc, &plan, events, replies, style);
     drop(plan);
-    match text {
-        Ok(text) => Ok(Answer {
-            text,
-            is_yes: true,
-            note: None,
+    answer_with(text, true)
+}
+
+/// The replies to events that are made on a plan.
+fn replay_on_plan(alloc: Global, plan: Plan, events: Vec<Event>) -> Result<Outcome, ToolFault>
+    ensures comes { (names : FileNames) → (style : Style) → (bytes : List ℕ) → IsUtf8 bytes
+        → map (event_text plan) events.items ≡ said_of bytes
+        → ComesTo names style ⊥ (MayReplay style (Ok plan) bytes) result }
+    ensures fault { IfErr result IsAnswerFault }
+{
+    match replies_of(alloc, plan, &events) {
+        Ok((replies, plan)) => Ok(Outcome::Replayed {
+            plan,
+            events,
+            replies,
         }),
         Err(_) => Err(ToolFault::NoMemory),
     }
@@ -120,45 +146,33 @@ fn events_fault(fault: EventsFault) -> ToolFault
     }
 }
 
-/// The answer to the events that bytes say, on the lists of a deployment.
-fn replay_on_lists(
-    alloc: Global,
-    lists: Deployment,
-    events: &[u8],
-    style: Style,
-) -> Result<Answer, ToolFault>
-    ensures gives { GivesOneOf (MayReplayLists style lists events.now) result }
+/// The replies to the events that bytes say, on a plan.
+fn replay_events(alloc: Global, plan: Plan, events: &[u8]) -> Result<Outcome, ToolFault>
+    ensures comes { (names : FileNames) → (style : Style) → ComesTo names style ⊥
+        (MayReplay style (Ok plan) events.now) result }
     ensures fault { IfErr result IsAnswerFault }
 {
-    let events = match read_events(alloc, &lists, events) {
-        Ok(events) => events,
+    match read_events(alloc, plan.lists(), events) {
+        Ok(events) => replay_on_plan(alloc, plan, events),
         Err(fault) => {
-            drop(lists);
-            return Err(events_fault(fault));
-        }
-    };
-    match plan(alloc, lists) {
-        Ok(plan) => replay_on_plan(alloc, plan, events, style),
-        Err((_, lists)) => {
-            drop(lists);
-            Err(ToolFault::NoMemory)
+            drop(plan);
+            Err(events_fault(fault))
         }
     }
 }
 
-/// The answer of `replay` to the bytes of a deployment and of a file of events, in this style: yes with the lines
-/// of the events, each with its reply.
-pub fn replay_answer(
+/// What `replay` comes to for the bytes of a deployment and of a file of events.
+pub(crate) fn replay_files(
     alloc: Global,
     deployment: &[u8],
     events: &[u8],
-    style: Style,
-) -> Result<Answer, ToolFault>
-    ensures gives { GivesOneOf (MayReplay style (deployment_read deployment.now) events.now) result }
+) -> Result<Outcome, ToolFault>
+    ensures comes { (names : FileNames) → (style : Style) → ComesTo names style ⊥
+        (MayReplay style (deployment_read deployment.now) events.now) result }
     ensures fault { IfErr result IsAnswerFault }
 {
-    match read_deployment(alloc, deployment) {
-        Ok(lists) => replay_on_lists(alloc, lists, events, style),
-        Err(fault) => Err(deployment_fault(fault)),
+    match read_plan(alloc, deployment) {
+        Ok(plan) => replay_events(alloc, plan, events),
+        Err(fault) => Err(fault),
     }
 }

@@ -1,5 +1,5 @@
-//! What `run` answers: the deployment is checked, and where the answer is yes it runs, with a steady application for
-//! each that it names.
+//! What `run` comes to, and what it answers: the deployment is checked, and where the answer is yes it runs, with a
+//! steady application for each that it names.
 ghost use Rattle.std.specs.Prelude.{◌≡◌, ◌⊎◌, ◌++◌, [], IfErr, IfOk, Ok, length, map, option_map};
 ghost use Rattle.std.specs.Prelude.{string_bytes, unwrap_or};
 ghost use Rattle.std.specs.List.{count_by};
@@ -7,26 +7,33 @@ ghost use Rattle.dds_deploy.specs.Document.{read as deployment_read};
 ghost use Rattle.dds_book.specs.Journal.{IsJournal};
 ghost use Rattle.dds_apps.specs.Kept.{entries_of};
 ghost use Rattle.dds_recap.specs.Ends.{all_good};
-ghost use Rattle.dds_recap.specs.Explanation.{explanation};
+ghost use Rattle.dds_answers.specs.Answers.{Gives};
 ghost use Rattle.dds_answers.specs.Fault.{IsAnswerFault};
 ghost use Rattle.dds_answers.specs.Outcome.{accepted, outcome};
+ghost use Rattle.dds_findings.specs.Blocks.{FileNames};
+ghost use Rattle.dds_json.specs.declared.style.Style.{Style};
+ghost use Rattle.dds_tool.specs.Outcome.{ComesTo};
 ghost use Rattle.dds_tool.specs.RunDocument.{told_run};
-ghost use Rattle.dds_tool.specs.RunEnds.{GivesRun};
+ghost use Rattle.dds_tool.specs.RunEnds.{IsAccepted, MayRun, ran};
 ghost use Rattle.dds_tool.specs.Running.{app_line, app_names, because_of, end_word};
 ghost use Rattle.dds_tool.specs.Running.{is_taken, is_written, run_lines};
 
+use crate::outcome::Outcome;
 use crate::run_document::run_line;
-use dds_answers::{Answer, Detail, Report, ToolFault, answer_check, read_plan};
+use dds_answers::{Answer, Detail, Report, ToolFault, answer_check, answer_with, read_plan};
 use dds_base::{AppNo, NoMemory, Reply};
 use dds_book::{Entry, Journal};
-use dds_check::Checked;
-use dds_json::{Style, report_in_style};
+use dds_check::{Checked, No};
+use dds_json::Style;
 use dds_lists::Deployment;
 use dds_match::Plan;
-use dds_peers::{App, AppEnd, Gate, Limits, Outcome, RunFault, Steady, gauge_of, run_peers};
+use dds_peers::{
+    App, AppEnd, Gate, Limits, Outcome as Played, RunFault, Steady, gauge_of, run_peers,
+};
 use dds_recap::{GoodEnds, all_good, explain_run};
 use dds_request::Wishes;
 use dds_text::names::name_at;
+use dds_weights::Certificate;
 use std::alloc::Global;
 use std::sync::Wait;
 use std::thread::Threads;
@@ -153,91 +160,75 @@ fn explained_text(
     Ok(text)
 }
 
-/// A run, in this style: whether all ends are good, and what its journal came to, if that's there.
-fn run_in_style(
-    alloc: Global,
-    is_yes: bool,
-    because: &Option<String>,
-    names: &[String],
-    journal: &Journal,
-    ends: &[AppEnd],
-    style: Style,
-) -> Result<String, NoMemory>
-    requires { length ends.now ≡ length names.now }
-    ensures { IfOk result
-        (λ text. string_bytes text
-        ≡ told_run style is_yes (option_map string_bytes because.now) (map string_bytes names.now) journal.now
-        ends.now) }
-{
-    match style {
-        Style::Text => explained_text(alloc, because, names, journal, ends),
-        Style::Json => run_line(alloc, is_yes, because, names, journal, ends),
-    }
-}
-
-/// What the journal of a run of a plan came to.
-fn recap_plan(
+/// What the journal of a run of a plan came to, where that is asked for.
+fn because_of(
     alloc: Global,
     plan: &Plan,
     journal: &Journal,
     ends: &[AppEnd],
-) -> Result<String, ToolFault>
+    detail: Detail,
+) -> Result<Option<String>, NoMemory>
     requires journal { IsJournal plan.now journal.now }
     requires ends { length ends.now ≡ length plan.now.applications.entries }
-    ensures text { IfOk result (λ text. string_bytes text ≡ explanation plan.now journal.now ends.now) }
-    ensures fault { IfErr result (λ e. e ≡ ToolFault.NoMemory) }
-{
-    match explain_run(alloc, plan, journal.entries(), ends) {
-        Ok(text) => Ok(text),
-        Err(_) => Err(ToolFault::NoMemory),
-    }
-}
-
-/// What the journal of a run of a deployment came to. The run has used up its plan, so the deployment is read once
-/// more.
-fn explain_journal(
-    alloc: Global,
-    deployment: &[u8],
-    journal: &Journal,
-    ends: &[AppEnd],
-) -> Result<String, ToolFault>
-    requires { IfOk (deployment_read deployment.now)
-        (λ d. IsJournal d journal.now × (length ends.now ≡ length d.applications.entries)) }
-    ensures text { IfOk result
-        (λ text. IfOk (deployment_read deployment.now)
-        (λ d. string_bytes text ≡ explanation d journal.now ends.now)) }
-    ensures fault { IfErr result (λ e. e ≡ ToolFault.NoMemory) }
-{
-    let Ok(plan) = read_plan(alloc, deployment) else {
-        return Err(ToolFault::NoMemory);
-    };
-    let told = recap_plan(alloc, &plan, journal, ends);
-    drop(plan);
-    told
-}
-
-/// What the journal of a run of a deployment came to, where that is asked for.
-fn because_of(
-    alloc: Global,
-    deployment: &[u8],
-    journal: &Journal,
-    ends: &[AppEnd],
-    detail: Detail,
-) -> Result<Option<String>, ToolFault>
-    requires { IfOk (deployment_read deployment.now)
-        (λ d. IsJournal d journal.now × (length ends.now ≡ length d.applications.entries)) }
-    ensures because { IfOk result
-        (λ because. IfOk (deployment_read deployment.now)
-        (λ d. option_map string_bytes because ≡ because_of detail d journal.now ends.now)) }
-    ensures fault { IfErr result (λ e. e ≡ ToolFault.NoMemory) }
+    ensures { IfOk result
+        (λ because. option_map string_bytes because ≡ because_of detail plan.now journal.now ends.now) }
 {
     match detail {
         Detail::Plain => Ok(None),
-        Detail::Explained => match explain_journal(alloc, deployment, journal, ends) {
-            Ok(text) => Ok(Some(text)),
-            Err(fault) => Err(fault),
-        },
+        Detail::Explained => {
+            match explain_run(alloc, plan, journal.entries(), ends) {
+                Ok(text) => Ok(Some(text)),
+                Err(no) => Err(no),
+            }
+        }
     }
+}
+
+/// A run of a plan, in this style: whether all ends are good, and what its journal came to, where that is asked for.
+fn run_in_style(
+    alloc: Global,
+    plan: &Plan,
+    journal: &Journal,
+    ends: &[AppEnd],
+    is_yes: bool,
+    detail: Detail,
+    style: Style,
+) -> Result<String, NoMemory>
+    requires journal { IsJournal plan.now journal.now }
+    requires ends { length ends.now ≡ length plan.now.applications.entries }
+    ensures { IfOk result
+        (λ text. string_bytes text
+        ≡ told_run style is_yes (because_of detail plan.now journal.now ends.now) (app_names plan.now) journal.now
+        ends.now) }
+{
+    let names = names_of(alloc, plan.lists())?;
+    let because = because_of(alloc, plan, journal, ends, detail)?;
+    match style {
+        Style::Text => explained_text(alloc, &because, &names, journal, ends),
+        Style::Json => run_line(alloc, is_yes, &because, &names, journal, ends),
+    }
+}
+
+/// The answer with a run of a plan, which is needed no longer, in this style: yes where the ends of all its
+/// applications' threads are good.
+pub(crate) fn answer_run(
+    alloc: Global,
+    plan: Plan,
+    journal: &Journal,
+    ends: &[AppEnd],
+    good: GoodEnds,
+    detail: Detail,
+    style: Style,
+) -> Result<Answer, ToolFault>
+    requires journal { IsJournal plan journal.now }
+    requires ends { length ends.now ≡ length plan.applications.entries }
+    ensures gives { Gives result (ran good detail style plan journal.now ends.now) }
+    ensures memory { IfErr result (λ e. e ≡ ToolFault.NoMemory) }
+{
+    let is_yes = all_good(good, ends);
+    let text = run_in_style(alloc, &plan, journal, ends, is_yes, detail, style);
+    drop(plan);
+    answer_with(text, is_yes)
 }
 
 /// A steady application for each of the plan's.
@@ -285,7 +276,7 @@ fn perform<R: Threads + Wait + Clock + Sync>(
         seats,
         LIMITS,
     ) {
-        Ok(Outcome { journal, ends, .. }) => Ok((journal, ends)),
+        Ok(Played { journal, ends, .. }) => Ok((journal, ends)),
         Err(RunFault::NoMemory) => Err(ToolFault::NoMemory),
         Err(fault) => {
             drop(fault);
@@ -323,82 +314,61 @@ fn run_steadies<R: Threads + Wait + Clock + Sync>(
     perform(rt, alloc, checked, apps, wishes)
 }
 
-/// The answer for a run: yes where all ends of its applications' threads are good.
-fn answer_run(
-    alloc: Global,
-    because: &Option<String>,
-    names: &[String],
-    journal: &Journal,
-    ends: &[AppEnd],
-    good: GoodEnds,
-    style: Style,
-) -> Result<Answer, ToolFault>
-    requires { length ends.now ≡ length names.now }
-    ensures text { IfOk result
-        (λ a. string_bytes a.text
-        ≡ told_run style (all_good good ends.now) (option_map string_bytes because.now)
-        (map string_bytes names.now) journal.now ends.now) }
-    ensures yes { IfOk result (λ a. a.is_yes ≡ all_good good ends.now) }
-    ensures fault { IfErr result (λ e. e ≡ ToolFault.NoMemory) }
-{
-    let is_yes = all_good(good, ends);
-    match run_in_style(alloc, is_yes, because, names, journal, ends, style) {
-        Ok(text) => Ok(Answer {
-            text,
-            is_yes,
-            note: None,
-        }),
-        Err(_) => Err(ToolFault::NoMemory),
-    }
-}
-
-/// The answer of a run of the checked plan of a deployment: yes where all ends of its applications' threads are good.
+/// What a run of the checked plan of a deployment comes to. The run uses up the plan, so the deployment is read once
+/// more.
 fn play<R: Threads + Wait + Clock + Sync>(
     rt: &R,
     alloc: Global,
     deployment: &[u8],
     checked: Checked,
     wishes: &Wishes,
-    style: Style,
-) -> Result<Answer, ToolFault>
+) -> Result<Outcome, ToolFault>
     requires plan { deployment_read deployment.now ≡ Ok checked.plan }
-    ensures gives { GivesRun wishes.now style (accepted checked.plan checked.certificate) result }
-    ensures fault { IfErr result (λ e. (e ≡ ToolFault.Run) ⊎ (e ≡ ToolFault.NoMemory)) }
+    ensures comes { (names : FileNames) → (style : Style) → ComesTo names style
+        (IsAccepted (accepted checked.plan checked.certificate))
+        (MayRun wishes.now style (accepted checked.plan checked.certificate)) result }
+    ensures fault { IfErr result (λ e. (e ≡ ToolFault.Run) ⊎ IsAnswerFault e) }
 {
-    let Ok(names) = names_of(alloc, checked.plan().lists()) else {
-        drop(checked);
-        return Err(ToolFault::NoMemory);
-    };
     let (journal, ends) = run_steadies(rt, alloc, checked, wishes)?;
-    let because = because_of(alloc, deployment, &journal, ends.as_slice(), wishes.detail)?;
-    answer_run(
-        alloc,
-        &because,
-        names.as_slice(),
-        &journal,
-        ends.as_slice(),
-        wishes.good,
-        style,
-    )
+    match read_plan(alloc, deployment) {
+        Ok(plan) => Ok(Outcome::Ran {
+            plan,
+            journal,
+            ends,
+            good: wishes.good,
+            detail: wishes.detail,
+        }),
+        Err(_) => Err(ToolFault::NoMemory),
+    }
 }
 
-/// The answer of `run` to the bytes of a deployment and of a certificate, in this style: a no of the checker as
-/// `check` answers it, and else what the applications did: yes where all ends of their threads are good. `Run` comes
-/// where the journal became full or a thread couldn't be made.
-pub fn run_answer<R: Threads + Wait + Clock + Sync>(
+/// What a run comes to where the check says no.
+fn refusal(no: No, plan: Plan, certificate: Certificate) -> Outcome
+    ensures { result ≡ Outcome.Checked (Report.Refused no plan certificate) Detail.Plain }
+{
+    Outcome::Checked {
+        report: Report::Refused(no, plan, certificate),
+        detail: Detail::Plain,
+    }
+}
+
+/// What `run` comes to for the bytes of a deployment and of a certificate: the report of a check that says no, and else
+/// what the applications did. `Run` comes where the journal became full or a thread couldn't be made.
+pub(crate) fn run_files<R: Threads + Wait + Clock + Sync>(
     rt: &R,
     alloc: Global,
     deployment: &[u8],
     certificate: &[u8],
     wishes: &Wishes,
-    style: Style,
-) -> Result<Answer, ToolFault>
-    ensures gives { GivesRun wishes.now style (outcome deployment.now certificate.now) result }
+) -> Result<Outcome, ToolFault>
+    ensures comes { (names : FileNames) → (style : Style) → ComesTo names style
+        (IsAccepted (outcome deployment.now certificate.now))
+        (MayRun wishes.now style (outcome deployment.now certificate.now)) result }
     ensures fault { IfErr result (λ e. (e ≡ ToolFault.Run) ⊎ IsAnswerFault e) }
 {
     match answer_check(alloc, deployment, certificate) {
-        Ok(Report::Yes(checked)) => play(rt, alloc, deployment, checked, wishes, style),
-        Ok(refused) => report_in_style(alloc, refused, Detail::Plain, style),
+        Ok(Report::Yes(checked)) => play(rt, alloc, deployment, checked, wishes),
+        Ok(Report::Refused(no, plan, certificate)) => Ok(refusal(no, plan, certificate)),
         Err(fault) => Err(fault),
     }
 }

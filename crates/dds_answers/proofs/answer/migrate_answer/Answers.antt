@@ -1,12 +1,12 @@
-use Rattle.std.proofs.Common.{refl}
+use Rattle.std.proofs.Common.{refl, string_bytes}
 use Rattle.dds_deploy.specs.Document.{read_up_to}
 use Rattle.dds_answers.specs.Migrations.{MayMigrate}
-use Rattle.dds_answers.proofs.Migrations.{written_gives}
+use Rattle.dds_answers.proofs.Migrations.{migration_gives}
 use Rattle.dds_answers.proofs.Unread.{is_unread, unread_one}
 use Rattle.dds_answers.proofs.answer.migrate_answer.Goals as goal
 
 pub returns-in-Ok-clause-gives : goal.returns-in-Ok-clause-gives
-returns-in-Ok-clause-gives c = written_gives c.args.deployment.now c.in-Ok.text c.answer_file.result c.in-Ok.ensures.text c.answer_file.ensures.answer c.answer_file.ensures.memory
+returns-in-Ok-clause-gives c = migration_gives c.args.deployment.now (string_bytes c.in-Ok.text) c.answer_migration.result c.in-Ok.ensures.text c.answer_migration.ensures.gives
 
 pub returns-in-Err-clause-gives : goal.returns-in-Err-clause-gives
 returns-in-Err-clause-gives c =

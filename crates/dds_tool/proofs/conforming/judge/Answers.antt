@@ -1,7 +1,10 @@
-use Rattle.dds_tool.proofs.Conforms.{judged}
+use Rattle.std.proofs.Common.{Ok, inl, refl}
+use Rattle.dds_tool.specs.Conforming.{MayConform}
+use Rattle.dds_tool.proofs.Outcomes.{memory_comes}
 use Rattle.dds_tool.proofs.conforming.judge.Goals as goal
 
-pub returns-clause-judged : goal.returns-clause-judged
-returns-clause-judged c =
-    judged c.args.style c.args.plan.now c.args.entries.now c.in-Ok.conformance c.tell_conformance.result c.answer_with-answer.result c.is_kept.result
-    c.in-Ok.ensures c.is_kept.ensures c.answer_with-answer.ensures.answer c.answer_with-answer.ensures.text c.tell_conformance.ensures
+pub returns-in-Ok-clause-judged : goal.returns-in-Ok-clause-judged
+returns-in-Ok-clause-judged c = λ names style bytes text are. (tt, inl (text, c.args.entries.now, c.in-Ok.conformance, are, c.in-Ok.ensures, refl))
+
+pub returns-in-Err-clause-judged : goal.returns-in-Err-clause-judged
+returns-in-Err-clause-judged c = λ names style bytes text are. memory_comes ⊥ (MayConform style (Ok c.args.plan) bytes) names style

@@ -1,7 +1,0 @@
-use Rattle.std.proofs.Common.{Ok}
-use Rattle.dds_sizing.specs.Searches.{IsFound}
-use Rattle.dds_answers.proofs.Proposals.{memory_ends}
-use Rattle.dds_sizing.proofs.thorough.answer_search.Goals as goal
-
-pub returns-in-Err-clause-gives : goal.returns-in-Err-clause-gives
-returns-in-Err-clause-gives g c = memory_ends IsFound (Ok c.args.plan.now)

@@ -1,0 +1,13 @@
+use Rattle.std.proofs.Common.{refl}
+use Rattle.dds_deploy.specs.Document.{read}
+use Rattle.dds_tool.specs.Replaying.{MayReplay}
+use Rattle.dds_tool.proofs.Outcomes.{read_comes, unread_comes}
+use Rattle.dds_tool.proofs.replaying.replay_files.Goals as goal
+
+pub returns-in-Ok-clause-comes : goal.returns-in-Ok-clause-comes
+returns-in-Ok-clause-comes c =
+    read_comes ⊥ (λ style d. MayReplay style d c.args.events.now) (read c.args.deployment.now) c.in-Ok.plan c.replay_events.result c.in-Ok.ensures.plan c.replay_events.ensures.comes
+
+pub returns-in-Err-clause-comes : goal.returns-in-Err-clause-comes
+returns-in-Err-clause-comes c =
+    unread_comes ⊥ (λ style d. MayReplay style d c.args.events.now) (λ style flaw. refl) (read c.args.deployment.now) c.in-Err.fault c.in-Err.ensures.fault
