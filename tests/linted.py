@@ -154,7 +154,8 @@ def vacuous(file):
         return f"check answers {answer}"
     if not any(one["level"] == "note" and one["name"] == wanted for one in findings or []):
         return f"has no note {wanted}: {[one['name'] for one in findings or []]}"
-    if given.status != 0 or ddscheck("lint", file, certificate, "--deny", "notes").status != 1:
+    owed = 0 if all(one["name"] == "MayLose" for one in findings) else 1
+    if given.status != 0 or ddscheck("lint", file, certificate, "--deny", "notes").status != owed:
         return "has another status"
     return None
 

@@ -45,6 +45,7 @@ lossy_words d u = rule_text d u ++ codes " takes at a reader that may miss sampl
 -- a note in words
 abbrev pub note_text : Lists → Certificate → Note → List ℕ
 note_text d c (note.Watcher r) = reader_name d r ++ codes " may miss samples, and a yes says nothing of that"
+note_text d c (note.MayLose r) = reader_name d r ++ codes " may miss samples, and a yes says nothing of that"
 note_text d c (note.Unlimited r) = reader_name d r ++ codes " has no limit, and no bound says how much it may store"
 note_text d c (note.IdleLimit r) = reader_name d r ++ codes " never reaches max_samples_per_instance: its depth is lower"
 note_text d c (note.UnwrittenKey t k) = unwritten_words d t k

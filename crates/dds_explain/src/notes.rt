@@ -126,7 +126,7 @@ pub fn note_text(alloc: Global, plan: &Plan, certificate: &Certificate, note: No
         (λ text. string_bytes text ≡ note_text plan.now (certificate_view certificate.now) note) }
 {
     match note {
-        Note::Watcher(reader) => {
+        Note::Watcher(reader) | Note::MayLose(reader) => {
             let reader = reader_name(plan.lists(), reader);
             format!(in alloc; "{reader} may miss samples, and a yes says nothing of that")
         }

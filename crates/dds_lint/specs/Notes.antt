@@ -1,10 +1,10 @@
 -- What a yes doesn't say.
-use Rattle.std.specs.Prelude.{ℕ, Bool, ◌&&◌, ◌||◌, ◌==◌, not, nat_lt, List, ◌++◌, length, Option, Some, None, is_some, is_none, if◌then◌else◌}
+use Rattle.std.specs.Prelude.{ℕ, Bool, false, ◌&&◌, ◌||◌, ◌==◌, not, nat_lt, List, ◌++◌, length, slice_get, Option, Some, None, is_some, is_none, if◌then◌else◌}
 use Rattle.std.specs.List.{list_any}
-use Rattle.std.specs.Option.{option_to_list}
+use Rattle.std.specs.Option.{option_map_or, option_to_list}
 use Rattle.dds_base.specs.Sums.{any_below, count_below}
 use Rattle.dds_base.specs.declared.portion.Portion.{Portion}
-use Rattle.dds_lists.specs.Lists.{Lists, keys_at, writer_topic}
+use Rattle.dds_lists.specs.Lists.{Lists, Reader, keys_at, writer_topic}
 use Rattle.dds_match.specs.Network.{Network, reach, is_written}
 use Rattle.dds_match.specs.Plan.{network_of}
 use Rattle.dds_weights.specs.Lists as lists
@@ -22,9 +22,13 @@ use Rattle.dds_lint.specs.Live.{can_take_all, has_takes, opens}
 abbrev pub noted : Bool → Note → Option Note
 noted test what = if test then Some what else None
 
--- the reader takes a part of what is written
-abbrev pub watcher : Network → ℕ → Option Note
-watcher net r = noted (net.watcher r) (note.Watcher r)
+-- the deployment says of the reader that it may lose samples
+abbrev pub may_lose : Lists → ℕ → Bool
+may_lose d r = option_map_or (λ (x : Reader). x.may_lose) (slice_get d.readers.entries r) false
+
+-- the reader takes a part of what is written, as the deployment says itself or not
+abbrev pub watcher : Lists → ℕ → Option Note
+watcher d r = noted ((network_of d).watcher r) (if may_lose d r then note.MayLose r else note.Watcher r)
 
 -- the reader has no limit of samples, no total, and not for each key that can reach it a bound
 abbrev pub grows : Network → lists.Certificate → ℕ → Option Note
@@ -100,9 +104,10 @@ abbrev pub unwritten_keys : Lists → ℕ → List Note
 unwritten_keys d t = those_below (length (keys_at d.topics t)) (unwritten_key d t)
 
 -- of readers, of keys and writers, and of rules
-abbrev pub reader_notes : Network → lists.Certificate → List Note
-reader_notes net cert =
-    those_below net.readers (watcher net) ++ those_below net.readers (grows net cert) ++ those_below net.readers (idle_limit net)
+abbrev pub reader_notes : Lists → lists.Certificate → List Note
+reader_notes d cert =
+    those_below (network_of d).readers (watcher d) ++ those_below (network_of d).readers (grows (network_of d) cert)
+    ++ those_below (network_of d).readers (idle_limit (network_of d))
 
 abbrev pub writer_notes : Lists → List Note
 writer_notes d = every_below (length d.topics.entries) (unwritten_keys d) ++ those_below (network_of d).writers (idle_writer (network_of d))
@@ -125,4 +130,4 @@ pair_notes net = every_below net.writers (λ w. those_below net.readers (held_up
 -- all notes, by the rules that can permit a write
 unfoldable pub all_notes : Lists → (ℕ → Bool) → lists.Certificate → List Note
 all_notes d live cert =
-    reader_notes (network_of d) cert ++ writer_notes d ++ rule_notes (network_of d) live ++ certificate_notes (network_of d) cert ++ pair_notes (network_of d)
+    reader_notes d cert ++ writer_notes d ++ rule_notes (network_of d) live ++ certificate_notes (network_of d) cert ++ pair_notes (network_of d)

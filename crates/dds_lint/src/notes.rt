@@ -11,7 +11,7 @@ ghost use Rattle.dds_check.specs.Limits.{all_bounded};
 ghost use Rattle.dds_lint.specs.Every.{every_below, those_below, those_in};
 ghost use Rattle.dds_lint.specs.Live.{IsLive, live_of, opens};
 ghost use Rattle.dds_lint.specs.Notes.{absent_notes, all_notes, certificate_notes, grows, held_up, idle_writer};
-ghost use Rattle.dds_lint.specs.Notes.{idle_limit, is_key_written, is_lossy, is_stuck, lossy_take};
+ghost use Rattle.dds_lint.specs.Notes.{idle_limit, is_key_written, is_lossy, is_stuck, lossy_take, may_lose};
 ghost use Rattle.dds_lint.specs.Notes.{needless_bound, needless_total, no_rules, no_start, noted, pair_notes};
 ghost use Rattle.dds_lint.specs.Notes.{reader_notes, rule_notes, stuck_rule, unused_row, unwritten_key, unwritten_keys};
 ghost use Rattle.dds_lint.specs.Notes.{watcher, writer_notes};
@@ -31,8 +31,10 @@ use std::alloc::Global;
 /// What a yes doesn't say of something.
 #[derive(Clone, Copy, Debug, PartialEq, Eq)]
 pub enum Note {
-    /// The reader is a watcher: it may miss samples.
+    /// The reader is a watcher, without a word of the deployment that it may lose samples.
     Watcher(ReaderNo),
+    /// The reader is a watcher, and the deployment says that it may lose samples.
+    MayLose(ReaderNo),
     /// The reader has no limit of samples, and no bound or total says how many it may have unread.
     Unlimited(ReaderNo),
     /// The reader keeps the last samples of a key alone, and fewer than its limit of an instance, which does nothing.
@@ -67,10 +69,23 @@ fn note_if(test: bool, note: Note) -> Option<Note>
     if test { Some(note) } else { None }
 }
 
-fn watcher(plan: &Plan, reader: ReaderNo) -> Option<Note>
-    ensures { result ≡ watcher (network_of plan.now) reader }
+/// Whether the deployment says of a reader that it may lose samples.
+fn may_lose(plan: &Plan, reader: ReaderNo) -> bool
+    ensures { result ≡ may_lose plan.now reader }
 {
-    note_if(plan.watcher(reader), Note::Watcher(reader))
+    let lists = plan.lists();
+    reader.number() < lists.readers() && lists.reader(reader).may_lose
+}
+
+fn watcher(plan: &Plan, reader: ReaderNo) -> Option<Note>
+    ensures { result ≡ watcher plan.now reader }
+{
+    let note = if may_lose(plan, reader) {
+        Note::MayLose(reader)
+    } else {
+        Note::Watcher(reader)
+    };
+    note_if(plan.watcher(reader), note)
 }
 
 fn grows(plan: &Plan, certificate: &Certificate, reader: ReaderNo) -> Option<Note>
@@ -239,7 +254,7 @@ fn held_up(plan: &Plan, writer: WriterNo, reader: ReaderNo) -> Option<Note>
 
 fn push_watchers(notes: &mut Vec<Note>, plan: &Plan) -> Result<(), NoMemory>
     ensures { OnOk result (notes.new.items ≡ notes.old.items
-        ++ those_below (network_of plan.now).readers (watcher (network_of plan.now))) }
+        ++ those_below (network_of plan.now).readers (watcher plan.now)) }
 {
     push_below(notes, readers_of(plan), |r| watcher(plan, ReaderNo::new(r)))
 }
@@ -277,7 +292,7 @@ fn push_readers(
     certificate: &Certificate,
 ) -> Result<(), NoMemory>
     ensures { OnOk result (notes.new.items ≡ notes.old.items
-        ++ reader_notes (network_of plan.now) (certificate_view certificate.now)) }
+        ++ reader_notes plan.now (certificate_view certificate.now)) }
 {
     push_watchers(notes, plan)?;
     push_growing(notes, plan, certificate)?;
