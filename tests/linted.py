@@ -187,7 +187,7 @@ def many_faults():
         given = ddscheck("lint", "d.toml", cwd=room)
     if given.status != 1 or given.seconds > SECONDS:
         return f"status {given.status} after {given.seconds:.2f} s"
-    count = given.out.rsplit("\n", 2)[-2]
+    count = given.out.rsplit("\n", 3)[-3]
     return None if int(count.split()[0]) >= 10_000 else f"finds {count}"
 
 
