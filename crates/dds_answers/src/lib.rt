@@ -4,6 +4,7 @@
 //! status are stated functions of the bytes of the files.
 #![tactic(auto)]
 
+mod advice;
 mod answer;
 mod connecting;
 mod counted;
@@ -23,6 +24,7 @@ mod sources;
 mod structure;
 mod syntax;
 
+pub use advice::advise;
 pub use answer::{
     Answer, answer_certificate, answer_lists, answer_migration, answer_pairs, answer_proposal,
     answer_report, answer_with, check_answer, match_answer, migrate_answer, propose_answer,

@@ -42,6 +42,10 @@ held_up_words d w r = writer_name d w ++ (codes " keeps all within a limit, so i
 abbrev pub lossy_words : Lists → ℕ → List ℕ
 lossy_words d u = rule_text d u ++ codes " takes at a reader that may miss samples, and may wait for one for ever"
 
+-- a rule that writes without end to a reader with a limit
+abbrev pub endless_words : Lists → ℕ → ℕ → List ℕ
+endless_words d r u = rule_text d u ++ (codes " writes whatever was taken, so no bound holds at " ++ reader_name d r)
+
 -- a note in words
 abbrev pub note_text : Lists → Certificate → Note → List ℕ
 note_text d c (note.Watcher r) = reader_name d r ++ codes " may miss samples, and a yes says nothing of that"
@@ -53,6 +57,7 @@ note_text d c (note.IdleWriter w) = codes "no rule writes at " ++ writer_name d 
 note_text d c note.NoRules = codes "there's no rule, so nothing is ever written"
 note_text d c note.NoStart = codes "no rule has a start, so nothing is ever written"
 note_text d c (note.StuckRule u) = stuck_words d u
+note_text d c (note.Endless r u) = endless_words d r u
 note_text d c (note.LossyTake u) = lossy_words d u
 note_text d c (note.UnusedRow n) = codes "no bound and no total names row " ++ row_name c n
 note_text d c (note.NeedlessBound i) = option_map_or (bound_words d) (slice_get c.bounds i) []

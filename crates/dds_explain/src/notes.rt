@@ -2,8 +2,9 @@
 ghost use Rattle.std.specs.Prelude.{◌≡◌, [], IfOk, flat_map, option_map, slice_get, string_bytes};
 ghost use Rattle.std.specs.Option.{option_map_or};
 ghost use Rattle.dds_weights.specs.Views.{certificate_view};
-ghost use Rattle.dds_explain.specs.Notes.{bound_words, held_up_words, lossy_words, note_line, note_lines, note_text};
-ghost use Rattle.dds_explain.specs.Notes.{stuck_words, takes_nothing, total_words, unwritten_words};
+ghost use Rattle.dds_explain.specs.Notes.{bound_words, endless_words, held_up_words, lossy_words, note_line};
+ghost use Rattle.dds_explain.specs.Notes.{note_lines, note_text, stuck_words, takes_nothing, total_words};
+ghost use Rattle.dds_explain.specs.Notes.{unwritten_words};
 
 use dds_base::{KeyNo, ReaderNo, RuleNo, TopicNo, WriterNo};
 use dds_lint::{Note, all_notes};
@@ -119,6 +120,15 @@ fn lossy_words(alloc: Global, lists: &Deployment, rule: RuleNo) -> TextResult
     )
 }
 
+/// A rule that writes without end to a reader with a limit.
+fn endless_words(alloc: Global, lists: &Deployment, reader: ReaderNo, rule: RuleNo) -> TextResult
+    ensures { IfOk result (λ text. string_bytes text ≡ endless_words lists.now reader rule) }
+{
+    let place = reader_name(lists, reader);
+    let name = rule_text(alloc, lists, rule)?;
+    format!(in alloc; "{name} writes whatever was taken, so no bound holds at {place}")
+}
+
 /// A note in words, on one line: what a yes doesn't say of something. Of a bound or a total that isn't there, nothing.
 /// `NoMemory` is the only error.
 pub fn note_text(alloc: Global, plan: &Plan, certificate: &Certificate, note: Note) -> TextResult
@@ -148,6 +158,7 @@ pub fn note_text(alloc: Global, plan: &Plan, certificate: &Certificate, note: No
             String::from_str(alloc, "no rule has a start, so nothing is ever written")
         }
         Note::StuckRule(rule) => stuck_words(alloc, plan.lists(), rule),
+        Note::Endless { reader, rule } => endless_words(alloc, plan.lists(), reader, rule),
         Note::LossyTake(rule) => lossy_words(alloc, plan.lists(), rule),
         Note::UnusedRow(row) => {
             let name = row_name(certificate, row);

@@ -89,6 +89,17 @@ fn is_needed(walk: &Walk, need: Need) -> bool {
     }
 }
 
+// What would be right where a field is missing: a rule with `each` names no key.
+fn help_with_absent(walk: &Walk, entry: Entry, key: &str) -> Result<Option<String>, NoMemory> {
+    match entry {
+        Entry::Portion(_) if key == "key" && walk.version >= 2 => {
+            let help = "name one, or give the rule `each = true` for every key";
+            Ok(Some(String::from_str(walk.alloc, help)?))
+        }
+        _ => Ok(None),
+    }
+}
+
 fn check_absent(
     walk: &Walk,
     faults: &mut Faults,
@@ -101,8 +112,9 @@ fn check_absent(
     }
     let alloc = walk.alloc;
     let (noun, key) = (entry.noun(), field.key);
+    let help = help_with_absent(walk, entry, key)?;
     let message = format!(in alloc; "{noun} needs `{key}`")?;
-    faults.add(alloc, FaultKind::MissingKey, at, message, None)
+    faults.add(alloc, FaultKind::MissingKey, at, message, help)
 }
 
 // What is wrong with a field that has no tables in it.

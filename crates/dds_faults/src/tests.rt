@@ -92,7 +92,7 @@ applications = [{ name = \"a\", participant = \"p\", writers = [\"w\"], readers 
 name = \"r\"
 application = \"a\"
 start = \"unlimited\"
-writes = [{ writer = \"v\", key = \"k\", count = 1 }, { writer = \"w\", key = \"j\", count = 1 }, { writer = \"w\", key = \"k\", count = 70000 }, { writer = \"w\", key = \"k\", count = 1 }]
+writes = [{ writer = \"v\", key = \"k\", count = 1 }, { writer = \"w\", key = \"j\", count = 1 }, { writer = \"w\", key = \"k\", count = 70000 }, { writer = \"w\", key = \"k\", count = 1 }, { writer = \"w\", count = 1 }]
 [[rules]]
 name = \"s\"
 application = \"a\"
@@ -124,6 +124,7 @@ RuleEntry rules[0].writes[0]: `v` isn't one of a's writers ()
 RuleEntry rules[0].writes[1]: `j` is no key of `w` (the only key is `k`)
 OutOfRange rules[0].writes[2].count: `count` is 70000, and has to be a whole number from 1 to 65535 ()
 RuleEntry rules[0].writes[3]: `k` at `w` stands in the list already ()
+MissingKey rules[0].writes[4].key: a write needs `key` (name one, or give the rule `each = true` for every key)
 WrongKind rules[0].start: `start = \"unlimited\"` needs version = 3 ()
 UnknownKey rules[1].writes[0].key: `key` is no field of a write of a rule with `each` (its fields are `writer` and `count`)
 RuleEntry rules[2]: no key is one of each of its endpoints, so `each` stands for no rule ()

@@ -1,6 +1,9 @@
 -- Findings as people read them.
-use Rattle.std.specs.Prelude.{ℕ, Bool, not, ◌==◌, List, [], ◌++◌, codes, flat_map, count_by, string_bytes, if◌then◌else◌}
+use Rattle.std.specs.Prelude.{ℕ, ◌+◌, ◌-◌, Bool, false, not, ◌&&◌, ◌||◌, ◌==◌, List, [], ◌++◌, codes, flat_map, count_by, length, slice_get, string_bytes, if◌then◌else◌}
 use Rattle.std.specs.Fmt.{decimal}
+use Rattle.std.specs.Option.{option_map_or}
+use Rattle.std.specs.Str.{bytes_eq}
+use Rattle.dds_text.specs.Texts.{each_below}
 use Rattle.dds_findings.specs.Findings.{is_denied_note, is_error, level_of, level_word}
 use Rattle.dds_findings.specs.declared.finding.Finding.{Finding}
 use Rattle.dds_findings.specs.declared.finding.Role.{Role}
@@ -40,11 +43,39 @@ source_lines f =
     decimal f.spot.line ++ (codes " | " ++ (string_bytes f.spot.text ++ (codes "\n" ++ (string_bytes f.spot.margin ++ (codes " | " ++ (string_bytes f.spot.marker
     ++ (help_words (string_bytes f.help) ++ codes "\n")))))))
 
--- all that, the terms of its numbers, and an empty line
+-- all that, and the terms of its numbers
 abbrev pub block : FileNames → Finding → List ℕ
 block names f =
     head_line f ++ (place_lines names f ++ (source_lines f
-    ++ (flat_map (λ detail. detail_line (string_bytes f.spot.margin) (string_bytes detail)) f.details.items ++ codes "\n")))
+    ++ flat_map (λ detail. detail_line (string_bytes f.spot.margin) (string_bytes detail)) f.details.items))
+
+-- ── rows of findings
+-- the two are of one kind, at one place of the document
+abbrev pub is_alike : Finding → Finding → Bool
+is_alike f g = bytes_eq f.name.now g.name.now && bytes_eq (string_bytes f.path) (string_bytes g.path)
+
+-- the one behind the finding with this place is there, and alike
+abbrev pub goes_on : List Finding → ℕ → Bool
+goes_on findings i = option_map_or (λ f. option_map_or (is_alike f) (slice_get findings (i + 1)) false) (slice_get findings i) false
+
+-- the finding with this place is the first of a row of alike ones
+abbrev pub begins : List Finding → ℕ → Bool
+begins findings i = (i == 0) || not (goes_on findings (i - 1))
+
+-- the last of a row, which stands for those between
+abbrev pub last_line : Finding → List ℕ
+last_line f = string_bytes f.spot.margin ++ (codes " = and so on, up to: " ++ (string_bytes f.message ++ codes "\n"))
+
+-- what is printed of the finding with this place: of the first of a row all, of the last its message, of the others nothing
+abbrev pub part_lines : FileNames → List Finding → ℕ → Finding → List ℕ
+part_lines names findings i f = if begins findings i then block names f else (if goes_on findings i then [] else last_line f)
+
+-- an empty line follows each row
+abbrev pub row_end : Bool → List ℕ
+row_end more = if more then [] else codes "\n"
+
+abbrev pub part : FileNames → List Finding → ℕ → List ℕ
+part names findings i = option_map_or (λ f. part_lines names findings i f ++ row_end (goes_on findings i)) (slice_get findings i) []
 
 -- how many findings are errors, and how many aren't
 abbrev pub errors_of : List Finding → ℕ
@@ -69,6 +100,6 @@ abbrev pub bare_line : (certificate : List ℕ) → List ℕ
 bare_line [] = codes "limits aren't checked without a certificate: `ddscheck limits` prints what they need\n"
 bare_line certificate = []
 
--- the blocks, how many errors and notes there are, and what isn't checked
+-- the rows, how many errors and notes there are, and what isn't checked
 abbrev pub blocks : FileNames → List Finding → List ℕ
-blocks names findings = flat_map (block names) findings ++ (sum_line findings ++ bare_line names.1)
+blocks names findings = each_below (length findings) (part names findings) ++ (sum_line findings ++ bare_line names.1)

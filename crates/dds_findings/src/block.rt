@@ -1,11 +1,12 @@
 //! Findings as people read them: a block each, with the line of the file.
-ghost use Rattle.std.specs.Prelude.{◌≡◌, ◌++◌, IfOk, flat_map, string_bytes};
-ghost use Rattle.dds_findings.specs.Blocks.{bare_line, block, blocks, denied_notes_of, detail_line, errors_of};
-ghost use Rattle.dds_findings.specs.Blocks.{file_name, head_line, help_words, notes_of, place_lines, plural};
-ghost use Rattle.dds_findings.specs.Blocks.{source_lines, sum_line};
+ghost use Rattle.std.specs.Prelude.{◌≡◌, ◌<◌, ◌++◌, IfOk, flat_map, length, string_bytes};
+ghost use Rattle.dds_findings.specs.Blocks.{bare_line, begins, block, blocks, denied_notes_of, detail_line, errors_of};
+ghost use Rattle.dds_findings.specs.Blocks.{file_name, goes_on, head_line, help_words, is_alike, last_line, notes_of};
+ghost use Rattle.dds_findings.specs.Blocks.{part, part_lines, place_lines, plural, row_end, source_lines, sum_line};
 
 use crate::finding::{Finding, Level, Role};
 use dds_base::NoMemory;
+use dds_text::texts::text_below;
 use std::alloc::Global;
 use std::marker::Model;
 
@@ -98,8 +99,8 @@ fn source_text(alloc: Global, finding: &Finding) -> Result<String, NoMemory>
     format!(in alloc; "{line} | {text}\n{margin} | {marker}{help}\n")
 }
 
-/// The block of a finding: what it is, where it is, the line with the place underlined and what would be right, the
-/// terms of its numbers, and an empty line.
+/// The block of a finding: what it is, where it is, the line with the place underlined and what would be right, and the
+/// terms of its numbers.
 fn block(alloc: Global, names: &FileNames, finding: &Finding) -> Result<String, NoMemory>
     ensures { IfOk result (λ text. string_bytes text ≡ block names.now finding.now) }
 {
@@ -108,7 +109,90 @@ fn block(alloc: Global, names: &FileNames, finding: &Finding) -> Result<String, 
     let source = source_text(alloc, finding)?;
     let margin = finding.spot.margin.as_str();
     let details = details_text(alloc, margin, &finding.details)?;
-    format!(in alloc; "{head}{place}{source}{details}\n")
+    format!(in alloc; "{head}{place}{source}{details}")
+}
+
+/// Whether two findings are of one kind, at one place of the document.
+fn is_alike(one: &Finding, other: &Finding) -> bool
+    ensures { result ≡ is_alike one.now other.now }
+{
+    one.name == other.name && one.path.as_str() == other.path.as_str()
+}
+
+/// Whether the finding behind the one with this place is alike.
+fn goes_on(findings: &[Finding], place: usize) -> bool
+    requires { place < length findings.now }
+    ensures { result ≡ goes_on findings.now place }
+{
+    match (findings.get(place), findings.get(place + 1)) {
+        (Some(one), Some(next)) => is_alike(one, next),
+        _ => false,
+    }
+}
+
+/// Whether the finding with this place is the first of a row of alike ones.
+fn begins(findings: &[Finding], place: usize) -> bool
+    requires { place < length findings.now }
+    ensures { result ≡ begins findings.now place }
+{
+    place == 0 || !goes_on(findings, place - 1)
+}
+
+/// The line of the last of a row, which stands for those between.
+fn last_text(alloc: Global, finding: &Finding) -> Result<String, NoMemory>
+    ensures { IfOk result (λ text. string_bytes text ≡ last_line finding.now) }
+{
+    let margin = finding.spot.margin.as_str();
+    let message = finding.message.as_str();
+    format!(in alloc; "{margin} = and so on, up to: {message}\n")
+}
+
+/// What is printed of a finding: of the first of a row all, of the last its message, of the others nothing.
+fn lines_text(
+    alloc: Global,
+    names: &FileNames,
+    findings: &[Finding],
+    place: usize,
+    finding: &Finding,
+) -> Result<String, NoMemory>
+    requires { place < length findings.now }
+    ensures { IfOk result
+        (λ text. string_bytes text ≡ part_lines names.now findings.now place finding.now) }
+{
+    if begins(findings, place) {
+        block(alloc, names, finding)
+    } else if goes_on(findings, place) {
+        Ok(String::new(alloc))
+    } else {
+        last_text(alloc, finding)
+    }
+}
+
+/// The empty line that follows the last of a row.
+fn row_end(more: bool) -> &'static str
+    ensures { result.now ≡ row_end more }
+{
+    if more { "" } else { "\n" }
+}
+
+/// What is printed of the finding with this place, with the empty line behind the last of a row.
+fn part(
+    alloc: Global,
+    names: &FileNames,
+    findings: &[Finding],
+    place: usize,
+) -> Result<String, NoMemory>
+    requires { place < length findings.now }
+    ensures { IfOk result (λ text. string_bytes text ≡ part names.now findings.now place) }
+{
+    match findings.get(place) {
+        Some(finding) => {
+            let lines = lines_text(alloc, names, findings, place, finding)?;
+            let end = row_end(goes_on(findings, place));
+            format!(in alloc; "{lines}{end}")
+        }
+        None => Ok(String::new(alloc)),
+    }
 }
 
 /// How many findings are errors.
@@ -180,7 +264,8 @@ fn last_lines(alloc: Global, names: &FileNames, findings: &[Finding]) -> Result<
     format!(in alloc; "{sum}{bare}")
 }
 
-/// The blocks of findings, in their order, how many there are, and what isn't checked. `NoMemory` is the only error.
+/// The blocks of findings, in their order, how many there are, and what isn't checked. Of a row of findings of one kind
+/// at one place the first has a block, and the last a line in it. `NoMemory` is the only error.
 pub(crate) fn blocks_text(
     alloc: Global,
     names: &FileNames,
@@ -188,12 +273,7 @@ pub(crate) fn blocks_text(
 ) -> Result<String, NoMemory>
     ensures { IfOk result (λ text. string_bytes text ≡ blocks names.now findings.now) }
 {
-    let mut text = String::new(alloc);
-    for finding in findings {
-        let next = block(alloc, names, finding)?;
-        text.push_str(next.as_str())?;
-    }
+    let rows = text_below(alloc, findings.len(), |i| part(alloc, names, findings, i))?;
     let last = last_lines(alloc, names, findings)?;
-    text.push_str(last.as_str())?;
-    Ok(text)
+    format!(in alloc; "{rows}{last}")
 }

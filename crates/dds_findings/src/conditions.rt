@@ -42,9 +42,9 @@ fn cure(number: Number) -> &'static str {
         Number::KeepLastFilter =>
             "let the reader take these keys, or let it lose samples with `may_lose = true`",
         Number::WriterDepth => "`ddscheck limits` prints how deep the writer has to be",
-        Number::TakeRaises | Number::RuleRaises | Number::WriteRaises | Number::BoundNotShown => {
-            "`ddscheck propose --thorough` finds weights where there are some"
-        }
+        Number::TakeRaises | Number::RuleRaises | Number::WriteRaises =>
+            "`ddscheck propose --thorough` finds weights where there are some",
+        Number::BoundNotShown => "`ddscheck limits` prints the least bound that weights show",
     }
 }
 
@@ -59,12 +59,26 @@ fn pair_cure(plan: &Plan, writer: WriterNo, reader: ReaderNo) -> &'static str {
     }
 }
 
+/// Whether a key that comes to a reader may be written at any time, whatever is taken.
+fn is_clocked(plan: &Plan, reader: ReaderNo, key: KeyNo) -> bool {
+    plan.writers_of(reader)
+        .iter()
+        .any(|writer| plan.is_free(*writer, key))
+}
+
+/// What would be right where a clock writes a key of which no sample may be lost.
+const CLOCKED: &str =
+    "a clock writes it, so no bound holds: set `may_lose = true`, or let the rule take something";
+
 /// What would be right where a condition fails for something.
 fn cure_of(plan: &Plan, no: &No) -> &'static str {
     match (no.number, no.subject) {
         (Number::IntendedNotMatched, Subject::Pair { writer, reader }) => {
             pair_cure(plan, writer, reader)
         }
+        (Number::NoBound, Subject::Instance { reader, key })
+        | (Number::WriterDepth, Subject::PairKey { reader, key, .. })
+            if is_clocked(plan, reader, key) => { CLOCKED }
         _ => cure(no.number),
     }
 }

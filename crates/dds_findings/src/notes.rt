@@ -23,6 +23,7 @@ fn name_of(note: Note) -> &'static str {
         Note::NoRules => "NoRules",
         Note::NoStart => "NoStart",
         Note::StuckRule(_) => "StuckRule",
+        Note::Endless { .. } => "Endless",
         Note::LossyTake(_) => "LossyTake",
         Note::UnusedRow(_) => "UnusedRow",
         Note::NeedlessBound(_) => "NeedlessBound",
@@ -63,7 +64,10 @@ fn help_of(lists: &Deployment, note: Note) -> &'static str {
         Note::NoRules => "say in `rules` what the applications do",
         Note::NoStart => "give a rule a `start`: how often it writes before anything was taken",
         Note::StuckRule(rule) => stuck_help(lists, rule),
-        Note::LossyTake(_) => "a rule that needs each sample needs a strict reader",
+        Note::Endless { .. } =>
+            "let the reader lose samples with `may_lose = true`, or let the rule take something before it writes again",
+        Note::LossyTake(_) =>
+            "leave it out of `takes` if the newest sample is enough; a rule that needs each one needs a strict reader",
         Note::UnusedRow(_) | Note::NeedlessBound(_) | Note::NeedlessTotal(_) => "take it out",
         Note::HeldUp { .. } => "where it mustn't wait, give the writer no limit of samples",
     }
@@ -84,6 +88,9 @@ fn entry_of(judged: &Judged, note: Note) -> (Role, &'static str, usize, &'static
         Note::NoRules | Note::NoStart => (Role::Deployment, "rules", 0, "name"),
         Note::StuckRule(rule) | Note::LossyTake(rule) => {
             (Role::Deployment, "rules", rule_entry(judged, rule), "name")
+        }
+        Note::Endless { rule, .. } => {
+            (Role::Deployment, "rules", rule_entry(judged, rule), "start")
         }
         Note::UnusedRow(row) => (Role::Certificate, "rows", row, "name"),
         Note::NeedlessBound(place) => {

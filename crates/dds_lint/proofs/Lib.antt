@@ -1,3 +1,4 @@
+mod EndlessLaws
 mod EveryLaws
 pub mod FirstOfAll
 mod LiveLaws

@@ -1,5 +1,5 @@
 -- What a yes doesn't say.
-use Rattle.std.specs.Prelude.{ℕ, Bool, false, ◌&&◌, ◌||◌, ◌==◌, not, nat_lt, List, ◌++◌, length, slice_get, Option, Some, None, is_some, is_none, if◌then◌else◌}
+use Rattle.std.specs.Prelude.{◌≡◌, ℕ, Bool, false, ◌&&◌, ◌||◌, ◌==◌, not, nat_lt, List, ◌++◌, length, slice_get, Option, Some, None, is_some, is_none, if◌then◌else◌}
 use Rattle.std.specs.List.{list_any}
 use Rattle.std.specs.Option.{option_map_or, option_to_list}
 use Rattle.dds_base.specs.Sums.{any_below, count_below}
@@ -11,6 +11,8 @@ use Rattle.dds_weights.specs.Lists as lists
 use Rattle.dds_weights.specs.declared.certificate.Bound.{Bound}
 use Rattle.dds_weights.specs.declared.certificate.Total.{Total}
 use Rattle.dds_runs.specs.Accepted.{instance_limit}
+use Rattle.dds_runs.specs.First.{first_below}
+use Rattle.dds_check.specs.Accepts.{first_no}
 use Rattle.dds_check.specs.Limits.{all_bounded, is_over}
 use Rattle.dds_check.specs.Tables.{total_of}
 use Rattle.dds_lint.specs.declared.notes.Note.{Note}
@@ -77,6 +79,34 @@ is_lossy net u = list_any (λ (e : Portion ℕ). net.watcher e.endpoint) (net.ru
 abbrev pub lossy_take : Network → ℕ → Option Note
 lossy_take net u = noted (is_lossy net u) (note.LossyTake u)
 
+-- the samples of the writer that the reader hasn't taken are limited: by the reader, or by the depth of the writer
+abbrev pub has_limit : Network → ℕ → ℕ → Bool
+has_limit net w r =
+    is_some (net.reader_limits r).max_samples || (is_some (instance_limit (net.reader_limits r)) || is_some (net.writer_limits w).keep_last)
+
+-- what is written there comes to the reader, and is limited
+abbrev pub comes_limited : Network → ℕ → Portion ℕ → Bool
+comes_limited net r e = net.matched e.endpoint r && (reach net r e.key && has_limit net e.endpoint r)
+
+-- one of the rule's writes is so
+abbrev pub writes_limited : Network → ℕ → ℕ → Bool
+writes_limited net r u = list_any (comes_limited net r) (net.rule u).writes
+
+-- and the rule lets its writes be made at any time, whatever is taken
+abbrev pub is_endless : Network → ℕ → ℕ → Bool
+is_endless net r u = (net.rule u).free && writes_limited net r u
+
+-- the reader must lose nothing, and a rule writes to it without end: the first of them
+abbrev pub endless_at : Network → ℕ → ℕ → Option Note
+endless_at net r u = noted (is_endless net r u) (note.Endless r u)
+
+abbrev pub endless : Network → ℕ → Option Note
+endless net r = if net.watcher r then None else first_below net.rules (endless_at net r)
+
+-- where a certificate is accepted, no reader is noted so
+abbrev pub AreRefused : Lists → Type 0
+AreRefused d = (cert : lists.Certificate) → first_no d cert ≡ None → (r : ℕ) → endless (network_of d) r ≡ None
+
 -- the row shows no bound and no total
 abbrev pub unused_row : lists.Certificate → ℕ → Option Note
 unused_row cert n =
@@ -107,7 +137,7 @@ unwritten_keys d t = those_below (length (keys_at d.topics t)) (unwritten_key d 
 abbrev pub reader_notes : Lists → lists.Certificate → List Note
 reader_notes d cert =
     those_below (network_of d).readers (watcher d) ++ those_below (network_of d).readers (grows (network_of d) cert)
-    ++ those_below (network_of d).readers (idle_limit (network_of d))
+    ++ those_below (network_of d).readers (idle_limit (network_of d)) ++ those_below (network_of d).readers (endless (network_of d))
 
 abbrev pub writer_notes : Lists → List Note
 writer_notes d = every_below (length d.topics.entries) (unwritten_keys d) ++ those_below (network_of d).writers (idle_writer (network_of d))

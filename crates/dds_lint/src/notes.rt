@@ -10,8 +10,9 @@ ghost use Rattle.dds_weights.specs.Views.{certificate_view};
 ghost use Rattle.dds_check.specs.Limits.{all_bounded};
 ghost use Rattle.dds_lint.specs.Every.{every_below, those_below, those_in};
 ghost use Rattle.dds_lint.specs.Live.{IsLive, live_of, opens};
-ghost use Rattle.dds_lint.specs.Notes.{absent_notes, all_notes, certificate_notes, grows, held_up, idle_writer};
-ghost use Rattle.dds_lint.specs.Notes.{idle_limit, is_key_written, is_lossy, is_stuck, lossy_take, may_lose};
+ghost use Rattle.dds_lint.specs.Notes.{AreRefused, absent_notes, all_notes, certificate_notes, comes_limited, endless};
+ghost use Rattle.dds_lint.specs.Notes.{endless_at, grows, has_limit, held_up, idle_limit, idle_writer, is_endless};
+ghost use Rattle.dds_lint.specs.Notes.{is_key_written, is_lossy, is_stuck, lossy_take, may_lose, writes_limited};
 ghost use Rattle.dds_lint.specs.Notes.{needless_bound, needless_total, no_rules, no_start, noted, pair_notes};
 ghost use Rattle.dds_lint.specs.Notes.{reader_notes, rule_notes, stuck_rule, unused_row, unwritten_key, unwritten_keys};
 ghost use Rattle.dds_lint.specs.Notes.{watcher, writer_notes};
@@ -19,7 +20,8 @@ ghost use Rattle.dds_lint.specs.Notes.{watcher, writer_notes};
 use crate::every::{push_below, push_some};
 use crate::live::{can_take_all, has_takes, live_rules, opens};
 use dds_base::limits::RULES;
-use dds_base::{KeyNo, NoMemory, ReaderNo, RuleNo, TopicNo, WriterNo};
+use dds_base::{KeyNo, NoMemory, Portion, ReaderNo, RuleNo, TopicNo, WriterNo};
+use dds_check::below::first_below;
 use dds_check::limits::{all_bounded, is_over};
 use dds_check::shown::{bound_at, total_at};
 use dds_check::{Bounds, find_total, instance_limit, reached, written};
@@ -49,6 +51,9 @@ pub enum Note {
     NoStart,
     /// The rule can never fire.
     StuckRule(RuleNo),
+    /// The reader must lose nothing, and the rule lets writes come to it at any time, whatever is taken, though the
+    /// reader or the writer has a limit of samples: no bound holds there, and no certificate is accepted.
+    Endless { reader: ReaderNo, rule: RuleNo },
     /// The rule takes at a watcher: if that misses a sample, the rule may wait for it for ever.
     LossyTake(RuleNo),
     /// No bound and no total is shown by the row with this place in the certificate, from 0.
@@ -107,6 +112,71 @@ fn idle_limit(plan: &Plan, reader: ReaderNo) -> Option<Note>
     let limits = plan.reader_limits(reader);
     let is_idle = is_over(limits.max_samples_per_instance, limits.keep_last);
     note_if(is_idle, Note::IdleLimit(reader))
+}
+
+/// Whether the samples of a writer that a reader hasn't taken are limited: by the reader, or by the writer's depth.
+fn has_limit(plan: &Plan, writer: WriterNo, reader: ReaderNo) -> bool
+    requires writer { writer < (network_of plan.now).writers }
+    requires reader { reader < (network_of plan.now).readers }
+    ensures { result ≡ has_limit (network_of plan.now) writer reader }
+{
+    let limits = plan.reader_limits(reader);
+    limits.max_samples.is_some()
+        || instance_limit(&limits).is_some()
+        || plan.writer_limits(writer).keep_last.is_some()
+}
+
+/// Whether what is written there comes to a reader, and is limited.
+fn comes_limited(plan: &Plan, reader: ReaderNo, write: &Portion<WriterNo>) -> bool
+    requires { reader < (network_of plan.now).readers }
+    ensures { result ≡ comes_limited (network_of plan.now) reader write.now }
+{
+    plan.matched(write.endpoint, reader)
+        && plan.reaches(reader, write.key)
+        && has_limit(plan, write.endpoint, reader)
+}
+
+/// Whether one of a rule's writes comes to a reader, and is limited.
+fn writes_limited(plan: &Plan, reader: ReaderNo, rule: RuleNo) -> bool
+    requires reader { reader < (network_of plan.now).readers }
+    requires rule { rule < (network_of plan.now).rules }
+    ensures { result ≡ writes_limited (network_of plan.now) reader rule }
+{
+    plan.rule(rule)
+        .writes
+        .iter()
+        .any(|e| comes_limited(plan, reader, e))
+}
+
+/// Whether a rule lets its writes be made at any time, whatever is taken, and one of them comes to a reader and is
+/// limited.
+fn is_endless(plan: &Plan, reader: ReaderNo, rule: RuleNo) -> bool
+    requires reader { reader < (network_of plan.now).readers }
+    requires rule { rule < (network_of plan.now).rules }
+    ensures { result ≡ is_endless (network_of plan.now) reader rule }
+{
+    plan.rule(rule).free && writes_limited(plan, reader, rule)
+}
+
+fn endless_at(plan: &Plan, reader: ReaderNo, rule: RuleNo) -> Option<Note>
+    requires reader { reader < (network_of plan.now).readers }
+    requires rule { rule < (network_of plan.now).rules }
+    ensures { result ≡ endless_at (network_of plan.now) reader rule }
+{
+    note_if(
+        is_endless(plan, reader, rule),
+        Note::Endless { reader, rule },
+    )
+}
+
+fn endless(plan: &Plan, reader: ReaderNo) -> Option<Note>
+    requires { reader < (network_of plan.now).readers }
+    ensures { result ≡ endless (network_of plan.now) reader }
+{
+    if plan.watcher(reader) {
+        return None;
+    }
+    first_below(rules_of(plan), |u| endless_at(plan, reader, RuleNo::new(u)))
 }
 
 /// Whether a writer is one of the topic, and a rule writes the key there.
@@ -286,6 +356,13 @@ fn push_idle_limits(notes: &mut Vec<Note>, plan: &Plan) -> Result<(), NoMemory>
     )
 }
 
+fn push_endless(notes: &mut Vec<Note>, plan: &Plan) -> Result<(), NoMemory>
+    ensures { OnOk result (notes.new.items ≡ notes.old.items
+        ++ those_below (network_of plan.now).readers (endless (network_of plan.now))) }
+{
+    push_below(notes, readers_of(plan), |r| endless(plan, ReaderNo::new(r)))
+}
+
 fn push_readers(
     notes: &mut Vec<Note>,
     plan: &Plan,
@@ -296,7 +373,8 @@ fn push_readers(
 {
     push_watchers(notes, plan)?;
     push_growing(notes, plan, certificate)?;
-    push_idle_limits(notes, plan)
+    push_idle_limits(notes, plan)?;
+    push_endless(notes, plan)
 }
 
 fn push_keys(notes: &mut Vec<Note>, plan: &Plan) -> Result<(), NoMemory>
@@ -450,20 +528,23 @@ fn push_all(
 }
 
 /// What a yes doesn't say of a plan and a certificate, which may be empty: readers that may miss samples or grow
-/// without end, keys and writers that no rule writes, rules that never fire, what of the certificate nothing needs, and
-/// readers for which a writer waits. Which rules can fire goes by counts without amounts: what can come once is taken
-/// to come as often as a rule needs it. `NoMemory` is the only error.
-
+/// without end, limits that do nothing or that no certificate keeps, keys and writers that no rule writes, rules that
+/// never fire, what of the certificate nothing needs, and readers for which a writer waits. Which rules can fire goes
+/// by counts without amounts: what can come once is taken to come as often as a rule needs it. `NoMemory` is the only
+/// error.
 pub fn all_notes(
     alloc: Global,
     plan: &Plan,
     certificate: &Certificate,
 ) -> Result<Vec<Note>, NoMemory>
     ensures rules { IsLive (network_of plan.now) (live_of (network_of plan.now)) }
+    ensures refused { AreRefused plan.now }
     ensures all { IfOk result
         (λ notes. notes.items
         ≡ all_notes plan.now (live_of (network_of plan.now)) (certificate_view certificate.now)) }
 {
+    // Its lists name nothing that isn't there.
+    plan.assert_well_formed();
     let live = live_rules(plan);
     let mut notes = Vec::new(alloc);
     push_all(&mut notes, plan, certificate, &live)?;

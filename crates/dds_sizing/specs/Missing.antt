@@ -44,7 +44,7 @@ shower (Reader r) = codes "one row of weights shows"
 abbrev pub least_line : (limit shower : List ℕ) → Least → List ℕ
 least_line limit shower (Shown n) =
     codes "ddscheck: no weights show " ++ (limit ++ (codes "; the least bound that " ++ (shower ++ (codes " is " ++ (decimal n ++ codes "\n")))))
-least_line limit shower Unbounded = codes "ddscheck: no weights show " ++ (limit ++ codes ", nor any other bound\n")
+least_line limit shower Unbounded = codes "ddscheck: no weights show " ++ (limit ++ codes ", whatever its number: `ddscheck limits --explain` says why\n")
 least_line limit shower Unknown =
     codes "ddscheck: no weights were found that show " ++ (limit ++ codes ": the numbers became too large or the search too long\n")
 

@@ -137,7 +137,7 @@ fn least_text(alloc: Global, limit: &str, shower: &str, least: Least) -> Result<
             "ddscheck: no weights show {limit}; the least bound that {shower} is {bound}\n"
         ),
         Least::Unbounded => format!(in alloc;
-            "ddscheck: no weights show {limit}, nor any other bound\n"
+            "ddscheck: no weights show {limit}, whatever its number: `ddscheck limits --explain` says why\n"
         ),
         Least::Unknown => format!(in alloc;
             "ddscheck: no weights were found that show {limit}: the numbers became too large or the search too long\n"

@@ -1,7 +1,7 @@
 //! `ddscheck`, over the files and the standard streams of the system.
 #![tactic(auto)]
 
-use dds_answers::{Disk, Stream, ToolFault, tell_fault};
+use dds_answers::{Disk, Stream, ToolFault, advise, tell_fault};
 use dds_tool::tool;
 use std::alloc::Global;
 use std::env::{self, Env};
@@ -11,6 +11,14 @@ use std::process::ExitCode;
 /// The words of the command line, of which the first is the program's name.
 fn words<R: Env + AllocGlobal>(rt: &R) -> io::Result<Vec<String>> {
     Ok(env::args(rt)?.collect(rt.alloc())?)
+}
+
+/// The command that the words name; empty where there is none.
+fn command_of(words: &[String]) -> &str {
+    match words.get(1) {
+        Some(word) => word.as_str(),
+        None => "",
+    }
 }
 
 /// Why there are no words.
@@ -35,17 +43,9 @@ fn main(rt: HostRuntime) -> ExitCode {
             return ExitCode::from(tell_fault(rt.alloc(), &mut err, &fault).status());
         }
     };
-    let mut files = Disk {
-        rt: &rt,
-        has_failed: false,
-    };
-    let exit = tool(
-        &rt,
-        rt.alloc(),
-        words.as_slice(),
-        &mut files,
-        &mut out,
-        &mut err,
-    );
+    let alloc = rt.alloc();
+    let mut files = Disk::new(&rt, alloc);
+    let exit = tool(&rt, alloc, words.as_slice(), &mut files, &mut out, &mut err);
+    advise(alloc, &mut err, command_of(&words), exit, files.unopened());
     ExitCode::from(exit.status())
 }

@@ -99,10 +99,7 @@ fn main(rt: HostRuntime) -> ExitCode {
     let mut out = Stream::new(io::writer(&rt));
     let err = rt.stderr();
     let mut err = Stream::new(io::writer(&err));
-    let mut files = Disk {
-        rt: &rt,
-        has_failed: false,
-    };
+    let mut files = Disk::new(&rt, alloc);
     let answer = match words(&rt) {
         Ok(words) => answer_to(alloc, words.as_slice(), &mut files),
         Err(_) => Err(other_words(alloc)),

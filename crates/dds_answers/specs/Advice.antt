@@ -1,0 +1,28 @@
+-- What helps after a fault.
+use Rattle.std.specs.Prelude.{Bool, List, [], ◌∷◌, ℕ, ◌++◌, codes, Option, Some, None, if◌then◌else◌}
+use Rattle.std.specs.List.{list_any}
+use Rattle.std.specs.Option.{option_map_or}
+use Rattle.std.specs.Str.{bytes_eq}
+use Rattle.dds_answers.specs.declared.exit.Exit.{Exit}
+use Rattle.dds_answers.specs.declared.exit.Exit.TheVariants.{BadFile, Device}
+
+-- the commands after whose faults nothing stands but the line of the fault
+abbrev pub is_fixed : (command : List ℕ) → Bool
+is_fixed command = list_any (bytes_eq command) (codes "check" ∷ codes "match" ∷ codes "propose" ∷ codes "run" ∷ codes "migrate" ∷ [])
+
+-- the commands that read a deployment, and that don't say where a fault of it is
+abbrev pub reads_deployment : (command : List ℕ) → Bool
+reads_deployment command = list_any (bytes_eq command) (codes "limits" ∷ codes "refute" ∷ codes "show" ∷ codes "draw" ∷ [])
+
+-- which file couldn't be opened, if one couldn't
+abbrev pub unopened_line : Option (List ℕ) → List ℕ
+unopened_line unopened = option_map_or (λ path. codes "because " ++ (path ++ codes " can't be opened\n")) unopened []
+
+abbrev pub lint_line : List ℕ
+lint_line = codes "`ddscheck lint` prints where that is, and what would be right\n"
+
+-- what is printed after a command that ended so: which file couldn't be opened, or which command knows more of a fault of a file
+abbrev pub advice : (command : List ℕ) → Exit → (unopened : Option (List ℕ)) → List ℕ
+advice command Device unopened = if is_fixed command then [] else unopened_line unopened
+advice command BadFile unopened = if reads_deployment command then lint_line else []
+advice command other unopened = []
