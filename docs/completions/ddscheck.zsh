@@ -45,7 +45,7 @@ _ddscheck() {
                 '1:deployment:_files -g "*.toml"' ;;
             run) _arguments \
                 '--fates[What happens to packets, in a circle: pass, keep, last, lose, with commas between them \[default: pass\]]:LIST:()' \
-                '--writes[How many samples each application writes \[default: 10\]]:N:()' \
+                '--writes[How many samples each application writes, with free ones counted apart \[default: 10\]]:N:()' \
                 '--takes[How many samples each application takes \[default: 10\]]:N:()' \
                 '--idle-ok[Ends with status 0 also where applications were idle]' \
                 '--explain[Also prints how full each reader was, and what idle applications wait for]' \

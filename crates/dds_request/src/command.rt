@@ -28,7 +28,7 @@ const FATES: &str =
     "What happens to packets, in a circle: pass, keep, last, lose, with commas between them";
 
 /// What help says of the number of writes.
-const WRITES: &str = "How many samples each application writes";
+const WRITES: &str = "How many samples each application writes, with free ones counted apart";
 
 /// What help says of the number of takes.
 const TAKES: &str = "How many samples each application takes";
