@@ -59,6 +59,8 @@ few_of_files d c end one other = rw (few most_bytes d c one other) refl
 pub large_of_files : (d c : List ℕ) (end : Outcome) → (most_bytes < length d) ⊎ (most_bytes < length c) → of_files d c end ≡ too_large
 large_of_files d c end more = rw (many most_bytes d c more) refl
 
+pub ruleset ends = (few_of_files, large_of_files)
+
 pub large_of_file : (May : Outcome → Type 0) (d : List ℕ) → most_bytes < length d → MayOfFile d May too_large
 large_of_file May d more = rw (lt-leb (length d) most_bytes more) refl
 

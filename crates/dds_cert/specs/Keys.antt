@@ -3,7 +3,8 @@ use Rattle.std.specs.Prelude.{codes, ℕ, Bool, List, [], ◌∷◌, Option, Som
 use Rattle.toml.specs.Data.{Data, Members}
 use Rattle.dds_base.specs.Names.{number_of}
 use Rattle.dds_fields.specs.declared.fault.FaultKind.TheVariants.{UnknownName}
-use Rattle.dds_fields.specs.Reading.{◌>>=◌, Read, or_fault, a_name, a_known_name, field, optional}
+use Rattle.dds_fields.specs.Reading.{◌>>=◌, Read, or_fault, a_name, a_known_name}
+pub use Rattle.dds_fields.specs.Reading.{field, optional}
 use Rattle.dds_fields.specs.Document.{version}
 use Rattle.dds_lists.specs.Lists.{Lists, all_keys}
 use Rattle.dds_lists.specs.WellFormed.{filter_at}

@@ -82,7 +82,7 @@ fn filter_of(alloc: Global, lists: &Deployment, reader: ReaderNo) -> Result<Vec<
 }
 
 // The keys of the reader's filter that an entry stands for.
-#[tactic(auto, unfolding(crate::specs::Keys::keys_of_entry, dds_fields::specs::Reading::field, dds_fields::specs::Reading::optional))]
+#[tactic(auto, unfolding(crate::specs::Keys::keys_of_entry, crate::specs::Keys::field, crate::specs::Keys::optional))]
 fn heard_keys(
     alloc: Global,
     version: u32,
@@ -135,7 +135,7 @@ fn every_key(alloc: Global, names: &Names) -> Result<Vec<KeyNo>, NoMemory>
 }
 
 // The keys with these names that an entry stands for.
-#[tactic(auto, unfolding(crate::specs::Keys::keys_of_entry, dds_fields::specs::Reading::field, dds_fields::specs::Reading::optional))]
+#[tactic(auto, unfolding(crate::specs::Keys::keys_of_entry, crate::specs::Keys::field, crate::specs::Keys::optional))]
 fn known_keys(
     alloc: Global,
     version: u32,

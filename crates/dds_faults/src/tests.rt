@@ -68,7 +68,8 @@ Duplicate topics[0].keys[1]: there's already a key `k`, keys[0] ()
 UnknownKey writers[0].histroy: `histroy` is no field of a writer (did you mean `history`?)
 MissingKey writers[0].participant: a writer needs `participant` ()
 UnknownName writers[0].topic: there's no topic `scan` (did you mean `scans`?)
-OutOfRange writers[0].deadline: `deadline` is -5, and has to be nanoseconds from 0 to 9223372036854775807, or \"infinite\" ()
+OutOfRange writers[0].deadline: `deadline` is -5, and has to be nanoseconds from 0 to 9223372036854775807, \
+    or \"infinite\" ()
 OutOfRange writers[0].reliability: `reliability` is \"RELIABEL\" (did you mean \"RELIABLE\"?)
 WrongKind writers[0].depth: `depth` is a text, and has to be a whole number from 1 to 2147483647 ()
 Duplicate writers[1].name: there's already a writer `w`, writers[0] ()
@@ -85,14 +86,19 @@ fn rules_and_owners(rt: HostRuntime) -> Result<(), Fail> {
     let text = "version = 2
 participants = [{ name = \"p\", domain = 0 }, { name = \"q\", domain = 0 }]
 topics = [{ name = \"t\", type = \"T\", keys = [\"k\"] }, { name = \"o\", type = \"O\", keys = [\"j\", \"k\"] }]
-readers = [{ name = \"l\", participant = \"p\", topic = \"o\", filter = [\"j\"] }, { name = \"m\", participant = \"p\", topic = \"o\" }]
-writers = [{ name = \"w\", participant = \"p\", topic = \"t\", depth = 20, max_samples_per_instance = 10 }, { name = \"v\", participant = \"q\", topic = \"t\" }]
-applications = [{ name = \"a\", participant = \"p\", writers = [\"w\"], readers = [\"l\", \"m\"] }, { name = \"b\", participant = \"q\", writers = [\"v\"] }]
+readers = [{ name = \"l\", participant = \"p\", topic = \"o\", filter = [\"j\"] }, \
+    { name = \"m\", participant = \"p\", topic = \"o\" }]
+writers = [{ name = \"w\", participant = \"p\", topic = \"t\", depth = 20, max_samples_per_instance = 10 }, \
+    { name = \"v\", participant = \"q\", topic = \"t\" }]
+applications = [{ name = \"a\", participant = \"p\", writers = [\"w\"], readers = [\"l\", \"m\"] }, \
+    { name = \"b\", participant = \"q\", writers = [\"v\"] }]
 [[rules]]
 name = \"r\"
 application = \"a\"
 start = \"unlimited\"
-writes = [{ writer = \"v\", key = \"k\", count = 1 }, { writer = \"w\", key = \"j\", count = 1 }, { writer = \"w\", key = \"k\", count = 70000 }, { writer = \"w\", key = \"k\", count = 1 }, { writer = \"w\", count = 1 }]
+writes = [{ writer = \"v\", key = \"k\", count = 1 }, { writer = \"w\", key = \"j\", count = 1 }, \
+    { writer = \"w\", key = \"k\", count = 70000 }, { writer = \"w\", key = \"k\", count = 1 }, \
+    { writer = \"w\", count = 1 }]
 [[rules]]
 name = \"s\"
 application = \"a\"
@@ -126,7 +132,8 @@ OutOfRange rules[0].writes[2].count: `count` is 70000, and has to be a whole num
 RuleEntry rules[0].writes[3]: `k` at `w` stands in the list already ()
 MissingKey rules[0].writes[4].key: a write needs `key` (name one, or give the rule `each = true` for every key)
 WrongKind rules[0].start: `start = \"unlimited\"` needs version = 3 ()
-UnknownKey rules[1].writes[0].key: `key` is no field of a write of a rule with `each` (its fields are `writer` and `count`)
+UnknownKey rules[1].writes[0].key: `key` is no field of a write of a rule with `each` (its fields are `writer` and \
+    `count`)
 RuleEntry rules[2]: no key is one of each of its endpoints, so `each` stands for no rule ()
 "
     );

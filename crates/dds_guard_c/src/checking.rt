@@ -33,7 +33,7 @@ fn put(text: &[u8], room: &mut [u8])
 }
 
 /// The answer of the check of two files with these bytes.
-#[tactic(auto, using(dds_answers::proofs::FileEnds::few_of_files, dds_answers::proofs::FileEnds::large_of_files), unfolding(dds_answers::specs::Outcome::check_file_outcome))]
+#[tactic(auto, using(dds_answers::proofs::FileEnds::ends), unfolding(dds_answers::specs::Outcome::check_file_outcome))]
 fn answer_of(alloc: Global, deployment: &[u8], certificate: &[u8]) -> Result<Answer, ToolFault>
     ensures gives { Gives result (check_file_outcome Plain deployment.now certificate.now) }
     ensures fault { IfErr result IsCheckFault }

@@ -3,3 +3,4 @@ mod EveryLaws
 pub mod FirstOfAll
 mod LiveLaws
 mod LiveRounds
+pub mod LoopLaws

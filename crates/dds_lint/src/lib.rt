@@ -1,6 +1,6 @@
 //! What `lint` finds in a plan and a certificate: every condition that fails, not the first alone, and what a yes
 //! doesn't say.
-#![tactic(auto, using(crate::proofs::EveryLaws::every_below_start, crate::proofs::EveryLaws::every_more, crate::proofs::LiveLaws::any_below_start, crate::proofs::LiveLaws::any_below_more, dds_runs::proofs::Sums::total_start, dds_runs::proofs::Sums::total_more, dds_check::proofs::FirstLemmas::all_below_start, dds_check::proofs::FirstLemmas::all_below_more))]
+#![tactic(auto, using(crate::proofs::LoopLaws::loop_laws))]
 
 mod conditions;
 mod every;

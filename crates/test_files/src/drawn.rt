@@ -88,7 +88,8 @@ fn applications(alloc: Global, drawn: &Drawn) -> Result<String, AllocError> {
     let writers = names(alloc, "w", drawn.writers.len())?;
     let readers = names(alloc, "r", drawn.readers.len())?;
     format!(in alloc;
-        "\n[[applications]]\nname = \"writing\"\nparticipant = \"p0\"\nwriters = [{writers}]\n\n[[applications]]\nname = \"reading\"\nparticipant = \"p1\"\nreaders = [{readers}]\n"
+        "\n[[applications]]\nname = \"writing\"\nparticipant = \"p0\"\nwriters = [{writers}]\n\n[[applications]]\n\
+        name = \"reading\"\nparticipant = \"p1\"\nreaders = [{readers}]\n"
     )
 }
 
@@ -96,7 +97,8 @@ fn rule(alloc: Global, dice: &mut Dice, w: usize) -> Result<String, AllocError> 
     let count = one_to_three(dice);
     let start = dice.below(4);
     format!(in alloc;
-        "\n[[rules]]\nname = \"u{w}\"\napplication = \"writing\"\nwrites = [{{ writer = \"w{w}\", key = \"a\", count = {count} }}]\nstart = {start}\n"
+        "\n[[rules]]\nname = \"u{w}\"\napplication = \"writing\"\n\
+        writes = [{{ writer = \"w{w}\", key = \"a\", count = {count} }}]\nstart = {start}\n"
     )
 }
 

@@ -136,7 +136,8 @@ static PING_FILES: [File; 2] = [
     },
     File {
         about: "the sections in another order",
-        text: "totals = [{ bound = 5, row = \"n\", reader = \"pong_r\" }]\nbounds = []\nrows = [{ name = \"m\" }, { name = \"n\" }]\nversion = 1\n",
+        text: "totals = [{ bound = 5, row = \"n\", reader = \"pong_r\" }]\nbounds = []\nrows = [{ name = \"m\" }, \
+        { name = \"n\" }]\nversion = 1\n",
         edits: &[],
         wanted: Wanted {
             rows: &[WantedRow::Even("m", &[]), WantedRow::Even("n", &[])],
@@ -220,7 +221,8 @@ static TWO_FILES: [File; 4] = [
         about: "without bounds",
         text: TWO_CERT,
         edits: &[(
-            "bounds = [\n  { reader = \"r\", key = \"a\", row = \"m\", bound = 2 },\n  { reader = \"r\", key = \"b\", row = \"m\", bound = 2 },\n]\n",
+            "bounds = [\n  { reader = \"r\", key = \"a\", row = \"m\", bound = 2 },\n  { reader = \"r\", \
+            key = \"b\", row = \"m\", bound = 2 },\n]\n",
             "",
         )],
         wanted: Wanted {

@@ -56,7 +56,8 @@ const FILTERED: &[Edit] = &[
 const WATCHED: &[Edit] = &[
     (
         APPLICATIONS,
-        "  { name = \"v\", participant = \"q\", topic = \"t\", reliability = \"BEST_EFFORT\", history = \"KEEP_LAST\", depth = 1 },\n]\napplications = [\n",
+        "  { name = \"v\", participant = \"q\", topic = \"t\", reliability = \"BEST_EFFORT\", \
+        history = \"KEEP_LAST\", depth = 1 },\n]\napplications = [\n",
     ),
     (READERS, "readers = [\"r\", \"v\"]"),
     (
