@@ -11,15 +11,27 @@ writers = [
   { name = "ping_w", participant = "p1", topic = "ping", history = "KEEP_ALL" },
   { name = "pong_w", participant = "p2", topic = "pong", history = "KEEP_ALL" },
 ]
-readers = [
-  { name = "ping_r", participant = "p2", topic = "ping", reliability = "RELIABLE", history = "KEEP_ALL", max_samples_per_instance = 3 },
-  { name = "pong_r", participant = "p1", topic = "pong", reliability = "RELIABLE", history = "KEEP_ALL", max_samples_per_instance = 3 },
-]
 applications = [
   { name = "a1", participant = "p1", writers = ["ping_w"], readers = ["pong_r"] },
   { name = "a2", participant = "p2", writers = ["pong_w"], readers = ["ping_r"] },
 ]
 connections = [{ writer = "ping_w", reader = "ping_r" }, { writer = "pong_w", reader = "pong_r" }]
+
+[[readers]]
+name = "ping_r"
+participant = "p2"
+topic = "ping"
+reliability = "RELIABLE"
+history = "KEEP_ALL"
+max_samples_per_instance = 3
+
+[[readers]]
+name = "pong_r"
+participant = "p1"
+topic = "pong"
+reliability = "RELIABLE"
+history = "KEEP_ALL"
+max_samples_per_instance = 3
 
 [[rules]]
 name = "serve"
@@ -61,15 +73,27 @@ writers = [
   { name = "wa", participant = "p1", topic = "ta", history = "KEEP_ALL" },
   { name = "wb", participant = "p2", topic = "tb", history = "KEEP_ALL" },
 ]
-readers = [
-  { name = "ra", participant = "p2", topic = "ta", reliability = "RELIABLE", history = "KEEP_ALL", max_samples_per_instance = 4 },
-  { name = "rb", participant = "p1", topic = "tb", reliability = "RELIABLE", history = "KEEP_ALL", max_samples_per_instance = 2 },
-]
 applications = [
   { name = "a1", participant = "p1", writers = ["wa"], readers = ["rb"] },
   { name = "a2", participant = "p2", writers = ["wb"], readers = ["ra"] },
 ]
 connections = [{ writer = "wa", reader = "ra" }, { writer = "wb", reader = "rb" }]
+
+[[readers]]
+name = "ra"
+participant = "p2"
+topic = "ta"
+reliability = "RELIABLE"
+history = "KEEP_ALL"
+max_samples_per_instance = 4
+
+[[readers]]
+name = "rb"
+participant = "p1"
+topic = "tb"
+reliability = "RELIABLE"
+history = "KEEP_ALL"
+max_samples_per_instance = 2
 
 [[rules]]
 name = "to_a"
@@ -105,14 +129,19 @@ pub const SMALL: &str = r#"version = 1
 participants = [{ name = "p", domain = 0 }, { name = "q", domain = 0 }]
 topics = [{ name = "t", type = "Num", keys = ["k"] }]
 writers = [{ name = "w", participant = "p", topic = "t", history = "KEEP_ALL" }]
-readers = [
-  { name = "r", participant = "q", topic = "t", reliability = "RELIABLE", history = "KEEP_ALL", max_samples_per_instance = 3 },
-]
 applications = [
   { name = "aw", participant = "p", writers = ["w"] },
   { name = "ar", participant = "q", readers = ["r"] },
 ]
 connections = [{ writer = "w", reader = "r" }]
+
+[[readers]]
+name = "r"
+participant = "q"
+topic = "t"
+reliability = "RELIABLE"
+history = "KEEP_ALL"
+max_samples_per_instance = 3
 
 [[rules]]
 name = "seed"
@@ -137,14 +166,19 @@ pub const TWO: &str = r#"version = 1
 participants = [{ name = "p", domain = 0 }, { name = "q", domain = 0 }]
 topics = [{ name = "t", type = "Num", keys = ["a", "b"] }]
 writers = [{ name = "w", participant = "p", topic = "t", history = "KEEP_ALL" }]
-readers = [
-  { name = "r", participant = "q", topic = "t", reliability = "RELIABLE", history = "KEEP_ALL", max_samples_per_instance = 2 },
-]
 applications = [
   { name = "aw", participant = "p", writers = ["w"] },
   { name = "ar", participant = "q", readers = ["r"] },
 ]
 connections = [{ writer = "w", reader = "r" }]
+
+[[readers]]
+name = "r"
+participant = "q"
+topic = "t"
+reliability = "RELIABLE"
+history = "KEEP_ALL"
+max_samples_per_instance = 2
 
 [[rules]]
 name = "seed"

@@ -12,8 +12,14 @@ const INLINE: &str = r#"version = 1
 participants = [{ name = "p", domain = 0 }, { name = "q", domain = 0 }]
 topics = [{ name = "t", type = "T", keys = ["a", "b"] }, { name = "u", type = "T", keys = ["c"] }]
 writers = [{ name = "w", participant = "p", topic = "t" }, { name = "v", participant = "q", topic = "t" }]
-readers = [{ name = "r", participant = "q", topic = "t" }, { name = "s", participant = "p", topic = "t", filter = ["b"] }]
-applications = [{ name = "x", participant = "p", writers = ["w"], readers = ["s"] }, { name = "y", participant = "q", writers = ["v"], readers = ["r"] }]
+readers = [
+  { name = "r", participant = "q", topic = "t" },
+  { name = "s", participant = "p", topic = "t", filter = ["b"] },
+]
+applications = [
+  { name = "x", participant = "p", writers = ["w"], readers = ["s"] },
+  { name = "y", participant = "q", writers = ["v"], readers = ["r"] },
+]
 "#;
 
 /// What a command answers to the texts of two files.

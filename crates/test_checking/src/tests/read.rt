@@ -347,7 +347,11 @@ permits = [{ writer = "v", weight = 3 }, { weight = 4, writer = "w" }]
 [[rows]]
 name = "n"
 takes = [{ reader = "e", weight = 1 }, { reader = "e", weight = 2 }]
-permits = [{ writer = "w", key = "c", weight = 1 }, { writer = "v", weight = 1 }, { writer = "w", key = "a", weight = 2 }]
+permits = [
+  { writer = "w", key = "c", weight = 1 },
+  { writer = "v", weight = 1 },
+  { writer = "w", key = "a", weight = 2 },
+]
 "#;
 
 static FILTERS_FILES: [File; 3] = [

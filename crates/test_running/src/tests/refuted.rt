@@ -69,8 +69,8 @@ fn free_writes_are_more_than_a_reader_takes(rt: HostRuntime) {
     assert!(rt; !expect_refuted(&rt, alloc, text.as_str()));
     let text = text.as_str().replace(
         alloc,
-        "topic = \"scan\", reliability = \"RELIABLE\", history = \"KEEP_ALL\"",
-        "topic = \"scan\", reliability = \"RELIABLE\", history = \"KEEP_ALL\", max_samples = 3",
+        "topic = \"scan\"\nreliability = \"RELIABLE\"\n",
+        "topic = \"scan\"\nmax_samples = 3\nreliability = \"RELIABLE\"\n",
     );
     let text = text.expect(&rt, NO_MEMORY);
     assert!(rt; expect_refuted(&rt, alloc, text.as_str()));

@@ -8,15 +8,28 @@ topics = [{ name = "t", type = "Num", keys = ["a", "b"] }]
 writers = [
   { name = "w", participant = "p", topic = "t", history = "KEEP_ALL", max_samples = 5, max_samples_per_instance = 3 },
 ]
-readers = [
-  { name = "r", participant = "q", topic = "t", filter = ["a"], reliability = "RELIABLE", history = "KEEP_ALL", max_samples_per_instance = 3 },
-  { name = "r2", participant = "q", topic = "t", reliability = "RELIABLE", history = "KEEP_ALL", max_instances = 1 },
-]
 applications = [
   { name = "aw", participant = "p", writers = ["w"] },
   { name = "ar", participant = "q", readers = ["r", "r2"] },
 ]
 connections = [{ writer = "w", reader = "r" }, { writer = "w", reader = "r2" }]
+
+[[readers]]
+name = "r"
+participant = "q"
+topic = "t"
+filter = ["a"]
+reliability = "RELIABLE"
+history = "KEEP_ALL"
+max_samples_per_instance = 3
+
+[[readers]]
+name = "r2"
+participant = "q"
+topic = "t"
+reliability = "RELIABLE"
+history = "KEEP_ALL"
+max_instances = 1
 
 [[rules]]
 name = "seed"
@@ -33,10 +46,6 @@ writers = [
   { name = "w", participant = "p", topic = "t", history = "KEEP_ALL" },
   { name = "narrow", participant = "p", topic = "t", history = "KEEP_ALL", max_instances = 1 },
 ]
-readers = [
-  { name = "r", participant = "q", topic = "t", reliability = "RELIABLE", history = "KEEP_LAST", depth = 1, max_samples = 1 },
-  { name = "r2", participant = "q", topic = "t", reliability = "RELIABLE", history = "KEEP_LAST", depth = 2 },
-]
 applications = [
   { name = "aw", participant = "p", writers = ["w", "narrow"] },
   { name = "ar", participant = "q", readers = ["r", "r2"] },
@@ -47,6 +56,23 @@ connections = [
   { writer = "narrow", reader = "r" },
   { writer = "narrow", reader = "r2" },
 ]
+
+[[readers]]
+name = "r"
+participant = "q"
+topic = "t"
+reliability = "RELIABLE"
+history = "KEEP_LAST"
+depth = 1
+max_samples = 1
+
+[[readers]]
+name = "r2"
+participant = "q"
+topic = "t"
+reliability = "RELIABLE"
+history = "KEEP_LAST"
+depth = 2
 
 [[rules]]
 name = "seed"
@@ -66,16 +92,35 @@ pub(crate) const WATCHED: &str = r#"version = 1
 participants = [{ name = "p", domain = 0 }, { name = "q", domain = 0 }]
 topics = [{ name = "t", type = "Num", keys = ["a", "b"] }]
 writers = [{ name = "w", participant = "p", topic = "t", history = "KEEP_ALL", max_samples = 4 }]
-readers = [
-  { name = "r", participant = "q", topic = "t", reliability = "RELIABLE", history = "KEEP_ALL" },
-  { name = "last", participant = "q", topic = "t", filter = ["a"], reliability = "BEST_EFFORT", history = "KEEP_LAST", depth = 1 },
-  { name = "one", participant = "q", topic = "t", reliability = "BEST_EFFORT", history = "KEEP_ALL", max_samples = 1 },
-]
 applications = [
   { name = "aw", participant = "p", writers = ["w"] },
   { name = "ar", participant = "q", readers = ["r", "last", "one"] },
 ]
 connections = [{ writer = "w", reader = "r" }, { writer = "w", reader = "last" }, { writer = "w", reader = "one" }]
+
+[[readers]]
+name = "r"
+participant = "q"
+topic = "t"
+reliability = "RELIABLE"
+history = "KEEP_ALL"
+
+[[readers]]
+name = "last"
+participant = "q"
+topic = "t"
+filter = ["a"]
+reliability = "BEST_EFFORT"
+history = "KEEP_LAST"
+depth = 1
+
+[[readers]]
+name = "one"
+participant = "q"
+topic = "t"
+reliability = "BEST_EFFORT"
+history = "KEEP_ALL"
+max_samples = 1
 
 [[rules]]
 name = "seed"
@@ -129,16 +174,35 @@ pub(crate) const AGAIN: &str = r#"version = 1
 participants = [{ name = "p", domain = 0 }, { name = "q", domain = 0 }]
 topics = [{ name = "t", type = "Num", keys = ["k"] }]
 writers = [{ name = "w", participant = "p", topic = "t", history = "KEEP_ALL" }]
-readers = [
-  { name = "r", participant = "p", topic = "t", reliability = "RELIABLE", history = "KEEP_ALL", max_samples_per_instance = 3 },
-  { name = "last", participant = "q", topic = "t", reliability = "BEST_EFFORT", history = "KEEP_LAST", depth = 1 },
-  { name = "one", participant = "q", topic = "t", reliability = "BEST_EFFORT", history = "KEEP_ALL", max_samples_per_instance = 1 },
-]
 applications = [
   { name = "writing", participant = "p", writers = ["w"], readers = ["r"] },
   { name = "watching", participant = "q", readers = ["last", "one"] },
 ]
 connections = [{ writer = "w", reader = "r" }, { writer = "w", reader = "last" }, { writer = "w", reader = "one" }]
+
+[[readers]]
+name = "r"
+participant = "p"
+topic = "t"
+reliability = "RELIABLE"
+history = "KEEP_ALL"
+max_samples_per_instance = 3
+
+[[readers]]
+name = "last"
+participant = "q"
+topic = "t"
+reliability = "BEST_EFFORT"
+history = "KEEP_LAST"
+depth = 1
+
+[[readers]]
+name = "one"
+participant = "q"
+topic = "t"
+reliability = "BEST_EFFORT"
+history = "KEEP_ALL"
+max_samples_per_instance = 1
 
 [[rules]]
 name = "again"
@@ -162,11 +226,6 @@ writers = [
   { name = "laser", participant = "p", topic = "scan", reliability = "BEST_EFFORT", depth = 5 },
   { name = "clock", participant = "p", topic = "scan", depth = 1 },
 ]
-readers = [
-  { name = "r", participant = "p", topic = "t", reliability = "RELIABLE", history = "KEEP_ALL", max_samples_per_instance = 3 },
-  { name = "viewer", participant = "q", topic = "t", may_lose = true, reliability = "RELIABLE", depth = 1 },
-  { name = "newest", participant = "q", topic = "scan", depth = 2 },
-]
 applications = [
   { name = "writing", participant = "p", writers = ["w", "laser", "clock"], readers = ["r"] },
   { name = "watching", participant = "q", readers = ["viewer", "newest"] },
@@ -177,6 +236,28 @@ connections = [
   { writer = "laser", reader = "newest" },
   { writer = "clock", reader = "newest" },
 ]
+
+[[readers]]
+name = "r"
+participant = "p"
+topic = "t"
+reliability = "RELIABLE"
+history = "KEEP_ALL"
+max_samples_per_instance = 3
+
+[[readers]]
+name = "viewer"
+participant = "q"
+topic = "t"
+may_lose = true
+reliability = "RELIABLE"
+depth = 1
+
+[[readers]]
+name = "newest"
+participant = "q"
+topic = "scan"
+depth = 2
 
 [[rules]]
 name = "again"
@@ -201,15 +282,26 @@ writers = [
   { name = "clock", participant = "p", topic = "scan", history = "KEEP_ALL" },
   { name = "w", participant = "q", topic = "t", history = "KEEP_ALL" },
 ]
-readers = [
-  { name = "s", participant = "q", topic = "scan", reliability = "RELIABLE", history = "KEEP_ALL" },
-  { name = "r", participant = "p", topic = "t", reliability = "RELIABLE", history = "KEEP_ALL", max_samples_per_instance = 2 },
-]
 applications = [
   { name = "publishing", participant = "p", writers = ["clock"], readers = ["r"] },
   { name = "answering", participant = "q", writers = ["w"], readers = ["s"] },
 ]
 connections = [{ writer = "clock", reader = "s" }, { writer = "w", reader = "r" }]
+
+[[readers]]
+name = "s"
+participant = "q"
+topic = "scan"
+reliability = "RELIABLE"
+history = "KEEP_ALL"
+
+[[readers]]
+name = "r"
+participant = "p"
+topic = "t"
+reliability = "RELIABLE"
+history = "KEEP_ALL"
+max_samples_per_instance = 2
 
 [[rules]]
 name = "clock"

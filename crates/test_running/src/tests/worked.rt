@@ -25,11 +25,11 @@ const KEYS: &str = "keys = [\"k\"]";
 
 const WRITES: &str = "writes = [{ writer = \"w\", key = \"k\", count = 1 }]";
 
-const READER: &str = "name = \"r\", participant = \"q\"";
+const READER: &str = "name = \"r\"\nparticipant = \"q\"\n";
 
 const RELIABLE: &str = "reliability = \"RELIABLE\"";
 
-const APPLICATIONS: &str = "]\napplications = [\n";
+const RULES: &str = "[[rules]]\n";
 
 const READERS: &str = "readers = [\"r\"]";
 
@@ -44,7 +44,7 @@ const FILTERED: &[Edit] = &[
     (KEYS, "keys = [\"a\", \"b\"]"),
     (
         READER,
-        "name = \"r\", participant = \"q\", filter = [\"a\"]",
+        "name = \"r\"\nparticipant = \"q\"\nfilter = [\"a\"]\n",
     ),
     (
         WRITES,
@@ -55,9 +55,9 @@ const FILTERED: &[Edit] = &[
 /// A watcher of the last sample, with its application and its connection.
 const WATCHED: &[Edit] = &[
     (
-        APPLICATIONS,
-        "  { name = \"v\", participant = \"q\", topic = \"t\", reliability = \"BEST_EFFORT\", \
-        history = \"KEEP_LAST\", depth = 1 },\n]\napplications = [\n",
+        RULES,
+        "[[readers]]\nname = \"v\"\nparticipant = \"q\"\ntopic = \"t\"\nreliability = \"BEST_EFFORT\"\n\
+        history = \"KEEP_LAST\"\ndepth = 1\n\n[[rules]]\n",
     ),
     (READERS, "readers = [\"r\", \"v\"]"),
     (
