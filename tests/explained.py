@@ -60,7 +60,7 @@ def samples_lines(case, number, reader):
     bounds = {key: case.bound(reader, key) for key in case.reached(reader)}
     if number == 21:
         return [f"{reader} has max_samples {limit}, no total, and no bound for each key"] + [key for key, bound in bounds.items() if bound is None]
-    lines = [f"{reader} has max_samples {limit}"]
+    lines = [f"{reader} has max_samples {limit}, and neither a total nor the sum of its bounds is within that"]
     lines += [f"total {case.total(reader)}"] if case.total(reader) is not None else []
     lines += [f"no bound {key}" if bound is None else f"bound {key} {bound}" for key, bound in bounds.items()]
     return lines + [f"sum {sum(bound or 0 for bound in bounds.values())}"]

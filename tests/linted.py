@@ -9,7 +9,7 @@
   has the line and the columns of that reading.
 - Of each worked deployment and certificate `lint` finds an error exactly where `check` says other than yes, and the first error's name is the one that `check` gives.
 - Each vacuous system of tests/commands/data/vacuous, which gets a yes, has the note that its name asks for.
-- SARIF documents have the members of version 2.1.0 that code hosts read.
+- SARIF documents have the members of version 2.1.0 that code hosts read, and each names its file by the URI reference that Python makes of the path.
 - A file of 1 MiB with 10,000 faults is answered within a second.
 The last line is 'N passed, M failed'.
 """
@@ -19,6 +19,7 @@ import re
 import sys
 import tempfile
 from pathlib import Path
+from urllib.parse import quote
 
 sys.dont_write_bytecode = True
 from commands import DATA, cases  # noqa: E402
@@ -160,9 +161,9 @@ def vacuous(file):
     return None
 
 
-def sarif_members(words):
-    """What is wrong with a SARIF document, if anything is."""
-    given = ddscheck("lint", *words, "--format", "sarif", cwd=DATA)
+def sarif_members(file, cwd=DATA):
+    """What is wrong with the SARIF document of a file, if anything is."""
+    given = ddscheck("lint", file, "--format", "sarif", cwd=cwd)
     document = json.loads(given.out)
     run = document["runs"][0]
     if document["version"] != "2.1.0" or run["tool"]["driver"]["name"] != "ddscheck" or not run["results"]:
@@ -170,11 +171,23 @@ def sarif_members(words):
     for result in run["results"]:
         place = result["locations"][0]["physicalLocation"]
         region = place["region"]
-        if result["level"] not in ("error", "note") or not result["ruleId"] or not result["message"]["text"] or not place["artifactLocation"]["uri"]:
+        if result["level"] not in ("error", "note") or not result["ruleId"] or not result["message"]["text"]:
             return f"a result lacks a member: {result}"
+        if place["artifactLocation"]["uri"] != quote(file):
+            return f"a file has another URI: {place}"
         if not (1 <= region["startLine"] and 1 <= region["startColumn"] < region["endColumn"]):
             return f"a region is none: {region}"
     return None
+
+
+def sarif_uri(name):
+    """What is wrong with the SARIF document of a file with this name, if anything is."""
+    with tempfile.TemporaryDirectory() as room:
+        (Path(room) / name).write_bytes(b"version = 3\nodd = 1\n")
+        return sarif_members(name, cwd=room)
+
+
+NAMES = ["two words.toml", "100%.toml", "a#b?c=d&e.toml", "scheme:path.toml", "größe-日本~1.toml", '"[quoted]".toml']
 
 
 def many_faults():
@@ -231,7 +244,8 @@ def main():
     worked += [(judged, pair, f"lint {pair[0]} {pair[1]}") for pair in pairs()]
     worked += [(vacuous, file, f"vacuous {file.name}") for file in sorted((DATA / "vacuous").glob("[A-Z]*.toml"))]
     worked += [(hostile_line, text, f"a line of {text[:60]}") for text in HOSTILE]
-    worked += [(sarif_members, case.words[1:2], f"sarif {case.words[1]}") for case in list(fault_cases())[:40]]
+    worked += [(sarif_members, case.words[1], f"sarif {case.words[1]}") for case in list(fault_cases())[:40]]
+    worked += [(sarif_uri, name, f"sarif {name}") for name in NAMES]
     for (_, _, what), why in zip(worked, side_by_side(reason, worked)):
         tally.check(why is None, what, why or "")
     tally.judge("10,000 faults", many_faults)

@@ -84,7 +84,8 @@ reached_bound_line d bounds r k = if reach (network_of d) r k then bound_line (r
 -- the total of a reader, and the bounds of its keys with their sum
 abbrev pub samples_over_lines : Lists → Certificate → ℕ → List ℕ
 samples_over_lines d c r =
-    codes "because " ++ (reader_name d r ++ (codes " has max_samples " ++ (limit_text ((network_of d).reader_limits r).max_samples ++ (codes "\n"
+    codes "because " ++ (reader_name d r ++ (codes " has max_samples " ++ (limit_text ((network_of d).reader_limits r).max_samples
+    ++ (codes ", and neither a total nor the sum of its bounds is within that\n"
     ++ (total_line (total_of c.totals r) ++ (each_below most_keys (reached_bound_line d c.bounds r) ++ (codes "  sum " ++ (decimal (total most_keys (reached_bound (network_of d) c.bounds r)) ++ codes "\n"))))))))
 
 -- ── 25

@@ -263,7 +263,10 @@ pub(crate) fn samples_over_lines(
     let bounds = Bounds::new(&certificate.bounds);
     let lines = reached_bound_lines(alloc, plan, &bounds, reader)?;
     let sum = sum_of_bounds(plan, &bounds, reader);
-    format!(in alloc; "because {name} has max_samples {limit}\n{total}{lines}  sum {sum}\n")
+    format!(in alloc;
+        "because {name} has max_samples {limit}, and neither a total nor the sum of its bounds is within that\n\
+        {total}{lines}  sum {sum}\n"
+    )
 }
 
 /// A key in a line of its own, if a rule writes it at the writer and the reader doesn't hear it.

@@ -2,10 +2,12 @@
 use Rattle.std.specs.Prelude.{ℕ, Bool, List, [], ◌∷◌, ◌++◌, codes, map, string_bytes}
 use Rattle.serde_json.specs.Data.{Data, array, member, no_members, number, object, string, unsigned}
 use Rattle.serde_json.specs.View.{items_of}
+use Rattle.percent_encoding.specs.Percent.{percent_encode}
 use Rattle.dds_json.specs.Matching.{answer_word}
 use Rattle.dds_findings.specs.Blocks.{FileNames, errors_of, file_name, notes_of}
 use Rattle.dds_findings.specs.Findings.{level_of, level_word}
 use Rattle.dds_findings.specs.declared.finding.Finding.{Finding}
+use Rattle.dds_findings.specs.declared.sarif.TheConstants.{ESCAPED}
 
 -- ── JSON
 -- where a finding is
@@ -38,9 +40,13 @@ region_document f =
     object (member (codes "endColumn") (number (unsigned f.spot.end)) (member (codes "startColumn") (number (unsigned f.spot.column))
     (member (codes "startLine") (number (unsigned f.spot.line)) no_members)))
 
+-- the URI reference to the file with this path (clause 3.4.3; RFC 3986, clause 4.2)
+abbrev pub uri_of : (path : List ℕ) → List ℕ
+uri_of path = percent_encode ESCAPED path
+
 -- its file
 abbrev pub artifact_document : FileNames → Finding → Data
-artifact_document names f = object (member (codes "uri") (string (file_name names f.role)) no_members)
+artifact_document names f = object (member (codes "uri") (string (uri_of (file_name names f.role))) no_members)
 
 -- both
 abbrev pub physical_document : FileNames → Finding → Data

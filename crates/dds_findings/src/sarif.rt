@@ -5,15 +5,36 @@ ghost use Rattle.serde_json.specs.View.{items_of, view};
 ghost use Rattle.dds_json.specs.Line.{line_of};
 ghost use Rattle.dds_findings.specs.Documents.{artifact_document, driver_document, location_document};
 ghost use Rattle.dds_findings.specs.Documents.{message_document, physical_document, region_document, result_document};
-ghost use Rattle.dds_findings.specs.Documents.{result_words, run_document, sarif_document, tool_document};
+ghost use Rattle.dds_findings.specs.Documents.{result_words, run_document, sarif_document, tool_document, uri_of};
 
 use crate::block::{FileNames, file_name};
 use crate::finding::Finding;
 use dds_answers::VERSION;
 use dds_base::NoMemory;
 use dds_json::line_of;
+use percent_encoding::{AsciiSet, NON_ALPHANUMERIC, ascii_set, utf8_percent_encode};
 use serde_json::{Value, json};
 use std::alloc::Global;
+
+/// What has an escape in the path of a URI: all but letters, digits, the other unreserved characters (RFC 3986,
+/// clause 2.3) and the `/` between segments.
+pub const ESCAPED: AsciiSet = ascii_set!(
+    NON_ALPHANUMERIC
+        .remove(b'-')
+        .remove(b'.')
+        .remove(b'_')
+        .remove(b'~')
+        .remove(b'/')
+);
+
+/// The URI reference to the file with this path.
+fn uri_of(alloc: Global, path: &str) -> Result<String, NoMemory>
+    ensures { IfOk result (λ uri. string_bytes uri ≡ uri_of path.now) }
+{
+    let mut uri = String::new(alloc);
+    utf8_percent_encode(path, ESCAPED).append_to(&mut uri)?;
+    Ok(uri)
+}
 
 /// The columns and the line of a finding.
 fn region_document(alloc: Global, finding: &Finding) -> Result<Value, NoMemory>
@@ -29,8 +50,8 @@ fn region_document(alloc: Global, finding: &Finding) -> Result<Value, NoMemory>
 fn artifact_document(alloc: Global, names: &FileNames, finding: &Finding) -> Result<Value, NoMemory>
     ensures { IfOk result (λ v. view v ≡ artifact_document names.now finding.now) }
 {
-    let file = file_name(names, finding.role);
-    json!(in alloc; {"uri": file})
+    let uri = uri_of(alloc, file_name(names, finding.role))?;
+    json!(in alloc; {"uri": uri})
 }
 
 /// The file of a finding, and the place in it.
