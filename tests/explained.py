@@ -9,6 +9,7 @@ built program come the faults of files, by `match`, which endpoints match, and, 
 the status is 1 if one failed.
 """
 import json
+import os
 import re
 import sys
 import tomllib
@@ -199,11 +200,19 @@ def note_lines(deployment, certificate):
     return "".join(f"note: {one['message']}\n" for one in found if one["level"] == "note")
 
 
+def advice(status, *files):
+    """What helps after a fault: which file doesn't open, or which command knows more of a file's fault."""
+    if status == 2:
+        return "`ddscheck lint` prints where that is, and what would be right\n"
+    unopened = [file for file in files if not os.access(file, os.R_OK)]
+    return f"because {unopened[0]} can't be opened\n" if unopened else ""
+
+
 def owed(deployment, certificate):
     """What `check --explain` owes of both files: its output, its error output and its status."""
     out, err, status = shown.answer_of(["check", deployment, certificate])
     if status > 1:
-        return out, err, status
+        return out, err + advice(status, deployment, certificate), status
     case = judged.Case(deployment, certificate)
     refusal = judged.refusal_of(case)
     answer = judged.answer_of(case, refusal)
@@ -216,10 +225,11 @@ def owed(deployment, certificate):
 def agrees(given, wanted):
     """Whether this was given. Where the parser stopped in a file that is no TOML, and what it says, no second parser says: a line has it."""
     out, err, status = wanted
-    if not err.endswith(" 1 NotToml\n"):
+    fault, _, rest = err.partition("\n")
+    if not fault.endswith(" 1 NotToml"):
         return given == wanted
-    place = re.escape(err) + r"because line [1-9]\d*, column [1-9]\d*: [^\n]+\n"
-    return given[0] == out and re.fullmatch(place, given[1]) is not None and given[2] == status
+    told = re.escape(fault) + r"\nbecause line [1-9]\d*, column [1-9]\d*: [^\n]+\n" + re.escape(rest)
+    return given[0] == out and re.fullmatch(told, given[1]) is not None and given[2] == status
 
 
 # The cases

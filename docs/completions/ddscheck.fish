@@ -29,7 +29,7 @@ complete -c ddscheck -n '__fish_seen_subcommand_from run' -l fates -x -d 'What h
 complete -c ddscheck -n '__fish_seen_subcommand_from run' -l writes -x -d 'How many samples each application writes, with free ones counted apart [default: 10]'
 complete -c ddscheck -n '__fish_seen_subcommand_from run' -l takes -x -d 'How many samples each application takes [default: 10]'
 complete -c ddscheck -n '__fish_seen_subcommand_from run' -l idle-ok -d 'Ends with status 0 also where applications were idle'
-complete -c ddscheck -n '__fish_seen_subcommand_from run' -l explain -d 'Also prints how full each reader was, and what idle applications wait for'
+complete -c ddscheck -n '__fish_seen_subcommand_from run' -l explain -d 'Also prints the reason of a no, or how full each reader was and what idle applications wait for'
 complete -c ddscheck -n '__fish_seen_subcommand_from run' -l format -x -a 'text json' -d 'text or json [default: text]'
 complete -c ddscheck -n '__fish_seen_subcommand_from run' -s h -l help -d 'Print help'
 complete -c ddscheck -n '__fish_seen_subcommand_from migrate' -s h -l help -d 'Print help'

@@ -48,7 +48,7 @@ _ddscheck() {
                 '--writes[How many samples each application writes, with free ones counted apart \[default: 10\]]:N:()' \
                 '--takes[How many samples each application takes \[default: 10\]]:N:()' \
                 '--idle-ok[Ends with status 0 also where applications were idle]' \
-                '--explain[Also prints how full each reader was, and what idle applications wait for]' \
+                '--explain[Also prints the reason of a no, or how full each reader was and what idle applications wait for]' \
                 '--format[text or json \[default: text\]]:FORMAT:(text json)' \
                 '-h[Print help]' \
                 '--help[Print help]' \

@@ -34,8 +34,14 @@ fn name_of(note: Note) -> &'static str {
 
 /// What would be right for a rule that can never fire once its start is used up.
 fn stuck_help(lists: &Deployment, rule: RuleNo) -> &'static str {
-    if rule.number() < lists.rules() && 0 < lists.rule(rule).start {
+    if rule.number() >= lists.rules() {
+        return "";
+    }
+    let rule = lists.rule(rule);
+    if 0 < rule.start {
         "once its `start` is used up, it waits for a sample that no rule writes"
+    } else if rule.takes.is_empty() {
+        "give it a `start`: how often it writes, or `\"unlimited\"` for what follows a clock"
     } else {
         "let something that it takes be written, or give it a `start`"
     }
@@ -55,7 +61,8 @@ fn help_of(lists: &Deployment, note: Note) -> &'static str {
     match note {
         Note::Watcher(_) => watcher_help(lists),
         Note::MayLose(_) => "it has `may_lose = true`",
-        Note::Unlimited(_) => "give it a limit: `ddscheck limits` prints how much room it needs",
+        Note::Unlimited(_) =>
+            "give it the limit that `ddscheck limits` prints; if nothing bounds it, let a rule wait for its answers",
         Note::IdleLimit(_) => "write `history = \"KEEP_ALL\"`, or a greater `depth`",
         Note::UnwrittenKey { .. } =>
             "let a rule write it, or take it out of `keys`; a rule with `each` leaves out what one of its topics lacks",
@@ -67,7 +74,7 @@ fn help_of(lists: &Deployment, note: Note) -> &'static str {
         Note::Endless { .. } =>
             "let the reader lose samples with `may_lose = true`, or let the rule take something before it writes again",
         Note::LossyTake(_) =>
-            "leave it out of `takes` if the newest sample is enough; a rule that needs each one needs a strict reader",
+            "take it out of `takes`, or the rule out, if the newest sample is enough; else it needs a strict reader",
         Note::UnusedRow(_) | Note::NeedlessBound(_) | Note::NeedlessTotal(_) => "take it out",
         Note::HeldUp { .. } => "where it mustn't wait, give the writer no limit of samples",
     }

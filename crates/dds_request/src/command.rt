@@ -51,7 +51,7 @@ const IDLE_OK: &str = "Ends with status 0 also where applications were idle";
 
 /// What help says of the flag of an explained run.
 const EXPLAIN_RUN: &str =
-    "Also prints how full each reader was, and what idle applications wait for";
+    "Also prints the reason of a no, or how full each reader was and what idle applications wait for";
 
 /// What help says of the style of an answer.
 const STYLE: &str = "text or json";

@@ -13,7 +13,9 @@ use Rattle.dds_text.specs.Names.{name_at}
 use Rattle.dds_check.specs.declared.verdict.No.{No}
 use Rattle.dds_answers.specs.declared.fault.ToolFault.{ToolFault}
 use Rattle.dds_answers.specs.declared.fault.ToolFault.TheVariants as fault
-use Rattle.dds_answers.specs.Outcome.{Outcome, accepted, bad_certificate, bad_deployment, judged, outcome, planned, refused, verdict}
+use Rattle.dds_answers.specs.Outcome.{Outcome, accepted, bad_certificate, bad_deployment, judged, outcome, planned, refused, told, verdict}
+use Rattle.dds_answers.specs.declared.report.Detail.{Detail}
+use Rattle.dds_answers.specs.declared.report.Detail.TheVariants.{Plain, Explained}
 use Rattle.dds_answers.specs.Report.{Tells}
 use Rattle.dds_findings.specs.Blocks.{FileNames}
 use Rattle.dds_json.specs.Ends.{in_style}
@@ -29,14 +31,18 @@ pub names_len : {X : Type 0} (text : X → List ℕ) (names : List X) (d : Lists
 names_len text names d are =
     sym (length-map names text) ∙ (ap length are ∙ length-map-range_with_len (name_at d.applications.names) 0 (length d.applications.entries))
 
--- a file's fault is the same in each style
-bad_deployment_styled : (style : Style) (flaw : Flaw) → bad_deployment flaw ≡ in_style style (bad_deployment flaw)
-bad_deployment_styled Text flaw = refl
-bad_deployment_styled Json flaw = refl
+-- a file's fault is the same in each style, however much is printed
+bad_deployment_styled : (style : Style) (detail : Detail) (flaw : Flaw) → bad_deployment flaw ≡ in_style style (told detail (bad_deployment flaw))
+bad_deployment_styled Text Plain flaw = refl
+bad_deployment_styled Text Explained flaw = refl
+bad_deployment_styled Json Plain flaw = refl
+bad_deployment_styled Json Explained flaw = refl
 
-bad_certificate_styled : (style : Style) (flaw : Flaw) → bad_certificate flaw ≡ in_style style (bad_certificate flaw)
-bad_certificate_styled Text flaw = refl
-bad_certificate_styled Json flaw = refl
+bad_certificate_styled : (style : Style) (detail : Detail) (flaw : Flaw) → bad_certificate flaw ≡ in_style style (told detail (bad_certificate flaw))
+bad_certificate_styled Text Plain flaw = refl
+bad_certificate_styled Text Explained flaw = refl
+bad_certificate_styled Json Plain flaw = refl
+bad_certificate_styled Json Explained flaw = refl
 
 -- a fault that a check tells is one that a run comes to
 pub told_comes : (wishes : Wishes) (checked : Outcome) (e : ToolFault) → Tells (Err e) checked → (names : FileNames) → (style : Style)
@@ -44,11 +50,11 @@ pub told_comes : (wishes : Wishes) (checked : Outcome) (e : ToolFault) → Tells
 told_comes wishes checked (fault.Deployment flaw syntax) tells names style =
     let bad = bad_deployment (flaw.kind, string_bytes flaw.path) in
     subst (λ (c : Outcome). ComesTo names style (IsAccepted c) (MayRun wishes style c) (Err (fault.Deployment flaw syntax))) (sym tells)
-    (inr (inr (bad, bad_deployment_styled style (flaw.kind, string_bytes flaw.path), refl)))
+    (inr (inr (bad, bad_deployment_styled style wishes.detail (flaw.kind, string_bytes flaw.path), refl)))
 told_comes wishes checked (fault.Certificate flaw syntax) tells names style =
     let bad = bad_certificate (kind_of flaw.kind, string_bytes flaw.path) in
     subst (λ (c : Outcome). ComesTo names style (IsAccepted c) (MayRun wishes style c) (Err (fault.Certificate flaw syntax))) (sym tells)
-    (inr (inr (bad, bad_certificate_styled style (kind_of flaw.kind, string_bytes flaw.path), refl)))
+    (inr (inr (bad, bad_certificate_styled style wishes.detail (kind_of flaw.kind, string_bytes flaw.path), refl)))
 told_comes wishes checked fault.NoMemory tells names style = inr (inl tt)
 told_comes wishes checked (fault.Usage text) tells names style = absurd tells
 told_comes wishes checked (fault.Events kind line) tells names style = absurd tells

@@ -7,7 +7,7 @@ use Rattle.dds_answers.specs.declared.answer.Answer.{Answer}
 use Rattle.dds_answers.specs.declared.fault.ToolFault.{ToolFault}
 use Rattle.dds_answers.specs.declared.fault.ToolFault.TheVariants as fault
 use Rattle.dds_answers.specs.Answers.{IsAnswer, SaysNothing}
-use Rattle.dds_answers.specs.Outcome.{Outcome, accepted, said}
+use Rattle.dds_answers.specs.Outcome.{Outcome, accepted, said, told}
 use Rattle.dds_answers.specs.Report.{Ends}
 use Rattle.dds_json.specs.Ends.{in_style}
 use Rattle.dds_json.specs.declared.style.Style.{Style}
@@ -25,11 +25,11 @@ ran good detail style d journal ends =
     let is_yes = all_good good ends in said (told_run style is_yes (because_of detail d journal ends) (app_names d) journal ends) is_yes
 
 -- how a run of files may end whose check ends so, in this style: where the certificate is accepted, the deployment ran, by a journal of its plan,
--- and the thread of each application ended; every other end is the check's
+-- and the thread of each application ended; every other end is the check's, of which as much is printed as of the run
 abbrev pub MayRun : Wishes → Style → Outcome → Outcome → Type 0
 MayRun wishes style (accepted d c) end =
     (journal : List Entry) × (ends : List AppEnd) × IsJournal d journal × (length ends ≡ length d.applications.entries) × (end ≡ ran wishes.good wishes.detail style d journal ends)
-MayRun wishes style checked end = end ≡ in_style style checked
+MayRun wishes style checked end = end ≡ in_style style (told wishes.detail checked)
 
 -- the certificate is accepted
 abbrev pub IsAccepted : Outcome → Type 0

@@ -343,12 +343,12 @@ fn play<R: Threads + Wait + Clock + Sync>(
 }
 
 /// What a run comes to where the check says no.
-fn refusal(no: No, plan: Plan, certificate: Certificate) -> Outcome
-    ensures { result ≡ Outcome.Checked (Report.Refused no plan certificate) Detail.Plain }
+fn refusal(no: No, plan: Plan, certificate: Certificate, detail: Detail) -> Outcome
+    ensures { result ≡ Outcome.Checked (Report.Refused no plan certificate) detail }
 {
     Outcome::Checked {
         report: Report::Refused(no, plan, certificate),
-        detail: Detail::Plain,
+        detail,
     }
 }
 
@@ -368,7 +368,9 @@ pub(crate) fn run_files<R: Threads + Wait + Clock + Sync>(
 {
     match answer_check(alloc, deployment, certificate) {
         Ok(Report::Yes(checked)) => play(rt, alloc, deployment, checked, wishes),
-        Ok(Report::Refused(no, plan, certificate)) => Ok(refusal(no, plan, certificate)),
+        Ok(Report::Refused(no, plan, certificate)) => {
+            Ok(refusal(no, plan, certificate, wishes.detail))
+        }
         Err(fault) => Err(fault),
     }
 }

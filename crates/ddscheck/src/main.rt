@@ -1,7 +1,7 @@
 //! `ddscheck`, over the files and the standard streams of the system.
 #![tactic(auto)]
 
-use dds_answers::{Disk, Stream, ToolFault, advise, tell_fault};
+use dds_answers::{Detail, Disk, Stream, ToolFault, advise, tell_fault};
 use dds_tool::tool;
 use std::alloc::Global;
 use std::env::{self, Env};
@@ -18,6 +18,15 @@ fn command_of(words: &[String]) -> &str {
     match words.get(1) {
         Some(word) => word.as_str(),
         None => "",
+    }
+}
+
+/// How much the words ask to print.
+fn detail_of(words: &[String]) -> Detail {
+    if words.iter().any(|word| word.as_str() == "--explain") {
+        Detail::Explained
+    } else {
+        Detail::Plain
     }
 }
 
@@ -46,6 +55,7 @@ fn main(rt: HostRuntime) -> ExitCode {
     let alloc = rt.alloc();
     let mut files = Disk::new(&rt, alloc);
     let exit = tool(&rt, alloc, words.as_slice(), &mut files, &mut out, &mut err);
-    advise(alloc, &mut err, command_of(&words), exit, files.unopened());
+    let (command, detail) = (command_of(&words), detail_of(&words));
+    advise(alloc, &mut err, command, detail, exit, files.unopened());
     ExitCode::from(exit.status())
 }
