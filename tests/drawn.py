@@ -19,7 +19,7 @@ import xml.etree.ElementTree as xml
 
 sys.dont_write_bytecode = True
 import commands  # noqa: E402
-from harness import ROOT, Tally, need_program, run  # noqa: E402
+from harness import ADVICE, ROOT, Tally, need_program, run  # noqa: E402
 from shown import TOML_1_1, answer_of, deployments, document_of, lists_of  # noqa: E402
 
 MOST_EDGES = 400
@@ -281,7 +281,7 @@ def fault_of(files):
     given = answer_of(["draw", *files])
     _, err, status = answer_of(["check" if len(files) == 2 else "match", *files])
     if status == 2:
-        return None if given == ("", err, 2) else f"{given[1:]} in place of the fault that is told"
+        return None if given == ("", err + ADVICE, 2) else f"{given[1:]} in place of the fault that is told"
     try:
         owed = picture_of(*files) if len(files) == 2 else picture_of(files[0], None)
     except tomllib.TOMLDecodeError:

@@ -19,7 +19,7 @@ sys.dont_write_bytecode = True
 import judged  # noqa: E402
 import shown  # noqa: E402
 from commands import DATA, cases  # noqa: E402
-from harness import ROOT, Tally, need_program  # noqa: E402
+from harness import ADVICE, ROOT, Tally, need_program  # noqa: E402
 
 
 # The reasons of a refusal, by number: lines without `because`
@@ -203,7 +203,7 @@ def note_lines(deployment, certificate):
 def advice(status, *files):
     """What helps after a fault: which file doesn't open, or which command knows more of a file's fault."""
     if status == 2:
-        return "`ddscheck lint` prints where that is, and what would be right\n"
+        return ADVICE
     unopened = [file for file in files if not os.access(file, os.R_OK)]
     return f"because {unopened[0]} can't be opened\n" if unopened else ""
 

@@ -18,6 +18,8 @@ from pathlib import Path
 ROOT = Path(__file__).resolve().parent.parent
 # the built program, or another one that the environment names
 PROGRAM = Path(os.environ.get("DDSCHECK", ROOT / "crates/ddscheck/out/ddscheck"))
+# what most commands add to a fault of a file
+ADVICE = "`ddscheck lint` shows each fault in its line, and what would be right\n"
 # how long a command may take where a script asks for nothing else; the slowest machine and a program without optimization are well within it
 SECONDS = 120
 # how much of an output is kept: more than any command prints on a legal input

@@ -20,7 +20,7 @@ from pathlib import Path
 sys.dont_write_bytecode = True
 import inputs  # noqa: E402
 import schemas  # noqa: E402
-from harness import ROOT, Tally, ddscheck, need_program, side_by_side  # noqa: E402
+from harness import ADVICE, ROOT, Tally, ddscheck, need_program, side_by_side  # noqa: E402
 
 LIMIT = 1 << 20
 EVENTS_LIMIT = 1 << 26
@@ -53,8 +53,8 @@ def above_limit(given, reader, *words):
     said = f"ddscheck: this text has {len(given.out)} bytes, and a file may have at most 1048576\n"
     if given.err != said:
         return f"{len(given.out)} bytes, and on standard error {given.err!r}"
-    answer = ask(*words)
-    return None if (answer.status, answer.out, answer.err) == (2, "", "ddscheck: 4 TooLarge\n") else f"{reader}: {answer}"
+    answer, advice = ask(*words), ADVICE if words[0] == "show" else ""
+    return None if (answer.status, answer.out, answer.err) == (2, "", f"ddscheck: 4 TooLarge\n{advice}") else f"{reader}: {answer}"
 
 
 def propose(path, room, *options):

@@ -14,7 +14,7 @@ import tomllib
 from pathlib import Path
 
 sys.dont_write_bytecode = True
-from harness import ROOT, Skipped, Tally, ddscheck, need_program  # noqa: E402
+from harness import ADVICE, ROOT, Skipped, Tally, ddscheck, need_program  # noqa: E402
 
 TOML_1_1 = Skipped("files of TOML 1.1, of which Python reads 1.0 alone")
 POLICIES = [
@@ -137,7 +137,7 @@ def fault_of(path):
     given = answer_of(["show", path])
     _, err, status = answer_of(["match", path])
     if status == 2:
-        return None if given == ("", err, 2) else f"{given[1:]} in place of the fault that match tells"
+        return None if given == ("", err + ADVICE, 2) else f"{given[1:]} in place of the fault that match tells"
     try:
         lists = lists_of(path)
     except tomllib.TOMLDecodeError:

@@ -31,7 +31,7 @@ abbrev pub unopened_line : Option (List ℕ) → List ℕ
 unopened_line unopened = option_map_or (λ path. codes "because " ++ (path ++ codes " can't be opened\n")) unopened []
 
 abbrev pub lint_line : List ℕ
-lint_line = codes "`ddscheck lint` prints where that is, and what would be right\n"
+lint_line = codes "`ddscheck lint` shows each fault in its line, and what would be right\n"
 
 -- what is printed after a command that ended so: which file couldn't be opened, or which command knows more of a fault of a file
 abbrev pub advice : (command : List ℕ) → Detail → Exit → (unopened : Option (List ℕ)) → List ℕ

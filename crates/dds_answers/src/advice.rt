@@ -74,7 +74,7 @@ fn advice(
         Exit::Device if !is_bare(command, detail) => unopened_text(alloc, unopened),
         Exit::BadFile if refers_to_lint(command, detail) => String::from_str(
             alloc,
-            "`ddscheck lint` prints where that is, and what would be right\n",
+            "`ddscheck lint` shows each fault in its line, and what would be right\n",
         ),
         _ => Ok(String::new(alloc)),
     }

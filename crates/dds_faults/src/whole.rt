@@ -85,8 +85,8 @@ fn one(first: Option<usize>, second: Option<usize>) -> Standing {
     }
 }
 
-// The pairs of an endpoint and its keys: one key, or all of them.
-fn keyed(walk: &Walk, side: Side, table: &Table) -> Standing {
+// The pairs of an endpoint and its keys: one key, or all of them. An element of a rule has to name one.
+fn keyed(walk: &Walk, entry: Entry, side: Side, table: &Table) -> Standing {
     let Some(endpoint) = text_in(table, side.word()) else {
         return Standing::Unclear;
     };
@@ -101,7 +101,7 @@ fn keyed(walk: &Walk, side: Side, table: &Table) -> Standing {
             Some(key) => one(Some(number), keys.number(key)),
             None => Standing::Unclear,
         },
-        None if walk.version <= 1 => Standing::Unclear,
+        None if walk.version <= 1 || matches!(entry, Entry::Portion(_)) => Standing::Unclear,
         None => Standing::All(number, keys.len()),
     }
 }
@@ -121,8 +121,8 @@ fn pairs_of(walk: &Walk, entry: Entry, table: &Table) -> Standing {
             let names = walk.known.names(side.section());
             one(numbered(names, table, side.word()), Some(0))
         }
-        Entry::Bound => keyed(walk, Side::Readers, table),
-        Entry::Weight(side) | Entry::Portion(side) => keyed(walk, side, table),
+        Entry::Bound => keyed(walk, entry, Side::Readers, table),
+        Entry::Weight(side) | Entry::Portion(side) => keyed(walk, entry, side, table),
         _ => Standing::Unclear,
     }
 }
