@@ -1,4 +1,5 @@
 pub mod Telling
+pub mod Advising
 pub mod FileEnds
 pub mod Unread
 pub mod Proposals

@@ -28,7 +28,8 @@ pub fn print<O: Output>(out: &mut O, text: &str) -> Result<(), ToolFault>
 
 /// Writes a text to the error output. Where that doesn't take it, it's lost.
 pub(crate) fn say<E: Output>(err: &mut E, text: &str)
-    ensures { E.has_failed err.new ≡ false → Appends (E.contents err.old) (E.contents err.new) text.now }
+    ensures said { E.has_failed err.new ≡ false → Appends (E.contents err.old) (E.contents err.new) text.now }
+    ensures failed { E.has_failed err.new ≡ false → E.has_failed err.old ≡ false }
 {
     match err.put(text) {
         Ok(()) | Err(_) => {}

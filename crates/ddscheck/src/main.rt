@@ -56,6 +56,6 @@ fn main(rt: HostRuntime) -> ExitCode {
     let mut files = Disk::new(&rt, alloc);
     let exit = tool(&rt, alloc, words.as_slice(), &mut files, &mut out, &mut err);
     let (command, detail) = (command_of(&words), detail_of(&words));
-    advise(alloc, &mut err, command, detail, exit, files.unopened());
+    advise(&mut err, command, detail, exit, files.unopened());
     ExitCode::from(exit.status())
 }
