@@ -300,15 +300,23 @@ def is_gone(process):
     return False
 
 
+SIGNALS = (signal.SIGINT, signal.SIGTERM, signal.SIGHUP)
+
+
+def restore_signals():
+    """Has a process not ignore what ends the script: a background command of a shell ignores SIGINT, one of nohup SIGHUP, and both hand that on."""
+    for number in SIGNALS:
+        signal.signal(number, signal.SIG_DFL)
+
+
 def end_by_signals(tree, tally):
     """A signal ends the script by that signal, and `rt` with it, and leaves nothing behind."""
     slow = tree.tools / "slow"
     for words in (CHECK, ("--build",)):
-        for number in (signal.SIGINT, signal.SIGTERM, signal.SIGHUP):
+        for number in SIGNALS:
             slow.write_text("")
             how = {"cwd": tree.top, "env": tree.environment(), "stdin": subprocess.DEVNULL, "stdout": subprocess.DEVNULL, "stderr": subprocess.DEVNULL}
-            # a background command of a shell ignores SIGINT, and hands that on
-            started = subprocess.Popen([str(tree.script), *words], preexec_fn=lambda: signal.signal(signal.SIGINT, signal.SIG_DFL), **how)
+            started = subprocess.Popen([str(tree.script), *words], preexec_fn=restore_signals, **how)
             for _ in range(100):
                 if slow.read_text():
                     break
