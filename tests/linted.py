@@ -8,7 +8,7 @@
 - Of 300 worked deployments with two to five changes that the schemas refuse, none of the faults comes twice, the one with which `match` ends is among them, and each
   has the line and the columns of that reading.
 - Of each worked deployment and certificate `lint` finds an error exactly where `check` says other than yes, and the first error's name is the one that `check` gives.
-- Each vacuous system of tests/commands/data/vacuous, which gets a yes, has the note that its name asks for.
+- Each vacuous system of tests/commands/data/vacuous, which gets a yes, by its own certificate or by an empty one, has the note that its name asks for.
 - SARIF documents have the members of version 2.1.0 that code hosts read, and each names its file by the URI reference that Python makes of the path.
 - A file of 1 MiB with 10,000 faults is answered within a second.
 The last line is 'N passed, M failed'.
@@ -147,7 +147,8 @@ def pairs():
 
 def vacuous(file):
     """What is wrong with the findings of a system of which a yes says nothing, if anything is."""
-    certificate = file.with_name("none.cert.toml")
+    own = file.with_suffix(".cert.toml")
+    certificate = own if own.exists() else file.with_name("none.cert.toml")
     wanted = file.stem.split("-")[0]
     answer = ddscheck("check", file, certificate)
     findings, given = findings_of(file, certificate)
@@ -155,7 +156,7 @@ def vacuous(file):
         return f"check answers {answer}"
     if not any(one["level"] == "note" and one["name"] == wanted for one in findings or []):
         return f"has no note {wanted}: {[one['name'] for one in findings or []]}"
-    owed = 0 if all(one["name"] == "MayLose" for one in findings) else 1
+    owed = 0 if all(one["name"] in ("MayLose", "Finite") for one in findings) else 1
     if given.status != 0 or ddscheck("lint", file, certificate, "--deny", "notes").status != owed:
         return "has another status"
     return None
@@ -242,7 +243,7 @@ def main():
     worked = [(fault_case, case, f"{case.file.name}:{case.line}") for case in fault_cases()]
     worked += [(drawn_faults, seed, f"drawn faults {seed}") for seed in range(300)]
     worked += [(judged, pair, f"lint {pair[0]} {pair[1]}") for pair in pairs()]
-    worked += [(vacuous, file, f"vacuous {file.name}") for file in sorted((DATA / "vacuous").glob("[A-Z]*.toml"))]
+    worked += [(vacuous, file, f"vacuous {file.name}") for file in sorted((DATA / "vacuous").glob("[A-Z]*.toml")) if ".cert" not in file.name]
     worked += [(hostile_line, text, f"a line of {text[:60]}") for text in HOSTILE]
     worked += [(sarif_members, case.words[1], f"sarif {case.words[1]}") for case in list(fault_cases())[:40]]
     worked += [(sarif_uri, name, f"sarif {name}") for name in NAMES]

@@ -46,6 +46,10 @@ lossy_words d u = rule_text d u ++ codes " takes at a reader that may miss sampl
 abbrev pub endless_words : Lists → ℕ → ℕ → List ℕ
 endless_words d r u = rule_text d u ++ (codes " writes whatever was taken, so no bound holds at " ++ reader_name d r)
 
+-- a rule that has a start alone
+abbrev pub finite_words : Lists → ℕ → List ℕ
+finite_words d u = rule_text d u ++ codes " takes nothing, so it writes no more once its start is used up"
+
 -- a note in words
 abbrev pub note_text : Lists → Certificate → Note → List ℕ
 note_text d c (note.Watcher r) = reader_name d r ++ codes " may miss samples, and a yes says nothing of that"
@@ -56,7 +60,9 @@ note_text d c (note.UnwrittenKey t k) = unwritten_words d t k
 note_text d c (note.IdleWriter w) = codes "no rule writes at " ++ writer_name d w
 note_text d c note.NoRules = codes "there's no rule, so nothing is ever written"
 note_text d c note.NoStart = codes "no rule has a start, so nothing is ever written"
+note_text d c note.NoStrictReader = codes "no reader is strict, so a yes says nothing of lost samples"
 note_text d c (note.StuckRule u) = stuck_words d u
+note_text d c (note.Finite u) = finite_words d u
 note_text d c (note.Endless r u) = endless_words d r u
 note_text d c (note.LossyTake u) = lossy_words d u
 note_text d c (note.UnusedRow n) = codes "no bound and no total names row " ++ row_name c n

@@ -2,8 +2,8 @@
 ghost use Rattle.std.specs.Prelude.{◌≡◌, [], IfOk, flat_map, option_map, slice_get, string_bytes};
 ghost use Rattle.std.specs.Option.{option_map_or};
 ghost use Rattle.dds_weights.specs.Views.{certificate_view};
-ghost use Rattle.dds_explain.specs.Notes.{bound_words, endless_words, held_up_words, lossy_words, note_line};
-ghost use Rattle.dds_explain.specs.Notes.{note_lines, note_text, stuck_words, takes_nothing, total_words};
+ghost use Rattle.dds_explain.specs.Notes.{bound_words, endless_words, finite_words, held_up_words, lossy_words};
+ghost use Rattle.dds_explain.specs.Notes.{note_line, note_lines, note_text, stuck_words, takes_nothing, total_words};
 ghost use Rattle.dds_explain.specs.Notes.{unwritten_words};
 
 use dds_base::{KeyNo, ReaderNo, RuleNo, TopicNo, WriterNo};
@@ -110,6 +110,14 @@ fn held_up_words(alloc: Global, plan: &Plan, writer: WriterNo, reader: ReaderNo)
     format!(in alloc; "{writer} keeps all within a limit, so it waits where {reader} is slow")
 }
 
+/// A rule that has a start alone.
+fn finite_words(alloc: Global, lists: &Deployment, rule: RuleNo) -> TextResult
+    ensures { IfOk result (λ text. string_bytes text ≡ finite_words lists.now rule) }
+{
+    let rule = rule_text(alloc, lists, rule)?;
+    format!(in alloc; "{rule} takes nothing, so it writes no more once its start is used up")
+}
+
 /// A rule that takes at a watcher.
 fn lossy_words(alloc: Global, lists: &Deployment, rule: RuleNo) -> TextResult
     ensures { IfOk result (λ text. string_bytes text ≡ lossy_words lists.now rule) }
@@ -157,7 +165,14 @@ pub fn note_text(alloc: Global, plan: &Plan, certificate: &Certificate, note: No
         Note::NoStart => {
             String::from_str(alloc, "no rule has a start, so nothing is ever written")
         }
+        Note::NoStrictReader => {
+            String::from_str(
+                alloc,
+                "no reader is strict, so a yes says nothing of lost samples",
+            )
+        }
         Note::StuckRule(rule) => stuck_words(alloc, plan.lists(), rule),
+        Note::Finite(rule) => finite_words(alloc, plan.lists(), rule),
         Note::Endless { reader, rule } => endless_words(alloc, plan.lists(), reader, rule),
         Note::LossyTake(rule) => lossy_words(alloc, plan.lists(), rule),
         Note::UnusedRow(row) => {

@@ -43,6 +43,18 @@ fn is_listed(faults: &[FileFault], first: &Known) -> bool
     false
 }
 
+/// Leaves of some faults so many, which bring the others with them, and the first one, as the last of them.
+pub(crate) fn keep_causes(faults: &mut Vec<FileFault>, causes: usize, first: &Known) {
+    match faults.iter().position(|fault| is_first(fault, first)) {
+        Some(place) if causes < place => {
+            faults.swap(causes, place);
+            faults.truncate(causes + 1);
+        }
+        Some(place) if causes == place => faults.truncate(causes + 1),
+        _ => faults.truncate(causes),
+    }
+}
+
 /// The faults with the first one before them, where it isn't one of them.
 pub(crate) fn with_first(
     alloc: Global,

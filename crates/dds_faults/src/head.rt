@@ -56,6 +56,11 @@ fn has_section(file: FileKind, key: &str) -> bool {
     file.parts().iter().any(|part| part.key == key)
 }
 
+/// Whether a key belongs to the document: the version, or a section of such a file.
+pub(crate) fn is_of_document(file: FileKind, key: &str) -> bool {
+    key == "version" || has_section(file, key)
+}
+
 fn section_keys(alloc: Global, file: FileKind) -> Result<Vec<&'static str>, NoMemory> {
     let mut keys = Vec::new(alloc);
     keys.push("version")?;
@@ -83,7 +88,7 @@ fn help_with_section(
 }
 
 fn check_section_key(walk: &Walk, faults: &mut Faults, key: &str) -> Result<(), NoMemory> {
-    if key == "version" || has_section(walk.file, key) {
+    if is_of_document(walk.file, key) {
         return Ok(());
     }
     let alloc = walk.alloc;

@@ -5,10 +5,10 @@ ghost use Rattle.dds_faults.specs.Listed.{IsListed};
 use crate::each::{check_common, has_each};
 use crate::fault::{Faults, FileFault, FileKind, Known};
 use crate::fields::{Elements, Entry, Field, Need, Part, Side, Takes};
-use crate::first::with_first;
-use crate::head::{check_head, version_of};
-use crate::lists::check_list;
-use crate::names::{KnownNames, names_of_certificate, names_of_deployment};
+use crate::first::{keep_causes, with_first};
+use crate::head::{check_head, is_of_document, version_of};
+use crate::lists::{KEYLESS, check_list};
+use crate::names::{KnownNames, entries_of, names_of_certificate, names_of_deployment};
 use crate::owners::check_all_owned;
 use crate::values::{Spot, check_value};
 use crate::walk::{Walk, help_with_words, tell_kind, tell_length};
@@ -89,15 +89,16 @@ fn is_needed(walk: &Walk, need: Need) -> bool {
     }
 }
 
-// What would be right where a field is missing: a rule with `each` names no key.
+// What would be right where a field is missing: a rule with `each` names no key, and a topic always has one.
 fn help_with_absent(walk: &Walk, entry: Entry, key: &str) -> Result<Option<String>, NoMemory> {
-    match entry {
+    let help = match entry {
         Entry::Portion(_) if key == "key" && walk.version >= 2 => {
-            let help = "name one, or give the rule `each = true` for every key";
-            Ok(Some(String::from_str(walk.alloc, help)?))
+            "name one, or give the rule `each = true` for every key"
         }
-        _ => Ok(None),
-    }
+        Entry::Topic if key == "keys" => KEYLESS,
+        _ => return Ok(None),
+    };
+    Ok(Some(String::from_str(walk.alloc, help)?))
 }
 
 fn check_absent(
@@ -335,6 +336,64 @@ fn check_applications(walk: &Walk, faults: &mut Faults, part: &Part) -> Result<b
     Ok(true)
 }
 
+// The fault of a key that belongs to the document, and that stands in an entry: below another table, without a table of
+// its own.
+fn tell_misplaced(
+    walk: &Walk,
+    faults: &mut Faults,
+    part: &Part,
+    at: &Place,
+    key: &str,
+) -> Result<(), NoMemory> {
+    let alloc = walk.alloc;
+    let at = Place::Key { parent: at, key };
+    let (table, noun) = (part.key, part.entry.noun());
+    let message = format!(in alloc; "`{key}` stands below [[{table}]], so it's a field of {noun}")?;
+    let help = String::from_str(alloc, "write it above the first `[[..]]`")?;
+    faults.add(alloc, FaultKind::UnknownKey, &at, message, Some(help))
+}
+
+fn check_misplaced_in(
+    walk: &Walk,
+    faults: &mut Faults,
+    part: &Part,
+    at: &Place,
+    table: &Table,
+) -> Result<(), NoMemory> {
+    for key in table.keys() {
+        let key = key.as_str();
+        if is_of_document(walk.file, key) && part.entry.fields().find(key).is_none() {
+            tell_misplaced(walk, faults, part, at, key)?;
+        }
+    }
+    Ok(())
+}
+
+fn check_misplaced_below(walk: &Walk, faults: &mut Faults, part: &Part) -> Result<(), NoMemory> {
+    let list = Place::Key {
+        parent: &Place::Root,
+        key: part.key,
+    };
+    for (index, value) in entries_of(walk.document, part.key).iter().enumerate() {
+        let at = Place::Index {
+            parent: &list,
+            index,
+        };
+        if let Some(table) = value.as_table() {
+            check_misplaced_in(walk, faults, part, &at, table)?;
+        }
+    }
+    Ok(())
+}
+
+// The lists of the document that stand below a table of another one, where TOML reads them as fields of its entry.
+fn check_misplaced(walk: &Walk, faults: &mut Faults) -> Result<(), NoMemory> {
+    for part in walk.file.parts() {
+        check_misplaced_below(walk, faults, part)?;
+    }
+    Ok(())
+}
+
 fn check_sections(walk: &Walk, faults: &mut Faults) -> Result<(), NoMemory> {
     let mut walk = *walk;
     for part in walk.file.parts() {
@@ -351,20 +410,27 @@ fn faults_of(
     alloc: Global,
     file: FileKind,
     document: &Table,
-    known: &KnownNames,
+    names: &KnownNames,
+    first: &Known,
 ) -> Result<Vec<FileFault>, NoMemory> {
     let walk = Walk {
         alloc,
         file,
         version: version_of(file, document),
         document,
-        known,
+        known: names,
         owners_are_clear: false,
     };
     let mut faults = Faults::new(alloc, file);
+    check_misplaced(&walk, &mut faults)?;
+    let causes = faults.len();
     check_head(&walk, &mut faults)?;
     check_sections(&walk, &mut faults)?;
-    Ok(faults.into_all())
+    let mut all = faults.into_all();
+    if 0 < causes {
+        keep_causes(&mut all, causes, first);
+    }
+    Ok(all)
 }
 
 fn document_of(alloc: Global, bytes: &[u8]) -> Result<Option<Table>, NoMemory> {
@@ -380,11 +446,15 @@ fn document_of(alloc: Global, bytes: &[u8]) -> Result<Option<Table>, NoMemory> {
     }
 }
 
-fn found_in_deployment(alloc: Global, bytes: &[u8]) -> Result<Vec<FileFault>, NoMemory> {
+fn found_in_deployment(
+    alloc: Global,
+    bytes: &[u8],
+    first: &Known,
+) -> Result<Vec<FileFault>, NoMemory> {
     match document_of(alloc, bytes)? {
         Some(document) => {
-            let known = names_of_deployment(alloc, &document)?;
-            faults_of(alloc, FileKind::Deployment, &document, &known)
+            let names = names_of_deployment(alloc, &document)?;
+            faults_of(alloc, FileKind::Deployment, &document, &names, first)
         }
         None => Ok(Vec::new(alloc)),
     }
@@ -394,11 +464,12 @@ fn found_in_certificate(
     alloc: Global,
     lists: &Deployment,
     bytes: &[u8],
+    first: &Known,
 ) -> Result<Vec<FileFault>, NoMemory> {
     match document_of(alloc, bytes)? {
         Some(document) => {
-            let known = names_of_certificate(alloc, lists, &document)?;
-            faults_of(alloc, FileKind::Certificate, &document, &known)
+            let names = names_of_certificate(alloc, lists, &document)?;
+            faults_of(alloc, FileKind::Certificate, &document, &names, first)
         }
         None => Ok(Vec::new(alloc)),
     }
@@ -406,8 +477,9 @@ fn found_in_certificate(
 
 /// The faults of a deployment in which the reader has found a first one, in the order in which it reads, none of them
 /// twice. The first one is among them; where the bytes are no TOML it stands alone. What follows from another fault
-/// isn't listed, nor that short forms stand for more than may be there, where that isn't the first. `NoMemory` where
-/// memory ran out.
+/// isn't listed, nor that short forms stand for more than may be there, where that isn't the first. Lists that stand
+/// below another table, which makes them fields of it, are listed with the first one alone. `NoMemory` where memory ran
+/// out.
 pub fn deployment_faults(
     alloc: Global,
     bytes: &[u8],
@@ -416,7 +488,7 @@ pub fn deployment_faults(
     ensures { IfOk result
         (λ all. IsListed first.now.number first.now.name.now first.now.path.now all.items) }
 {
-    let found = found_in_deployment(alloc, bytes)?;
+    let found = found_in_deployment(alloc, bytes, first)?;
     with_first(alloc, found, first)
 }
 
@@ -433,6 +505,6 @@ pub fn certificate_faults(
     ensures { IfOk result
         (λ all. IsListed first.now.number first.now.name.now first.now.path.now all.items) }
 {
-    let found = found_in_certificate(alloc, lists, bytes)?;
+    let found = found_in_certificate(alloc, lists, bytes, first)?;
     with_first(alloc, found, first)
 }

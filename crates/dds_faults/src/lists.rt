@@ -35,6 +35,10 @@ fn check_once(
     }
 }
 
+/// What would be right for a topic without keys.
+pub(crate) const KEYLESS: &str =
+    "a topic without key fields has one instance: give it any name, as keys = [\"all\"]";
+
 fn check_topic_keys(
     walk: &Walk,
     faults: &mut Faults,
@@ -46,7 +50,8 @@ fn check_topic_keys(
     tell_length(walk, faults, "keys", KEYS, at, values)?;
     if values.is_empty() {
         let message = String::from_str(alloc, "`keys` is empty, and a topic has at least one key")?;
-        return faults.add(alloc, FaultKind::OutOfRange, at, message, None);
+        let help = String::from_str(alloc, KEYLESS)?;
+        return faults.add(alloc, FaultKind::OutOfRange, at, message, Some(help));
     }
     let listed = texts_of(alloc, value)?;
     for (index, value) in values.iter().enumerate() {

@@ -59,3 +59,26 @@ pub(crate) fn nearest<'a>(
     }
     Ok(best)
 }
+
+// Whether a text ends with a word, after `_`.
+fn ends_with_part(text: &str, word: &str) -> bool {
+    text.strip_suffix(word)
+        .is_some_and(|rest| rest.ends_with('_'))
+}
+
+// Whether a text begins with a word, before `_`.
+fn begins_with_part(text: &str, word: &str) -> bool {
+    text.strip_prefix(word)
+        .is_some_and(|rest| rest.starts_with('_'))
+}
+
+/// The first of some words with which a text ends after `_`, else with which it begins before `_`: `depth` for
+/// `history_depth`, `history` for `history_kind`.
+pub(crate) fn part_of<'a>(text: &str, words: &[&'a str]) -> Option<&'a str> {
+    let last = words.iter().find(|word| ends_with_part(text, word));
+    let found = match last {
+        Some(word) => Some(word),
+        None => words.iter().find(|word| begins_with_part(text, word)),
+    };
+    found.copied()
+}

@@ -12,7 +12,8 @@ use dds_fields::place::Place;
 use std::alloc::Global;
 use toml::{Table, Value};
 
-fn name_at<'a>(walk: &Walk<'a>, section: Named, place: usize) -> &'a str {
+/// The name of the entry at a place of a section, `?` where it has none.
+pub(crate) fn name_at<'a>(walk: &Walk<'a>, section: Named, place: usize) -> &'a str {
     match entries_of(walk.document, section.key()).get(place) {
         Some(entry) => text_at(entry, "name").unwrap_or("?"),
         None => "?",

@@ -126,7 +126,7 @@ writes = [{ writer = \"w\", count = 1 }]
     assert_eq!(rt;
         told.as_str(),
         "Qos writers[0]: depth 20 is above max_samples_per_instance 10 ()
-RuleEntry rules[0].writes[0]: `v` isn't one of a's writers ()
+RuleEntry rules[0].writes[0]: `v` isn't one of a's writers (b owns it)
 RuleEntry rules[0].writes[1]: `j` is no key of `w` (the only key is `k`)
 OutOfRange rules[0].writes[2].count: `count` is 70000, and has to be a whole number from 1 to 65535 ()
 RuleEntry rules[0].writes[3]: `k` at `w` stands in the list already ()

@@ -2,7 +2,7 @@
 
 use crate::fault::{Faults, FileKind};
 use crate::names::{KnownNames, PlacedNames};
-use crate::nearest::{TRIED, nearest};
+use crate::nearest::{TRIED, nearest, part_of};
 use crate::wording::{choice, kind_of, shown, subject};
 use dds_base::NoMemory;
 use dds_fields::fault::FaultKind;
@@ -128,7 +128,11 @@ pub(crate) fn help_with_words(
         return Ok(None);
     }
     let alloc = walk.alloc;
-    match nearest(alloc, &mut faults.effort, text, words)? {
+    let near = match nearest(alloc, &mut faults.effort, text, words)? {
+        Some(word) => Some(word),
+        None => part_of(text, words),
+    };
+    match near {
         Some(word) => Ok(Some(format!(in alloc; "did you mean {mark}{word}{mark}?")?)),
         None => Ok(Some(String::from_str(alloc, all)?)),
     }

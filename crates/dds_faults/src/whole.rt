@@ -3,7 +3,7 @@
 use crate::fault::Faults;
 use crate::fields::{Entry, Named, Side};
 use crate::names::PlacedNames;
-use crate::owners::text_in;
+use crate::owners::{name_at, text_in};
 use crate::walk::{Walk, help_with_names};
 use crate::wording::shown;
 use dds_base::{NoMemory, Pairs};
@@ -239,7 +239,9 @@ fn check_element_owner(
             let (endpoint, application) = (shown(alloc, endpoint)?, shown(alloc, application)?);
             let key = side.section().key();
             let message = format!(in alloc; "`{endpoint}` isn't one of {application}'s {key}")?;
-            tell_element(walk, faults, at, message, None)
+            let owner = shown(alloc, name_at(walk, Named::Applications, owner))?;
+            let help = format!(in alloc; "{owner} owns it")?;
+            tell_element(walk, faults, at, message, Some(help))
         }
         _ => Ok(()),
     }

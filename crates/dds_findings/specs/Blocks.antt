@@ -1,10 +1,11 @@
 -- Findings as people read them.
 use Rattle.std.specs.Prelude.{ℕ, ◌+◌, ◌-◌, Bool, false, not, ◌&&◌, ◌||◌, ◌==◌, List, [], ◌++◌, codes, flat_map, count_by, length, slice_get, string_bytes, if◌then◌else◌}
 use Rattle.std.specs.Fmt.{decimal}
+use Rattle.std.specs.List.{list_any}
 use Rattle.std.specs.Option.{option_map_or}
 use Rattle.std.specs.Str.{bytes_eq}
 use Rattle.dds_text.specs.Texts.{each_below}
-use Rattle.dds_findings.specs.Findings.{is_denied_note, is_error, level_of, level_word}
+use Rattle.dds_findings.specs.Findings.{is_denied_note, is_error, is_fault, level_of, level_word}
 use Rattle.dds_findings.specs.declared.finding.Finding.{Finding}
 use Rattle.dds_findings.specs.declared.finding.Role.{Role}
 use Rattle.dds_findings.specs.declared.finding.Role.TheVariants as role
@@ -95,11 +96,15 @@ abbrev pub sum_line : List Finding → List ℕ
 sum_line findings =
     decimal (errors_of findings) ++ (codes " error" ++ (plural (errors_of findings) ++ (codes ", " ++ (decimal (notes_of findings) ++ (codes " note" ++ (plural (notes_of findings) ++ codes "\n"))))))
 
--- without a certificate, that no limit is compared with a bound
-abbrev pub bare_line : (certificate : List ℕ) → List ℕ
-bare_line [] = codes "limits aren't checked without a certificate: `ddscheck limits` prints what they need\n"
-bare_line certificate = []
+-- one of them is a fault of a file
+abbrev pub has_fault : List Finding → Bool
+has_fault findings = list_any (λ f. is_fault f.about) findings
+
+-- without a certificate, that no limit is compared with a bound; nothing of the kind where a fault keeps the deployment from being judged at all
+abbrev pub bare_line : (certificate : List ℕ) → List Finding → List ℕ
+bare_line [] findings = if has_fault findings then [] else codes "limits aren't checked without a certificate: `ddscheck limits` prints what they need\n"
+bare_line certificate findings = []
 
 -- the rows, how many errors and notes there are, and what isn't checked
 abbrev pub blocks : FileNames → List Finding → List ℕ
-blocks names findings = each_below (length findings) (part names findings) ++ (sum_line findings ++ bare_line names.1)
+blocks names findings = each_below (length findings) (part names findings) ++ (sum_line findings ++ bare_line names.1 findings)

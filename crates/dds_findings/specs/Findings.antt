@@ -34,9 +34,11 @@ is_error about.Fault = true
 is_error (about.Condition refused) = true
 is_error (about.Note note) = false
 
--- a note that is denied where notes are: not one that says of a reader what its deployment says itself
+-- a note that is denied where notes are: not one that says of a reader what its deployment says itself, nor one on a rule for what is written so often and
+-- no more, which may be meant
 abbrev pub is_denied : Note → Bool
 is_denied (note.MayLose r) = false
+is_denied (note.Finite u) = false
 is_denied _ = true
 
 abbrev pub is_denied_note : About → Bool

@@ -28,7 +28,8 @@ pub enum LintStyle {
 pub enum Deny {
     /// With errors alone.
     Errors,
-    /// With errors and with notes, but for those on readers of which the deployment says that they may lose samples.
+    /// With errors and with notes, but for those on what may be meant: readers of which the deployment says that they
+    /// may lose samples, and rules with a start alone.
     Notes,
 }
 

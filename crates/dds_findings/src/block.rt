@@ -1,10 +1,11 @@
 //! Findings as people read them: a block each, with the line of the file.
 ghost use Rattle.std.specs.Prelude.{◌≡◌, ◌<◌, ◌++◌, IfOk, flat_map, length, string_bytes};
 ghost use Rattle.dds_findings.specs.Blocks.{bare_line, begins, block, blocks, denied_notes_of, detail_line, errors_of};
-ghost use Rattle.dds_findings.specs.Blocks.{file_name, goes_on, head_line, help_words, is_alike, last_line, notes_of};
-ghost use Rattle.dds_findings.specs.Blocks.{part, part_lines, place_lines, plural, row_end, source_lines, sum_line};
+ghost use Rattle.dds_findings.specs.Blocks.{file_name, goes_on, has_fault, head_line, help_words, is_alike, last_line};
+ghost use Rattle.dds_findings.specs.Blocks.{notes_of, part, part_lines, place_lines, plural, row_end, source_lines};
+ghost use Rattle.dds_findings.specs.Blocks.{sum_line};
 
-use crate::finding::{Finding, Level, Role};
+use crate::finding::{About, Finding, Level, Role};
 use dds_base::NoMemory;
 use dds_text::texts::text_below;
 use std::alloc::Global;
@@ -243,11 +244,21 @@ fn sum_text(alloc: Global, findings: &[Finding]) -> Result<String, NoMemory>
     format!(in alloc; "{errors} error{of_errors}, {notes} note{of_notes}\n")
 }
 
-/// That no limit is compared with a bound, where there's no certificate.
-fn bare_line(certificate: &str) -> &'static str
-    ensures { result.now ≡ bare_line certificate.now }
+/// Whether one of the findings is a fault of a file.
+fn has_fault(findings: &[Finding]) -> bool
+    ensures { result ≡ has_fault findings.now }
 {
-    if certificate.is_empty() {
+    findings
+        .iter()
+        .any(|finding| matches!(finding.about, About::Fault))
+}
+
+/// That no limit is compared with a bound, where there's no certificate; nothing where a fault keeps the deployment
+/// from being judged at all.
+fn bare_line(certificate: &str, findings: &[Finding]) -> &'static str
+    ensures { result.now ≡ bare_line certificate.now findings.now }
+{
+    if certificate.is_empty() && !has_fault(findings) {
         "limits aren't checked without a certificate: `ddscheck limits` prints what they need\n"
     } else {
         ""
@@ -257,10 +268,10 @@ fn bare_line(certificate: &str) -> &'static str
 /// How many errors and notes there are, and what isn't checked.
 fn last_lines(alloc: Global, names: &FileNames, findings: &[Finding]) -> Result<String, NoMemory>
     ensures { IfOk result
-        (λ text. string_bytes text ≡ sum_line findings.now ++ bare_line names.now.1) }
+        (λ text. string_bytes text ≡ sum_line findings.now ++ bare_line names.now.1 findings.now) }
 {
     let sum = sum_text(alloc, findings)?;
-    let bare = bare_line(names.certificate);
+    let bare = bare_line(names.certificate, findings);
     format!(in alloc; "{sum}{bare}")
 }
 

@@ -53,10 +53,14 @@ fn document_fault(
     })
 }
 
-/// What a text that is no TOML would be right with; nothing where that isn't known.
-fn syntax_help(file: &Located) -> &'static str {
+/// What a text that is no TOML would be right with, by what the parser says; nothing where that isn't known.
+fn syntax_help(file: &Located, message: &str) -> &'static str {
     if file.is_text("none\n") {
-        "this is what `propose` prints where it finds no certificate; standard error says why"
+        "this is what `propose` prints where it finds no certificate; `propose --thorough` says why"
+    } else if message.starts_with("duplicate key") {
+        "it stands above already: a list is written once, as `name = [..]` or by `[[name]]`"
+    } else if message.starts_with("invalid value") || message.ends_with("between digits") {
+        "a text stands in quotes, as \"KEEP_ALL\"; a boolean is `true` or `false`"
     } else {
         ""
     }
@@ -67,13 +71,14 @@ fn syntax_fault(alloc: Global, file: &Located, role: Role) -> Result<Finding, No
     ensures { IfOk result (λ finding. finding.about ≡ about.Fault) }
 {
     let (at, message) = file.syntax(alloc)?;
+    let help = String::from_str(alloc, syntax_help(file, message.as_str()))?;
     Ok(Finding {
         about: About::Fault,
         name: "NotToml",
         role,
         path: String::new(alloc),
         message,
-        help: String::from_str(alloc, syntax_help(file))?,
+        help,
         details: Vec::new(alloc),
         spot: file.spot(alloc, at)?,
     })

@@ -63,12 +63,13 @@ impl About {
     }
 
     /// Whether it's a note that is denied where notes are: not one that says of a reader what its deployment says
-    /// itself.
+    /// itself, nor one on a rule for what is written so often and no more, which may be meant.
     pub fn is_denied_note(self) -> bool
         ensures { result ≡ is_denied_note self }
     {
         match self {
-            About::Note(Note::MayLose(_)) | About::Fault | About::Condition(_) => false,
+            About::Note(Note::MayLose(_) | Note::Finite(_)) => false,
+            About::Fault | About::Condition(_) => false,
             About::Note(_) => true,
         }
     }

@@ -22,7 +22,9 @@ fn name_of(note: Note) -> &'static str {
         Note::IdleWriter(_) => "IdleWriter",
         Note::NoRules => "NoRules",
         Note::NoStart => "NoStart",
+        Note::NoStrictReader => "NoStrictReader",
         Note::StuckRule(_) => "StuckRule",
+        Note::Finite(_) => "Finite",
         Note::Endless { .. } => "Endless",
         Note::LossyTake(_) => "LossyTake",
         Note::UnusedRow(_) => "UnusedRow",
@@ -62,7 +64,7 @@ fn help_of(lists: &Deployment, note: Note) -> &'static str {
         Note::Watcher(_) => watcher_help(lists),
         Note::MayLose(_) => "it has `may_lose = true`",
         Note::Unlimited(_) =>
-            "give it the limit that `ddscheck limits` prints; if nothing bounds it, let a rule wait for its answers",
+            "`ddscheck limits` prints what it needs (`depth` is for KEEP_LAST alone); or let a rule wait for its takes",
         Note::IdleLimit(_) => "write `history = \"KEEP_ALL\"`, or a greater `depth`",
         Note::UnwrittenKey { .. } =>
             "let a rule write it, or take it out of `keys`; a rule with `each` leaves out what one of its topics lacks",
@@ -70,7 +72,11 @@ fn help_of(lists: &Deployment, note: Note) -> &'static str {
             "let a rule write there: after which takes, or `start = \"unlimited\"`",
         Note::NoRules => "say in `rules` what the applications do",
         Note::NoStart => "give a rule a `start`: how often it writes before anything was taken",
+        Note::NoStrictReader =>
+            "where none may be lost, a reader has `reliability = \"RELIABLE\"` and no `may_lose`",
         Note::StuckRule(rule) => stuck_help(lists, rule),
+        Note::Finite(_) =>
+            "right if that's all it ever writes; else say in `takes` what it waits for",
         Note::Endless { .. } =>
             "let the reader lose samples with `may_lose = true`, or let the rule take something before it writes again",
         Note::LossyTake(_) =>
@@ -93,10 +99,11 @@ fn entry_of(judged: &Judged, note: Note) -> (Role, &'static str, usize, &'static
         Note::UnwrittenKey { topic, .. } => (Role::Deployment, "topics", topic.number(), "keys"),
         Note::IdleWriter(writer) => (Role::Deployment, "writers", writer.number(), "name"),
         Note::NoRules | Note::NoStart => (Role::Deployment, "rules", 0, "name"),
+        Note::NoStrictReader => (Role::Deployment, "readers", 0, "name"),
         Note::StuckRule(rule) | Note::LossyTake(rule) => {
             (Role::Deployment, "rules", rule_entry(judged, rule), "name")
         }
-        Note::Endless { rule, .. } => {
+        Note::Finite(rule) | Note::Endless { rule, .. } => {
             (Role::Deployment, "rules", rule_entry(judged, rule), "start")
         }
         Note::UnusedRow(row) => (Role::Certificate, "rows", row, "name"),

@@ -5,7 +5,7 @@ use Rattle.std.specs.Option.{option_map_or, option_to_list}
 use Rattle.dds_base.specs.Sums.{any_below, count_below}
 use Rattle.dds_base.specs.declared.portion.Portion.{Portion}
 use Rattle.dds_lists.specs.Lists.{Lists, Reader, keys_at, writer_topic}
-use Rattle.dds_match.specs.Network.{Network, reach, is_written}
+use Rattle.dds_match.specs.Network.{Network, reach, is_named, is_written}
 use Rattle.dds_match.specs.Plan.{network_of}
 use Rattle.dds_weights.specs.Lists as lists
 use Rattle.dds_weights.specs.declared.certificate.Bound.{Bound}
@@ -64,6 +64,10 @@ no_rules net = noted (net.rules == 0) note.NoRules
 abbrev pub no_start : Network → Option Note
 no_start net = noted (nat_lt 0 net.rules && not (any_below net.rules (opens net))) note.NoStart
 
+-- every reader may miss samples
+abbrev pub no_strict_reader : Network → Option Note
+no_strict_reader net = noted (not (any_below net.readers (λ r. not (net.watcher r)))) note.NoStrictReader
+
 -- the rule takes something that can't come; or it takes nothing and doesn't open, and a rule that takes nothing never fires
 abbrev pub is_stuck : Network → (ℕ → Bool) → ℕ → Bool
 is_stuck net live u = if has_takes net u then not (can_take_all net live u) else not (opens net u)
@@ -71,6 +75,29 @@ is_stuck net live u = if has_takes net u then not (can_take_all net live u) else
 -- the rule is stuck
 abbrev pub stuck_rule : Network → (ℕ → Bool) → ℕ → Option Note
 stuck_rule net live u = noted (is_stuck net live u) (note.StuckRule u)
+
+-- the rule can let its writes be made again and again: it takes something, or is free
+abbrev pub goes_on : Network → ℕ → Bool
+goes_on net u = has_takes net u || (net.rule u).free
+
+-- it can, and one of its writes is this one
+abbrev pub renews : Network → ℕ → ℕ → ℕ → Bool
+renews net w k u = goes_on net u && is_named (net.rule u).writes w k
+
+-- some rule is so
+abbrev pub is_renewed : Network → ℕ → ℕ → Bool
+is_renewed net w k = any_below net.rules (renews net w k)
+
+-- the rule writes something that no rule lets be written again
+abbrev pub writes_finitely : Network → ℕ → Bool
+writes_finitely net u = list_any (λ e. not (is_renewed net e.endpoint e.key)) (net.rule u).writes
+
+-- and it has a start alone
+abbrev pub is_finite : Network → ℕ → Bool
+is_finite net u = not (goes_on net u) && (nat_lt 0 (net.rule u).start && writes_finitely net u)
+
+abbrev pub finite : Network → ℕ → Option Note
+finite net u = noted (is_finite net u) (note.Finite u)
 
 -- the rule takes at a watcher, which may miss what it waits for
 abbrev pub is_lossy : Network → ℕ → Bool
@@ -143,10 +170,11 @@ abbrev pub writer_notes : Lists → List Note
 writer_notes d = every_below (length d.topics.entries) (unwritten_keys d) ++ those_below (network_of d).writers (idle_writer (network_of d))
 
 abbrev pub absent_notes : Network → List Note
-absent_notes net = option_to_list (no_rules net) ++ option_to_list (no_start net)
+absent_notes net = option_to_list (no_rules net) ++ option_to_list (no_start net) ++ option_to_list (no_strict_reader net)
 
 abbrev pub rule_notes : Network → (ℕ → Bool) → List Note
-rule_notes net live = absent_notes net ++ those_below net.rules (stuck_rule net live) ++ those_below net.rules (lossy_take net)
+rule_notes net live =
+    absent_notes net ++ those_below net.rules (stuck_rule net live) ++ those_below net.rules (finite net) ++ those_below net.rules (lossy_take net)
 
 -- of the rows, the bounds and the totals of a certificate
 abbrev pub certificate_notes : Network → lists.Certificate → List Note

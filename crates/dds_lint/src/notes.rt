@@ -1,9 +1,9 @@
 //! What a yes doesn't say: who may miss samples, what can grow, and what never happens.
-ghost use Rattle.std.specs.Prelude.{◌≡◌, ◌++◌, ◌<◌, ◌==◌, ◌&&◌, ◌||◌, false, length, slice_index_or};
+ghost use Rattle.std.specs.Prelude.{◌≡◌, ◌++◌, ◌<◌, ◌==◌, ◌&&◌, ◌||◌, false, length, not, slice_index_or};
 ghost use Rattle.std.specs.Prelude.{IfOk, OnOk};
 ghost use Rattle.std.specs.List.{list_any};
 ghost use Rattle.dds_base.specs.Sums.{any_below};
-ghost use Rattle.dds_match.specs.Network.{is_written};
+ghost use Rattle.dds_match.specs.Network.{is_named, is_written};
 ghost use Rattle.dds_match.specs.Plan.{network_of};
 ghost use Rattle.dds_lists.specs.Lists.{writer_topic};
 ghost use Rattle.dds_weights.specs.Views.{certificate_view};
@@ -11,11 +11,13 @@ ghost use Rattle.dds_check.specs.Limits.{all_bounded};
 ghost use Rattle.dds_lint.specs.Every.{every_below, those_below, those_in};
 ghost use Rattle.dds_lint.specs.Live.{IsLive, live_of, opens};
 ghost use Rattle.dds_lint.specs.Notes.{AreRefused, absent_notes, all_notes, certificate_notes, comes_limited, endless};
-ghost use Rattle.dds_lint.specs.Notes.{endless_at, grows, has_limit, held_up, idle_limit, idle_writer, is_endless};
-ghost use Rattle.dds_lint.specs.Notes.{is_key_written, is_lossy, is_stuck, lossy_take, may_lose, writes_limited};
-ghost use Rattle.dds_lint.specs.Notes.{needless_bound, needless_total, no_rules, no_start, noted, pair_notes};
-ghost use Rattle.dds_lint.specs.Notes.{reader_notes, rule_notes, stuck_rule, unused_row, unwritten_key, unwritten_keys};
-ghost use Rattle.dds_lint.specs.Notes.{watcher, writer_notes};
+ghost use Rattle.dds_lint.specs.Notes.{endless_at, finite, goes_on, grows, has_limit, held_up, idle_limit, idle_writer};
+ghost use Rattle.dds_lint.specs.Notes.{is_endless, is_finite, is_key_written, is_lossy, is_renewed, is_stuck};
+ghost use Rattle.dds_lint.specs.Notes.{lossy_take, may_lose, needless_bound, needless_total, no_rules, no_start};
+ghost use Rattle.dds_lint.specs.Notes.{no_strict_reader, noted, pair_notes, reader_notes, renews, rule_notes};
+ghost use Rattle.dds_lint.specs.Notes.{stuck_rule, unused_row};
+ghost use Rattle.dds_lint.specs.Notes.{unwritten_key, unwritten_keys, watcher, writer_notes, writes_finitely};
+ghost use Rattle.dds_lint.specs.Notes.{writes_limited};
 
 use crate::every::{push_below, push_some};
 use crate::live::{can_take_all, has_takes, live_rules, opens};
@@ -49,8 +51,13 @@ pub enum Note {
     NoRules,
     /// No rule starts and none is free, so that nothing is ever written.
     NoStart,
+    /// Every reader is a watcher, so that no sample of any is promised.
+    NoStrictReader,
     /// The rule can never fire.
     StuckRule(RuleNo),
+    /// The rule takes nothing and isn't free, so that it lets nothing be written once its start is used up, and there's
+    /// something of that which no other rule lets be written again.
+    Finite(RuleNo),
     /// The reader must lose nothing, and the rule lets writes come to it at any time, whatever is taken, though the
     /// reader or the writer has a limit of samples: no bound holds there, and no certificate is accepted.
     Endless { reader: ReaderNo, rule: RuleNo },
@@ -238,6 +245,24 @@ fn no_start(plan: &Plan) -> Option<Note>
     note_if(0 < rules_of(plan) && !some_opens(plan), Note::NoStart)
 }
 
+/// Whether some reader isn't a watcher.
+fn has_strict_reader(plan: &Plan) -> bool
+    ensures { result ≡ any_below (network_of plan.now).readers (λ r. not ((network_of plan.now).watcher r)) }
+{
+    let mut any = false;
+    for r in 0..readers_of(plan) {
+        let here = !plan.watcher(ReaderNo::new(r));
+        any = here || any;
+    }
+    any
+}
+
+fn no_strict_reader(plan: &Plan) -> Option<Note>
+    ensures { result ≡ no_strict_reader (network_of plan.now) }
+{
+    note_if(!has_strict_reader(plan), Note::NoStrictReader)
+}
+
 /// Whether a rule can never fire and, where it takes nothing, doesn't open.
 fn is_stuck(plan: &Plan, live: &[bool; RULES], rule: RuleNo) -> bool
     requires { rule < (network_of plan.now).rules }
@@ -255,6 +280,71 @@ fn stuck_rule(plan: &Plan, live: &[bool; RULES], rule: RuleNo) -> Option<Note>
     ensures { result ≡ stuck_rule (network_of plan.now) (λ u. slice_index_or live.now u false) rule }
 {
     note_if(is_stuck(plan, live, rule), Note::StuckRule(rule))
+}
+
+/// Whether a rule can let its writes be made again and again: it takes something, or is free.
+fn goes_on(plan: &Plan, rule: RuleNo) -> bool
+    requires { rule < (network_of plan.now).rules }
+    ensures { result ≡ goes_on (network_of plan.now) rule }
+{
+    has_takes(plan, rule) || plan.rule(rule).free
+}
+
+/// Whether this is one of the writes of a rule.
+fn is_one_of_writes(plan: &Plan, writer: WriterNo, key: KeyNo, rule: RuleNo) -> bool
+    requires { rule < (network_of plan.now).rules }
+    ensures { result ≡ is_named ((network_of plan.now).rule rule).writes writer key }
+{
+    plan.rule(rule)
+        .writes
+        .iter()
+        .any(|e| e.endpoint == writer && e.key == key)
+}
+
+/// Whether a rule can let this write be made again and again.
+fn renews(plan: &Plan, writer: WriterNo, key: KeyNo, rule: RuleNo) -> bool
+    requires { rule < (network_of plan.now).rules }
+    ensures { result ≡ renews (network_of plan.now) writer key rule }
+{
+    goes_on(plan, rule) && is_one_of_writes(plan, writer, key, rule)
+}
+
+/// Whether some rule can.
+fn is_renewed(plan: &Plan, writer: WriterNo, key: KeyNo) -> bool
+    ensures { result ≡ is_renewed (network_of plan.now) writer key }
+{
+    let mut any = false;
+    for u in 0..rules_of(plan) {
+        let here = renews(plan, writer, key, RuleNo::new(u));
+        any = here || any;
+    }
+    any
+}
+
+/// Whether a rule writes something that no rule lets be written again.
+fn writes_finitely(plan: &Plan, rule: RuleNo) -> bool
+    requires { rule < (network_of plan.now).rules }
+    ensures { result ≡ writes_finitely (network_of plan.now) rule }
+{
+    plan.rule(rule)
+        .writes
+        .iter()
+        .any(|e| !is_renewed(plan, e.endpoint, e.key))
+}
+
+/// Whether a rule has a start alone, and writes something that no rule lets be written again.
+fn is_finite(plan: &Plan, rule: RuleNo) -> bool
+    requires { rule < (network_of plan.now).rules }
+    ensures { result ≡ is_finite (network_of plan.now) rule }
+{
+    !goes_on(plan, rule) && 0 < plan.rule(rule).start && writes_finitely(plan, rule)
+}
+
+fn finite(plan: &Plan, rule: RuleNo) -> Option<Note>
+    requires { rule < (network_of plan.now).rules }
+    ensures { result ≡ finite (network_of plan.now) rule }
+{
+    note_if(is_finite(plan, rule), Note::Finite(rule))
 }
 
 /// Whether a rule takes at a watcher.
@@ -411,7 +501,8 @@ fn push_absent(notes: &mut Vec<Note>, plan: &Plan) -> Result<(), NoMemory>
     ensures { OnOk result (notes.new.items ≡ notes.old.items ++ absent_notes (network_of plan.now)) }
 {
     push_some(notes, no_rules(plan))?;
-    push_some(notes, no_start(plan))
+    push_some(notes, no_start(plan))?;
+    push_some(notes, no_strict_reader(plan))
 }
 
 fn push_stuck(notes: &mut Vec<Note>, plan: &Plan, live: &[bool; RULES]) -> Result<(), NoMemory>
@@ -423,6 +514,13 @@ fn push_stuck(notes: &mut Vec<Note>, plan: &Plan, live: &[bool; RULES]) -> Resul
         rules_of(plan),
         |u| stuck_rule(plan, live, RuleNo::new(u)),
     )
+}
+
+fn push_finite(notes: &mut Vec<Note>, plan: &Plan) -> Result<(), NoMemory>
+    ensures { OnOk result (notes.new.items ≡ notes.old.items
+        ++ those_below (network_of plan.now).rules (finite (network_of plan.now))) }
+{
+    push_below(notes, rules_of(plan), |u| finite(plan, RuleNo::new(u)))
 }
 
 fn push_lossy(notes: &mut Vec<Note>, plan: &Plan) -> Result<(), NoMemory>
@@ -438,6 +536,7 @@ fn push_rules(notes: &mut Vec<Note>, plan: &Plan, live: &[bool; RULES]) -> Resul
 {
     push_absent(notes, plan)?;
     push_stuck(notes, plan, live)?;
+    push_finite(notes, plan)?;
     push_lossy(notes, plan)
 }
 
@@ -527,11 +626,11 @@ fn push_all(
     push_pairs(notes, plan)
 }
 
-/// What a yes doesn't say of a plan and a certificate, which may be empty: readers that may miss samples or grow
-/// without end, limits that do nothing or that no certificate keeps, keys and writers that no rule writes, rules that
-/// never fire, what of the certificate nothing needs, and readers for which a writer waits. Which rules can fire goes
-/// by counts without amounts: what can come once is taken to come as often as a rule needs it. `NoMemory` is the only
-/// error.
+/// What a yes doesn't say of a plan and a certificate, which may be empty: readers that may miss samples, and whether
+/// all may, or that grow without end, limits that do nothing or that no certificate keeps, keys and writers that no
+/// rule writes, rules that never fire or that end, what of the certificate nothing needs, and readers for which a
+/// writer waits. Which rules can fire goes by counts without amounts: what can come once is taken to come as often as a
+/// rule needs it. `NoMemory` is the only error.
 pub fn all_notes(
     alloc: Global,
     plan: &Plan,

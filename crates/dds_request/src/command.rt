@@ -84,7 +84,8 @@ const DENY: &str = "What makes the answer no: errors or notes";
 const EVENTS: &str = "Events, a line each, as refute prints them";
 
 /// What help says of the argument that names a trace.
-const TRACE: &str = "Writes and takes, a line each, as run-on-cyclone --trace records them";
+const TRACE: &str =
+    "A line for each: TIME APPLICATION write WRITER KEY, or TIME APPLICATION take READER KEY";
 
 fn file<'a>(alloc: Global, id: &'a str, help: &'a str) -> Arg<'a>
     ensures rule { rule_of result ≡ file_rule id.entry.now }

@@ -20,7 +20,7 @@ use Rattle.dds_json.specs.Proposing.{none_document}
 use Rattle.dds_json.specs.declared.style.Style.{Style}
 use Rattle.dds_json.specs.declared.style.Style.TheVariants.{Text, Json}
 use Rattle.dds_sizing.specs.LimitsDocument.{claim_document, limits_document}
-use Rattle.dds_sizing.specs.Needs.{are_bounded, are_met, needs_of}
+use Rattle.dds_sizing.specs.Needs.{are_bounded, are_met, has_unbounded, needs_of}
 use Rattle.dds_sizing.specs.NeedsText.{needs_lines}
 use Rattle.dds_sizing.specs.Reasons.{AreExplained, because_of, sizes_of}
 use Rattle.dds_sizing.specs.ReasonsDocument.{reasons_document}
@@ -41,6 +41,11 @@ needs_told Json d needs = line_of (limits_document d needs)
 abbrev pub reasons_told : Style → Lists → List Explained → List Need → List ℕ
 reasons_told Text d es needs = needs_lines d needs ++ flat_map (because_of d es) needs
 reasons_told Json d es needs = line_of (reasons_document d es needs)
+
+-- what helps where something is unbounded
+abbrev pub cure_of : List Need → Option (List ℕ)
+cure_of needs =
+    if has_unbounded needs then Some (codes "ddscheck: no limit is enough for what's unbounded: let a rule take there before it goes on, or let the reader lose samples; `--explain` names the rules that fill it\n") else None
 
 -- the text of a certificate, in this style
 abbrev pub text_told : Style → List ℕ → Bool → List ℕ

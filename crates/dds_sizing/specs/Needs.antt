@@ -1,6 +1,6 @@
 -- How much room each strict reader needs, and how deep the history of each writer with KEEP_LAST has to be.
 use Rattle.std.specs.Prelude.{ℕ, ◌==◌, ◌&&◌, not, Bool, true, false, nat_lt, max, List, [], ◌∷◌, ◌++◌, Option, Some, None, flat_map, map, if◌then◌else◌}
-use Rattle.std.specs.List.{list_all, range_with_len}
+use Rattle.std.specs.List.{list_all, list_any, range_with_len}
 use Rattle.std.specs.Option.{option_map_or}
 use Rattle.dds_qos.specs.declared.limits.ReaderLimits.{ReaderLimits}
 use Rattle.dds_match.specs.Network.{Network, is_written}
@@ -126,6 +126,16 @@ is_bounded one = is_shown (room_of one).least
 -- a bound is known of each need
 unfoldable pub are_bounded : List Need → Bool
 are_bounded needs = list_all is_bounded needs
+
+-- no weights show a bound
+abbrev pub lacks_bound : Least → Bool
+lacks_bound (Shown n) = false
+lacks_bound Unbounded = true
+lacks_bound Unknown = false
+
+-- the same of some need
+abbrev pub has_unbounded : List Need → Bool
+has_unbounded needs = list_any (λ one. lacks_bound (room_of one).least) needs
 
 -- the limit is lower than what is needed
 abbrev pub is_low : Least → ℕ → Bool

@@ -3,13 +3,13 @@ ghost use Rattle.std.specs.Prelude.{◌≡◌, IfErr, IfOk, Some, false, option_
 ghost use Rattle.dds_match.specs.Plan.{network_of};
 ghost use Rattle.dds_weights.specs.Views.{certificate_view};
 ghost use Rattle.dds_answers.specs.Answers.{Gives};
-ghost use Rattle.dds_sizing.specs.Limits.{IsLimitsReport, IsSaid, claim_end, limits_end, needs_told};
+ghost use Rattle.dds_sizing.specs.Limits.{IsLimitsReport, IsSaid, claim_end, cure_of, limits_end, needs_told};
 ghost use Rattle.dds_sizing.specs.Limits.{none_told, reasons_told, text_told};
 ghost use Rattle.dds_sizing.specs.Needs.{are_bounded, are_met, needs_of};
 ghost use Rattle.dds_sizing.specs.Reasons.{sizes_of};
 
 use crate::limits_document::{claim_line, limits_line, none_line};
-use crate::needs::{Need, are_bounded, are_met, needs_of};
+use crate::needs::{Need, are_bounded, are_met, has_unbounded, needs_of};
 use crate::needs_text::needs_text;
 use crate::reasons::{Explained, explain_sizes, reasons_text, sizes_of};
 use crate::reasons_document::reasons_line;
@@ -63,6 +63,11 @@ pub fn find_limits<C: Clock>(
     }
 }
 
+/// The line that says what helps where something is unbounded.
+const CURE: &str =
+    "ddscheck: no limit is enough for what's unbounded: let a rule take there before it goes on, \
+    or let the reader lose samples; `--explain` names the rules that fill it\n";
+
 /// The line that says that there is no certificate.
 const NO_ROWS: &str = "ddscheck: no 64 rows were found that show these bounds\n";
 
@@ -81,8 +86,19 @@ fn needs_in_style(
     }
 }
 
+/// What helps where something is unbounded.
+fn cure_text(alloc: Global, needs: &[Need]) -> Result<Option<String>, NoMemory>
+    ensures { IfOk result (λ cure. option_map string_bytes cure ≡ cure_of needs.now) }
+{
+    if has_unbounded(needs) {
+        Ok(Some(String::from_str(alloc, CURE)?))
+    } else {
+        Ok(None)
+    }
+}
+
 /// The answer with what is needed by the sizes of a plan: yes where a bound is known of each need
-/// and no limit is lower.
+/// and no limit is lower. Where something is unbounded, a note says what helps.
 fn answer_bounds(
     alloc: Global,
     plan: &Plan,
@@ -92,15 +108,22 @@ fn answer_bounds(
     ensures said { IfOk result
         (IsSaid (needs_told style plan.now (needs_of (network_of plan.now) sizes.now))
         (are_met (needs_of (network_of plan.now) sizes.now))) }
+    ensures cure { IfOk result
+        (λ a. option_map string_bytes a.note ≡ cure_of (needs_of (network_of plan.now) sizes.now)) }
     ensures memory { IfErr result (λ e. e ≡ ToolFault.NoMemory) }
 {
     let Ok(needs) = needs_of(alloc, plan, sizes) else {
         return Err(ToolFault::NoMemory);
     };
-    answer_with(
-        needs_in_style(alloc, plan.lists(), needs.as_slice(), style),
-        are_met(needs.as_slice()),
-    )
+    let text = needs_in_style(alloc, plan.lists(), needs.as_slice(), style);
+    match (text, cure_text(alloc, needs.as_slice())) {
+        (Ok(text), Ok(note)) => Ok(Answer {
+            text,
+            is_yes: are_met(needs.as_slice()),
+            note,
+        }),
+        _ => Err(ToolFault::NoMemory),
+    }
 }
 
 /// What is needed and why, in lines.

@@ -4,8 +4,8 @@ ghost use Rattle.std.specs.Prelude.{◌≡◌, ◌<◌, ◌++◌, IfOk, None, fl
 ghost use Rattle.std.specs.List.{range_with_len};
 ghost use Rattle.dds_match.specs.Plan.{network_of};
 ghost use Rattle.dds_runs.specs.Accepted.{instance_limit};
-ghost use Rattle.dds_sizing.specs.Needs.{are_bounded, are_met, depth_need, greater, greatest_of, is_bounded, is_for};
-ghost use Rattle.dds_sizing.specs.Needs.{is_low, is_met, is_short, key_limit};
+ghost use Rattle.dds_sizing.specs.Needs.{are_bounded, are_met, depth_need, greater, greatest_of, has_unbounded};
+ghost use Rattle.dds_sizing.specs.Needs.{is_bounded, is_for, is_low, is_met, is_short, key_limit};
 ghost use Rattle.dds_sizing.specs.Needs.{limit_of_key, limit_of_total, limit_by, list_of, need_at, need_of, needs_of};
 ghost use Rattle.dds_sizing.specs.Needs.{room_of, with_least, with_size, writer_needs};
 
@@ -304,6 +304,15 @@ pub(crate) fn are_bounded(needs: &[Need]) -> bool
     ensures { result ≡ are_bounded needs.now }
 {
     needs.iter().all(|need| is_bounded(need))
+}
+
+/// Whether no weights show a bound of some need.
+pub(crate) fn has_unbounded(needs: &[Need]) -> bool
+    ensures { result ≡ has_unbounded needs.now }
+{
+    needs
+        .iter()
+        .any(|need| matches!(room_of(need).least, Least::Unbounded))
 }
 
 /// Whether a limit is lower than what is needed.
