@@ -201,8 +201,8 @@ def many_faults():
         given = ddscheck("lint", "d.toml", cwd=room)
     if given.status != 1 or given.seconds > SECONDS:
         return f"status {given.status} after {given.seconds:.2f} s"
-    count = given.out.rsplit("\n", 3)[-3]
-    return None if int(count.split()[0]) >= 10_000 else f"finds {count}"
+    count = re.search(r"(\d+) errors, \d+ notes\n\Z", given.out)
+    return None if count and int(count[1]) >= 10_000 else f"finds {given.out[-80:]!r}"
 
 
 def hostile_line(text):
