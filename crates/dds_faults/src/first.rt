@@ -43,7 +43,7 @@ fn is_listed(faults: &[FileFault], first: &Known) -> bool
     false
 }
 
-/// Leaves of some faults so many, which bring the others with them, and the first one, as the last of them.
+/// Keeps the faults before this place, from which the others follow, and behind them the first one of the reader.
 pub(crate) fn keep_causes(faults: &mut Vec<FileFault>, causes: usize, first: &Known) {
     match faults.iter().position(|fault| is_first(fault, first)) {
         Some(place) if causes < place => {

@@ -353,6 +353,13 @@ fn tell_misplaced(
     faults.add(alloc, FaultKind::UnknownKey, &at, message, Some(help))
 }
 
+// Whether a key of an entry is one that the document lacks: its version or a section, and no field of the entry.
+fn is_lost(walk: &Walk, entry: Entry, key: &str) -> bool {
+    is_of_document(walk.file, key)
+        && walk.document.get(key).is_none()
+        && entry.fields().find(key).is_none()
+}
+
 fn check_misplaced_in(
     walk: &Walk,
     faults: &mut Faults,
@@ -362,7 +369,7 @@ fn check_misplaced_in(
 ) -> Result<(), NoMemory> {
     for key in table.keys() {
         let key = key.as_str();
-        if is_of_document(walk.file, key) && part.entry.fields().find(key).is_none() {
+        if is_lost(walk, part.entry, key) {
             tell_misplaced(walk, faults, part, at, key)?;
         }
     }
@@ -386,7 +393,8 @@ fn check_misplaced_below(walk: &Walk, faults: &mut Faults, part: &Part) -> Resul
     Ok(())
 }
 
-// The lists of the document that stand below a table of another one, where TOML reads them as fields of its entry.
+// The lists that the document lacks and that stand below a table of another one, where TOML reads them as fields of its
+// entry.
 fn check_misplaced(walk: &Walk, faults: &mut Faults) -> Result<(), NoMemory> {
     for part in walk.file.parts() {
         check_misplaced_below(walk, faults, part)?;
