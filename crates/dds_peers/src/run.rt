@@ -17,7 +17,7 @@ ghost use Rattle.dds_peers.specs.RunFault.{number_of};
 use crate::carrier::Carrier;
 use crate::fates::Fates;
 use crate::settling::{Settled, are_fresh, settle, sit};
-use crate::threads::{Room, together};
+use crate::threads::{Room, Shared, together};
 use dds_apps::{App, AppEnd, Gate, Limits, Player};
 use dds_base::NoMemory;
 use dds_book::{Book, Gauge, GaugeSeat, Journal, Kit, Name, Seat};
@@ -189,17 +189,14 @@ fn perform<A: App + Send, N: Name + Send + Sync, R: Threads + Wait + Clock + Syn
     alloc: Global,
     kit: Kit,
     apps: Vec<A>,
-    fates: &Fates,
-    gate: &G,
-    gauge: &Gauge,
     counters: Vec<GaugeSeat>,
-    limits: Limits,
+    shared: Shared<'_, G>,
 ) -> Result<Outcome<A>, RunFault<A>>
     requires kit { IsKitOf N.plan N.tables kit }
     requires tables { length N.tables ≡ seat_count N.plan }
     requires apps { length apps.items ≡ length N.plan.applications.entries }
-    requires gauge { length apps.items ≤ gauge.now.apps }
-    requires counters { AreOwners gauge.now (length apps.items) counters.items }
+    requires gauge { length apps.items ≤ shared.gauge.now.apps }
+    requires counters { AreOwners shared.gauge.now (length apps.items) counters.items }
     ensures journal { IfOk result (λ o. IsJournal N.plan o.journal) }
     ensures identities { IfOk result (λ o. map (λ a. A.identity a) o.apps.items ≡ map (λ a. A.identity a) apps.items) }
     ensures diaries { IfOk result
@@ -210,6 +207,7 @@ fn perform<A: App + Send, N: Name + Send + Sync, R: Threads + Wait + Clock + Syn
     ensures mismatch { IfErr result (λ f. f ≡ DiaryMismatch → All (λ a. (A.notes a).entries ≡ []) apps.items → ⊥) }
     ensures count { IfErr result (λ f. (c : _) (a : _) (s : _) → f ≡ AppCount c a s → ⊥) }
 {
+    let gauge = shared.gauge;
     let fresh = are_fresh(apps.as_slice());
     let number = apps.len();
     let Ok((book, seats, carriers)) = open_book::<N>(alloc, kit, number) else {
@@ -225,9 +223,7 @@ fn perform<A: App + Send, N: Name + Send + Sync, R: Threads + Wait + Clock + Syn
         left,
     } = rooms;
     let players = sit(gauge, fresh, apps, seats, counters, players);
-    let (players, all, is_full) = together(
-        rt, &book, gauge, gate, fates, limits, fresh, players, carriers, threads,
-    );
+    let (players, all, is_full) = together(rt, &book, shared, fresh, players, carriers, threads);
     if !all {
         drop(book);
         return Err(RunFault::Spawn);
@@ -254,14 +250,11 @@ fn run_all<A: App + Send, R: Threads + Wait + Clock + Sync, G: Gate>(
     alloc: Global,
     checked: Checked,
     apps: Vec<A>,
-    fates: &Fates,
-    gate: &G,
-    gauge: &Gauge,
     seats: Vec<GaugeSeat>,
-    limits: Limits,
+    shared: Shared<'_, G>,
 ) -> Result<Outcome<A>, RunFault<A>>
-    requires gauge { length checked.plan.applications.entries ≤ gauge.now.apps }
-    requires seats { AreOwners gauge.now (length checked.plan.applications.entries) seats.items }
+    requires gauge { length checked.plan.applications.entries ≤ shared.gauge.now.apps }
+    requires seats { AreOwners shared.gauge.now (length checked.plan.applications.entries) seats.items }
     ensures journal { IfOk result (λ o. IsJournal checked.plan o.journal) }
     ensures safe { IfOk result
         (λ o. SafeRun (network_of checked.plan) (certificate_of checked.certificate) (as_moves (pairs_of o.journal))) }
@@ -285,9 +278,7 @@ fn run_all<A: App + Send, R: Threads + Wait + Clock + Sync, G: Gate>(
         });
     }
     match Kit::new(alloc, checked) {
-        Ok(kit) => perform::<A, Brand, R, G>(
-            rt, alloc, kit, apps, fates, gate, gauge, seats, limits,
-        ),
+        Ok(kit) => perform::<A, Brand, R, G>(rt, alloc, kit, apps, seats, shared),
         Err((_, checked)) => {
             drop(checked);
             Err(RunFault::NoMemory)
@@ -336,5 +327,11 @@ pub fn run_peers<R: Threads + Wait + Clock + Sync, G: Gate>(
     ensures counted { length apps.items ≡ length checked.plan.applications.entries
         → IfErr result (λ f. (c : _) (a : _) (s : _) → f ≡ AppCount c a s → ⊥) }
 {
-    run_all(rt, alloc, checked, apps, fates, gate, gauge, seats, limits)
+    let shared = Shared {
+        gauge,
+        gate,
+        fates,
+        limits,
+    };
+    run_all(rt, alloc, checked, apps, seats, shared)
 }

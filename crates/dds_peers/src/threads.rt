@@ -14,6 +14,16 @@ use std::thread;
 use std::thread::{JoinHandle, Promise, PromisedHandle, Scope, Threads};
 use std::time::Clock;
 
+/// What all threads of a run share: the gauge on which the applications' calls are counted, the gate that each of these
+/// calls passes, the fates of packets, and what ends the threads.
+#[derive_where(Clone, Copy)]
+pub(crate) struct Shared<'r, G> {
+    pub(crate) gauge: &'r Gauge,
+    pub(crate) gate: &'r G,
+    pub(crate) fates: &'r Fates,
+    pub(crate) limits: Limits,
+}
+
 /// What an application's thread promises: it gives back the application that it was given, at the seat of this
 /// number; its count at this gauge and its diary, if it was empty at first, match what was done.
 #[derive(Drop)]
@@ -47,22 +57,27 @@ fn start_players<
     scope: &'s Scope<'s, E>,
     rt: &'s R,
     book: &'s Book<N>,
-    gauge: &'s Gauge,
-    gate: &'s G,
-    limits: Limits,
+    shared: Shared<'s, G>,
     fresh: bool,
     players: Vec<Player<A, N>>,
     handles: Vec<Playing<A, N>>,
 ) -> (Vec<Playing<A, N>>, bool)
     requires none { (handles.items ≡ []) × (vec_len players ≤ vec_capacity handles) }
-    requires players { All (λ p. IsKept gauge.now fresh p.seat p.counter (A.notes p.app).entries) players.items }
+    requires players { All (λ p. IsKept shared.gauge.now fresh p.seat p.counter (A.notes p.app).entries) players.items }
     requires numbers { map (λ p. p.seat.number) players.items ≡ range_with_len 0 (length players.items) }
     ensures all { result.1 ≡ true → map (λ h. h.promise.app) result.0.items ≡ range_with_len 0 (length players.items) }
     ensures identities { result.1 ≡ true
         → map (λ h. A.identity h.promise.was.value) result.0.items ≡ map (λ p. A.identity p.app) players.items }
     ensures len { vec_len result.0 ≤ vec_len players }
-    ensures promises { All (λ h. (h.promise.gauge.value ≡ gauge.now) × (h.promise.fresh ≡ fresh)) result.0.items }
+    ensures promises { All (λ h. (h.promise.gauge.value ≡ shared.entry.gauge.now) × (h.promise.fresh ≡ fresh))
+        result.0.items }
 {
+    let Shared {
+        gauge,
+        gate,
+        limits,
+        ..
+    } = shared;
     let mut handles = handles;
     for player in players {
         let promise = Plays {
@@ -159,10 +174,7 @@ pub(crate) fn together<
 >(
     rt: &R,
     book: &Book<N>,
-    gauge: &Gauge,
-    gate: &G,
-    fates: &Fates,
-    limits: Limits,
+    shared: Shared<'_, G>,
     fresh: bool,
     players: Vec<Player<A, N>>,
     carriers: Vec<Carrier<N>>,
@@ -171,13 +183,14 @@ pub(crate) fn together<
     requires playing { (room.playing.items ≡ []) × (vec_len players ≤ vec_capacity room.playing) }
     requires done { (room.done.items ≡ []) × (vec_len players ≤ vec_capacity room.done) }
     requires carrying { vec_len room.carrying + vec_len carriers ≤ vec_capacity room.carrying }
-    requires players { All (λ p. IsKept gauge.now fresh p.seat p.counter (A.notes p.app).entries) players.items }
+    requires players { All (λ p. IsKept shared.gauge.now fresh p.seat p.counter (A.notes p.app).entries) players.items }
     requires numbers { map (λ p. p.seat.number) players.items ≡ range_with_len 0 (length players.items) }
     ensures numbers { result.1 ≡ true
         → map (λ p. p.seat.number) result.0.items ≡ range_with_len 0 (length players.items) }
     ensures identities { result.1 ≡ true
         → map (λ p. A.identity p.app) result.0.items ≡ map (λ p. A.identity p.app) players.items }
-    ensures players { All (λ p. IsKept gauge.now fresh p.seat p.counter (A.notes p.app).entries) result.0.items }
+    ensures players { All (λ p. IsKept shared.entry.gauge.now fresh p.seat p.counter (A.notes p.app).entries)
+        result.0.items }
 {
     let Room {
         playing,
@@ -190,31 +203,32 @@ pub(crate) fn together<
         move |scope| -> (Vec<Player<A, N>>, bool, bool)
             requires { (playing.items ≡ []) × (vec_len players ≤ vec_capacity playing) × (done.items ≡ [])
                 × (vec_len players ≤ vec_capacity done) × (vec_len carrying + vec_len carriers ≤ vec_capacity carrying)
-                × All (λ p. IsKept gauge.now fresh p.seat p.counter (A.notes p.app).entries) players.items
+                × All (λ p. IsKept shared.gauge.now fresh p.seat p.counter (A.notes p.app).entries) players.items
                 × (map (λ p. p.seat.number) players.items ≡ range_with_len 0 (length players.items)) }
             ensures { (result.1 ≡ true
                 → map (λ p. p.seat.number) result.0.items ≡ range_with_len 0 (length players.items))
                 × (result.1 ≡ true → map (λ p. A.identity p.app) result.0.items
                 ≡ map (λ p. A.identity p.app) players.items)
-                × All (λ p. IsKept gauge.entry.now fresh p.seat p.counter (A.notes p.app).entries) result.0.items }
+                × All (λ p. IsKept shared.entry.gauge.now fresh p.seat p.counter (A.notes p.app).entries)
+                result.0.items }
         {
             let (carrying, all_carry) = start_carriers(
                 scope,
                 rt,
                 book,
-                fates,
-                limits.pumps,
+                shared.fates,
+                shared.limits.pumps,
                 carriers,
                 carrying,
             );
             let (playing, all_play) = start_players(
-                scope, rt, book, gauge, gate, limits, fresh, players, playing,
+                scope, rt, book, shared, fresh, players, playing,
             );
             let all = all_carry && all_play;
             if !all {
                 book.stop(rt);
             }
-            let players = join_players(rt, gauge, fresh, playing, done);
+            let players = join_players(rt, shared.gauge, fresh, playing, done);
             book.stop(rt);
             let is_full = join_carriers(rt, carrying);
             (players, all, is_full)

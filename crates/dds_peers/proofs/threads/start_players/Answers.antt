@@ -8,7 +8,7 @@ use Rattle.dds_peers.proofs.threads.start_players.Goals as goal
 pub spawn_with-requires-clause-runs : goal.spawn_with-requires-clause-runs
 spawn_with-requires-clause-runs g c =
     let i = c.loop-player.invariant in
-    let kept = all_next (λ p. IsKept c.args.gauge.now c.args.fresh p.seat p.counter (g.A.App.notes p.app).entries) c.args.players.items c.loop-player.yielded (into_iter_items c.loop-player.player-iterator) (into_iter_items c.next.new.self) c.in-Some.player
+    let kept = all_next (λ p. IsKept c.args.shared.gauge.now c.args.fresh p.seat p.counter (g.A.App.notes p.app).entries) c.args.players.items c.loop-player.yielded (into_iter_items c.loop-player.player-iterator) (into_iter_items c.next.new.self) c.in-Some.player
     c.requires.players i.walk.whole c.in-Some.ensures.steps.0
     in
     λ κs at. (kept, search sendable depth 20)
@@ -28,7 +28,7 @@ loop-player-preserved g c =
       apps = map_both (λ h. h.promise.app) (λ p. p.seat.number) c.loop-player.handles.items c.push_reserved.new.self.items c.in-Ok.handle c.loop-player.yielded c.in-Some.player i.apps more (ap (λ p. p.app) promise ∙ c.number.ensures);
       identities = map_both (λ h. g.A.App.identity h.promise.was.value) (λ p. g.A.App.identity p.app) c.loop-player.handles.items c.push_reserved.new.self.items c.in-Ok.handle c.loop-player.yielded c.in-Some.player i.identities more
           (ap (λ p. g.A.App.identity p.was.value) promise ∙ ap (λ a. g.A.App.identity a) c.of-in-loop-player.ensures);
-      promises = all_more (λ h. (h.promise.gauge.value ≡ c.args.gauge.now) × (h.promise.fresh ≡ c.args.fresh)) c.loop-player.handles.items c.push_reserved.new.self.items c.in-Ok.handle more i.promises
+      promises = all_more (λ h. (h.promise.gauge.value ≡ c.args.shared.gauge.now) × (h.promise.fresh ≡ c.args.fresh)) c.loop-player.handles.items c.push_reserved.new.self.items c.in-Ok.handle more i.promises
           (ap (λ p. p.gauge.value) promise ∙ c.of.ensures, ap (λ p. p.fresh) promise);
     }
 

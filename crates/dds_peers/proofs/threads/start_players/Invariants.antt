@@ -13,5 +13,5 @@ invariant-loop-player g l = record {
   len : vec_len l.handles + into_iter_len l.player-iterator ≡ vec_len l.fn.players;
   apps : map (λ h. h.promise.app) l.handles.items ≡ map (λ p. p.seat.number) l.yielded;
   identities : map (λ h. g.A.App.identity h.promise.was.value) l.handles.items ≡ map (λ p. g.A.App.identity p.app) l.yielded;
-  promises : All (λ h. (h.promise.gauge.value ≡ l.fn.gauge) × (h.promise.fresh ≡ l.fn.fresh)) l.handles.items;
+  promises : All (λ h. (h.promise.gauge.value ≡ l.fn.shared.gauge.now) × (h.promise.fresh ≡ l.fn.fresh)) l.handles.items;
 }
