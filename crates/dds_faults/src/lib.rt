@@ -14,8 +14,6 @@ mod names;
 mod nearest;
 mod owners;
 mod tables;
-#[cfg(test)]
-mod tests;
 mod values;
 mod walk;
 mod whole;

@@ -53,9 +53,14 @@ fn document_fault(
     })
 }
 
+/// Whether a file holds just what `propose` prints where it finds no certificate, with a line end or without.
+fn holds_none(file: &Located) -> bool {
+    file.is_text("none\n") || file.is_text("none") || file.is_text("none\r\n")
+}
+
 /// What a text that is no TOML would be right with, by what the parser says; nothing where that isn't known.
 fn syntax_help(file: &Located, message: &str) -> &'static str {
-    if file.is_text("none\n") {
+    if holds_none(file) {
         "this is what `propose` prints where it finds no certificate; `propose --thorough` says why"
     } else if message.starts_with("duplicate key") {
         "it stands above already: a list is written once, as `name = [..]` or by `[[name]]`"
