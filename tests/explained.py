@@ -148,11 +148,21 @@ def value_text(value):
     return value
 
 
+def policy_lines(offered, requested):
+    pairs = [(field, offered[field], requested[field]) for field in FIELDS]
+    return [f"{field}: offered {value_text(one)}, requested {value_text(other)}" for field, one, other in pairs if not is_met(field, one, other)]
+
+
 def mismatch_lines(case, writer, reader):
-    if not case.reasons[writer, reader].startswith("policies "):
-        return []
-    pairs = [(field, case.writers[writer][field], case.readers[reader][field]) for field in FIELDS]
-    return [f"{field}: offered {value_text(offered)}, requested {value_text(requested)}" for field, offered, requested in pairs if not is_met(field, offered, requested)]
+    reason, ours, theirs = case.reasons[writer, reader], case.writers[writer], case.readers[reader]
+    if reason == "domain":
+        domains = {one["name"]: one["domain"] for one in case.lists["participants"]}
+        return [f"domain: {writer} is in {domains[ours['participant']]}, {reader} in {domains[theirs['participant']]}"]
+    if reason == "topic":
+        return [f"topic: {writer} writes {ours['topic']}, {reader} reads {theirs['topic']}"]
+    if reason == "partition":
+        return [f"partitions: {writer} has {json.dumps(ours['partitions'])}, {reader} has {json.dumps(theirs['partitions'])}"]
+    return policy_lines(ours, theirs)
 
 
 def refusal_lines(case, number, words):

@@ -2,6 +2,7 @@ pub mod Acceptance
 pub mod Refusal
 pub mod Pieces
 pub mod Values
+pub mod Places
 pub mod Pairs
 pub mod Policies
 pub mod Limits

@@ -12,9 +12,6 @@ use Rattle.dds_qos.specs.declared.policies.Liveliness.{Liveliness}
 use Rattle.dds_qos.specs.declared.policies.Policies.{Policies}
 use Rattle.dds_qos.specs.declared.policies.Presentation.{Presentation}
 use Rattle.dds_lists.specs.Lists.{Lists, Reader, Writer}
-use Rattle.dds_match.specs.Matching.{why_not}
-use Rattle.dds_match.specs.declared.matching.WhyNot.{WhyNot}
-use Rattle.dds_match.specs.declared.matching.WhyNot.TheVariants as because
 use Rattle.dds_text.specs.Words.{access_scope_word, destination_order_word, durability_word, liveliness_word, ownership_word, reliability_word}
 
 -- a field of the file, with what is offered and what is requested there
@@ -86,13 +83,6 @@ unmet_lines set offered requested p = if contains set p then policy_lines offere
 abbrev pub set_lines : PolicySet → (offered requested : Policies) → List ℕ
 set_lines set offered requested = flat_map (unmet_lines set offered requested) policies
 
--- the fields of the policies that are the reason; of another reason none
-abbrev pub reason_lines : WhyNot → (offered requested : Policies) → List ℕ
-reason_lines (because.Policies set) offered requested = set_lines set offered requested
-reason_lines because.OtherDomain offered requested = []
-reason_lines because.OtherTopic offered requested = []
-reason_lines because.Partitions offered requested = []
-
 -- what a writer offers, and what a reader requests
 abbrev pub offer_of : Lists → ℕ → Option Policies
 offer_of d w = option_map (λ (x : Writer). x.qos.offered) (slice_get d.writers.entries w)
@@ -100,10 +90,10 @@ offer_of d w = option_map (λ (x : Writer). x.qos.offered) (slice_get d.writers.
 abbrev pub request_of : Lists → ℕ → Option Policies
 request_of d r = option_map (λ (x : Reader). x.qos.requested) (slice_get d.readers.entries r)
 
--- the same of a reason, if there is one, and of an offer and a request, if there are some
-abbrev pub compared_lines : Option WhyNot → (offer request : Option Policies) → List ℕ
-compared_lines reason offer request = option_map_or (λ x. option_map_or (λ o. option_map_or (reason_lines x o) request []) offer []) reason []
+-- the fields of the policies of the set, of an offer and a request if there are some
+abbrev pub compared_lines : PolicySet → (offer request : Option Policies) → List ℕ
+compared_lines set offer request = option_map_or (λ o. option_map_or (set_lines set o) request []) offer []
 
--- the fields in which the policies of a writer and of a reader don't agree, if these are why the two don't match
-abbrev pub mismatch_lines : Lists → ℕ → ℕ → List ℕ
-mismatch_lines d w r = compared_lines (why_not d w r) (offer_of d w) (request_of d r)
+-- the fields in which the policies of the set, of a writer and of a reader, don't agree
+abbrev pub value_lines : Lists → PolicySet → ℕ → ℕ → List ℕ
+value_lines d set w r = compared_lines set (offer_of d w) (request_of d r)

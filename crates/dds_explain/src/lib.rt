@@ -9,6 +9,7 @@ mod margin;
 mod notes;
 mod pairs;
 mod pieces;
+mod places;
 mod policies;
 mod refusal;
 mod rows;

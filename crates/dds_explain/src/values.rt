@@ -2,12 +2,12 @@
 //! 2.2.3).
 ghost use Rattle.std.specs.Prelude.{◌≡◌, IfOk, codes, option_map, string_bytes};
 ghost use Rattle.dds_explain.specs.Values.{compared_lines, duration_line, duration_text, flag_line, kind_line};
-ghost use Rattle.dds_explain.specs.Values.{lease_line, liveliness_lines, mismatch_lines, offer_of, policy_lines};
-ghost use Rattle.dds_explain.specs.Values.{presentation_lines, reason_lines, request_of, scope_line, set_lines};
-ghost use Rattle.dds_explain.specs.Values.{time_text, unmet_lines, value_line};
+ghost use Rattle.dds_explain.specs.Values.{lease_line, liveliness_lines, offer_of, policy_lines, presentation_lines};
+ghost use Rattle.dds_explain.specs.Values.{request_of, scope_line, set_lines, time_text, unmet_lines, value_line};
+ghost use Rattle.dds_explain.specs.Values.{value_lines};
 
 use dds_base::{ReaderNo, WriterNo};
-use dds_match::{Plan, WhyNot};
+use dds_match::Plan;
 use dds_qos::{Duration, Liveliness, Policies, Policy, PolicySet, Presentation};
 use dds_text::texts::{TextResult, text_of_each};
 use dds_text::words::{
@@ -202,21 +202,6 @@ fn set_lines(alloc: Global, set: PolicySet, offered: &Policies, requested: &Poli
     )
 }
 
-/// The fields of the policies that are the reason; of another reason none.
-fn reason_lines(
-    alloc: Global,
-    reason: WhyNot,
-    offered: &Policies,
-    requested: &Policies,
-) -> TextResult
-    ensures { IfOk result (λ text. string_bytes text ≡ reason_lines reason offered.now requested.now) }
-{
-    match reason {
-        WhyNot::Policies(set) => set_lines(alloc, set, offered, requested),
-        WhyNot::OtherDomain | WhyNot::OtherTopic | WhyNot::Partitions => Ok(String::new(alloc)),
-    }
-}
-
 /// What a writer offers, if there is such a writer.
 fn offer_of(plan: &Plan, writer: WriterNo) -> Option<&Policies>
     ensures { option_map (λ policies. policies.now) result ≡ offer_of plan.now writer }
@@ -241,41 +226,37 @@ fn request_of(plan: &Plan, reader: ReaderNo) -> Option<&Policies>
     }
 }
 
-/// The same of a reason, if there is one, and of an offer and a request, if there are some.
+/// The fields of the policies of the set, of an offer and a request if there are some.
 fn compared_lines(
     alloc: Global,
-    reason: Option<WhyNot>,
+    set: PolicySet,
     offer: Option<&Policies>,
     request: Option<&Policies>,
 ) -> TextResult
     ensures { IfOk result
-        (λ text. string_bytes text ≡ compared_lines reason (option_map (λ policies. policies.now) offer.entry)
+        (λ text. string_bytes text ≡ compared_lines set (option_map (λ policies. policies.now) offer.entry)
         (option_map (λ policies. policies.now) request.entry)) }
 {
-    match reason {
-        Some(reason) => match offer {
-            Some(offered) => match request {
-                Some(requested) => reason_lines(alloc, reason, offered, requested),
-                None => Ok(String::new(alloc)),
-            },
+    match offer {
+        Some(offered) => match request {
+            Some(requested) => set_lines(alloc, set, offered, requested),
             None => Ok(String::new(alloc)),
         },
         None => Ok(String::new(alloc)),
     }
 }
 
-/// The fields in which the policies of a writer and of a reader don't agree, if these are why the two don't match: a
-/// line each.
-pub(crate) fn mismatch_lines(
+/// The fields in which the policies of the set, of a writer and of a reader, don't agree: a line each.
+pub(crate) fn value_lines(
     alloc: Global,
     plan: &Plan,
+    set: PolicySet,
     writer: WriterNo,
     reader: ReaderNo,
 ) -> TextResult
-    ensures { IfOk result (λ text. string_bytes text ≡ mismatch_lines plan.now writer reader) }
+    ensures { IfOk result (λ text. string_bytes text ≡ value_lines plan.now set writer reader) }
 {
-    let reason = plan.why_not(writer, reader);
     let offer = offer_of(plan, writer);
     let request = request_of(plan, reader);
-    compared_lines(alloc, reason, offer, request)
+    compared_lines(alloc, set, offer, request)
 }

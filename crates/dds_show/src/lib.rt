@@ -4,7 +4,7 @@
 pub mod connections;
 mod entries;
 mod json;
-mod pieces;
+pub mod pieces;
 mod policies;
 pub mod reasons;
 

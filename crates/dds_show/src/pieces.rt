@@ -79,8 +79,9 @@ pub(crate) fn name_items(alloc: Global, names: &Names) -> TextResult
     items_below(alloc, names.len(), |i| quoted(alloc, name_at(names, i)))
 }
 
-/// The texts of a list, in quotes.
-pub(crate) fn text_items(alloc: Global, texts: &[String]) -> TextResult
+/// The texts of a list in quotes, with commas between them: as JSON and TOML have them between brackets. `NoMemory` is
+/// the only error.
+pub fn text_items(alloc: Global, texts: &[String]) -> TextResult
     ensures { IfOk result (λ text. string_bytes text ≡ name_items (map string_bytes texts.now)) }
 {
     items_below(alloc, texts.len(), |i| quoted(alloc, texts[i].as_str()))
