@@ -43,15 +43,15 @@ shower (Reader r) = codes "one row of weights shows"
 -- what is known of the bounds for a limit that has no certificate
 abbrev pub least_line : (limit shower : List ℕ) → Least → List ℕ
 least_line limit shower (Shown n) =
-    codes "ddscheck: no weights show " ++ (limit ++ (codes "; the least bound that " ++ (shower ++ (codes " is " ++ (decimal n ++ codes "\n")))))
-least_line limit shower Unbounded = codes "ddscheck: no weights show " ++ (limit ++ codes ", whatever its number: `ddscheck limits --explain` says why\n")
+    codes "ddscheck: " ++ (limit ++ (codes " is too low for a certificate; the least that " ++ (shower ++ (codes " is " ++ (decimal n ++ codes "\n")))))
+least_line limit shower Unbounded = codes "ddscheck: no number is enough for " ++ (limit ++ codes " to get a certificate: `ddscheck limits --explain` says why\n")
 least_line limit shower Unknown =
-    codes "ddscheck: no weights were found that show " ++ (limit ++ codes ": the numbers became too large or the search too long\n")
+    codes "ddscheck: no certificate was found for " ++ (limit ++ codes ": the numbers became too large or the search too long\n")
 
--- what ran out where no weights were found for a limit
+-- what ran out where no certificate was found for a limit
 abbrev pub short_line : (limit : List ℕ) → Shortage → List ℕ
 short_line limit shortage =
-    codes "ddscheck: no weights were found that show " ++ (limit ++ (codes ": the search ran out of " ++ (shortage_word shortage ++ codes "\n")))
+    codes "ddscheck: no certificate was found for " ++ (limit ++ (codes ": the search ran out of " ++ (shortage_word shortage ++ codes "\n")))
 
 -- why no certificate was found
 abbrev pub IsMissingText : Lists → Missing → List ℕ → Type 0

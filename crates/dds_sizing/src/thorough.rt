@@ -134,24 +134,24 @@ fn least_text(alloc: Global, limit: &str, shower: &str, least: Least) -> Result<
 {
     match least {
         Least::Shown(bound) => format!(in alloc;
-            "ddscheck: no weights show {limit}; the least bound that {shower} is {bound}\n"
+            "ddscheck: {limit} is too low for a certificate; the least that {shower} is {bound}\n"
         ),
         Least::Unbounded => format!(in alloc;
-            "ddscheck: no weights show {limit}, whatever its number: `ddscheck limits --explain` says why\n"
+            "ddscheck: no number is enough for {limit} to get a certificate: `ddscheck limits --explain` says why\n"
         ),
         Least::Unknown => format!(in alloc;
-            "ddscheck: no weights were found that show {limit}: the numbers became too large or the search too long\n"
+            "ddscheck: no certificate was found for {limit}: the numbers became too large or the search too long\n"
         ),
     }
 }
 
-/// What ran out where no weights were found for a limit.
+/// What ran out where no certificate was found for a limit.
 fn short_text(alloc: Global, limit: &str, shortage: Shortage) -> Result<String, NoMemory>
     ensures { IfOk result (λ text. string_bytes text ≡ short_line limit.now shortage) }
 {
     let word = shortage_word(shortage);
     format!(in alloc;
-        "ddscheck: no weights were found that show {limit}: the search ran out of {word}\n"
+        "ddscheck: no certificate was found for {limit}: the search ran out of {word}\n"
     )
 }
 
