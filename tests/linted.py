@@ -9,6 +9,7 @@
   has the line and the columns of that reading.
 - Of each worked deployment and certificate `lint` finds an error exactly where `check` says other than yes, and the first error's name is the one that `check` gives.
 - Each vacuous system of tests/commands/data/vacuous, which gets a yes, by its own certificate or by an empty one, has the note that its name asks for.
+  With --deny notes all its kinds of notes but MayLose make the answer no, and with --allow all but the one that is named.
 - SARIF documents have the members of version 2.1.0 that code hosts read, and each names its file by the URI reference that Python makes of the path.
 - A file of 1 MiB with 10,000 faults is answered within a second.
 The last line is 'N passed, M failed'.
@@ -156,9 +157,26 @@ def vacuous(file):
         return f"check answers {answer}"
     if not any(one["level"] == "note" and one["name"] == wanted for one in findings or []):
         return f"has no note {wanted}: {[one['name'] for one in findings or []]}"
-    owed = 0 if all(one["name"] in ("MayLose", "Finite") for one in findings) else 1
-    if given.status != 0 or ddscheck("lint", file, certificate, "--deny", "notes").status != owed:
-        return "has another status"
+    if given.status != 0:
+        return f"has status {given.status}"
+    return denied(file, certificate, sorted({one["name"] for one in findings if one["name"] != "MayLose"}))
+
+
+def denied_in(text):
+    """The kinds of notes of which an answer says that they make it no."""
+    return sorted(re.findall(r"(?m)^denied: (\w+) ", text))
+
+
+def denied(file, certificate, kinds):
+    """What is wrong with what --deny notes makes of a system that has notes of these kinds and of MayLose alone, if anything is."""
+    given = ddscheck("lint", file, certificate, "--deny", "notes")
+    if given.status != (1 if kinds else 0) or denied_in(given.out) != kinds:
+        return f"--deny notes answers {given}"
+    for at, kind in enumerate(kinds):
+        others = kinds[:at] + kinds[at + 1 :]
+        given = ddscheck("lint", file, certificate, "--deny", "notes", "--allow", kind)
+        if given.status != (1 if others else 0) or denied_in(given.out) != others:
+            return f"--allow {kind} answers {given}"
     return None
 
 

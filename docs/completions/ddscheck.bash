@@ -31,7 +31,7 @@ _ddscheck() {
     replay) options="--format -h --help" ;;
     limits) options="--certificate --explain --seconds --format -h --help" ;;
     conform) options="--format -h --help" ;;
-    lint) options="--format --deny -h --help" ;;
+    lint) options="--format --deny --allow -h --help" ;;
     esac
     case $word in
     -*) COMPREPLY=($(compgen -W "$options" -- "$word")) ;;

@@ -50,4 +50,5 @@ complete -c ddscheck -n '__fish_seen_subcommand_from conform' -l format -x -a 't
 complete -c ddscheck -n '__fish_seen_subcommand_from conform' -s h -l help -d 'Print help'
 complete -c ddscheck -n '__fish_seen_subcommand_from lint' -l format -x -a 'text json sarif' -d 'text, json or sarif [default: text]'
 complete -c ddscheck -n '__fish_seen_subcommand_from lint' -l deny -x -a 'errors notes' -d 'What makes the answer no: errors or notes [default: errors]'
+complete -c ddscheck -n '__fish_seen_subcommand_from lint' -l allow -x -d 'Names of notes that --deny notes lets pass, with commas between them'
 complete -c ddscheck -n '__fish_seen_subcommand_from lint' -s h -l help -d 'Print help'

@@ -97,6 +97,7 @@ _ddscheck() {
             lint) _arguments \
                 '--format[text, json or sarif \[default: text\]]:FORMAT:(text json sarif)' \
                 '--deny[What makes the answer no: errors or notes \[default: errors\]]:WHAT:(errors notes)' \
+                '--allow[Names of notes that --deny notes lets pass, with commas between them]:NOTES:()' \
                 '-h[Print help]' \
                 '--help[Print help]' \
                 '1:deployment:_files -g "*.toml"' \

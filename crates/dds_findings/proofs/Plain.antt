@@ -6,16 +6,17 @@ use Rattle.serde_json.specs.Written.{has_float}
 use Rattle.dds_json.proofs.Documents.{no_fractions}
 use Rattle.dds_findings.specs.Blocks.{FileNames}
 use Rattle.dds_findings.specs.Documents.{finding_document, findings_document, result_document, sarif_document}
+use Rattle.dds_findings.specs.declared.answer.Deny.{Deny}
 use Rattle.dds_findings.specs.declared.finding.Finding.{Finding}
 
 text_plain : (s : String Global) → has_float (string (string_bytes s)) ≡ false
 text_plain s = refl
 
-finding_plain : (names : FileNames) (f : Finding) → has_float (finding_document names f) ≡ false
-finding_plain names f = let none = no_fractions (λ (s : String Global). string (string_bytes s)) text_plain f.details.items in rw none refl
+finding_plain : (names : FileNames) (denied : Deny) (f : Finding) → has_float (finding_document names denied f) ≡ false
+finding_plain names denied f = let none = no_fractions (λ (s : String Global). string (string_bytes s)) text_plain f.details.items in rw none refl
 
-pub findings_plain : (names : FileNames) (fs : List Finding) (is_yes : Bool) → has_float (findings_document names fs is_yes) ≡ false
-findings_plain names fs is_yes = let none = no_fractions (finding_document names) (finding_plain names) fs in rw none refl
+pub findings_plain : (names : FileNames) (denied : Deny) (fs : List Finding) (is_yes : Bool) → has_float (findings_document names denied fs is_yes) ≡ false
+findings_plain names denied fs is_yes = let none = no_fractions (finding_document names denied) (finding_plain names denied) fs in rw none refl
 
 result_plain : (names : FileNames) (f : Finding) → has_float (result_document names f) ≡ false
 result_plain names f = refl

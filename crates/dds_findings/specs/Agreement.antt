@@ -28,5 +28,5 @@ AgreesWithCheck d None found = has_error found ≡ true → (c : List ℕ) → s
 abbrev pub AnswersAsCheck : Deny → (deployment : List ℕ) → (certificate : Option (List ℕ)) → Answer → Type 0
 AnswersAsCheck deny.Errors d (Some c) answer = answer.is_yes ≡ says_yes (outcome d c)
 AnswersAsCheck deny.Errors d None answer = answer.is_yes ≡ false → (c : List ℕ) → says_yes (outcome d c) ≡ false
-AnswersAsCheck deny.Notes d (Some c) answer = answer.is_yes ≡ true → says_yes (outcome d c) ≡ true
-AnswersAsCheck deny.Notes d None answer = Unit {0}
+AnswersAsCheck (deny.Notes allowed) d (Some c) answer = answer.is_yes ≡ true → says_yes (outcome d c) ≡ true
+AnswersAsCheck (deny.Notes allowed) d None answer = Unit {0}

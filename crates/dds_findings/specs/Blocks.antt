@@ -5,10 +5,13 @@ use Rattle.std.specs.List.{list_any}
 use Rattle.std.specs.Option.{option_map_or}
 use Rattle.std.specs.Str.{bytes_eq}
 use Rattle.dds_text.specs.Texts.{each_below}
-use Rattle.dds_findings.specs.Findings.{is_denied_note, is_error, is_fault, level_of, level_word}
+use Rattle.dds_findings.specs.Findings.{is_denied_kind, is_error, is_fault, is_of_kind, level_of, level_word}
+use Rattle.dds_findings.specs.Kinds.{all_kinds, kind_word}
+use Rattle.dds_findings.specs.declared.answer.Deny.{Deny}
 use Rattle.dds_findings.specs.declared.finding.Finding.{Finding}
 use Rattle.dds_findings.specs.declared.finding.Role.{Role}
 use Rattle.dds_findings.specs.declared.finding.Role.TheVariants as role
+use Rattle.dds_findings.specs.declared.kinds.NoteKind.{NoteKind}
 
 -- what the deployment and the certificate are called
 abbrev pub FileNames : Type 0
@@ -85,9 +88,6 @@ errors_of findings = count_by (λ f. is_error f.about) findings
 abbrev pub notes_of : List Finding → ℕ
 notes_of findings = count_by (λ f. not (is_error f.about)) findings
 
-abbrev pub denied_notes_of : List Finding → ℕ
-denied_notes_of findings = count_by (λ f. is_denied_note f.about) findings
-
 -- the end of a word for so many things
 abbrev pub plural : ℕ → List ℕ
 plural n = if n == 1 then [] else codes "s"
@@ -95,6 +95,21 @@ plural n = if n == 1 then [] else codes "s"
 abbrev pub sum_line : List Finding → List ℕ
 sum_line findings =
     decimal (errors_of findings) ++ (codes " error" ++ (plural (errors_of findings) ++ (codes ", " ++ (decimal (notes_of findings) ++ (codes " note" ++ (plural (notes_of findings) ++ codes "\n"))))))
+
+-- the notes of a kind make the answer no, and how they are let pass
+abbrev pub denied_line : NoteKind → List ℕ
+denied_line k = codes "denied: " ++ (kind_word k ++ (codes " (if that's meant, `--allow " ++ (kind_word k ++ codes "` lets it pass)\n")))
+
+-- one of them is a note of this kind
+abbrev pub has_note : List Finding → NoteKind → Bool
+has_note findings k = list_any (λ f. is_of_kind k f.about) findings
+
+abbrev pub kind_lines : Deny → List Finding → NoteKind → List ℕ
+kind_lines denied findings k = if is_denied_kind denied k && has_note findings k then denied_line k else []
+
+-- a line for each kind whose notes make the answer no
+abbrev pub denied_lines : Deny → List Finding → List ℕ
+denied_lines denied findings = flat_map (kind_lines denied findings) all_kinds
 
 -- one of them is a fault of a file
 abbrev pub has_fault : List Finding → Bool
@@ -105,6 +120,10 @@ abbrev pub bare_line : (certificate : List ℕ) → List Finding → List ℕ
 bare_line [] findings = if has_fault findings then [] else codes "limits aren't checked without a certificate: `ddscheck limits` prints what they need\n"
 bare_line certificate findings = []
 
--- the rows, how many errors and notes there are, and what isn't checked
-abbrev pub blocks : FileNames → List Finding → List ℕ
-blocks names findings = each_below (length findings) (part names findings) ++ (sum_line findings ++ bare_line names.1 findings)
+-- how many errors and notes there are, which of these make the answer no, and what isn't checked
+abbrev pub last_lines : FileNames → Deny → List Finding → List ℕ
+last_lines names denied findings = sum_line findings ++ (denied_lines denied findings ++ bare_line names.1 findings)
+
+-- the rows, and what they come to
+abbrev pub blocks : FileNames → Deny → List Finding → List ℕ
+blocks names denied findings = each_below (length findings) (part names findings) ++ last_lines names denied findings

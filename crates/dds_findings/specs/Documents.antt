@@ -1,11 +1,12 @@
 -- Findings as documents.
 use Rattle.std.specs.Prelude.{ℕ, Bool, List, [], ◌∷◌, ◌++◌, codes, map, string_bytes}
-use Rattle.serde_json.specs.Data.{Data, array, member, no_members, number, object, string, unsigned}
+use Rattle.serde_json.specs.Data.{Data, array, boolean, member, no_members, number, object, string, unsigned}
 use Rattle.serde_json.specs.View.{items_of}
 use Rattle.percent_encoding.specs.Percent.{percent_encode}
 use Rattle.dds_json.specs.Matching.{answer_word}
 use Rattle.dds_findings.specs.Blocks.{FileNames, errors_of, file_name, notes_of}
-use Rattle.dds_findings.specs.Findings.{level_of, level_word}
+use Rattle.dds_findings.specs.Findings.{is_denied, level_of, level_word}
+use Rattle.dds_findings.specs.declared.answer.Deny.{Deny}
 use Rattle.dds_findings.specs.declared.finding.Finding.{Finding}
 use Rattle.dds_findings.specs.declared.sarif.TheConstants.{ESCAPED}
 
@@ -21,17 +22,17 @@ abbrev pub explanation_document : Finding → Data
 explanation_document f =
     object (member (codes "details") (array (items_of (map (λ detail. string (string_bytes detail)) f.details.items))) (member (codes "help") (string (string_bytes f.help)) no_members))
 
--- a finding
-abbrev pub finding_document : FileNames → Finding → Data
-finding_document names f =
-    object (member (codes "explanation") (explanation_document f) (member (codes "level") (string (level_word (level_of f.about)))
-    (member (codes "message") (string (string_bytes f.message)) (member (codes "name") (string f.name.now) (member (codes "place") (place_document names f) no_members)))))
+-- a finding, and whether it makes the answer no
+abbrev pub finding_document : FileNames → Deny → Finding → Data
+finding_document names denied f =
+    object (member (codes "denied") (boolean (is_denied denied f.about)) (member (codes "explanation") (explanation_document f) (member (codes "level") (string (level_word (level_of f.about)))
+    (member (codes "message") (string (string_bytes f.message)) (member (codes "name") (string f.name.now) (member (codes "place") (place_document names f) no_members))))))
 
 -- all of them, and how many there are
-abbrev pub findings_document : FileNames → List Finding → (is_yes : Bool) → Data
-findings_document names findings is_yes =
+abbrev pub findings_document : FileNames → Deny → List Finding → (is_yes : Bool) → Data
+findings_document names denied findings is_yes =
     object (member (codes "answer") (string (answer_word is_yes)) (member (codes "errors") (number (unsigned (errors_of findings)))
-    (member (codes "findings") (array (items_of (map (finding_document names) findings))) (member (codes "notes") (number (unsigned (notes_of findings))) no_members))))
+    (member (codes "findings") (array (items_of (map (finding_document names denied) findings))) (member (codes "notes") (number (unsigned (notes_of findings))) no_members))))
 
 -- ── SARIF 2.1.0: `result` is clause 3.27, `location` 3.28, `region` 3.30, `run` 3.14
 -- the columns and the line of a finding

@@ -1,5 +1,5 @@
 -- What lint finds, by what each finding is about.
-use Rattle.std.specs.Prelude.{ℕ, ◌≡◌, ◌<◌, Bool, true, false, List, [], ◌++◌, codes, length, map, Option, Some, None, Ok, Err}
+use Rattle.std.specs.Prelude.{ℕ, ◌≡◌, ◌<◌, Bool, true, false, not, ◌||◌, List, [], ◌++◌, codes, length, map, Option, Some, None, Ok, Err}
 use Rattle.std.specs.List.{list_all}
 use Rattle.dds_fields.specs.Reading.{Read}
 use Rattle.dds_lists.specs.Lists.{Lists}
@@ -12,12 +12,16 @@ use Rattle.dds_lint.specs.Conditions.{all_nos, bare_nos}
 use Rattle.dds_lint.specs.Live.{IsLive}
 use Rattle.dds_lint.specs.Notes.{all_notes}
 use Rattle.dds_lint.specs.declared.notes.Note.{Note}
-use Rattle.dds_lint.specs.declared.notes.Note.TheVariants as note
+use Rattle.dds_findings.specs.Kinds.{has_kind, is_same, kind_of}
+use Rattle.dds_findings.specs.declared.answer.Deny.{Deny}
+use Rattle.dds_findings.specs.declared.answer.Deny.TheVariants as deny
 use Rattle.dds_findings.specs.declared.finding.About.{About}
 use Rattle.dds_findings.specs.declared.finding.About.TheVariants as about
 use Rattle.dds_findings.specs.declared.finding.Finding.{Finding}
 use Rattle.dds_findings.specs.declared.finding.Level.{Level}
 use Rattle.dds_findings.specs.declared.finding.Level.TheVariants as level
+use Rattle.dds_findings.specs.declared.kinds.NoteKind.{NoteKind}
+use Rattle.dds_findings.specs.declared.kinds.NoteKind.TheVariants as kind
 
 -- a fault and a condition that fails are errors, a note isn't
 abbrev pub level_of : About → Level
@@ -34,17 +38,27 @@ is_error about.Fault = true
 is_error (about.Condition refused) = true
 is_error (about.Note note) = false
 
--- a note that is denied where notes are: not one that says of a reader what its deployment says itself, nor one on a rule for what is written so often and
--- no more, which may be meant
-abbrev pub is_denied : Note → Bool
-is_denied (note.MayLose r) = false
-is_denied (note.Finite u) = false
-is_denied _ = true
+-- a note of this kind says of a reader what its deployment says itself
+abbrev pub is_declared : NoteKind → Bool
+is_declared kind.MayLose = true
+is_declared _ = false
 
-abbrev pub is_denied_note : About → Bool
-is_denied_note about.Fault = false
-is_denied_note (about.Condition refused) = false
-is_denied_note (about.Note note) = is_denied note
+-- a note of this kind makes the answer no
+abbrev pub is_denied_kind : Deny → NoteKind → Bool
+is_denied_kind deny.Errors k = false
+is_denied_kind (deny.Notes allowed) k = not (is_declared k || has_kind allowed k)
+
+-- a finding makes the answer no: each error does
+abbrev pub is_denied : Deny → About → Bool
+is_denied denied about.Fault = true
+is_denied denied (about.Condition refused) = true
+is_denied denied (about.Note note) = is_denied_kind denied (kind_of note)
+
+-- a finding is a note of this kind
+abbrev pub is_of_kind : NoteKind → About → Bool
+is_of_kind k about.Fault = false
+is_of_kind k (about.Condition refused) = false
+is_of_kind k (about.Note note) = is_same k (kind_of note)
 
 -- what findings are about, in their order
 abbrev pub abouts : List Finding → List About

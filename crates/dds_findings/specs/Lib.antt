@@ -1,3 +1,4 @@
+pub mod Kinds
 pub mod Findings
 pub mod Blocks
 pub mod Documents

@@ -1,12 +1,13 @@
 //! What `lint` answers.
 ghost use Rattle.std.specs.Prelude.{◌≡◌, ℕ, List, Option, IfErr, IfOk, option_map, string_bytes};
 ghost use Rattle.dds_findings.specs.Agreement.{AgreesWithCheck, AnswersAsCheck};
-ghost use Rattle.dds_findings.specs.Answers.{findings_text, is_clean, names_of};
-ghost use Rattle.dds_findings.specs.Findings.{abouts};
+ghost use Rattle.dds_findings.specs.Answers.{findings_text, has_denied, is_clean, names_of};
+ghost use Rattle.dds_findings.specs.Findings.{abouts, is_denied_kind};
 
-use crate::block::{FileNames, blocks_text, denied_notes_of, errors_of};
+use crate::block::{FileNames, blocks_text};
 use crate::document::findings_line;
 use crate::finding::Finding;
+use crate::kinds::{AllowedKinds, NoteKind};
 use crate::sarif::sarif_line;
 use dds_answers::{Answer, ToolFault, answer_with};
 use dds_base::NoMemory;
@@ -24,13 +25,25 @@ pub enum LintStyle {
 }
 
 /// With which findings the answer is no.
-#[derive(Clone, Copy, Debug, PartialEq, Eq)]
+#[derive(Drop)]
 pub enum Deny {
     /// With errors alone.
     Errors,
-    /// With errors and with notes, but for those on what may be meant: readers of which the deployment says that they
-    /// may lose samples, and rules with a start alone.
-    Notes,
+    /// With errors and with notes, but for those of these kinds and for MayLose, by which the deployment itself says
+    /// that a reader may lose samples.
+    Notes(AllowedKinds),
+}
+
+impl Deny {
+    /// Whether notes of a kind make the answer no.
+    pub(crate) fn denies(&self, kind: NoteKind) -> bool
+        ensures { result ≡ is_denied_kind self.now kind }
+    {
+        match self {
+            Deny::Errors => false,
+            Deny::Notes(allowed) => !(kind.is_declared() || allowed.has(kind)),
+        }
+    }
 }
 
 /// A file: what it is called, and what it holds.
@@ -40,14 +53,18 @@ pub struct Named<'a> {
     pub bytes: &'a [u8],
 }
 
-/// Whether there are none of the findings with which the answer is no.
-fn is_clean(deny: Deny, findings: &[Finding]) -> bool
-    ensures { result ≡ is_clean deny findings.now }
+/// Whether one of the findings makes the answer no.
+fn has_denied(deny: &Deny, findings: &[Finding]) -> bool
+    ensures { result ≡ has_denied deny.now findings.now }
 {
-    match deny {
-        Deny::Errors => errors_of(findings) == 0,
-        Deny::Notes => errors_of(findings) == 0 && denied_notes_of(findings) == 0,
-    }
+    findings.iter().any(|finding| finding.about.is_denied(deny))
+}
+
+/// Whether none of them does.
+pub(crate) fn is_clean(deny: &Deny, findings: &[Finding]) -> bool
+    ensures { result ≡ is_clean deny.now findings.now }
+{
+    !has_denied(deny, findings)
 }
 
 /// Findings in this form.
@@ -56,13 +73,13 @@ fn findings_text(
     names: &FileNames,
     findings: &[Finding],
     style: LintStyle,
-    is_yes: bool,
+    deny: &Deny,
 ) -> Result<String, NoMemory>
-    ensures { IfOk result (λ text. string_bytes text ≡ findings_text style names.now findings.now is_yes) }
+    ensures { IfOk result (λ text. string_bytes text ≡ findings_text style names.now deny.now findings.now) }
 {
     match style {
-        LintStyle::Text => blocks_text(alloc, names, findings),
-        LintStyle::Json => findings_line(alloc, names, findings, is_yes),
+        LintStyle::Text => blocks_text(alloc, names, findings, deny),
+        LintStyle::Json => findings_line(alloc, names, findings, deny),
         LintStyle::Sarif => sarif_line(alloc, names, findings),
     }
 }
@@ -88,15 +105,14 @@ pub fn answer_findings(
     names: &FileNames,
     findings: &[Finding],
     style: LintStyle,
-    deny: Deny,
+    deny: &Deny,
 ) -> Result<Answer, ToolFault>
-    ensures text { IfOk result
-        (λ a. string_bytes a.text ≡ findings_text style names.now findings.now (is_clean deny findings.now)) }
-    ensures yes { IfOk result (λ a. a.is_yes ≡ is_clean deny findings.now) }
+    ensures text { IfOk result (λ a. string_bytes a.text ≡ findings_text style names.now deny.now findings.now) }
+    ensures yes { IfOk result (λ a. a.is_yes ≡ is_clean deny.now findings.now) }
     ensures agrees { (d : List ℕ) → (c : Option (List ℕ)) → AgreesWithCheck d c (abouts findings.now)
-        → IfOk result (AnswersAsCheck deny d c) }
+        → IfOk result (AnswersAsCheck deny.now d c) }
     ensures memory { IfErr result (λ e. e ≡ ToolFault.NoMemory) }
 {
     let is_yes = is_clean(deny, findings);
-    answer_with(findings_text(alloc, names, findings, style, is_yes), is_yes)
+    answer_with(findings_text(alloc, names, findings, style, deny), is_yes)
 }

@@ -1,13 +1,15 @@
 //! Findings as people read them: a block each, with the line of the file.
-ghost use Rattle.std.specs.Prelude.{◌≡◌, ◌<◌, ◌++◌, IfOk, flat_map, length, string_bytes};
-ghost use Rattle.dds_findings.specs.Blocks.{bare_line, begins, block, blocks, denied_notes_of, detail_line, errors_of};
-ghost use Rattle.dds_findings.specs.Blocks.{file_name, goes_on, has_fault, head_line, help_words, is_alike, last_line};
-ghost use Rattle.dds_findings.specs.Blocks.{notes_of, part, part_lines, place_lines, plural, row_end, source_lines};
-ghost use Rattle.dds_findings.specs.Blocks.{sum_line};
+ghost use Rattle.std.specs.Prelude.{◌≡◌, ◌<◌, IfOk, flat_map, length, string_bytes};
+ghost use Rattle.dds_findings.specs.Blocks.{bare_line, begins, block, blocks, denied_line, denied_lines, detail_line};
+ghost use Rattle.dds_findings.specs.Blocks.{errors_of, file_name, goes_on, has_fault, has_note, head_line, help_words};
+ghost use Rattle.dds_findings.specs.Blocks.{is_alike, kind_lines, last_line, last_lines, notes_of, part, part_lines};
+ghost use Rattle.dds_findings.specs.Blocks.{place_lines, plural, row_end, source_lines, sum_line};
 
+use crate::answer::Deny;
 use crate::finding::{About, Finding, Level, Role};
+use crate::kinds::{NoteKind, all_kinds};
 use dds_base::NoMemory;
-use dds_text::texts::text_below;
+use dds_text::texts::{text_below, text_of_each};
 use std::alloc::Global;
 use std::marker::Model;
 
@@ -216,16 +218,6 @@ pub(crate) fn notes_of(findings: &[Finding]) -> usize
         .count()
 }
 
-/// How many findings are notes that are denied where notes are.
-pub(crate) fn denied_notes_of(findings: &[Finding]) -> usize
-    ensures { result ≡ denied_notes_of findings.now }
-{
-    findings
-        .iter()
-        .filter(|finding| finding.about.is_denied_note())
-        .count()
-}
-
 /// The end of a word for so many things.
 fn plural(count: usize) -> &'static str
     ensures { result.now ≡ plural count }
@@ -265,26 +257,77 @@ fn bare_line(certificate: &str, findings: &[Finding]) -> &'static str
     }
 }
 
-/// How many errors and notes there are, and what isn't checked.
-fn last_lines(alloc: Global, names: &FileNames, findings: &[Finding]) -> Result<String, NoMemory>
-    ensures { IfOk result
-        (λ text. string_bytes text ≡ sum_line findings.now ++ bare_line names.now.1 findings.now) }
+/// That the notes of a kind make the answer no, and how they are let pass.
+fn denied_text(alloc: Global, kind: NoteKind) -> Result<String, NoMemory>
+    ensures { IfOk result (λ text. string_bytes text ≡ denied_line kind) }
 {
-    let sum = sum_text(alloc, findings)?;
-    let bare = bare_line(names.certificate, findings);
-    format!(in alloc; "{sum}{bare}")
+    let name = kind.name();
+    format!(in alloc; "denied: {name} (if that's meant, `--allow {name}` lets it pass)\n")
 }
 
-/// The blocks of findings, in their order, how many there are, and what isn't checked. Of a row of findings of one kind
-/// at one place the first has a block, and the last a line in it. `NoMemory` is the only error.
+/// Whether one of the findings is a note of this kind.
+fn has_note(findings: &[Finding], kind: NoteKind) -> bool
+    ensures { result ≡ has_note findings.now kind }
+{
+    findings
+        .iter()
+        .any(|finding| finding.about.is_of_kind(kind))
+}
+
+/// The line of a kind, if there are notes of it and they make the answer no.
+fn kind_text(
+    alloc: Global,
+    deny: &Deny,
+    findings: &[Finding],
+    kind: NoteKind,
+) -> Result<String, NoMemory>
+    ensures { IfOk result (λ text. string_bytes text ≡ kind_lines deny.now findings.now kind) }
+{
+    if deny.denies(kind) && has_note(findings, kind) {
+        denied_text(alloc, kind)
+    } else {
+        Ok(String::new(alloc))
+    }
+}
+
+/// A line for each kind whose notes make the answer no.
+fn denied_lines(alloc: Global, deny: &Deny, findings: &[Finding]) -> Result<String, NoMemory>
+    ensures { IfOk result (λ text. string_bytes text ≡ denied_lines deny.now findings.now) }
+{
+    text_of_each(
+        alloc,
+        &all_kinds(),
+        |kind| kind_text(alloc, deny, findings, *kind),
+    )
+}
+
+/// How many errors and notes there are, which of these make the answer no, and what isn't checked.
+fn last_lines(
+    alloc: Global,
+    names: &FileNames,
+    findings: &[Finding],
+    deny: &Deny,
+) -> Result<String, NoMemory>
+    ensures { IfOk result (λ text. string_bytes text ≡ last_lines names.now deny.now findings.now) }
+{
+    let sum = sum_text(alloc, findings)?;
+    let denied = denied_lines(alloc, deny, findings)?;
+    let bare = bare_line(names.certificate, findings);
+    format!(in alloc; "{sum}{denied}{bare}")
+}
+
+/// The blocks of findings, in their order, how many there are, which notes make the answer no, and what isn't checked.
+/// Of a row of findings of one kind at one place the first has a block, and the last a line in it. `NoMemory` is the
+/// only error.
 pub(crate) fn blocks_text(
     alloc: Global,
     names: &FileNames,
     findings: &[Finding],
+    deny: &Deny,
 ) -> Result<String, NoMemory>
-    ensures { IfOk result (λ text. string_bytes text ≡ blocks names.now findings.now) }
+    ensures { IfOk result (λ text. string_bytes text ≡ blocks names.now deny.now findings.now) }
 {
     let rows = text_below(alloc, findings.len(), |i| part(alloc, names, findings, i))?;
-    let last = last_lines(alloc, names, findings)?;
+    let last = last_lines(alloc, names, findings, deny)?;
     format!(in alloc; "{rows}{last}")
 }

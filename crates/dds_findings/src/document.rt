@@ -5,7 +5,9 @@ ghost use Rattle.serde_json.specs.View.{items_of, view};
 ghost use Rattle.dds_json.specs.Line.{line_of};
 ghost use Rattle.dds_findings.specs.Documents.{explanation_document, finding_document, findings_document};
 ghost use Rattle.dds_findings.specs.Documents.{place_document};
+ghost use Rattle.dds_findings.specs.Answers.{is_clean};
 
+use crate::answer::{Deny, is_clean};
 use crate::block::{FileNames, errors_of, file_name, notes_of};
 use crate::finding::Finding;
 use dds_base::NoMemory;
@@ -48,27 +50,38 @@ fn explanation_document(alloc: Global, finding: &Finding) -> Result<Value, NoMem
     json!(in alloc; {"details": details, "help": help})
 }
 
-/// A finding.
-fn finding_document(alloc: Global, names: &FileNames, finding: &Finding) -> Result<Value, NoMemory>
-    ensures { IfOk result (λ v. view v ≡ finding_document names.now finding.now) }
+/// A finding, and whether it makes the answer no.
+fn finding_document(
+    alloc: Global,
+    names: &FileNames,
+    deny: &Deny,
+    finding: &Finding,
+) -> Result<Value, NoMemory>
+    ensures { IfOk result (λ v. view v ≡ finding_document names.now deny.now finding.now) }
 {
+    let denied = finding.about.is_denied(deny);
     let explanation = explanation_document(alloc, finding)?;
     let place = place_document(alloc, names, finding)?;
     let level = finding.about.level().word();
     let name = finding.name;
     let message = finding.message.as_str();
     json!(in alloc; {
-        "level": level, "name": name, "message": message, "place": place, "explanation": explanation
+        "denied": denied, "level": level, "name": name, "message": message, "place": place, "explanation": explanation
     })
 }
 
 /// The findings, in their order.
-fn findings_array(alloc: Global, names: &FileNames, findings: &[Finding]) -> Result<Value, NoMemory>
-    ensures { IfOk result (λ v. view v ≡ array (items_of (map (finding_document names.now) findings.now))) }
+fn findings_array(
+    alloc: Global,
+    names: &FileNames,
+    deny: &Deny,
+    findings: &[Finding],
+) -> Result<Value, NoMemory>
+    ensures { IfOk result (λ v. view v ≡ array (items_of (map (finding_document names.now deny.now) findings.now))) }
 {
     let mut documents = Vec::new(alloc);
     for finding in findings {
-        documents.push(finding_document(alloc, names, finding)?)?;
+        documents.push(finding_document(alloc, names, deny, finding)?)?;
     }
     Ok(Value::Array(documents))
 }
@@ -78,12 +91,13 @@ fn findings_document(
     alloc: Global,
     names: &FileNames,
     findings: &[Finding],
-    is_yes: bool,
+    deny: &Deny,
 ) -> Result<Value, NoMemory>
-    ensures { IfOk result (λ v. view v ≡ findings_document names.now findings.now is_yes) }
+    ensures { IfOk result
+        (λ v. view v ≡ findings_document names.now deny.now findings.now (is_clean deny.now findings.now)) }
 {
-    let documents = findings_array(alloc, names, findings)?;
-    let answer = answer_word(is_yes);
+    let documents = findings_array(alloc, names, deny, findings)?;
+    let answer = answer_word(is_clean(deny, findings));
     let errors = errors_of(findings);
     let notes = notes_of(findings);
     json!(in alloc;
@@ -96,11 +110,12 @@ pub(crate) fn findings_line(
     alloc: Global,
     names: &FileNames,
     findings: &[Finding],
-    is_yes: bool,
+    deny: &Deny,
 ) -> Result<String, NoMemory>
     ensures { IfOk result
-        (λ text. string_bytes text ≡ line_of (findings_document names.now findings.now is_yes)) }
+        (λ text. string_bytes text
+        ≡ line_of (findings_document names.now deny.now findings.now (is_clean deny.now findings.now))) }
 {
-    let document = findings_document(alloc, names, findings, is_yes)?;
+    let document = findings_document(alloc, names, findings, deny)?;
     line_of(alloc, &document)
 }

@@ -1,7 +1,9 @@
 //! A finding: what it is about, what it says, and where it is.
 ghost use Rattle.std.specs.Prelude.{◌≡◌};
-ghost use Rattle.dds_findings.specs.Findings.{is_denied_note, level_of, level_word};
+ghost use Rattle.dds_findings.specs.Findings.{is_denied, is_of_kind, level_of, level_word};
 
+use crate::answer::Deny;
+use crate::kinds::NoteKind;
 use crate::spot::Spot;
 use dds_check::No;
 use dds_lint::Note;
@@ -62,15 +64,23 @@ impl About {
         }
     }
 
-    /// Whether it's a note that is denied where notes are: not one that says of a reader what its deployment says
-    /// itself, nor one on a rule for what is written so often and no more, which may be meant.
-    pub fn is_denied_note(self) -> bool
-        ensures { result ≡ is_denied_note self }
+    /// Whether it makes the answer no: each error does.
+    pub fn is_denied(self, deny: &Deny) -> bool
+        ensures { result ≡ is_denied deny.now self }
     {
         match self {
-            About::Note(Note::MayLose(_) | Note::Finite(_)) => false,
+            About::Fault | About::Condition(_) => true,
+            About::Note(note) => deny.denies(NoteKind::of(note)),
+        }
+    }
+
+    /// Whether it's a note of this kind.
+    pub(crate) fn is_of_kind(self, kind: NoteKind) -> bool
+        ensures { result ≡ is_of_kind kind self }
+    {
+        match self {
             About::Fault | About::Condition(_) => false,
-            About::Note(_) => true,
+            About::Note(note) => kind.is_same(NoteKind::of(note)),
         }
     }
 }

@@ -4,35 +4,13 @@ ghost use Rattle.dds_findings.specs.declared.finding.About.TheVariants as about;
 
 use crate::conditions::{Spotted, rule_entry};
 use crate::finding::{About, Finding, Role};
+use crate::kinds::NoteKind;
 use crate::linting::{Files, Judged};
 use dds_base::{NoMemory, RuleNo};
 use dds_explain::note_text;
 use dds_lint::Note;
 use dds_lists::Deployment;
 use std::alloc::Global;
-
-/// The name of a kind of note.
-fn name_of(note: Note) -> &'static str {
-    match note {
-        Note::Watcher(_) => "Watcher",
-        Note::MayLose(_) => "MayLose",
-        Note::Unlimited(_) => "Unlimited",
-        Note::IdleLimit(_) => "IdleLimit",
-        Note::UnwrittenKey { .. } => "UnwrittenKey",
-        Note::IdleWriter(_) => "IdleWriter",
-        Note::NoRules => "NoRules",
-        Note::NoStart => "NoStart",
-        Note::NoStrictReader => "NoStrictReader",
-        Note::StuckRule(_) => "StuckRule",
-        Note::Finite(_) => "Finite",
-        Note::Endless { .. } => "Endless",
-        Note::LossyTake(_) => "LossyTake",
-        Note::UnusedRow(_) => "UnusedRow",
-        Note::NeedlessBound(_) => "NeedlessBound",
-        Note::NeedlessTotal(_) => "NeedlessTotal",
-        Note::HeldUp { .. } => "HeldUp",
-    }
-}
 
 /// What would be right for a rule that can never fire once its start is used up.
 fn stuck_help(lists: &Deployment, rule: RuleNo) -> &'static str {
@@ -76,7 +54,7 @@ fn help_of(lists: &Deployment, note: Note) -> &'static str {
             "where none may be lost, a reader has `reliability = \"RELIABLE\"` and no `may_lose`",
         Note::StuckRule(rule) => stuck_help(lists, rule),
         Note::Finite(_) =>
-            "right if that's all it ever writes; else say in `takes` what it waits for",
+            "right if that's all it ever writes, once its readers have matched; else say in `takes` what it waits for",
         Note::Endless { .. } =>
             "let the reader lose samples with `may_lose = true`, or let the rule take something before it writes again",
         Note::LossyTake(_) =>
@@ -145,7 +123,7 @@ pub(crate) fn note(
     let place = place_of(alloc, files, judged, *note)?;
     Ok(Finding {
         about: About::Note(*note),
-        name: name_of(*note),
+        name: NoteKind::of(*note).name(),
         role: place.role,
         path: place.path,
         message,

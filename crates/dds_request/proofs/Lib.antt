@@ -1,4 +1,6 @@
 mod FateLists
 mod Helps
+mod KindLists
 mod Numbers
 mod Requested
+mod WordLists

@@ -13,8 +13,12 @@ use Rattle.dds_answers.specs.declared.report.Detail.{Detail}
 use Rattle.dds_answers.specs.declared.report.Detail.TheVariants.{Plain, Explained}
 use Rattle.dds_json.specs.declared.style.Style.{Style}
 use Rattle.dds_json.specs.declared.style.Style.TheVariants as style
+use Rattle.dds_findings.specs.Kinds.{AreKinds, kinds_text}
+use Rattle.dds_findings.specs.declared.answer.Deny.{Deny}
+use Rattle.dds_findings.specs.declared.answer.Deny.TheVariants as deny
+use Rattle.dds_findings.specs.declared.kinds.NoteKind.{NoteKind}
 use Rattle.dds_request.specs.Command.{whole}
-use Rattle.dds_request.specs.Wishes.{deny_word, fates_text, form_word, format_word, style_word}
+use Rattle.dds_request.specs.Wishes.{fates_text, form_word, format_word, style_word}
 use Rattle.dds_request.specs.declared.wishes.Wishes.{Wishes}
 use Rattle.dds_request.specs.declared.request.Comparison.{Comparison}
 use Rattle.dds_request.specs.declared.request.Comparison.TheVariants.{Pairs, Connections}
@@ -88,6 +92,16 @@ Wants rows wishes =
     AreFates wishes.fates × (first_of (codes "fates") rows ≡ Some (fates_text wishes.fates)) × Counts rows (codes "writes") wishes.writes × Counts rows (codes "takes") wishes.takes
     × (good_of rows ≡ wishes.good) × (detail_of rows ≡ wishes.detail)
 
+-- the kinds of notes that are let pass by this text: none where it isn't given
+abbrev pub LetsPass : Option Text → List NoteKind → Type 0
+LetsPass None kinds = kinds ≡ []
+LetsPass (Some text) kinds = AreKinds kinds × (text ≡ kinds_text kinds)
+
+-- the arguments deny this: they let kinds of notes pass only where they deny notes
+abbrev pub Denies : List Row → Deny → Type 0
+Denies rows deny.Errors = (first_of (codes "deny") rows ≡ Some (codes "errors")) × (first_of (codes "allow") rows ≡ None)
+Denies rows (deny.Notes allowed) = (first_of (codes "deny") rows ≡ Some (codes "notes")) × LetsPass (first_of (codes "allow") rows) allowed
+
 -- ── commands
 -- the name of the command on a deployment alone
 abbrev pub name_of_task : Task → Text
@@ -112,7 +126,7 @@ AskForTask rows (task.Limits what seconds style) = (sizing_of rows ≡ what) × 
 AskForTask rows (task.Show format) = first_of (codes "format") rows ≡ Some (format_word format)
 AskForTask rows task.Draw = first_of (codes "certificate") rows ≡ None
 AskForTask rows (task.Lint form denied) =
-    (first_of (codes "certificate") rows ≡ None) × (first_of (codes "format") rows ≡ Some (form_word form)) × (first_of (codes "deny") rows ≡ Some (deny_word denied))
+    (first_of (codes "certificate") rows ≡ None) × (first_of (codes "format") rows ≡ Some (form_word form)) × Denies rows denied
 
 -- the name of the command on two files
 abbrev pub name_of_pair : PairTask → Text
@@ -139,7 +153,7 @@ AskForPair rows (pair.Run wishes style) = Wants rows wishes × IsStyled rows sty
 AskForPair rows (pair.Replay style) = IsStyled rows style
 AskForPair rows (pair.Conform style) = IsStyled rows style
 AskForPair rows pair.Draw = Unit {0}
-AskForPair rows (pair.Lint form denied) = (first_of (codes "format") rows ≡ Some (form_word form)) × (first_of (codes "deny") rows ≡ Some (deny_word denied))
+AskForPair rows (pair.Lint form denied) = (first_of (codes "format") rows ≡ Some (form_word form)) × Denies rows denied
 
 -- the name of the command that is asked for
 abbrev pub name_of : Request → Text

@@ -25,6 +25,10 @@ flag_rule id = record (new_rule id) { long = Some id; action = Some SetTrue }
 abbrev pub wish_rule : Text → Text → Rule
 wish_rule id default = record (new_rule id) { long = Some id; value_names = 1; defaults = default ∷ []; action = Some Set }
 
+-- a wish with a text that needn't be given
+abbrev pub optional_wish_rule : Text → Rule
+optional_wish_rule id = record (new_rule id) { long = Some id; value_names = 1; action = Some Set }
+
 -- a wish for the seconds of a search, a number up to 65,535, which is 60 where it isn't given
 abbrev pub seconds_rule : Rule
 seconds_rule = record (wish_rule (codes "seconds") (codes "60")) { parser = Some (Signed (pos 0) (pos 65535)) }
@@ -90,7 +94,9 @@ conforming = styled (with_rule (one_file (codes "conform")) (file_rule (codes "t
 -- the command that looks for everything that is wrong, with a certificate where one is named
 abbrev pub linting : App
 linting =
-    with_rule (with_rule (with_rule (one_file (codes "lint")) (optional_file_rule (codes "certificate"))) (wish_rule (codes "format") (codes "text"))) (wish_rule (codes "deny") (codes "errors"))
+    with_rule
+    (with_rule (with_rule (with_rule (one_file (codes "lint")) (optional_file_rule (codes "certificate"))) (wish_rule (codes "format") (codes "text"))) (wish_rule (codes "deny") (codes "errors")))
+    (optional_wish_rule (codes "allow"))
 
 -- the command by itself: it has a version, and needs a subcommand
 abbrev pub top_app : App

@@ -1,12 +1,10 @@
--- The words for formats and styles, for what is denied, and for what happens to packets.
+-- The words for formats and styles, and for what happens to packets.
 use Rattle.std.specs.Prelude.{ℕ, List, codes}
 use Rattle.std.specs.List.{join_by}
 use Rattle.dds_answers.specs.declared.format.Format.{Format}
 use Rattle.dds_answers.specs.declared.format.Format.TheVariants.{Json, DdsXml}
 use Rattle.dds_json.specs.declared.style.Style.{Style}
 use Rattle.dds_json.specs.declared.style.Style.TheVariants as style
-use Rattle.dds_findings.specs.declared.answer.Deny.{Deny}
-use Rattle.dds_findings.specs.declared.answer.Deny.TheVariants as deny
 use Rattle.dds_findings.specs.declared.answer.LintStyle.{LintStyle}
 use Rattle.dds_findings.specs.declared.answer.LintStyle.TheVariants as form
 use Rattle.dds_base.specs.declared.events.Fate.{Fate}
@@ -34,11 +32,6 @@ abbrev pub form_word : LintStyle → List ℕ
 form_word form.Text = codes "text"
 form_word form.Json = codes "json"
 form_word form.Sarif = codes "sarif"
-
--- the word for what is denied
-abbrev pub deny_word : Deny → List ℕ
-deny_word deny.Errors = codes "errors"
-deny_word deny.Notes = codes "notes"
 
 -- a list of fates: their words, with commas between them
 abbrev pub fates_text : List Fate → List ℕ

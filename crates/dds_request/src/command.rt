@@ -3,7 +3,8 @@ ghost use Rattle.std.specs.Prelude.{◌≡◌, IfOk, IsOk, OnOk, codes, false};
 ghost use Rattle.clap.specs.Words.{app_of, rule_of, with_subcommand};
 ghost use Rattle.clap.specs.declared.builder.command.Command.TheViews.{out-Command as fields_of};
 ghost use Rattle.dds_request.specs.Command.{checking, conforming, count_rule, drawing, file_rule, flag_rule, limiting};
-ghost use Rattle.dds_request.specs.Command.{linting, matching, one_file, optional_file_rule, refuting, replaying};
+ghost use Rattle.dds_request.specs.Command.{linting, matching, one_file, optional_file_rule, optional_wish_rule};
+ghost use Rattle.dds_request.specs.Command.{refuting, replaying};
 ghost use Rattle.dds_request.specs.Command.{running, searching, seconds_rule, showing, styled, top_app, two_files};
 ghost use Rattle.dds_request.specs.Command.{whole, wish_rule, wishing};
 
@@ -80,6 +81,9 @@ const FORM: &str = "text, json or sarif";
 /// What help says of what is denied.
 const DENY: &str = "What makes the answer no: errors or notes";
 
+/// What help says of what is let pass.
+const ALLOW: &str = "Names of notes that --deny notes lets pass, with commas between them";
+
 /// What help says of the argument that names a file of events.
 const EVENTS: &str = "Events, a line each, as refute prints them";
 
@@ -122,6 +126,17 @@ fn wish<'a>(alloc: Global, id: &'a str, value: &'a str, default: &'a str, help: 
         .long(id)
         .value_name(value)
         .default_value(default)
+        .help(help)
+        .action(ArgAction::Set)
+}
+
+fn optional_wish<'a>(alloc: Global, id: &'a str, value: &'a str, help: &'a str) -> Arg<'a>
+    ensures rule { rule_of result ≡ optional_wish_rule id.entry.now }
+    ensures local { result.global ≡ false }
+{
+    Arg::new(alloc, id)
+        .long(id)
+        .value_name(value)
         .help(help)
         .action(ArgAction::Set)
 }
@@ -323,7 +338,8 @@ fn lint_command<'a>(alloc: Global) -> Result<Command<'a>, NoMemory>
     )?
     .arg(optional_file(alloc, "certificate", LINTED_CERTIFICATE))?
     .arg(wish(alloc, "format", "FORMAT", "text", FORM))?
-    .arg(wish(alloc, "deny", "WHAT", "errors", DENY))
+    .arg(wish(alloc, "deny", "WHAT", "errors", DENY))?
+    .arg(optional_wish(alloc, "allow", "NOTES", ALLOW))
 }
 
 fn migrate_command<'a>(alloc: Global) -> Result<Command<'a>, NoMemory>

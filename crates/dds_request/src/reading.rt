@@ -5,21 +5,23 @@ ghost use Rattle.clap.specs.Words.{Text, first_of, found_of, kind_of, rows_of, s
 ghost use Rattle.clap.specs.Words.{takes};
 ghost use Rattle.dds_answers.specs.declared.format.Format.{Format};
 ghost use Rattle.dds_json.specs.declared.style.Style.{Style};
-ghost use Rattle.dds_request.specs.Asking.{AreRefused, AskForHelp, Asks, Counts, IsHelp, IsHelpKind, IsStyled};
-ghost use Rattle.dds_request.specs.Asking.{Misses, NamesBoth, NamesStyled, Reads, Wants, comparison_of, detail_of};
-ghost use Rattle.dds_request.specs.Asking.{good_of, is_input_twice, is_printed, is_set, sizing_of};
+ghost use Rattle.dds_request.specs.Asking.{AreRefused, AskForHelp, Asks, Counts, Denies, IsHelp, IsHelpKind};
+ghost use Rattle.dds_request.specs.Asking.{IsStyled, LetsPass, Misses, NamesBoth, NamesStyled, Reads, Wants};
+ghost use Rattle.dds_request.specs.Asking.{comparison_of, detail_of, good_of, is_input_twice, is_printed, is_set};
+ghost use Rattle.dds_request.specs.Asking.{sizing_of};
 ghost use Rattle.dds_findings.specs.declared.answer.Deny.{Deny as DenyView};
 ghost use Rattle.dds_findings.specs.declared.answer.LintStyle.{LintStyle as LintStyleView};
+ghost use Rattle.dds_findings.specs.declared.kinds.NoteKind.{NoteKind};
 ghost use Rattle.dds_request.specs.Command.{whole};
-ghost use Rattle.dds_request.specs.Wishes.{deny_word, form_word, format_word};
+ghost use Rattle.dds_request.specs.Wishes.{form_word, format_word};
 
 use crate::command::whole_command;
 use crate::request::{Comparison, NoRequest, PairTask, Request, Sizing, Task};
-use crate::wishes::{Wishes, read_deny, read_fates, read_form, read_format, read_style};
+use crate::wishes::{Wishes, read_fates, read_form, read_format, read_kinds, read_style};
 use clap::ArgMatches;
 use clap::error::ErrorKind;
 use dds_answers::{Detail, Format};
-use dds_findings::{Deny, LintStyle};
+use dds_findings::{AllowedKinds, Deny, LintStyle};
 use dds_json::Style;
 use dds_recap::GoodEnds;
 use std::alloc::Global;
@@ -43,8 +45,9 @@ const PLAIN_CONNECTIONS: &str = "error: --connections has no JSON format\n";
 /// The message for a word that is no form of findings.
 const WRONG_FORM: &str = "error: the format is text, json or sarif\n";
 
-/// The message for a word that denies nothing.
-const WRONG_DENY: &str = "error: what is denied is errors or notes\n";
+/// The message for words that deny nothing.
+const WRONG_DENY: &str =
+    "error: --deny takes errors or notes, and beside notes --allow takes names of notes, with commas between them\n";
 
 /// The message for seconds that are no number.
 const WRONG_SECONDS: &str = "error: the seconds are a number\n";
@@ -400,14 +403,28 @@ fn form(matches: &ArgMatches) -> Option<LintStyle>
     read_form(argument(matches, "format")?)
 }
 
-/// What is denied, or `None` where the word stands for nothing.
-fn deny(matches: &ArgMatches) -> Option<Deny>
-    ensures some { IfSome result
-        (λ deny. first_of (codes "deny") (rows_of (found_of matches.now)) ≡ Some (deny_word deny)) }
-    ensures none { IfNone result ((deny : DenyView)
-        → first_of (codes "deny") (rows_of (found_of matches.now)) ≡ Some (deny_word deny) → ⊥) }
+/// The kinds of notes that are let pass, or `None` where the text is no list of them.
+fn allowed_kinds(matches: &ArgMatches) -> Option<AllowedKinds>
+    ensures some { IfSome result (LetsPass (first_of (codes "allow") (rows_of (found_of matches.now)))) }
+    ensures none { IfNone result ((kinds : List NoteKind)
+        → LetsPass (first_of (codes "allow") (rows_of (found_of matches.now))) kinds → ⊥) }
 {
-    read_deny(argument(matches, "deny")?)
+    match argument(matches, "allow") {
+        Some(text) => read_kinds(text),
+        None => Some(AllowedKinds::none()),
+    }
+}
+
+/// What is denied, or `None` where the words stand for nothing.
+fn deny(matches: &ArgMatches) -> Option<Deny>
+    ensures some { IfSome result (Denies (rows_of (found_of matches.now))) }
+    ensures none { IfNone result ((deny : DenyView) → Denies (rows_of (found_of matches.now)) deny → ⊥) }
+{
+    match (argument(matches, "deny")?, argument(matches, "allow")) {
+        ("errors", None) => Some(Deny::Errors),
+        ("notes", _) => Some(Deny::Notes(allowed_kinds(matches)?)),
+        _ => None,
+    }
 }
 
 fn lint_request<'a>(alloc: Global, matches: &ArgMatches<'a>) -> Result<Request<'a>, NoRequest>

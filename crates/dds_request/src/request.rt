@@ -44,7 +44,7 @@ pub enum Request<'a> {
 }
 
 /// What is asked for of a deployment alone.
-#[derive(Clone, Copy, Debug, PartialEq, Eq)]
+#[derive(Drop)]
 pub enum Task {
     /// Which endpoints match, or the connections that these pairs would be.
     Match {

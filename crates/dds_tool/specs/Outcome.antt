@@ -43,7 +43,7 @@ end_of names style (outcome.Sized plan report) = limits_end style plan report
 end_of names style (outcome.Shown lists format) = end.shown format lists
 end_of names style (outcome.Drawn plan cert) = end.drawn plan (option_map certificate_view cert)
 end_of names style (outcome.Linted found form denied) =
-    end.said (findings_text form names found.items (is_clean denied found.items)) (is_clean denied found.items)
+    end.said (findings_text form names denied found.items) (is_clean denied found.items)
 end_of names style (outcome.Ran plan journal ends good detail) = ran good detail style plan journal ends.items
 end_of names style (outcome.Replayed plan events replies) = end.said (told_replay style plan events.items replies.items) true
 end_of names style (outcome.Conformed plan conformance) = end.said (told_conformance style plan conformance) (is_kept conformance)

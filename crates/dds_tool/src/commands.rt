@@ -86,9 +86,10 @@ fn answer_task<C: Clock>(
     ensures gives { GivesOneOf (MayEnd task file.now.name.now file.now.bytes.now) result }
     ensures fault { IfErr result IsAnswerFault }
 {
+    let style = task.style();
     let names = names_of(file, None);
     match find_outcome(rt, alloc, file.bytes, task) {
-        Ok(outcome) => render(alloc, outcome, &names, task.style()),
+        Ok(outcome) => render(alloc, outcome, &names, style),
         Err(fault) => Err(fault),
     }
 }

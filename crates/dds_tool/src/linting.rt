@@ -44,9 +44,8 @@ pub(crate) fn answer_lint(
     deny: Deny,
 ) -> Result<Answer, ToolFault>
     ensures gives { Gives result
-        (said (findings_text form names.now findings.items (is_clean deny findings.items))
-        (is_clean deny findings.items)) }
+        (said (findings_text form names.now deny findings.items) (is_clean deny findings.items)) }
     ensures memory { IfErr result (λ e. e ≡ ToolFault.NoMemory) }
 {
-    answer_findings(alloc, names, findings.as_slice(), form, deny)
+    answer_findings(alloc, names, findings.as_slice(), form, &deny)
 }

@@ -1,7 +1,8 @@
 use Rattle.std.proofs.Common.{◌∙◌, ap}
 use Rattle.serde_json.specs.Written.{has_float}
+use Rattle.dds_findings.specs.Answers.{is_clean}
 use Rattle.dds_findings.proofs.Plain.{findings_plain}
 use Rattle.dds_findings.proofs.document.findings_line.Goals as goal
 
 pub line_of-requires : goal.line_of-requires
-line_of-requires c = ap has_float c.in_ok-document.ensures ∙ findings_plain c.args.names.now c.args.findings.now c.args.is_yes
+line_of-requires c = ap has_float c.in_ok-document.ensures ∙ findings_plain c.args.names.now c.args.deny.now c.args.findings.now (is_clean c.args.deny.now c.args.findings.now)

@@ -2,7 +2,9 @@ use Rattle.std.proofs.Common.{◌∙◌, lit<, length, take, arith, IfNone, Opti
 use Rattle.std.proofs.lemmas.Iterator.Consumers.{YieldsList-turn, YieldsList-end}
 use Rattle.std.proofs.lemmas.Iterator.Splits.{YieldsList-from_str_split}
 use Rattle.std.proofs.lemmas.List.{length-set, length-take-le, length_push, take_all}
-use Rattle.dds_request.proofs.FateLists.{all_read, no_fate, none_read, one_more, parts_of, too_many}
+use Rattle.dds_request.specs.Wishes.{fate_word}
+use Rattle.dds_request.proofs.FateLists.{all_read, no_fate, none_read, too_many_fates}
+use Rattle.dds_request.proofs.WordLists.{one_more, parts_of}
 use Rattle.dds_request.proofs.wishes.read_fates.Goals as goal
 
 always : {X : Type 0} (P : Type 0) (r : Option X) → P → IfNone r P
@@ -12,7 +14,7 @@ always P (Some x) h = tt
 pub returns-then-count-eq-MOST-clause-none : goal.returns-then-count-eq-MOST-clause-none
 returns-then-count-eq-MOST-clause-none c =
     let t = YieldsList-turn (YieldsList-from_str_split {s = c.into_iter-word-iterator.result} 44 c.args.text.now (lit< tt) (cc) (cc) (cc)) c.loop-word.yielded _ c.loop-word.yielded_by _ _ c.in-Some.word c.in-Some.is c.next.ensures.steps in
-    too_many c.args.text.now (length c.loop-word.yielded) (sym c.loop-word.invariant.0 ∙ c.if-count-eq-MOST.true) t.0
+    too_many_fates c.args.text.now (length c.loop-word.yielded) (sym c.loop-word.invariant.0 ∙ c.if-count-eq-MOST.true) t.0
 
 pub returns-in_err-fates-clause-none : goal.returns-in_err-fates-clause-none
 returns-in_err-fates-clause-none c =
@@ -29,7 +31,7 @@ loop-word-preserved c =
       omega (arith, n, same),
       omega (arith, small, c.if-count-eq-MOST.false),
       length-set c.loop-word.fates c.loop-word.count c.in_ok-fates.field-0 ∙ all,
-      one_more c.loop-word.fates (parts_of c.args.text.now) c.loop-word.count c.in_ok-fates.field-0 c.in-Some.word.now (omega (arith, small, all, c.if-count-eq-MOST.false)) (omega (arith, same, t.0))
+      one_more fate_word c.loop-word.fates (parts_of c.args.text.now) c.loop-word.count c.in_ok-fates.field-0 c.in-Some.word.now (omega (arith, small, all, c.if-count-eq-MOST.false)) (omega (arith, same, t.0))
           (rw same t.1) c.in_ok-fates.ensures.some c.loop-word.invariant.3,
     )
 

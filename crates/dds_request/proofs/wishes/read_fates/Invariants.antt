@@ -1,6 +1,6 @@
 use Rattle.std.proofs.Common.{◌≡◌, ◌≤◌, length, map, take}
 use Rattle.dds_request.specs.Wishes.{fate_word}
-use Rattle.dds_request.proofs.FateLists.{parts_of}
+use Rattle.dds_request.proofs.WordLists.{parts_of}
 use Rattle.dds_request.proofs.wishes.read_fates.Given as goal
 
 -- the first so many fates are those of the first so many parts

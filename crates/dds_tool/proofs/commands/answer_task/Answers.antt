@@ -12,8 +12,8 @@ render-requires g c = (c.in-Ok.ensures.comes c.args.file.now.name.now).0
 pub returns-in-Ok-clause-gives : goal.returns-in-Ok-clause-gives
 returns-in-Ok-clause-gives g c =
     let name = c.args.file.now.name.now in
-    task_gives (names_of name None) c.names_of-names.result (style_of_task c.args.task) c.style.result (MayEnd c.args.task name c.args.file.now.bytes.now) c.in-Ok.outcome c.render.result
-    c.names_of-names.ensures c.style.ensures (c.in-Ok.ensures.comes name) c.render.ensures.gives
+    task_gives (names_of name None) c.names_of-names.result (style_of_task c.args.task) c.style-style.result (MayEnd c.args.task name c.args.file.now.bytes.now) c.in-Ok.outcome c.render.result
+    c.names_of-names.ensures c.style-style.ensures (c.in-Ok.ensures.comes name) c.render.ensures.gives
 
 pub returns-in-Ok-clause-fault : goal.returns-in-Ok-clause-fault
 returns-in-Ok-clause-fault g c = memory_fault c.render.result c.render.ensures.memory

@@ -10,6 +10,6 @@ returns-clause-gives c =
     let denied = c.args.deny in
     let names = c.args.names.now in
     let r = c.answer_findings.result in
-    let text = subst (λ (xs : List Finding). IfOk r (λ a. string_bytes a.text ≡ findings_text c.args.form names xs (is_clean denied xs))) c.as_slice.ensures.value c.answer_findings.ensures.text in
+    let text = subst (λ (xs : List Finding). IfOk r (λ a. string_bytes a.text ≡ findings_text c.args.form names denied xs)) c.as_slice.ensures.value c.answer_findings.ensures.text in
     let yes = subst (λ (xs : List Finding). IfOk r (λ a. a.is_yes ≡ is_clean denied xs)) c.as_slice.ensures.value c.answer_findings.ensures.yes in
-    said_gives (findings_text c.args.form names found (is_clean denied found)) (is_clean denied found) r text yes c.answer_findings.ensures.memory
+    said_gives (findings_text c.args.form names denied found) (is_clean denied found) r text yes c.answer_findings.ensures.memory

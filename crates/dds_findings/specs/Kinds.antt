@@ -1,0 +1,75 @@
+-- The kinds of notes, by name, and those that are let pass.
+use Rattle.std.specs.Prelude.{ℕ, ◌<◌, ◌≤◌, Bool, true, false, List, [], ◌∷◌, codes, length}
+use Rattle.std.specs.List.{join_by, list_any}
+use Rattle.std.specs.Str.{bytes_eq}
+use Rattle.dds_lint.specs.declared.notes.Note.{Note}
+use Rattle.dds_lint.specs.declared.notes.Note.TheVariants as note
+use Rattle.dds_findings.specs.declared.kinds.NoteKind.{NoteKind}
+use Rattle.dds_findings.specs.declared.kinds.NoteKind.TheVariants as kind
+
+-- the kind of a note
+abbrev pub kind_of : Note → NoteKind
+kind_of (note.Watcher r) = kind.Watcher
+kind_of (note.MayLose r) = kind.MayLose
+kind_of (note.Unlimited r) = kind.Unlimited
+kind_of (note.IdleLimit r) = kind.IdleLimit
+kind_of (note.UnwrittenKey t k) = kind.UnwrittenKey
+kind_of (note.IdleWriter w) = kind.IdleWriter
+kind_of note.NoRules = kind.NoRules
+kind_of note.NoStart = kind.NoStart
+kind_of note.NoStrictReader = kind.NoStrictReader
+kind_of (note.StuckRule u) = kind.StuckRule
+kind_of (note.Finite u) = kind.Finite
+kind_of (note.Endless r u) = kind.Endless
+kind_of (note.LossyTake u) = kind.LossyTake
+kind_of (note.UnusedRow i) = kind.UnusedRow
+kind_of (note.NeedlessBound i) = kind.NeedlessBound
+kind_of (note.NeedlessTotal i) = kind.NeedlessTotal
+kind_of (note.HeldUp w r) = kind.HeldUp
+
+-- its name
+abbrev pub kind_word : NoteKind → List ℕ
+kind_word kind.Watcher = codes "Watcher"
+kind_word kind.MayLose = codes "MayLose"
+kind_word kind.Unlimited = codes "Unlimited"
+kind_word kind.IdleLimit = codes "IdleLimit"
+kind_word kind.UnwrittenKey = codes "UnwrittenKey"
+kind_word kind.IdleWriter = codes "IdleWriter"
+kind_word kind.NoRules = codes "NoRules"
+kind_word kind.NoStart = codes "NoStart"
+kind_word kind.NoStrictReader = codes "NoStrictReader"
+kind_word kind.StuckRule = codes "StuckRule"
+kind_word kind.Finite = codes "Finite"
+kind_word kind.Endless = codes "Endless"
+kind_word kind.LossyTake = codes "LossyTake"
+kind_word kind.UnusedRow = codes "UnusedRow"
+kind_word kind.NeedlessBound = codes "NeedlessBound"
+kind_word kind.NeedlessTotal = codes "NeedlessTotal"
+kind_word kind.HeldUp = codes "HeldUp"
+
+-- all kinds, in the order in which notes come
+abbrev pub all_kinds : List NoteKind
+all_kinds =
+    kind.Watcher ∷ kind.MayLose ∷ kind.Unlimited ∷ kind.IdleLimit ∷ kind.Endless ∷ kind.UnwrittenKey ∷ kind.IdleWriter ∷ kind.NoRules ∷ kind.NoStart ∷ kind.NoStrictReader
+    ∷ kind.StuckRule ∷ kind.Finite ∷ kind.LossyTake ∷ kind.UnusedRow ∷ kind.NeedlessBound ∷ kind.NeedlessTotal ∷ kind.HeldUp ∷ []
+
+-- two kinds have one name, so that they are the same
+abbrev pub is_same : NoteKind → NoteKind → Bool
+is_same k l = bytes_eq (kind_word k) (kind_word l)
+
+-- a kind is one of these
+abbrev pub has_kind : List NoteKind → NoteKind → Bool
+has_kind kinds k = list_any (λ l. is_same l k) kinds
+
+-- how many kinds there are
+abbrev pub kind_count : ℕ
+kind_count = 17
+
+-- there are some of them, and no more than there are kinds
+pub record AreKinds (kinds : List NoteKind) : Type 0 where
+  pub some : 0 < length kinds
+  pub few : length kinds ≤ kind_count
+
+-- a list of kinds: their names, with commas between them
+abbrev pub kinds_text : List NoteKind → List ℕ
+kinds_text kinds = join_by kind_word (codes ",") kinds
