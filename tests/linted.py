@@ -9,7 +9,7 @@
   has the line and the columns of that reading.
 - Of each worked deployment and certificate `lint` finds an error exactly where `check` says other than yes, and the first error's name is the one that `check` gives.
 - Each vacuous system of tests/commands/data/vacuous, which gets a yes, by its own certificate or by an empty one, has the note that its name asks for.
-  With --deny notes all its kinds of notes but MayLose make the answer no, and with --allow all but the one that is named.
+  With --deny notes all its notes but MayLose make the answer no, with --deny all that too, and with --allow all but the kind or the one note that is named.
 - SARIF documents have the members of version 2.1.0 that code hosts read, and each names its file by the URI reference that Python makes of the path.
 - A file of 1 MiB with 10,000 faults is answered within a second.
 The last line is 'N passed, M failed'.
@@ -159,25 +159,48 @@ def vacuous(file):
         return f"has no note {wanted}: {[one['name'] for one in findings or []]}"
     if given.status != 0:
         return f"has status {given.status}"
-    return denied(file, certificate, sorted({one["name"] for one in findings if one["name"] != "MayLose"}))
+    return denied(file, certificate, findings)
+
+
+def word_of(finding):
+    """The word by which `--allow` lets the note of a finding pass."""
+    return finding["name"] + (f":{finding['subject']}" if finding["subject"] else "")
+
+
+def words_of(findings):
+    """The words of findings, once for each row of one kind at one place."""
+    rows = [one for at, one in enumerate(findings) if at == 0 or place_of(findings[at - 1]) != place_of(one)]
+    return [word_of(one) for one in rows]
+
+
+def place_of(finding):
+    return finding["name"], finding["place"]["path"]
 
 
 def denied_in(text):
-    """The kinds of notes of which an answer says that they make it no."""
-    return sorted(re.findall(r"(?m)^denied: (\w+) ", text))
+    """The words of the notes of which an answer says that they make it no."""
+    return re.findall(r"(?m)^denied: (\S+) \(if that's meant, `--allow \1` lets it pass\)$", text)
 
 
-def denied(file, certificate, kinds):
-    """What is wrong with what --deny notes makes of a system that has notes of these kinds and of MayLose alone, if anything is."""
-    given = ddscheck("lint", file, certificate, "--deny", "notes")
-    if given.status != (1 if kinds else 0) or denied_in(given.out) != kinds:
-        return f"--deny notes answers {given}"
-    for at, kind in enumerate(kinds):
-        others = kinds[:at] + kinds[at + 1 :]
-        given = ddscheck("lint", file, certificate, "--deny", "notes", "--allow", kind)
-        if given.status != (1 if others else 0) or denied_in(given.out) != others:
-            return f"--allow {kind} answers {given}"
+def wrong_denial(file, certificate, options, findings):
+    """What is wrong with the answer with these options, by which just these findings make it no, if anything is."""
+    given = ddscheck("lint", file, certificate, *options)
+    if given.status != (1 if findings else 0) or denied_in(given.out) != words_of(findings):
+        return f"{' '.join(options)} answers {given}"
     return None
+
+
+def denied(file, certificate, findings):
+    """What is wrong with what --deny and --allow make of a system that has these findings, notes all, if anything is."""
+    strict = [one for one in findings if one["name"] != "MayLose"]
+    kinds = sorted({one["name"] for one in findings})
+    words = sorted({word_of(one) for one in findings})
+    tried = [(["--deny", "notes"], strict), (["--deny", "all"], findings)]
+    tried += [(["--deny", "all", "--allow", kind], [one for one in findings if one["name"] != kind]) for kind in kinds]
+    tried += [(["--deny", "all", "--allow", word], [one for one in findings if word_of(one) != word and one["name"] != word]) for word in words]
+    tried += [(["--deny", "notes", "--allow", ",".join(words)], [])]
+    tried += [(["--deny", "notes", "--allow", f"{kind}:nobody"], strict) for kind in kinds]
+    return next((why for options, left in tried if (why := wrong_denial(file, certificate, options, left))), None)
 
 
 def sarif_members(file, cwd=DATA):

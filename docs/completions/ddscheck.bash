@@ -12,7 +12,7 @@ _ddscheck() {
     "limits --format") COMPREPLY=($(compgen -W "text json" -- "$word")); return ;;
     "conform --format") COMPREPLY=($(compgen -W "text json" -- "$word")); return ;;
     "lint --format") COMPREPLY=($(compgen -W "text json sarif" -- "$word")); return ;;
-    "lint --deny") COMPREPLY=($(compgen -W "errors notes" -- "$word")); return ;;
+    "lint --deny") COMPREPLY=($(compgen -W "errors notes all" -- "$word")); return ;;
     esac
     if [ "$COMP_CWORD" = 1 ]; then
         COMPREPLY=($(compgen -W "match check propose run migrate show draw refute replay limits conform lint help -h --help -V --version" -- "$word"))

@@ -96,8 +96,8 @@ _ddscheck() {
                 '2:trace:_files -g "*.toml"' ;;
             lint) _arguments \
                 '--format[text, json or sarif \[default: text\]]:FORMAT:(text json sarif)' \
-                '--deny[What makes the answer no: errors or notes \[default: errors\]]:WHAT:(errors notes)' \
-                '--allow[Names of notes that --deny notes lets pass, with commas between them]:NOTES:()' \
+                '--deny[What makes the answer no: errors, notes or all \[default: errors\]]:WHAT:(errors notes all)' \
+                '--allow[Notes that pass all the same, with commas between them: Finite, or Finite:RULE for one rule]:NOTES:()' \
                 '-h[Print help]' \
                 '--help[Print help]' \
                 '1:deployment:_files -g "*.toml"' \

@@ -2,6 +2,7 @@
 use Rattle.std.specs.Prelude.{ℕ, Bool, false, ◌==◌, if◌then◌else◌, codes, List, [], ◌++◌, flat_map, length, slice_get}
 use Rattle.std.specs.Option.{option_map_or}
 use Rattle.dds_lists.specs.Lists.{Lists, Rule, key_name}
+use Rattle.dds_lists.specs.declared.lists.Origin.{Origin}
 use Rattle.dds_match.specs.Plan.{network_of}
 use Rattle.dds_weights.specs.Lists.{Certificate}
 use Rattle.dds_text.specs.Names.{name_at, reader_key, reader_name, rule_text, writer_name}
@@ -21,7 +22,7 @@ takes_nothing d u = option_map_or (λ (x : Rule). length x.takes == 0) (slice_ge
 abbrev pub stuck_words : Lists → ℕ → List ℕ
 stuck_words d u =
     if takes_nothing d u then rule_text d u ++ codes " takes nothing and has no start, so it never lets anything be written" else
-    rule_text d u ++ codes " can never fire: something that it takes is never written"
+    rule_text d u ++ codes " can never fire: something that it takes never comes"
 
 -- a key that no rule writes
 abbrev pub unwritten_words : Lists → ℕ → ℕ → List ℕ
@@ -56,6 +57,7 @@ note_text d c (note.Watcher r) = reader_name d r ++ codes " may miss samples, an
 note_text d c (note.MayLose r) = reader_name d r ++ codes " may miss samples, and a yes says nothing of that"
 note_text d c (note.Unlimited r) = reader_name d r ++ codes " has no limit, and no bound says how much it may store"
 note_text d c (note.IdleLimit r) = reader_name d r ++ codes " never reaches max_samples_per_instance: its depth is lower"
+note_text d c (note.IdleReader r) = codes "no sample can come to " ++ reader_name d r
 note_text d c (note.UnwrittenKey t k) = unwritten_words d t k
 note_text d c (note.IdleWriter w) = codes "no rule writes at " ++ writer_name d w
 note_text d c note.NoRules = codes "there's no rule, so nothing is ever written"
@@ -69,6 +71,31 @@ note_text d c (note.UnusedRow n) = codes "no bound and no total names row " ++ r
 note_text d c (note.NeedlessBound i) = option_map_or (bound_words d) (slice_get c.bounds i) []
 note_text d c (note.NeedlessTotal i) = option_map_or (total_words d) (slice_get c.totals i) []
 note_text d c (note.HeldUp w r) = held_up_words d w r
+
+-- the name of a rule's entry, where it stands for one rule or for several
+abbrev pub entry_name : Lists → ℕ → List ℕ
+entry_name d u = option_map_or (λ (o : Origin). name_at d.rules.names o.name) (slice_get d.rules.origins u) []
+
+-- the name of what a note is about: nothing, where it's about the whole deployment, or about an entry that has no name
+abbrev pub note_subject : Lists → Certificate → Note → List ℕ
+note_subject d c (note.Watcher r) = reader_name d r
+note_subject d c (note.MayLose r) = reader_name d r
+note_subject d c (note.Unlimited r) = reader_name d r
+note_subject d c (note.IdleLimit r) = reader_name d r
+note_subject d c (note.IdleReader r) = reader_name d r
+note_subject d c (note.UnwrittenKey t k) = name_at d.topics.names t
+note_subject d c (note.IdleWriter w) = writer_name d w
+note_subject d c note.NoRules = []
+note_subject d c note.NoStart = []
+note_subject d c note.NoStrictReader = []
+note_subject d c (note.StuckRule u) = entry_name d u
+note_subject d c (note.Finite u) = entry_name d u
+note_subject d c (note.Endless r u) = entry_name d u
+note_subject d c (note.LossyTake u) = entry_name d u
+note_subject d c (note.UnusedRow n) = row_name c n
+note_subject d c (note.NeedlessBound i) = []
+note_subject d c (note.NeedlessTotal i) = []
+note_subject d c (note.HeldUp w r) = writer_name d w
 
 -- the line of a note
 abbrev pub note_line : Lists → Certificate → Note → List ℕ

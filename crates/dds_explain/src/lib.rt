@@ -19,5 +19,5 @@ mod weights;
 
 pub use acceptance::acceptance_text;
 pub use explanation::{margins, reason};
-pub use notes::{note_lines, note_text};
+pub use notes::{note_lines, note_subject, note_text};
 pub use refusal::refusal_text;

@@ -2,9 +2,9 @@
 ghost use Rattle.std.specs.Prelude.{◌≡◌, [], IfOk, flat_map, option_map, slice_get, string_bytes};
 ghost use Rattle.std.specs.Option.{option_map_or};
 ghost use Rattle.dds_weights.specs.Views.{certificate_view};
-ghost use Rattle.dds_explain.specs.Notes.{bound_words, endless_words, finite_words, held_up_words, lossy_words};
-ghost use Rattle.dds_explain.specs.Notes.{note_line, note_lines, note_text, stuck_words, takes_nothing, total_words};
-ghost use Rattle.dds_explain.specs.Notes.{unwritten_words};
+ghost use Rattle.dds_explain.specs.Notes.{bound_words, endless_words, entry_name, finite_words, held_up_words};
+ghost use Rattle.dds_explain.specs.Notes.{lossy_words, note_line, note_lines, note_subject, note_text, stuck_words};
+ghost use Rattle.dds_explain.specs.Notes.{takes_nothing, total_words, unwritten_words};
 
 use dds_base::{KeyNo, ReaderNo, RuleNo, TopicNo, WriterNo};
 use dds_lint::{Note, all_notes};
@@ -33,7 +33,7 @@ fn stuck_words(alloc: Global, lists: &Deployment, rule: RuleNo) -> TextResult
             "{name} takes nothing and has no start, so it never lets anything be written"
         )
     } else {
-        format!(in alloc; "{name} can never fire: something that it takes is never written")
+        format!(in alloc; "{name} can never fire: something that it takes never comes")
     }
 }
 
@@ -156,6 +156,10 @@ pub fn note_text(alloc: Global, plan: &Plan, certificate: &Certificate, note: No
             let reader = reader_name(plan.lists(), reader);
             format!(in alloc; "{reader} never reaches max_samples_per_instance: its depth is lower")
         }
+        Note::IdleReader(reader) => {
+            let reader = reader_name(plan.lists(), reader);
+            format!(in alloc; "no sample can come to {reader}")
+        }
         Note::UnwrittenKey { topic, key } => unwritten_words(alloc, plan.lists(), topic, key),
         Note::IdleWriter(writer) => {
             let writer = writer_name(plan.lists(), writer);
@@ -182,6 +186,43 @@ pub fn note_text(alloc: Global, plan: &Plan, certificate: &Certificate, note: No
         Note::NeedlessBound(place) => needless_bound(alloc, plan, certificate, place),
         Note::NeedlessTotal(place) => needless_total(alloc, plan, certificate, place),
         Note::HeldUp { writer, reader } => held_up_words(alloc, plan, writer, reader),
+    }
+}
+
+/// The name of a rule's entry, where it stands for one rule or for several.
+fn entry_name(lists: &Deployment, rule: RuleNo) -> &str
+    ensures { result.now ≡ entry_name lists.now rule }
+{
+    match lists.rule_origin(rule) {
+        Some(origin) => name_at(lists.rule_names(), origin.name),
+        None => "",
+    }
+}
+
+/// The name of what a note is about: of a reader, a writer, a topic, a rule's entry or a row. Empty where it's about
+/// the whole deployment, or about a bound or a total, which have no names.
+pub fn note_subject<'a>(plan: &'a Plan, certificate: &'a Certificate, note: Note) -> &'a str
+    ensures { result.now ≡ note_subject plan.now (certificate_view certificate.now) note }
+{
+    let lists = plan.lists();
+    match note {
+        Note::Watcher(reader)
+        | Note::MayLose(reader)
+        | Note::Unlimited(reader)
+        | Note::IdleLimit(reader)
+        | Note::IdleReader(reader) => reader_name(lists, reader),
+        Note::UnwrittenKey { topic, .. } => name_at(lists.topic_names(), topic.number()),
+        Note::IdleWriter(writer) | Note::HeldUp { writer, .. } => writer_name(lists, writer),
+        Note::StuckRule(rule)
+        | Note::Finite(rule)
+        | Note::Endless { rule, .. }
+        | Note::LossyTake(rule) => entry_name(lists, rule),
+        Note::UnusedRow(row) => row_name(certificate, row),
+        Note::NoRules
+        | Note::NoStart
+        | Note::NoStrictReader
+        | Note::NeedlessBound(_)
+        | Note::NeedlessTotal(_) => "",
     }
 }
 

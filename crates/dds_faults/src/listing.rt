@@ -21,15 +21,32 @@ use dds_lists::Deployment;
 use std::alloc::Global;
 use toml::{Table, Value};
 
+// Whether a value is a list of tables, as sections are.
+fn is_section(value: &Value) -> bool {
+    let first = value.as_array().and_then(|list| list.first());
+    first.is_some_and(|one| one.as_table().is_some())
+}
+
+// Whether a field of an entry is a second list of a section that the document has already.
+fn is_second(walk: &Walk, table: &Table, key: &str) -> bool {
+    is_of_document(walk.file, key)
+        && walk.document.get(key).is_some()
+        && table.get(key).is_some_and(is_section)
+}
+
 fn help_with_fields(
     walk: &Walk,
     faults: &mut Faults,
     entry: Entry,
+    table: &Table,
     key: &str,
 ) -> Result<Option<String>, NoMemory> {
     let alloc = walk.alloc;
     if faults.are_many() {
         return Ok(None);
+    }
+    if is_second(walk, table, key) {
+        return Ok(Some(format!(in alloc; "the document has `{key}` already: join the two lists")?));
     }
     let keys = entry.fields().keys(alloc, walk.version)?;
     let list = choice(alloc, &keys, "`", " and ")?;
@@ -37,13 +54,12 @@ fn help_with_fields(
     help_with_words(walk, faults, key, &keys, "`", all.as_str())
 }
 
-fn tell_unknown_key(
+fn tell_newer_key(
     walk: &Walk,
     faults: &mut Faults,
-    entry: Entry,
     at: &Place,
     key: &str,
-    since: Option<i64>,
+    since: i64,
 ) -> Result<(), NoMemory> {
     let alloc = walk.alloc;
     let path = shown_key(alloc, key)?;
@@ -52,11 +68,26 @@ fn tell_unknown_key(
         key: path.as_str(),
     };
     let name = shown(alloc, key)?;
-    if let Some(since) = since {
-        let message = format!(in alloc; "`{name}` needs version = {since}")?;
-        return faults.add(alloc, FaultKind::UnknownKey, &at, message, None);
-    }
-    let help = help_with_fields(walk, faults, entry, key)?;
+    let message = format!(in alloc; "`{name}` needs version = {since}")?;
+    faults.add(alloc, FaultKind::UnknownKey, &at, message, None)
+}
+
+fn tell_unknown_key(
+    walk: &Walk,
+    faults: &mut Faults,
+    entry: Entry,
+    at: &Place,
+    table: &Table,
+    key: &str,
+) -> Result<(), NoMemory> {
+    let alloc = walk.alloc;
+    let path = shown_key(alloc, key)?;
+    let at = Place::Key {
+        parent: at,
+        key: path.as_str(),
+    };
+    let name = shown(alloc, key)?;
+    let help = help_with_fields(walk, faults, entry, table, key)?;
     let noun = entry.noun();
     let message = format!(in alloc; "`{name}` is no field of {noun}")?;
     faults.add(alloc, FaultKind::UnknownKey, &at, message, help)
@@ -70,12 +101,11 @@ fn check_keys(
     table: &Table,
 ) -> Result<(), NoMemory> {
     for key in table.keys() {
-        match entry.fields().find(key.as_str()) {
+        let key = key.as_str();
+        match entry.fields().find(key) {
             Some(field) if field.since <= walk.version => {}
-            Some(field) => {
-                tell_unknown_key(walk, faults, entry, at, key.as_str(), Some(field.since))?;
-            }
-            None => tell_unknown_key(walk, faults, entry, at, key.as_str(), None)?,
+            Some(field) => tell_newer_key(walk, faults, at, key, field.since)?,
+            None => tell_unknown_key(walk, faults, entry, at, table, key)?,
         }
     }
     Ok(())

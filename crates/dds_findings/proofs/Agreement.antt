@@ -1,5 +1,5 @@
 -- Errors are found exactly where the check doesn't say yes.
-use Rattle.std.proofs.Common.{ℕ, ◌≡◌, ◌∙◌, ◌||◌, ◌&&◌, Bool, true, false, not, List, [], ◌∷◌, ◌++◌, map, slice_get, Option, Some, None, is_some, Result, Ok, Err, IfOk, refl, sym, ap, ap₂, arith, cond, ◌==◌}
+use Rattle.std.proofs.Common.{ℕ, ◌≡◌, ◌∙◌, ◌||◌, ◌&&◌, Bool, true, false, not, List, [], ◌∷◌, ◌++◌, map, slice_get, string_bytes, Option, Some, None, is_some, Result, Ok, Err, IfOk, refl, sym, ap, ap₂, arith, cond, ◌==◌}
 use Rattle.std.specs.List.{list_all, list_any}
 use Rattle.std.proofs.lemmas.List.Folds.{list_any-append}
 use Rattle.dds_fields.specs.Reading.{Read}
@@ -17,7 +17,7 @@ use Rattle.dds_answers.specs.Outcome.{judged, outcome, planned, verdict}
 use Rattle.dds_answers.specs.declared.answer.Answer.{Answer}
 use Rattle.dds_findings.specs.Agreement.{AgreesWithCheck, AnswersAsCheck, has_error, says_yes}
 use Rattle.dds_findings.specs.Answers.{is_clean}
-use Rattle.dds_findings.specs.Findings.{AreFaults, IsBare, IsFound, IsJudged, IsLint, abouts, is_denied, is_denied_kind, is_error, is_fault, of_lists}
+use Rattle.dds_findings.specs.Findings.{AreFaults, IsBare, IsFound, IsJudged, IsLint, abouts, is_denied, is_denied_about, is_denied_note, is_error, is_fault, of_lists}
 use Rattle.dds_findings.specs.Kinds.{kind_of}
 use Rattle.dds_findings.specs.declared.answer.Deny.{Deny}
 use Rattle.dds_findings.specs.declared.answer.Deny.TheVariants as deny
@@ -135,29 +135,30 @@ found_as_check items d c (Err e) lint = tt
 
 -- ── the answer of lint
 -- where errors alone are denied, none is denied exactly where there's no error
-one_denied : (a : About) → is_denied deny.Errors a ≡ is_error a
-one_denied about.Fault = refl
-one_denied (about.Condition refused) = refl
-one_denied (about.Note note) = refl
+one_denied : (subject : List ℕ) (a : About) → is_denied_about deny.Errors subject a ≡ is_error a
+one_denied subject about.Fault = refl
+one_denied subject (about.Condition refused) = refl
+one_denied subject (about.Note note) = refl
 
-errors_denied : (findings : List Finding) → list_any (λ (f : Finding). is_denied deny.Errors f.about) findings ≡ has_error (abouts findings)
+errors_denied : (findings : List Finding) → list_any (is_denied deny.Errors) findings ≡ has_error (abouts findings)
 errors_denied [] = refl
-errors_denied (one ∷ findings) = ap₂ (λ a b. a || b) (one_denied one.about) (errors_denied findings)
+errors_denied (one ∷ findings) = ap₂ (λ a b. a || b) (one_denied (string_bytes one.subject) one.about) (errors_denied findings)
 
 -- each error is denied
 or_right : (a b : Bool) → (a || b) ≡ false → b ≡ false
 or_right true b h = cc
 or_right false b h = h
 
-none_step : (denied : Deny) (one : About) (rest any : Bool) → (any ≡ false → rest ≡ false) → (is_denied denied one || any) ≡ false → (is_error one || rest) ≡ false
-none_step denied about.Fault rest any step h = h
-none_step denied (about.Condition refused) rest any step h = h
-none_step denied (about.Note note) rest any step h = step (or_right (is_denied_kind denied (kind_of note)) any h)
+none_step : (denied : Deny) (subject : List ℕ) (one : About) (rest any : Bool) → (any ≡ false → rest ≡ false) → (is_denied_about denied subject one || any) ≡ false
+    → (is_error one || rest) ≡ false
+none_step denied subject about.Fault rest any step h = h
+none_step denied subject (about.Condition refused) rest any step h = h
+none_step denied subject (about.Note note) rest any step h = step (or_right (is_denied_note denied (kind_of note) subject) any h)
 
-none_denied : (denied : Deny) (findings : List Finding) → list_any (λ (f : Finding). is_denied denied f.about) findings ≡ false → has_error (abouts findings) ≡ false
+none_denied : (denied : Deny) (findings : List Finding) → list_any (is_denied denied) findings ≡ false → has_error (abouts findings) ≡ false
 none_denied denied [] h = refl
 none_denied denied (one ∷ findings) h =
-    none_step denied one.about (has_error (abouts findings)) (list_any (λ (f : Finding). is_denied denied f.about) findings) (none_denied denied findings) h
+    none_step denied (string_bytes one.subject) one.about (has_error (abouts findings)) (list_any (is_denied denied) findings) (none_denied denied findings) h
 
 not_not : (b : Bool) → not (not b) ≡ b
 not_not true = refl
@@ -171,15 +172,21 @@ not_true : (b : Bool) → not b ≡ true → b ≡ false
 not_true true h = cc
 not_true false h = refl
 
+-- whatever is denied, a yes to two files is one of the check
+yes_agrees : (denied : Deny) (d c : List ℕ) (answer : Answer) (findings : List Finding) → AgreesWithCheck d (Some c) (abouts findings) → answer.is_yes ≡ is_clean denied findings
+    → answer.is_yes ≡ true → says_yes (outcome d c) ≡ true
+yes_agrees denied d c answer findings agrees clean holds =
+    not_false (says_yes (outcome d c)) (sym agrees ∙ none_denied denied findings (not_true (list_any (is_denied denied) findings) (sym clean ∙ holds)))
+
 as_check : (denied : Deny) (d : List ℕ) (c : Option (List ℕ)) (answer : Answer) (findings : List Finding) → AgreesWithCheck d c (abouts findings)
     → answer.is_yes ≡ is_clean denied findings → AnswersAsCheck denied d c answer
 as_check deny.Errors d (Some c) answer findings agrees clean = clean ∙ (ap not (errors_denied findings ∙ agrees) ∙ not_not (says_yes (outcome d c)))
 as_check deny.Errors d None answer findings agrees clean =
     λ denies c. agrees (not_false (has_error (abouts findings)) (sym (clean ∙ ap not (errors_denied findings)) ∙ denies)) c
-as_check (deny.Notes allowed) d (Some c) answer findings agrees clean =
-    λ yes. not_false (says_yes (outcome d c))
-    (sym agrees ∙ none_denied (deny.Notes allowed) findings (not_true (list_any (λ (f : Finding). is_denied (deny.Notes allowed) f.about) findings) (sym clean ∙ yes)))
+as_check (deny.Notes allowed) d (Some c) answer findings agrees clean = yes_agrees (deny.Notes allowed) d c answer findings agrees clean
 as_check (deny.Notes allowed) d None answer findings agrees clean = tt
+as_check (deny.All allowed) d (Some c) answer findings agrees clean = yes_agrees (deny.All allowed) d c answer findings agrees clean
+as_check (deny.All allowed) d None answer findings agrees clean = tt
 
 -- an answer that is yes where findings are clean agrees with the check as they do
 pub answers_as_check : {E : Type 0} (P : Answer → Type 0) (denied : Deny) (d : List ℕ) (c : Option (List ℕ)) (findings : List Finding) (b : Bool) (r : Result Answer E)

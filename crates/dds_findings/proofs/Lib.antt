@@ -2,3 +2,4 @@ mod Agreement
 mod FaultLists
 mod Joined
 mod Plain
+mod WordLaws

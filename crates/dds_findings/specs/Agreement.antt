@@ -30,3 +30,5 @@ AnswersAsCheck deny.Errors d (Some c) answer = answer.is_yes ≡ says_yes (outco
 AnswersAsCheck deny.Errors d None answer = answer.is_yes ≡ false → (c : List ℕ) → says_yes (outcome d c) ≡ false
 AnswersAsCheck (deny.Notes allowed) d (Some c) answer = answer.is_yes ≡ true → says_yes (outcome d c) ≡ true
 AnswersAsCheck (deny.Notes allowed) d None answer = Unit {0}
+AnswersAsCheck (deny.All allowed) d (Some c) answer = answer.is_yes ≡ true → says_yes (outcome d c) ≡ true
+AnswersAsCheck (deny.All allowed) d None answer = Unit {0}

@@ -12,7 +12,7 @@ use Rattle.dds_findings.specs.declared.finding.Finding.{Finding}
 
 -- one of the findings makes the answer no
 abbrev pub has_denied : Deny → List Finding → Bool
-has_denied denied findings = list_any (λ f. is_denied denied f.about) findings
+has_denied denied findings = list_any (is_denied denied) findings
 
 -- none of them does
 abbrev pub is_clean : Deny → List Finding → Bool

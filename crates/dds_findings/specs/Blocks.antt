@@ -5,13 +5,15 @@ use Rattle.std.specs.List.{list_any}
 use Rattle.std.specs.Option.{option_map_or}
 use Rattle.std.specs.Str.{bytes_eq}
 use Rattle.dds_text.specs.Texts.{each_below}
-use Rattle.dds_findings.specs.Findings.{is_denied_kind, is_error, is_fault, is_of_kind, level_of, level_word}
-use Rattle.dds_findings.specs.Kinds.{all_kinds, kind_word}
+use Rattle.dds_findings.specs.Allowed.{note_word}
+use Rattle.dds_findings.specs.Findings.{is_denied_note, is_error, is_fault, level_of, level_word}
+use Rattle.dds_findings.specs.Kinds.{kind_of}
 use Rattle.dds_findings.specs.declared.answer.Deny.{Deny}
+use Rattle.dds_findings.specs.declared.finding.About.{About}
+use Rattle.dds_findings.specs.declared.finding.About.TheVariants as about
 use Rattle.dds_findings.specs.declared.finding.Finding.{Finding}
 use Rattle.dds_findings.specs.declared.finding.Role.{Role}
 use Rattle.dds_findings.specs.declared.finding.Role.TheVariants as role
-use Rattle.dds_findings.specs.declared.kinds.NoteKind.{NoteKind}
 
 -- what the deployment and the certificate are called
 abbrev pub FileNames : Type 0
@@ -96,20 +98,24 @@ abbrev pub sum_line : List Finding → List ℕ
 sum_line findings =
     decimal (errors_of findings) ++ (codes " error" ++ (plural (errors_of findings) ++ (codes ", " ++ (decimal (notes_of findings) ++ (codes " note" ++ (plural (notes_of findings) ++ codes "\n"))))))
 
--- the notes of a kind make the answer no, and how they are let pass
-abbrev pub denied_line : NoteKind → List ℕ
-denied_line k = codes "denied: " ++ (kind_word k ++ (codes " (if that's meant, `--allow " ++ (kind_word k ++ codes "` lets it pass)\n")))
+-- a note makes the answer no, and how it is let pass
+abbrev pub denied_line : (word : List ℕ) → List ℕ
+denied_line word = codes "denied: " ++ (word ++ (codes " (if that's meant, `--allow " ++ (word ++ codes "` lets it pass)\n")))
 
--- one of them is a note of this kind
-abbrev pub has_note : List Finding → NoteKind → Bool
-has_note findings k = list_any (λ f. is_of_kind k f.about) findings
+-- the line of what is found, where that's a note that makes the answer no
+abbrev pub denied_text : Deny → (subject : List ℕ) → About → List ℕ
+denied_text denied subject about.Fault = []
+denied_text denied subject (about.Condition refused) = []
+denied_text denied subject (about.Note note) = if is_denied_note denied (kind_of note) subject then denied_line (note_word (kind_of note) subject) else []
 
-abbrev pub kind_lines : Deny → List Finding → NoteKind → List ℕ
-kind_lines denied findings k = if is_denied_kind denied k && has_note findings k then denied_line k else []
+-- the line of the finding with this place, where it's the first of a row
+abbrev pub denied_part : Deny → List Finding → ℕ → List ℕ
+denied_part denied findings i =
+    option_map_or (λ f. if begins findings i then denied_text denied (string_bytes f.subject) f.about else []) (slice_get findings i) []
 
--- a line for each kind whose notes make the answer no
+-- a line for each row of notes that make the answer no
 abbrev pub denied_lines : Deny → List Finding → List ℕ
-denied_lines denied findings = flat_map (kind_lines denied findings) all_kinds
+denied_lines denied findings = each_below (length findings) (denied_part denied findings)
 
 -- one of them is a fault of a file
 abbrev pub has_fault : List Finding → Bool

@@ -25,8 +25,9 @@ explanation_document f =
 -- a finding, and whether it makes the answer no
 abbrev pub finding_document : FileNames → Deny → Finding → Data
 finding_document names denied f =
-    object (member (codes "denied") (boolean (is_denied denied f.about)) (member (codes "explanation") (explanation_document f) (member (codes "level") (string (level_word (level_of f.about)))
-    (member (codes "message") (string (string_bytes f.message)) (member (codes "name") (string f.name.now) (member (codes "place") (place_document names f) no_members))))))
+    object (member (codes "denied") (boolean (is_denied denied f)) (member (codes "explanation") (explanation_document f) (member (codes "level") (string (level_word (level_of f.about)))
+    (member (codes "message") (string (string_bytes f.message)) (member (codes "name") (string f.name.now) (member (codes "place") (place_document names f)
+    (member (codes "subject") (string (string_bytes f.subject)) no_members)))))))
 
 -- all of them, and how many there are
 abbrev pub findings_document : FileNames → Deny → List Finding → (is_yes : Bool) → Data

@@ -1,5 +1,5 @@
 -- What lint finds, by what each finding is about.
-use Rattle.std.specs.Prelude.{ℕ, ◌≡◌, ◌<◌, Bool, true, false, not, ◌||◌, List, [], ◌++◌, codes, length, map, Option, Some, None, Ok, Err}
+use Rattle.std.specs.Prelude.{ℕ, ◌≡◌, ◌<◌, Bool, true, false, not, ◌||◌, List, [], ◌++◌, codes, length, map, string_bytes, Option, Some, None, Ok, Err}
 use Rattle.std.specs.List.{list_all}
 use Rattle.dds_fields.specs.Reading.{Read}
 use Rattle.dds_lists.specs.Lists.{Lists}
@@ -12,7 +12,8 @@ use Rattle.dds_lint.specs.Conditions.{all_nos, bare_nos}
 use Rattle.dds_lint.specs.Live.{IsLive}
 use Rattle.dds_lint.specs.Notes.{all_notes}
 use Rattle.dds_lint.specs.declared.notes.Note.{Note}
-use Rattle.dds_findings.specs.Kinds.{has_kind, is_same, kind_of}
+use Rattle.dds_findings.specs.Allowed.{is_allowed}
+use Rattle.dds_findings.specs.Kinds.{kind_of}
 use Rattle.dds_findings.specs.declared.answer.Deny.{Deny}
 use Rattle.dds_findings.specs.declared.answer.Deny.TheVariants as deny
 use Rattle.dds_findings.specs.declared.finding.About.{About}
@@ -43,22 +44,21 @@ abbrev pub is_declared : NoteKind → Bool
 is_declared kind.MayLose = true
 is_declared _ = false
 
--- a note of this kind makes the answer no
-abbrev pub is_denied_kind : Deny → NoteKind → Bool
-is_denied_kind deny.Errors k = false
-is_denied_kind (deny.Notes allowed) k = not (is_declared k || has_kind allowed k)
+-- a note of this kind, about what has this name, makes the answer no
+abbrev pub is_denied_note : Deny → NoteKind → (subject : List ℕ) → Bool
+is_denied_note deny.Errors k subject = false
+is_denied_note (deny.Notes allowed) k subject = not (is_declared k || is_allowed allowed k subject)
+is_denied_note (deny.All allowed) k subject = not (is_allowed allowed k subject)
 
--- a finding makes the answer no: each error does
-abbrev pub is_denied : Deny → About → Bool
-is_denied denied about.Fault = true
-is_denied denied (about.Condition refused) = true
-is_denied denied (about.Note note) = is_denied_kind denied (kind_of note)
+-- what is found makes the answer no: each error does
+abbrev pub is_denied_about : Deny → (subject : List ℕ) → About → Bool
+is_denied_about denied subject about.Fault = true
+is_denied_about denied subject (about.Condition refused) = true
+is_denied_about denied subject (about.Note note) = is_denied_note denied (kind_of note) subject
 
--- a finding is a note of this kind
-abbrev pub is_of_kind : NoteKind → About → Bool
-is_of_kind k about.Fault = false
-is_of_kind k (about.Condition refused) = false
-is_of_kind k (about.Note note) = is_same k (kind_of note)
+-- a finding makes the answer no
+abbrev pub is_denied : Deny → Finding → Bool
+is_denied denied f = is_denied_about denied (string_bytes f.subject) f.about
 
 -- what findings are about, in their order
 abbrev pub abouts : List Finding → List About

@@ -1,7 +1,5 @@
--- The kinds of notes, by name, and those that are let pass.
-use Rattle.std.specs.Prelude.{ℕ, ◌<◌, ◌≤◌, Bool, true, false, List, [], ◌∷◌, codes, length}
-use Rattle.std.specs.List.{join_by, list_any}
-use Rattle.std.specs.Str.{bytes_eq}
+-- The kinds of notes, by name.
+use Rattle.std.specs.Prelude.{ℕ, List, codes}
 use Rattle.dds_lint.specs.declared.notes.Note.{Note}
 use Rattle.dds_lint.specs.declared.notes.Note.TheVariants as note
 use Rattle.dds_findings.specs.declared.kinds.NoteKind.{NoteKind}
@@ -13,6 +11,7 @@ kind_of (note.Watcher r) = kind.Watcher
 kind_of (note.MayLose r) = kind.MayLose
 kind_of (note.Unlimited r) = kind.Unlimited
 kind_of (note.IdleLimit r) = kind.IdleLimit
+kind_of (note.IdleReader r) = kind.IdleReader
 kind_of (note.UnwrittenKey t k) = kind.UnwrittenKey
 kind_of (note.IdleWriter w) = kind.IdleWriter
 kind_of note.NoRules = kind.NoRules
@@ -33,6 +32,7 @@ kind_word kind.Watcher = codes "Watcher"
 kind_word kind.MayLose = codes "MayLose"
 kind_word kind.Unlimited = codes "Unlimited"
 kind_word kind.IdleLimit = codes "IdleLimit"
+kind_word kind.IdleReader = codes "IdleReader"
 kind_word kind.UnwrittenKey = codes "UnwrittenKey"
 kind_word kind.IdleWriter = codes "IdleWriter"
 kind_word kind.NoRules = codes "NoRules"
@@ -46,30 +46,3 @@ kind_word kind.UnusedRow = codes "UnusedRow"
 kind_word kind.NeedlessBound = codes "NeedlessBound"
 kind_word kind.NeedlessTotal = codes "NeedlessTotal"
 kind_word kind.HeldUp = codes "HeldUp"
-
--- all kinds, in the order in which notes come
-abbrev pub all_kinds : List NoteKind
-all_kinds =
-    kind.Watcher ∷ kind.MayLose ∷ kind.Unlimited ∷ kind.IdleLimit ∷ kind.Endless ∷ kind.UnwrittenKey ∷ kind.IdleWriter ∷ kind.NoRules ∷ kind.NoStart ∷ kind.NoStrictReader
-    ∷ kind.StuckRule ∷ kind.Finite ∷ kind.LossyTake ∷ kind.UnusedRow ∷ kind.NeedlessBound ∷ kind.NeedlessTotal ∷ kind.HeldUp ∷ []
-
--- two kinds have one name, so that they are the same
-abbrev pub is_same : NoteKind → NoteKind → Bool
-is_same k l = bytes_eq (kind_word k) (kind_word l)
-
--- a kind is one of these
-abbrev pub has_kind : List NoteKind → NoteKind → Bool
-has_kind kinds k = list_any (λ l. is_same l k) kinds
-
--- how many kinds there are
-abbrev pub kind_count : ℕ
-kind_count = 17
-
--- there are some of them, and no more than there are kinds
-pub record AreKinds (kinds : List NoteKind) : Type 0 where
-  pub some : 0 < length kinds
-  pub few : length kinds ≤ kind_count
-
--- a list of kinds: their names, with commas between them
-abbrev pub kinds_text : List NoteKind → List ℕ
-kinds_text kinds = join_by kind_word (codes ",") kinds

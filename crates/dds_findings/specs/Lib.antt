@@ -1,4 +1,5 @@
 pub mod Kinds
+pub mod Allowed
 pub mod Findings
 pub mod Blocks
 pub mod Documents

@@ -2,12 +2,13 @@
 ghost use Rattle.std.specs.Prelude.{◌≡◌, ℕ, List, Option, IfErr, IfOk, option_map, string_bytes};
 ghost use Rattle.dds_findings.specs.Agreement.{AgreesWithCheck, AnswersAsCheck};
 ghost use Rattle.dds_findings.specs.Answers.{findings_text, has_denied, is_clean, names_of};
-ghost use Rattle.dds_findings.specs.Findings.{abouts, is_denied_kind};
+ghost use Rattle.dds_findings.specs.Findings.{abouts, is_denied_note};
 
+use crate::allowed::Allowed;
 use crate::block::{FileNames, blocks_text};
 use crate::document::findings_line;
 use crate::finding::Finding;
-use crate::kinds::{AllowedKinds, NoteKind};
+use crate::kinds::NoteKind;
 use crate::sarif::sarif_line;
 use dds_answers::{Answer, ToolFault, answer_with};
 use dds_base::NoMemory;
@@ -26,22 +27,25 @@ pub enum LintStyle {
 
 /// With which findings the answer is no.
 #[derive(Drop)]
-pub enum Deny {
+pub enum Deny<'a> {
     /// With errors alone.
     Errors,
-    /// With errors and with notes, but for those of these kinds and for MayLose, by which the deployment itself says
+    /// With errors and with notes, but for those that are let pass and for MayLose, by which the deployment itself says
     /// that a reader may lose samples.
-    Notes(AllowedKinds),
+    Notes(Allowed<'a>),
+    /// With errors and with notes, but for those that are let pass.
+    All(Allowed<'a>),
 }
 
-impl Deny {
-    /// Whether notes of a kind make the answer no.
-    pub(crate) fn denies(&self, kind: NoteKind) -> bool
-        ensures { result ≡ is_denied_kind self.now kind }
+impl<'a> Deny<'a> {
+    /// Whether a note of a kind, about what has this name, makes the answer no.
+    pub(crate) fn denies(&self, kind: NoteKind, subject: &str) -> bool
+        ensures { result ≡ is_denied_note self.now kind subject.now }
     {
         match self {
             Deny::Errors => false,
-            Deny::Notes(allowed) => !(kind.is_declared() || allowed.has(kind)),
+            Deny::Notes(allowed) => !(kind.is_declared() || allowed.has(kind, subject)),
+            Deny::All(allowed) => !allowed.has(kind, subject),
         }
     }
 }
@@ -57,7 +61,7 @@ pub struct Named<'a> {
 fn has_denied(deny: &Deny, findings: &[Finding]) -> bool
     ensures { result ≡ has_denied deny.now findings.now }
 {
-    findings.iter().any(|finding| finding.about.is_denied(deny))
+    findings.iter().any(|finding| finding.is_denied(deny))
 }
 
 /// Whether none of them does.

@@ -1,15 +1,19 @@
 //! Findings as people read them: a block each, with the line of the file.
-ghost use Rattle.std.specs.Prelude.{◌≡◌, ◌<◌, IfOk, flat_map, length, string_bytes};
-ghost use Rattle.dds_findings.specs.Blocks.{bare_line, begins, block, blocks, denied_line, denied_lines, detail_line};
-ghost use Rattle.dds_findings.specs.Blocks.{errors_of, file_name, goes_on, has_fault, has_note, head_line, help_words};
-ghost use Rattle.dds_findings.specs.Blocks.{is_alike, kind_lines, last_line, last_lines, notes_of, part, part_lines};
-ghost use Rattle.dds_findings.specs.Blocks.{place_lines, plural, row_end, source_lines, sum_line};
+ghost use Rattle.std.specs.Prelude.{◌≡◌, ◌<◌, [], IfOk, flat_map, if◌then◌else◌, length, string_bytes};
+ghost use Rattle.dds_text.specs.Texts.{each_below};
+ghost use Rattle.dds_findings.specs.Allowed.{note_word};
+ghost use Rattle.dds_findings.specs.Blocks.{bare_line, begins, block, blocks, denied_line, denied_lines, denied_part};
+ghost use Rattle.dds_findings.specs.Blocks.{denied_text, detail_line, errors_of, file_name, goes_on, has_fault};
+ghost use Rattle.dds_findings.specs.Blocks.{head_line, help_words, is_alike, last_line, last_lines, notes_of, part};
+ghost use Rattle.dds_findings.specs.Blocks.{part_lines, place_lines, plural, row_end, source_lines, sum_line};
+ghost use Rattle.dds_findings.specs.Findings.{is_denied_note};
 
+use crate::allowed::note_word;
 use crate::answer::Deny;
 use crate::finding::{About, Finding, Level, Role};
-use crate::kinds::{NoteKind, all_kinds};
+use crate::kinds::NoteKind;
 use dds_base::NoMemory;
-use dds_text::texts::{text_below, text_of_each};
+use dds_text::texts::text_below;
 use std::alloc::Global;
 use std::marker::Model;
 
@@ -257,47 +261,60 @@ fn bare_line(certificate: &str, findings: &[Finding]) -> &'static str
     }
 }
 
-/// That the notes of a kind make the answer no, and how they are let pass.
-fn denied_text(alloc: Global, kind: NoteKind) -> Result<String, NoMemory>
-    ensures { IfOk result (λ text. string_bytes text ≡ denied_line kind) }
+/// That a note makes the answer no, and how it is let pass.
+fn denied_line(alloc: Global, word: &str) -> Result<String, NoMemory>
+    ensures { IfOk result (λ text. string_bytes text ≡ denied_line word.now) }
 {
-    let name = kind.name();
-    format!(in alloc; "denied: {name} (if that's meant, `--allow {name}` lets it pass)\n")
+    format!(in alloc; "denied: {word} (if that's meant, `--allow {word}` lets it pass)\n")
 }
 
-/// Whether one of the findings is a note of this kind.
-fn has_note(findings: &[Finding], kind: NoteKind) -> bool
-    ensures { result ≡ has_note findings.now kind }
+/// The line of a note, if it makes the answer no.
+fn note_line(alloc: Global, deny: &Deny, kind: NoteKind, subject: &str) -> Result<String, NoMemory>
+    ensures { IfOk result (λ text. string_bytes text
+        ≡ (if is_denied_note deny.now kind subject.now then denied_line (note_word kind subject.now) else [])) }
 {
-    findings
-        .iter()
-        .any(|finding| finding.about.is_of_kind(kind))
+    if !deny.denies(kind, subject) {
+        return Ok(String::new(alloc));
+    }
+    let word = note_word(alloc, kind, subject)?;
+    denied_line(alloc, word.as_str())
 }
 
-/// The line of a kind, if there are notes of it and they make the answer no.
-fn kind_text(
-    alloc: Global,
-    deny: &Deny,
-    findings: &[Finding],
-    kind: NoteKind,
-) -> Result<String, NoMemory>
-    ensures { IfOk result (λ text. string_bytes text ≡ kind_lines deny.now findings.now kind) }
+/// The line of a finding, if it's a note that makes the answer no.
+fn denied_text(alloc: Global, deny: &Deny, finding: &Finding) -> Result<String, NoMemory>
+    ensures { IfOk result (λ text. string_bytes text
+        ≡ denied_text deny.now (string_bytes finding.now.subject) finding.now.about) }
 {
-    if deny.denies(kind) && has_note(findings, kind) {
-        denied_text(alloc, kind)
-    } else {
-        Ok(String::new(alloc))
+    match finding.about {
+        About::Fault | About::Condition(_) => Ok(String::new(alloc)),
+        About::Note(note) => note_line(alloc, deny, NoteKind::of(note), finding.subject.as_str()),
     }
 }
 
-/// A line for each kind whose notes make the answer no.
+/// The line of the finding with this place, if it's the first of a row.
+fn denied_part(
+    alloc: Global,
+    deny: &Deny,
+    findings: &[Finding],
+    place: usize,
+) -> Result<String, NoMemory>
+    requires { place < length findings.now }
+    ensures { IfOk result (λ text. string_bytes text ≡ denied_part deny.now findings.now place) }
+{
+    match findings.get(place) {
+        Some(finding) if begins(findings, place) => denied_text(alloc, deny, finding),
+        _ => Ok(String::new(alloc)),
+    }
+}
+
+/// A line for each row of notes that make the answer no.
 fn denied_lines(alloc: Global, deny: &Deny, findings: &[Finding]) -> Result<String, NoMemory>
     ensures { IfOk result (λ text. string_bytes text ≡ denied_lines deny.now findings.now) }
 {
-    text_of_each(
+    text_below(
         alloc,
-        &all_kinds(),
-        |kind| kind_text(alloc, deny, findings, *kind),
+        findings.len(),
+        |i| denied_part(alloc, deny, findings, i),
     )
 }
 
@@ -316,6 +333,14 @@ fn last_lines(
     format!(in alloc; "{sum}{denied}{bare}")
 }
 
+/// What is printed of each finding, in their order.
+fn rows_text(alloc: Global, names: &FileNames, findings: &[Finding]) -> Result<String, NoMemory>
+    ensures { IfOk result
+        (λ text. string_bytes text ≡ each_below (length findings.now) (part names.now findings.now)) }
+{
+    text_below(alloc, findings.len(), |i| part(alloc, names, findings, i))
+}
+
 /// The blocks of findings, in their order, how many there are, which notes make the answer no, and what isn't checked.
 /// Of a row of findings of one kind at one place the first has a block, and the last a line in it. `NoMemory` is the
 /// only error.
@@ -327,7 +352,7 @@ pub(crate) fn blocks_text(
 ) -> Result<String, NoMemory>
     ensures { IfOk result (λ text. string_bytes text ≡ blocks names.now deny.now findings.now) }
 {
-    let rows = text_below(alloc, findings.len(), |i| part(alloc, names, findings, i))?;
+    let rows = rows_text(alloc, names, findings)?;
     let last = last_lines(alloc, names, findings, deny)?;
     format!(in alloc; "{rows}{last}")
 }

@@ -282,6 +282,7 @@ pub(crate) fn condition(
     Ok(Finding {
         about: About::Condition(*no),
         name: no.number.name(),
+        subject: String::new(alloc),
         role: place.role,
         path: place.path,
         message,

@@ -59,14 +59,16 @@ fn finding_document(
 ) -> Result<Value, NoMemory>
     ensures { IfOk result (λ v. view v ≡ finding_document names.now deny.now finding.now) }
 {
-    let denied = finding.about.is_denied(deny);
+    let denied = finding.is_denied(deny);
     let explanation = explanation_document(alloc, finding)?;
     let place = place_document(alloc, names, finding)?;
     let level = finding.about.level().word();
     let name = finding.name;
+    let subject = finding.subject.as_str();
     let message = finding.message.as_str();
     json!(in alloc; {
-        "denied": denied, "level": level, "name": name, "message": message, "place": place, "explanation": explanation
+        "denied": denied, "level": level, "name": name, "subject": subject, "message": message, "place": place,
+        "explanation": explanation
     })
 }
 

@@ -44,6 +44,7 @@ fn document_fault(
     Ok(Finding {
         about: About::Fault,
         name: fault.name,
+        subject: String::new(alloc),
         role,
         path: String::from_str(alloc, fault.path.as_str())?,
         message: String::from_str(alloc, fault.message.as_str())?,
@@ -80,6 +81,7 @@ fn syntax_fault(alloc: Global, file: &Located, role: Role) -> Result<Finding, No
     Ok(Finding {
         about: About::Fault,
         name: "NotToml",
+        subject: String::new(alloc),
         role,
         path: String::new(alloc),
         message,

@@ -1,6 +1,6 @@
 //! A finding: what it is about, what it says, and where it is.
 ghost use Rattle.std.specs.Prelude.{◌≡◌};
-ghost use Rattle.dds_findings.specs.Findings.{is_denied, is_of_kind, level_of, level_word};
+ghost use Rattle.dds_findings.specs.Findings.{is_denied, level_of, level_word};
 
 use crate::answer::Deny;
 use crate::kinds::NoteKind;
@@ -41,6 +41,9 @@ pub struct Finding {
     pub about: About,
     /// The name of the fault, condition or note: `UnknownKey`, `NoBound`, `StuckRule`.
     pub name: &'static str,
+    /// The name of what a note is about: of a reader, a writer, a topic, a rule or a row. Empty where that has none,
+    /// and where this is no note.
+    pub subject: String,
     pub role: Role,
     /// Where it is in the document: names joined with `.`, places from 0 in brackets. Empty for the whole document.
     pub path: String,
@@ -63,24 +66,16 @@ impl About {
             About::Note(_) => Level::Note,
         }
     }
+}
 
+impl Finding {
     /// Whether it makes the answer no: each error does.
-    pub fn is_denied(self, deny: &Deny) -> bool
-        ensures { result ≡ is_denied deny.now self }
+    pub fn is_denied(&self, deny: &Deny) -> bool
+        ensures { result ≡ is_denied deny.now self.now }
     {
-        match self {
+        match self.about {
             About::Fault | About::Condition(_) => true,
-            About::Note(note) => deny.denies(NoteKind::of(note)),
-        }
-    }
-
-    /// Whether it's a note of this kind.
-    pub(crate) fn is_of_kind(self, kind: NoteKind) -> bool
-        ensures { result ≡ is_of_kind kind self }
-    {
-        match self {
-            About::Fault | About::Condition(_) => false,
-            About::Note(note) => kind.is_same(NoteKind::of(note)),
+            About::Note(note) => deny.denies(NoteKind::of(note), self.subject.as_str()),
         }
     }
 }

@@ -1,10 +1,9 @@
-//! The kinds of notes, by name, and those that are let pass.
-ghost use Rattle.std.specs.Prelude.{◌≡◌, ◌≢◌, [], IfNone, IfSome};
+//! The kinds of notes, by name.
+ghost use Rattle.std.specs.Prelude.{◌≡◌, ◌≢◌, IfNone, IfSome};
 ghost use Rattle.dds_findings.specs.Findings.{is_declared};
-ghost use Rattle.dds_findings.specs.Kinds.{AreKinds, all_kinds, has_kind, is_same, kind_of, kind_word};
+ghost use Rattle.dds_findings.specs.Kinds.{kind_of, kind_word};
 
 use dds_lint::Note;
-use std::marker::Model;
 
 /// The kinds of notes.
 #[derive(Clone, Copy, Debug, PartialEq, Eq)]
@@ -13,6 +12,7 @@ pub enum NoteKind {
     MayLose,
     Unlimited,
     IdleLimit,
+    IdleReader,
     UnwrittenKey,
     IdleWriter,
     NoRules,
@@ -28,9 +28,6 @@ pub enum NoteKind {
     HeldUp,
 }
 
-/// How many kinds there are, and a list of those that are let pass has at most.
-pub(crate) const KINDS: usize = 17;
-
 impl NoteKind {
     /// The kind of a note.
     pub fn of(note: Note) -> NoteKind
@@ -41,6 +38,7 @@ impl NoteKind {
             Note::MayLose(_) => NoteKind::MayLose,
             Note::Unlimited(_) => NoteKind::Unlimited,
             Note::IdleLimit(_) => NoteKind::IdleLimit,
+            Note::IdleReader(_) => NoteKind::IdleReader,
             Note::UnwrittenKey { .. } => NoteKind::UnwrittenKey,
             Note::IdleWriter(_) => NoteKind::IdleWriter,
             Note::NoRules => NoteKind::NoRules,
@@ -66,6 +64,7 @@ impl NoteKind {
             NoteKind::MayLose => "MayLose",
             NoteKind::Unlimited => "Unlimited",
             NoteKind::IdleLimit => "IdleLimit",
+            NoteKind::IdleReader => "IdleReader",
             NoteKind::UnwrittenKey => "UnwrittenKey",
             NoteKind::IdleWriter => "IdleWriter",
             NoteKind::NoRules => "NoRules",
@@ -92,6 +91,7 @@ impl NoteKind {
             "MayLose" => Some(NoteKind::MayLose),
             "Unlimited" => Some(NoteKind::Unlimited),
             "IdleLimit" => Some(NoteKind::IdleLimit),
+            "IdleReader" => Some(NoteKind::IdleReader),
             "UnwrittenKey" => Some(NoteKind::UnwrittenKey),
             "IdleWriter" => Some(NoteKind::IdleWriter),
             "NoRules" => Some(NoteKind::NoRules),
@@ -114,91 +114,5 @@ impl NoteKind {
         ensures { result ≡ is_declared self }
     {
         matches!(self, NoteKind::MayLose)
-    }
-
-    /// Whether two kinds are the same.
-    pub(crate) fn is_same(self, other: NoteKind) -> bool
-        ensures { result ≡ is_same self other }
-    {
-        self.name() == other.name()
-    }
-}
-
-/// All kinds, in the order in which notes come.
-pub(crate) fn all_kinds() -> [NoteKind; KINDS]
-    ensures { result ≡ all_kinds }
-{
-    [
-        NoteKind::Watcher,
-        NoteKind::MayLose,
-        NoteKind::Unlimited,
-        NoteKind::IdleLimit,
-        NoteKind::Endless,
-        NoteKind::UnwrittenKey,
-        NoteKind::IdleWriter,
-        NoteKind::NoRules,
-        NoteKind::NoStart,
-        NoteKind::NoStrictReader,
-        NoteKind::StuckRule,
-        NoteKind::Finite,
-        NoteKind::LossyTake,
-        NoteKind::UnusedRow,
-        NoteKind::NeedlessBound,
-        NoteKind::NeedlessTotal,
-        NoteKind::HeldUp,
-    ]
-}
-
-/// Kinds of notes that are let pass where notes are denied. A contract sees the list.
-#[derive(Drop)]
-pub struct AllowedKinds {
-    all: [NoteKind; KINDS],
-    len: usize,
-}
-
-impl Model for AllowedKinds {
-    ghost use Rattle.std.specs.Prelude.{◌≡◌, ◌≤◌, List, take, length};
-    ghost use Rattle.dds_findings.specs.Kinds.{kind_count};
-    ghost use Rattle.dds_findings.specs.declared.kinds.NoteKind.{NoteKind};
-
-    ghost Value = { List NoteKind };
-
-    ghost view = { λ a. take a.len a.all };
-
-    ghost invariant = { λ a. (a.len ≤ kind_count) × (length (take a.len a.all) ≡ a.len) };
-}
-
-impl AllowedKinds {
-    /// No kinds.
-    pub fn none() -> AllowedKinds
-        ensures { result ≡ [] }
-    {
-        AllowedKinds {
-            all: [NoteKind::Watcher; KINDS],
-            len: 0,
-        }
-    }
-
-    /// These kinds, or `None` unless there are 1 to 17.
-    pub fn new(kinds: &[NoteKind]) -> Option<AllowedKinds>
-        ensures same { IfSome result (λ a. a ≡ kinds.now) }
-        ensures none { IfNone result (¬ AreKinds kinds.now) }
-    {
-        if kinds.is_empty() || kinds.len() > KINDS {
-            return None;
-        }
-        let mut all = [NoteKind::Watcher; KINDS];
-        all[..kinds.len()].copy_from_slice(kinds);
-        Some(AllowedKinds {
-            all,
-            len: kinds.len(),
-        })
-    }
-
-    /// Whether a kind is one of them.
-    pub fn has(&self, kind: NoteKind) -> bool
-        ensures { result ≡ has_kind self.now kind }
-    {
-        self.all[..self.len].iter().any(|one| one.is_same(kind))
     }
 }

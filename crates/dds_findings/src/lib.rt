@@ -2,6 +2,7 @@
 //! that fails, and what a yes doesn't say, each with its place in the file and what would be right.
 #![tactic(auto)]
 
+mod allowed;
 mod answer;
 mod block;
 mod bounds;
@@ -17,9 +18,10 @@ mod sarif;
 mod spot;
 mod words;
 
+pub use allowed::Allowed;
 pub use answer::{Deny, LintStyle, Named, answer_findings, names_of};
 pub use block::FileNames;
 pub use finding::{About, Finding, Level, Role};
-pub use kinds::{AllowedKinds, NoteKind};
+pub use kinds::NoteKind;
 pub use linting::lint;
 pub use spot::Spot;

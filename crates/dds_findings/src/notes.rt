@@ -1,29 +1,82 @@
 //! The findings of notes.
-ghost use Rattle.std.specs.Prelude.{◌≡◌, IfOk};
+ghost use Rattle.std.specs.Prelude.{◌≡◌, IfOk, string_bytes};
+ghost use Rattle.dds_weights.specs.Views.{certificate_view};
+ghost use Rattle.dds_explain.specs.Notes.{note_subject};
 ghost use Rattle.dds_findings.specs.declared.finding.About.TheVariants as about;
 
 use crate::conditions::{Spotted, rule_entry};
 use crate::finding::{About, Finding, Role};
 use crate::kinds::NoteKind;
 use crate::linting::{Files, Judged};
-use dds_base::{NoMemory, RuleNo};
-use dds_explain::note_text;
+use dds_base::{NoMemory, Portion, ReaderNo, RuleNo, WriterNo};
+use dds_explain::{note_subject, note_text};
 use dds_lint::Note;
 use dds_lists::Deployment;
+use dds_match::Plan;
+use dds_text::names::{reader_key, reader_name, writer_name};
+use dds_text::texts::TextResult;
 use std::alloc::Global;
 
-/// What would be right for a rule that can never fire once its start is used up.
-fn stuck_help(lists: &Deployment, rule: RuleNo) -> &'static str {
-    if rule.number() >= lists.rules() {
-        return "";
+/// The first of what a rule takes that can't come: no writer that matches the reader writes its key.
+fn missing_take<'a>(
+    plan: &'a Plan,
+    takes: &'a [Portion<ReaderNo>],
+) -> Option<&'a Portion<ReaderNo>> {
+    takes
+        .iter()
+        .find(|take| !plan.reaches(take.endpoint, take.key))
+}
+
+/// Whether a rule writes a key at a writer of a reader's topic.
+fn writes_topic(plan: &Plan, writer: WriterNo, take: &Portion<ReaderNo>) -> bool {
+    let lists = plan.lists();
+    take.endpoint.number() < lists.readers()
+        && writer.number() < lists.writers()
+        && lists.writer(writer).topic == lists.reader(take.endpoint).topic
+        && plan.is_written(writer, take.key)
+}
+
+/// The first writer of a reader's topic at which a rule writes a key.
+fn topic_writer(plan: &Plan, take: &Portion<ReaderNo>) -> Option<WriterNo> {
+    (0..plan.lists().writers())
+        .map(WriterNo::new)
+        .find(|writer| writes_topic(plan, *writer, take))
+}
+
+/// Why a sample that a rule takes can't come, and what would be right.
+fn missing_help(alloc: Global, plan: &Plan, take: &Portion<ReaderNo>) -> TextResult {
+    let lists = plan.lists();
+    let reader = reader_name(lists, take.endpoint);
+    let key = reader_key(lists, take.endpoint, take.key);
+    match topic_writer(plan, take) {
+        Some(writer) => {
+            let writer = writer_name(lists, writer);
+            format!(in alloc;
+                "{writer} writes {key}, but doesn't match {reader}: `ddscheck match` says why"
+            )
+        }
+        None => format!(in alloc; "no rule writes {key} for {reader}: let one do so"),
     }
-    let rule = lists.rule(rule);
-    if 0 < rule.start {
-        "once its `start` is used up, it waits for a sample that no rule writes"
-    } else if rule.takes.is_empty() {
-        "give it a `start`: how often it writes, or `\"unlimited\"` for what follows a clock"
-    } else {
-        "let something that it takes be written, or give it a `start`"
+}
+
+/// What would be right for a rule that can never fire once its start is used up.
+fn stuck_help(alloc: Global, plan: &Plan, rule: RuleNo) -> TextResult {
+    if rule.number() >= plan.lists().rules() {
+        return Ok(String::new(alloc));
+    }
+    let rule = plan.lists().rule(rule);
+    if rule.takes.is_empty() {
+        let help =
+            "give it a `start`: how often it writes, or `\"unlimited\"` for what follows a clock";
+        return String::from_str(alloc, help);
+    }
+    match missing_take(plan, &rule.takes) {
+        Some(take) => missing_help(alloc, plan, take),
+        None => {
+            let help =
+                "what it takes is written only by rules that can't fire either: give one of them a `start`";
+            String::from_str(alloc, help)
+        }
     }
 }
 
@@ -36,14 +89,16 @@ fn watcher_help(lists: &Deployment) -> &'static str {
     }
 }
 
-/// What would be right, or why it is so.
-fn help_of(lists: &Deployment, note: Note) -> &'static str {
+/// What would be right, or why it is so, where that's the same for all notes of a kind.
+fn kind_help(lists: &Deployment, note: Note) -> &'static str {
     match note {
         Note::Watcher(_) => watcher_help(lists),
         Note::MayLose(_) => "it has `may_lose = true`",
         Note::Unlimited(_) =>
             "`ddscheck limits` prints what it needs (`depth` is for KEEP_LAST alone); or let a rule wait for its takes",
         Note::IdleLimit(_) => "write `history = \"KEEP_ALL\"`, or a greater `depth`",
+        Note::IdleReader(_) =>
+            "`ddscheck match` says which writers don't match it, and why; or let a rule write what it takes",
         Note::UnwrittenKey { .. } =>
             "let a rule write it, or take it out of `keys`; a rule with `each` leaves out what one of its topics lacks",
         Note::IdleWriter(_) =>
@@ -52,7 +107,7 @@ fn help_of(lists: &Deployment, note: Note) -> &'static str {
         Note::NoStart => "give a rule a `start`: how often it writes before anything was taken",
         Note::NoStrictReader =>
             "where none may be lost, a reader has `reliability = \"RELIABLE\"` and no `may_lose`",
-        Note::StuckRule(rule) => stuck_help(lists, rule),
+        Note::StuckRule(_) => "let something that it takes be written, or give it a `start`",
         Note::Finite(_) =>
             "right if that's all it ever writes, once its readers have matched; else say in `takes` what it waits for",
         Note::Endless { .. } =>
@@ -64,12 +119,22 @@ fn help_of(lists: &Deployment, note: Note) -> &'static str {
     }
 }
 
+/// What would be right, or why it is so.
+fn help_of(alloc: Global, plan: &Plan, note: Note) -> TextResult {
+    match note {
+        Note::StuckRule(rule) => stuck_help(alloc, plan, rule),
+        _ => String::from_str(alloc, kind_help(plan.lists(), note)),
+    }
+}
+
 /// The section, the place and the field of the deployment that a note is about.
 fn entry_of(judged: &Judged, note: Note) -> (Role, &'static str, usize, &'static str) {
     match note {
         Note::Watcher(reader) => (Role::Deployment, "readers", reader.number(), "reliability"),
         Note::MayLose(reader) => (Role::Deployment, "readers", reader.number(), "may_lose"),
-        Note::Unlimited(reader) => (Role::Deployment, "readers", reader.number(), "name"),
+        Note::Unlimited(reader) | Note::IdleReader(reader) => {
+            (Role::Deployment, "readers", reader.number(), "name")
+        }
         Note::IdleLimit(reader) => {
             let field = "max_samples_per_instance";
             (Role::Deployment, "readers", reader.number(), field)
@@ -116,14 +181,20 @@ pub(crate) fn note(
     judged: &Judged,
     note: &Note,
 ) -> Result<Finding, NoMemory>
-    ensures { IfOk result (λ finding. finding.about ≡ about.Note note.now) }
+    ensures about { IfOk result (λ finding. finding.about ≡ about.Note note.now) }
+    ensures subject { IfOk result
+        (λ finding. string_bytes finding.subject
+        ≡ note_subject judged.entry.now.plan.now (certificate_view judged.entry.now.certificate.now) note.now) }
 {
     let message = note_text(alloc, judged.plan, judged.certificate, *note)?;
-    let help = String::from_str(alloc, help_of(judged.plan.lists(), *note))?;
+    let help = help_of(alloc, judged.plan, *note)?;
+    let subject = note_subject(judged.plan, judged.certificate, *note);
+    let subject = String::from_str(alloc, subject)?;
     let place = place_of(alloc, files, judged, *note)?;
     Ok(Finding {
         about: About::Note(*note),
         name: NoteKind::of(*note).name(),
+        subject,
         role: place.role,
         path: place.path,
         message,

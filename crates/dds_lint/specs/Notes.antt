@@ -44,6 +44,10 @@ grows net cert r =
 abbrev pub idle_limit : Network → ℕ → Option Note
 idle_limit net r = noted (is_over (net.reader_limits r).max_samples_per_instance (net.reader_limits r).keep_last) (note.IdleLimit r)
 
+-- no sample can come to the reader
+abbrev pub idle_reader : Network → ℕ → Option Note
+idle_reader net r = noted (count_below net.keys (reach net r) == 0) (note.IdleReader r)
+
 -- a rule writes the key at a writer of the topic
 abbrev pub is_key_written : Lists → ℕ → ℕ → Bool
 is_key_written d t k = any_below (network_of d).writers (λ w. (writer_topic d.writers w == t) && is_written (network_of d) w k)
@@ -164,7 +168,8 @@ unwritten_keys d t = those_below (length (keys_at d.topics t)) (unwritten_key d 
 abbrev pub reader_notes : Lists → lists.Certificate → List Note
 reader_notes d cert =
     those_below (network_of d).readers (watcher d) ++ those_below (network_of d).readers (grows (network_of d) cert)
-    ++ those_below (network_of d).readers (idle_limit (network_of d)) ++ those_below (network_of d).readers (endless (network_of d))
+    ++ those_below (network_of d).readers (idle_limit (network_of d)) ++ those_below (network_of d).readers (idle_reader (network_of d))
+    ++ those_below (network_of d).readers (endless (network_of d))
 
 abbrev pub writer_notes : Lists → List Note
 writer_notes d = every_below (length d.topics.entries) (unwritten_keys d) ++ those_below (network_of d).writers (idle_writer (network_of d))

@@ -10,14 +10,13 @@ ghost use Rattle.dds_weights.specs.Views.{certificate_view};
 ghost use Rattle.dds_check.specs.Limits.{all_bounded};
 ghost use Rattle.dds_lint.specs.Every.{every_below, those_below, those_in};
 ghost use Rattle.dds_lint.specs.Live.{IsLive, live_of, opens};
-ghost use Rattle.dds_lint.specs.Notes.{AreRefused, absent_notes, all_notes, certificate_notes, comes_limited, endless};
-ghost use Rattle.dds_lint.specs.Notes.{endless_at, finite, goes_on, grows, has_limit, held_up, idle_limit, idle_writer};
-ghost use Rattle.dds_lint.specs.Notes.{is_endless, is_finite, is_key_written, is_lossy, is_renewed, is_stuck};
-ghost use Rattle.dds_lint.specs.Notes.{lossy_take, may_lose, needless_bound, needless_total, no_rules, no_start};
-ghost use Rattle.dds_lint.specs.Notes.{no_strict_reader, noted, pair_notes, reader_notes, renews, rule_notes};
-ghost use Rattle.dds_lint.specs.Notes.{stuck_rule, unused_row};
-ghost use Rattle.dds_lint.specs.Notes.{unwritten_key, unwritten_keys, watcher, writer_notes, writes_finitely};
-ghost use Rattle.dds_lint.specs.Notes.{writes_limited};
+ghost use Rattle.dds_lint.specs.Notes.{AreRefused, absent_notes, all_notes, certificate_notes, comes_limited};
+ghost use Rattle.dds_lint.specs.Notes.{endless, endless_at, finite, goes_on, grows, has_limit, held_up, idle_limit};
+ghost use Rattle.dds_lint.specs.Notes.{idle_reader, idle_writer, is_endless, is_finite, is_key_written, is_lossy};
+ghost use Rattle.dds_lint.specs.Notes.{is_renewed, is_stuck, lossy_take, may_lose, needless_bound, needless_total};
+ghost use Rattle.dds_lint.specs.Notes.{no_rules, no_start, no_strict_reader, noted, pair_notes, reader_notes};
+ghost use Rattle.dds_lint.specs.Notes.{renews, rule_notes, stuck_rule, unused_row, unwritten_key, unwritten_keys};
+ghost use Rattle.dds_lint.specs.Notes.{watcher, writer_notes, writes_finitely, writes_limited};
 
 use crate::every::{push_below, push_some};
 use crate::live::{can_take_all, has_takes, live_rules, opens};
@@ -43,6 +42,8 @@ pub enum Note {
     Unlimited(ReaderNo),
     /// The reader keeps the last samples of a key alone, and fewer than its limit of an instance, which does nothing.
     IdleLimit(ReaderNo),
+    /// No sample can come to the reader: no rule writes a key that it takes at a writer that matches it.
+    IdleReader(ReaderNo),
     /// No rule writes the key at a writer of its topic.
     UnwrittenKey { topic: TopicNo, key: KeyNo },
     /// No rule writes at the writer.
@@ -119,6 +120,12 @@ fn idle_limit(plan: &Plan, reader: ReaderNo) -> Option<Note>
     let limits = plan.reader_limits(reader);
     let is_idle = is_over(limits.max_samples_per_instance, limits.keep_last);
     note_if(is_idle, Note::IdleLimit(reader))
+}
+
+fn idle_reader(plan: &Plan, reader: ReaderNo) -> Option<Note>
+    ensures { result ≡ idle_reader (network_of plan.now) reader }
+{
+    note_if(reached(plan, reader) == 0, Note::IdleReader(reader))
 }
 
 /// Whether the samples of a writer that a reader hasn't taken are limited: by the reader, or by the writer's depth.
@@ -446,6 +453,17 @@ fn push_idle_limits(notes: &mut Vec<Note>, plan: &Plan) -> Result<(), NoMemory>
     )
 }
 
+fn push_idle_readers(notes: &mut Vec<Note>, plan: &Plan) -> Result<(), NoMemory>
+    ensures { OnOk result (notes.new.items ≡ notes.old.items
+        ++ those_below (network_of plan.now).readers (idle_reader (network_of plan.now))) }
+{
+    push_below(
+        notes,
+        readers_of(plan),
+        |r| idle_reader(plan, ReaderNo::new(r)),
+    )
+}
+
 fn push_endless(notes: &mut Vec<Note>, plan: &Plan) -> Result<(), NoMemory>
     ensures { OnOk result (notes.new.items ≡ notes.old.items
         ++ those_below (network_of plan.now).readers (endless (network_of plan.now))) }
@@ -464,6 +482,7 @@ fn push_readers(
     push_watchers(notes, plan)?;
     push_growing(notes, plan, certificate)?;
     push_idle_limits(notes, plan)?;
+    push_idle_readers(notes, plan)?;
     push_endless(notes, plan)
 }
 
@@ -627,10 +646,10 @@ fn push_all(
 }
 
 /// What a yes doesn't say of a plan and a certificate, which may be empty: readers that may miss samples, and whether
-/// all may, or that grow without end, limits that do nothing or that no certificate keeps, keys and writers that no
-/// rule writes, rules that never fire or that end, what of the certificate nothing needs, and readers for which a
-/// writer waits. Which rules can fire goes by counts without amounts: what can come once is taken to come as often as a
-/// rule needs it. `NoMemory` is the only error.
+/// all may, or that grow without end or get nothing, limits that do nothing or that no certificate keeps, keys and
+/// writers that no rule writes, rules that never fire or that end, what of the certificate nothing needs, and readers
+/// for which a writer waits. Which rules can fire goes by counts without amounts: what can come once is taken to come
+/// as often as a rule needs it. `NoMemory` is the only error.
 pub fn all_notes(
     alloc: Global,
     plan: &Plan,

@@ -1,6 +1,5 @@
 mod FateLists
 mod Helps
-mod KindLists
 mod Numbers
 mod Requested
 mod WordLists

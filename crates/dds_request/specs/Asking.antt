@@ -13,10 +13,9 @@ use Rattle.dds_answers.specs.declared.report.Detail.{Detail}
 use Rattle.dds_answers.specs.declared.report.Detail.TheVariants.{Plain, Explained}
 use Rattle.dds_json.specs.declared.style.Style.{Style}
 use Rattle.dds_json.specs.declared.style.Style.TheVariants as style
-use Rattle.dds_findings.specs.Kinds.{AreKinds, kinds_text}
+use Rattle.dds_findings.specs.Allowed.{AreNoteWords}
 use Rattle.dds_findings.specs.declared.answer.Deny.{Deny}
 use Rattle.dds_findings.specs.declared.answer.Deny.TheVariants as deny
-use Rattle.dds_findings.specs.declared.kinds.NoteKind.{NoteKind}
 use Rattle.dds_request.specs.Command.{whole}
 use Rattle.dds_request.specs.Wishes.{fates_text, form_word, format_word, style_word}
 use Rattle.dds_request.specs.declared.wishes.Wishes.{Wishes}
@@ -92,15 +91,16 @@ Wants rows wishes =
     AreFates wishes.fates × (first_of (codes "fates") rows ≡ Some (fates_text wishes.fates)) × Counts rows (codes "writes") wishes.writes × Counts rows (codes "takes") wishes.takes
     × (good_of rows ≡ wishes.good) × (detail_of rows ≡ wishes.detail)
 
--- the kinds of notes that are let pass by this text: none where it isn't given
-abbrev pub LetsPass : Option Text → List NoteKind → Type 0
-LetsPass None kinds = kinds ≡ []
-LetsPass (Some text) kinds = AreKinds kinds × (text ≡ kinds_text kinds)
+-- the notes that are let pass are those for which this text stands: none where it isn't given
+abbrev pub LetsPass : Option Text → List ℕ → Type 0
+LetsPass None allowed = allowed ≡ []
+LetsPass (Some text) allowed = AreNoteWords text × (allowed ≡ text)
 
--- the arguments deny this: they let kinds of notes pass only where they deny notes
+-- the arguments deny this: they let notes pass only where they deny notes
 abbrev pub Denies : List Row → Deny → Type 0
 Denies rows deny.Errors = (first_of (codes "deny") rows ≡ Some (codes "errors")) × (first_of (codes "allow") rows ≡ None)
 Denies rows (deny.Notes allowed) = (first_of (codes "deny") rows ≡ Some (codes "notes")) × LetsPass (first_of (codes "allow") rows) allowed
+Denies rows (deny.All allowed) = (first_of (codes "deny") rows ≡ Some (codes "all")) × LetsPass (first_of (codes "allow") rows) allowed
 
 -- ── commands
 -- the name of the command on a deployment alone

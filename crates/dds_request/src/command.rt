@@ -79,10 +79,11 @@ const LINTED_CERTIFICATE: &str = "A certificate to check too";
 const FORM: &str = "text, json or sarif";
 
 /// What help says of what is denied.
-const DENY: &str = "What makes the answer no: errors or notes";
+const DENY: &str = "What makes the answer no: errors, notes or all";
 
 /// What help says of what is let pass.
-const ALLOW: &str = "Names of notes that --deny notes lets pass, with commas between them";
+const ALLOW: &str =
+    "Notes that pass all the same, with commas between them: Finite, or Finite:RULE for one rule";
 
 /// What help says of the argument that names a file of events.
 const EVENTS: &str = "Events, a line each, as refute prints them";

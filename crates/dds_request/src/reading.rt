@@ -11,17 +11,16 @@ ghost use Rattle.dds_request.specs.Asking.{comparison_of, detail_of, good_of, is
 ghost use Rattle.dds_request.specs.Asking.{sizing_of};
 ghost use Rattle.dds_findings.specs.declared.answer.Deny.{Deny as DenyView};
 ghost use Rattle.dds_findings.specs.declared.answer.LintStyle.{LintStyle as LintStyleView};
-ghost use Rattle.dds_findings.specs.declared.kinds.NoteKind.{NoteKind};
 ghost use Rattle.dds_request.specs.Command.{whole};
 ghost use Rattle.dds_request.specs.Wishes.{form_word, format_word};
 
 use crate::command::whole_command;
 use crate::request::{Comparison, NoRequest, PairTask, Request, Sizing, Task};
-use crate::wishes::{Wishes, read_fates, read_form, read_format, read_kinds, read_style};
+use crate::wishes::{Wishes, read_fates, read_form, read_format, read_style};
 use clap::ArgMatches;
 use clap::error::ErrorKind;
 use dds_answers::{Detail, Format};
-use dds_findings::{AllowedKinds, Deny, LintStyle};
+use dds_findings::{Allowed, Deny, LintStyle};
 use dds_json::Style;
 use dds_recap::GoodEnds;
 use std::alloc::Global;
@@ -47,7 +46,8 @@ const WRONG_FORM: &str = "error: the format is text, json or sarif\n";
 
 /// The message for words that deny nothing.
 const WRONG_DENY: &str =
-    "error: --deny takes errors or notes, and beside notes --allow takes names of notes, with commas between them\n";
+    "error: --deny takes errors, notes or all, and beside the last two --allow takes NOTE or NOTE:NAME, with commas \
+     between them\n";
 
 /// The message for seconds that are no number.
 const WRONG_SECONDS: &str = "error: the seconds are a number\n";
@@ -403,26 +403,27 @@ fn form(matches: &ArgMatches) -> Option<LintStyle>
     read_form(argument(matches, "format")?)
 }
 
-/// The kinds of notes that are let pass, or `None` where the text is no list of them.
-fn allowed_kinds(matches: &ArgMatches) -> Option<AllowedKinds>
+/// The notes that are let pass, or `None` where a word stands for none.
+fn allowed<'a>(matches: &ArgMatches<'a>) -> Option<Allowed<'a>>
     ensures some { IfSome result (LetsPass (first_of (codes "allow") (rows_of (found_of matches.now)))) }
-    ensures none { IfNone result ((kinds : List NoteKind)
-        → LetsPass (first_of (codes "allow") (rows_of (found_of matches.now))) kinds → ⊥) }
+    ensures none { IfNone result ((text : List ℕ)
+        → LetsPass (first_of (codes "allow") (rows_of (found_of matches.now))) text → ⊥) }
 {
     match argument(matches, "allow") {
-        Some(text) => read_kinds(text),
-        None => Some(AllowedKinds::none()),
+        Some(text) => Allowed::new(text),
+        None => Some(Allowed::none()),
     }
 }
 
 /// What is denied, or `None` where the words stand for nothing.
-fn deny(matches: &ArgMatches) -> Option<Deny>
+fn deny<'a>(matches: &ArgMatches<'a>) -> Option<Deny<'a>>
     ensures some { IfSome result (Denies (rows_of (found_of matches.now))) }
     ensures none { IfNone result ((deny : DenyView) → Denies (rows_of (found_of matches.now)) deny → ⊥) }
 {
     match (argument(matches, "deny")?, argument(matches, "allow")) {
         ("errors", None) => Some(Deny::Errors),
-        ("notes", _) => Some(Deny::Notes(allowed_kinds(matches)?)),
+        ("notes", _) => Some(Deny::Notes(allowed(matches)?)),
+        ("all", _) => Some(Deny::All(allowed(matches)?)),
         _ => None,
     }
 }

@@ -33,19 +33,19 @@ pub enum Request<'a> {
     /// A command on a deployment alone.
     One {
         deployment: &'a str,
-        task: Task,
+        task: Task<'a>,
     },
     /// A command on a deployment and a second file.
     Two {
         deployment: &'a str,
         second: &'a str,
-        task: PairTask,
+        task: PairTask<'a>,
     },
 }
 
 /// What is asked for of a deployment alone.
 #[derive(Drop)]
-pub enum Task {
+pub enum Task<'a> {
     /// Which endpoints match, or the connections that these pairs would be.
     Match {
         what: Comparison,
@@ -83,13 +83,13 @@ pub enum Task {
     /// Everything that is wrong with the deployment.
     Lint {
         form: LintStyle,
-        deny: Deny,
+        deny: Deny<'a>,
     },
 }
 
 /// What is asked for of a deployment and a second file.
 #[derive(Drop)]
-pub enum PairTask {
+pub enum PairTask<'a> {
     /// Whether the certificate shows that the deployment is safe.
     Check { detail: Detail, style: Style },
     /// What the deployment does, if the certificate shows that it is safe.
@@ -101,7 +101,7 @@ pub enum PairTask {
     /// A picture of the deployment, with the bounds of the certificate.
     Draw,
     /// Everything that is wrong with the deployment and the certificate.
-    Lint { form: LintStyle, deny: Deny },
+    Lint { form: LintStyle, deny: Deny<'a> },
 }
 
 /// Why no request was read.
@@ -125,7 +125,7 @@ fn style_of_form(form: LintStyle) -> Style
     }
 }
 
-impl Task {
+impl<'a> Task<'a> {
     /// The style in which the answer is printed: lines where it has no other.
     pub fn style(&self) -> Style
         ensures { result ≡ style_of_task self.now }
@@ -142,7 +142,7 @@ impl Task {
     }
 }
 
-impl PairTask {
+impl<'a> PairTask<'a> {
     /// The style in which the answer is printed: lines where it has no other.
     pub fn style(&self) -> Style
         ensures { result ≡ style_of_pair self.now }

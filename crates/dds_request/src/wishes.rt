@@ -1,26 +1,21 @@
-//! How a deployment is to be shown, which notes are let pass, and how it is to run.
+//! How a deployment is to be shown, and how it is to run.
 ghost use Rattle.std.specs.Prelude.{◌≡◌, ◌≢◌, List, IfNone, IfSome};
 ghost use Rattle.dds_base.specs.declared.events.Fate.{Fate};
 ghost use Rattle.dds_peers.specs.Fates.{AreFates};
 ghost use Rattle.dds_answers.specs.declared.format.Format.{Format};
 ghost use Rattle.dds_json.specs.declared.style.Style.{Style};
-ghost use Rattle.dds_findings.specs.Kinds.{AreKinds, kinds_text};
 ghost use Rattle.dds_findings.specs.declared.answer.LintStyle.{LintStyle};
-ghost use Rattle.dds_findings.specs.declared.kinds.NoteKind.{NoteKind};
 ghost use Rattle.dds_request.specs.Wishes.{fate_word, fates_text, form_word, format_word, style_word};
 
 use dds_answers::{Detail, Format};
 use dds_base::Fate;
-use dds_findings::{AllowedKinds, LintStyle, NoteKind};
+use dds_findings::LintStyle;
 use dds_json::Style;
 use dds_peers::Fates;
 use dds_recap::GoodEnds;
 
 /// The most fates that a list has.
 const MOST: usize = 64;
-
-/// The most kinds of notes that a list has: as many as there are.
-const MOST_KINDS: usize = 17;
 
 /// What happens to the packets of a run, how many samples each application writes and takes, which ends are good, and
 /// how much is printed.
@@ -68,23 +63,6 @@ pub(crate) fn read_form(word: &str) -> Option<LintStyle>
         "sarif" => Some(LintStyle::Sarif),
         _ => None,
     }
-}
-
-/// The kinds of notes with these names, with commas between them, or `None` where the text is no such list of 1 to 17.
-pub(crate) fn read_kinds(text: &str) -> Option<AllowedKinds>
-    ensures some { IfSome result (λ kinds. AreKinds kinds × (text.now ≡ kinds_text kinds)) }
-    ensures none { IfNone result ((kinds : List NoteKind) → AreKinds kinds → text.now ≢ kinds_text kinds) }
-{
-    let mut kinds = [NoteKind::Watcher; MOST_KINDS];
-    let mut count = 0;
-    for word in text.split(',') {
-        if count == MOST_KINDS {
-            return None;
-        }
-        kinds[count] = NoteKind::named(word)?;
-        count += 1;
-    }
-    AllowedKinds::new(&kinds[..count])
 }
 
 /// The fate for which a word stands.

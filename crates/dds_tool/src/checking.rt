@@ -19,7 +19,7 @@ pub(crate) fn check_files(
     deployment: &[u8],
     certificate: &[u8],
     detail: Detail,
-) -> Result<Outcome, ToolFault>
+) -> Result<Outcome<'static>, ToolFault>
     ensures comes { (names : FileNames) → (style : Style) → ComesTo names style ⊥
         (λ end. end ≡ in_style style (told detail (outcome deployment.now certificate.now))) result }
     ensures fault { IfErr result IsAnswerFault }

@@ -51,14 +51,14 @@ use std::time::Clock;
 const MAX_LINES: usize = 67_108_864;
 
 /// What a command comes to that is asked for of the bytes of a deployment.
-fn find_outcome<C: Clock>(
+fn find_outcome<'a, C: Clock>(
     rt: &C,
     alloc: Global,
     bytes: &[u8],
-    task: Task,
-) -> Result<Outcome, ToolFault>
-    ensures comes { (name : List ℕ) → ComesTo (names_of name None) (style_of_task task) ⊥
-        (MayEnd task name bytes.now) result }
+    task: Task<'a>,
+) -> Result<Outcome<'a>, ToolFault>
+    ensures comes { (name : List ℕ) → ComesTo (names_of name None) (style_of_task task.entry) ⊥
+        (MayEnd task.entry name bytes.now) result }
     ensures fault { IfErr result IsAnswerFault }
 {
     match task {
@@ -83,7 +83,7 @@ fn answer_task<C: Clock>(
     file: &Named,
     task: Task,
 ) -> Result<Answer, ToolFault>
-    ensures gives { GivesOneOf (MayEnd task file.now.name.now file.now.bytes.now) result }
+    ensures gives { GivesOneOf (MayEnd task.entry file.now.name.now file.now.bytes.now) result }
     ensures fault { IfErr result IsAnswerFault }
 {
     let style = task.style();
@@ -95,18 +95,19 @@ fn answer_task<C: Clock>(
 }
 
 /// What a command comes to that is asked for of the bytes of a deployment and of a second file.
-fn find_pair_outcome<R: Threads + Wait + Clock + Sync>(
+fn find_pair_outcome<'a, R: Threads + Wait + Clock + Sync>(
     rt: &R,
     alloc: Global,
     given: &[u8],
     bytes: &[u8],
-    task: PairTask,
-) -> Result<Outcome, ToolFault>
-    ensures comes { (deployment second : List ℕ) → ComesTo (names_of deployment (Some second)) (style_of_pair task)
-        (MayBreakOff task (outcome given.now bytes.now))
-        (MayEndPair task deployment second given.now bytes.now) result }
-    ensures told { IfErr result (IsToldOf task given.now bytes.now) }
-    ensures fault { IfErr result (IsPairFault task) }
+    task: PairTask<'a>,
+) -> Result<Outcome<'a>, ToolFault>
+    ensures comes { (deployment second : List ℕ)
+        → ComesTo (names_of deployment (Some second)) (style_of_pair task.entry)
+        (MayBreakOff task.entry (outcome given.now bytes.now))
+        (MayEndPair task.entry deployment second given.now bytes.now) result }
+    ensures told { IfErr result (IsToldOf task.entry given.now bytes.now) }
+    ensures fault { IfErr result (IsPairFault task.entry) }
 {
     match task {
         PairTask::Check { detail, .. } => check_files(alloc, given, bytes, detail),
@@ -127,11 +128,11 @@ fn answer_pair<R: Threads + Wait + Clock + Sync>(
     task: PairTask,
 ) -> Result<Answer, ToolFault>
     ensures gives { GivesUnless
-        (MayBreakOff task (outcome deployment.now.bytes.now second.entry.bytes.now))
-        (MayEndPair task deployment.now.name.now second.entry.name.now deployment.now.bytes.now
+        (MayBreakOff task.entry (outcome deployment.now.bytes.now second.entry.bytes.now))
+        (MayEndPair task.entry deployment.now.name.now second.entry.name.now deployment.now.bytes.now
         second.entry.bytes.now) result }
-    ensures told { IfErr result (IsToldOf task deployment.now.bytes.now second.entry.bytes.now) }
-    ensures fault { IfErr result (IsPairFault task) }
+    ensures told { IfErr result (IsToldOf task.entry deployment.now.bytes.now second.entry.bytes.now) }
+    ensures fault { IfErr result (IsPairFault task.entry) }
 {
     let style = task.style();
     let names = names_of(deployment, Some(second));
@@ -161,7 +162,7 @@ fn answer_one<C: Clock, S: Sources>(
     files: &mut S,
 ) -> Result<Answer, ToolFault>
     ensures gives { (x : List ℕ) → S.holds files.old deployment.now ≡ Some x
-        → GivesOneOf (MayEndFile task deployment.now x) result }
+        → GivesOneOf (MayEndFile task.entry deployment.now x) result }
     ensures causes { IfErr result (IsFileFault (S.has_failed files.new)) }
     ensures opened { OpensAll (S.opened files.old) (S.opened files.new) (deployment.now ∷ []) }
 {
@@ -188,10 +189,10 @@ fn answer_two<R: Threads + Wait + Clock + Sync, S: Sources>(
     files: &mut S,
 ) -> Result<Answer, ToolFault>
     ensures gives { (x y : List ℕ) → S.holds files.old deployment.now ≡ Some x → S.holds files.old second.now ≡ Some y
-        → GivesUnless (MayBreakOff task (file_outcome x y))
-        (MayEndFiles task deployment.now second.now x y) result
-        × IfErr result (IsToldOf task x y) }
-    ensures causes { IfErr result (λ e. (IsRunTask task × (e ≡ ToolFault.Run))
+        → GivesUnless (MayBreakOff task.entry (file_outcome x y))
+        (MayEndFiles task.entry deployment.now second.now x y) result
+        × IfErr result (IsToldOf task.entry x y) }
+    ensures causes { IfErr result (λ e. (IsRunTask task.entry × (e ≡ ToolFault.Run))
         ⊎ IsFileFault (S.has_failed files.new) e) }
     ensures opened { Opens (S.opened files.old) (S.opened files.new) (deployment.now ∷ second.now ∷ []) }
     ensures all_opened { OnOk result (OpensAll (S.opened files.old) (S.opened files.new)

@@ -19,7 +19,7 @@ pub(crate) fn compare_endpoints(
     alloc: Global,
     deployment: &[u8],
     what: Comparison,
-) -> Result<Outcome, ToolFault>
+) -> Result<Outcome<'static>, ToolFault>
     ensures comes { (names : FileNames) → (style : Style) → ComesTo names style ⊥
         (λ end. end ≡ compared what style (deployment_read deployment.now)) result }
     ensures fault { IfErr result IsAnswerFault }

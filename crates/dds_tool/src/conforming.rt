@@ -78,7 +78,7 @@ fn trace_fault(fault: TraceFault) -> ToolFault
 }
 
 /// Whether the entries of a trace keep the rules of a plan.
-fn judge(alloc: Global, plan: Plan, entries: &[Entry]) -> Result<Outcome, ToolFault>
+fn judge(alloc: Global, plan: Plan, entries: &[Entry]) -> Result<Outcome<'static>, ToolFault>
     requires { AreKnown (network_of plan) entries.now }
     ensures judged { (names : FileNames) → (style : Style) → (bytes : List ℕ) → IsUtf8 bytes
         → AreEntries plan (lines bytes) entries.now
@@ -95,7 +95,7 @@ fn judge(alloc: Global, plan: Plan, entries: &[Entry]) -> Result<Outcome, ToolFa
 }
 
 /// Whether the trace that bytes are keeps the rules of a plan.
-fn judge_trace(alloc: Global, plan: Plan, trace: &[u8]) -> Result<Outcome, ToolFault>
+fn judge_trace(alloc: Global, plan: Plan, trace: &[u8]) -> Result<Outcome<'static>, ToolFault>
     ensures comes { (names : FileNames) → (style : Style) → ComesTo names style ⊥
         (MayConform style (Ok plan) trace.now) result }
     ensures fault { IfErr result IsAnswerFault }
@@ -114,7 +114,7 @@ pub(crate) fn conform_trace(
     alloc: Global,
     deployment: &[u8],
     trace: &[u8],
-) -> Result<Outcome, ToolFault>
+) -> Result<Outcome<'static>, ToolFault>
     ensures comes { (names : FileNames) → (style : Style) → ComesTo names style ⊥
         (MayConform style (deployment_read deployment.now) trace.now) result }
     ensures fault { IfErr result IsAnswerFault }

@@ -14,15 +14,15 @@ use dds_findings::{Deny, FileNames, Finding, LintStyle, answer_findings, lint};
 use std::alloc::Global;
 
 /// What `lint` comes to for the bytes of a deployment and of a certificate, if there is one: everything that it finds.
-pub(crate) fn lint_files(
+pub(crate) fn lint_files<'a>(
     alloc: Global,
     deployment: &[u8],
     certificate: Option<&[u8]>,
     form: LintStyle,
-    deny: Deny,
-) -> Result<Outcome, ToolFault>
+    deny: Deny<'a>,
+) -> Result<Outcome<'a>, ToolFault>
     ensures comes { (names : FileNames) → (style : Style) → ComesTo names style ⊥
-        (MayLint form deny names deployment.now (option_map (λ c. c.now) certificate.entry)) result }
+        (MayLint form deny.entry names deployment.now (option_map (λ c. c.now) certificate.entry)) result }
     ensures memory { IfErr result (λ e. e ≡ ToolFault.NoMemory) }
 {
     match lint(alloc, deployment, certificate) {
@@ -44,7 +44,7 @@ pub(crate) fn answer_lint(
     deny: Deny,
 ) -> Result<Answer, ToolFault>
     ensures gives { Gives result
-        (said (findings_text form names.now deny findings.items) (is_clean deny findings.items)) }
+        (said (findings_text form names.now deny.entry findings.items) (is_clean deny.entry findings.items)) }
     ensures memory { IfErr result (λ e. e ≡ ToolFault.NoMemory) }
 {
     answer_findings(alloc, names, findings.as_slice(), form, &deny)

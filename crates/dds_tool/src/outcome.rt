@@ -16,7 +16,7 @@ use dds_weights::Certificate;
 
 /// What a command came to: values, of which nothing is printed yet.
 #[derive(Drop)]
-pub(crate) enum Outcome {
+pub(crate) enum Outcome<'a> {
     /// `check`, and `run` where the check says no: the report, and how much of it is printed.
     Checked {
         report: Report,
@@ -63,7 +63,7 @@ pub(crate) enum Outcome {
     Linted {
         findings: Vec<Finding>,
         form: LintStyle,
-        deny: Deny,
+        deny: Deny<'a>,
     },
     /// `run`: the plan, the journal of the run, how the thread of each application ended, which ends are good, and how
     /// much is printed.

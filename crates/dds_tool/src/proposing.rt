@@ -19,7 +19,7 @@ use std::alloc::Global;
 use std::time::Clock;
 
 /// What the rounds give for a plan.
-fn propose_for(alloc: Global, plan: Plan) -> Result<Outcome, ToolFault>
+fn propose_for(alloc: Global, plan: Plan) -> Result<Outcome<'static>, ToolFault>
     ensures comes { (names : FileNames) → (style : Style) → ComesTo names style ⊥
         (MayInStyle style (MayPropose (Ok plan))) result }
     ensures fault { IfErr result IsAnswerFault }
@@ -34,7 +34,10 @@ fn propose_for(alloc: Global, plan: Plan) -> Result<Outcome, ToolFault>
 }
 
 /// What `propose` comes to for the bytes of a deployment.
-pub(crate) fn propose_certificate(alloc: Global, deployment: &[u8]) -> Result<Outcome, ToolFault>
+pub(crate) fn propose_certificate(
+    alloc: Global,
+    deployment: &[u8],
+) -> Result<Outcome<'static>, ToolFault>
     ensures comes { (names : FileNames) → (style : Style) → ComesTo names style ⊥
         (MayInStyle style (MayPropose (deployment_read deployment.now))) result }
     ensures fault { IfErr result IsAnswerFault }
@@ -51,7 +54,7 @@ fn search_for<C: Clock>(
     alloc: Global,
     plan: Plan,
     seconds: u16,
-) -> Result<Outcome, ToolFault>
+) -> Result<Outcome<'static>, ToolFault>
     ensures comes { (names : FileNames) → (style : Style) → ComesTo names style ⊥
         (MayInStyle style (MayFind (Ok plan))) result }
     ensures fault { IfErr result IsAnswerFault }
@@ -72,7 +75,7 @@ pub(crate) fn search_certificate<C: Clock>(
     alloc: Global,
     deployment: &[u8],
     seconds: u16,
-) -> Result<Outcome, ToolFault>
+) -> Result<Outcome<'static>, ToolFault>
     ensures comes { (names : FileNames) → (style : Style) → ComesTo names style ⊥
         (MayInStyle style (MayFind (deployment_read deployment.now))) result }
     ensures fault { IfErr result IsAnswerFault }

@@ -134,7 +134,11 @@ pub(crate) fn answer_refutation(
 }
 
 /// What is known of the runs of a plan.
-fn refute_plan<C: Clock>(alloc: Global, plan: Plan, budget: Budget<C>) -> Result<Outcome, ToolFault>
+fn refute_plan<C: Clock>(
+    alloc: Global,
+    plan: Plan,
+    budget: Budget<C>,
+) -> Result<Outcome<'static>, ToolFault>
     ensures comes { (names : FileNames) → (style : Style) → ComesTo names style ⊥ (MayRefute style (Ok plan)) result }
     ensures fault { IfErr result IsAnswerFault }
 {
@@ -149,7 +153,7 @@ pub(crate) fn refute_deployment<C: Clock>(
     alloc: Global,
     deployment: &[u8],
     budget: Budget<C>,
-) -> Result<Outcome, ToolFault>
+) -> Result<Outcome<'static>, ToolFault>
     ensures comes { (names : FileNames) → (style : Style) → ComesTo names style ⊥
         (MayRefute style (deployment_read deployment.now)) result }
     ensures fault { IfErr result IsAnswerFault }

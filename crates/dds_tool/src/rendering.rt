@@ -26,7 +26,7 @@ pub(crate) fn render(
     style: Style,
 ) -> Result<Answer, ToolFault>
     requires { IsSound outcome }
-    ensures gives { Gives result (end_of names.now style outcome) }
+    ensures gives { Gives result (end_of names.now style outcome.entry) }
     ensures memory { IfErr result (λ e. e ≡ ToolFault.NoMemory) }
 {
     match outcome {

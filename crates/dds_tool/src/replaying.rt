@@ -120,7 +120,11 @@ pub(crate) fn answer_replay(
 }
 
 /// The replies to events that are made on a plan.
-fn replay_on_plan(alloc: Global, plan: Plan, events: Vec<Event>) -> Result<Outcome, ToolFault>
+fn replay_on_plan(
+    alloc: Global,
+    plan: Plan,
+    events: Vec<Event>,
+) -> Result<Outcome<'static>, ToolFault>
     ensures comes { (names : FileNames) → (style : Style) → (bytes : List ℕ) → IsUtf8 bytes
         → map (event_text plan) events.items ≡ said_of bytes
         → ComesTo names style ⊥ (MayReplay style (Ok plan) bytes) result }
@@ -147,7 +151,7 @@ fn events_fault(fault: EventsFault) -> ToolFault
 }
 
 /// The replies to the events that bytes say, on a plan.
-fn replay_events(alloc: Global, plan: Plan, events: &[u8]) -> Result<Outcome, ToolFault>
+fn replay_events(alloc: Global, plan: Plan, events: &[u8]) -> Result<Outcome<'static>, ToolFault>
     ensures comes { (names : FileNames) → (style : Style) → ComesTo names style ⊥
         (MayReplay style (Ok plan) events.now) result }
     ensures fault { IfErr result IsAnswerFault }
@@ -166,7 +170,7 @@ pub(crate) fn replay_files(
     alloc: Global,
     deployment: &[u8],
     events: &[u8],
-) -> Result<Outcome, ToolFault>
+) -> Result<Outcome<'static>, ToolFault>
     ensures comes { (names : FileNames) → (style : Style) → ComesTo names style ⊥
         (MayReplay style (deployment_read deployment.now) events.now) result }
     ensures fault { IfErr result IsAnswerFault }

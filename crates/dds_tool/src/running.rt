@@ -322,7 +322,7 @@ fn play<R: Threads + Wait + Clock + Sync>(
     deployment: &[u8],
     checked: Checked,
     wishes: &Wishes,
-) -> Result<Outcome, ToolFault>
+) -> Result<Outcome<'static>, ToolFault>
     requires plan { deployment_read deployment.now ≡ Ok checked.plan }
     ensures comes { (names : FileNames) → (style : Style) → ComesTo names style
         (IsAccepted (accepted checked.plan checked.certificate))
@@ -343,7 +343,7 @@ fn play<R: Threads + Wait + Clock + Sync>(
 }
 
 /// What a run comes to where the check says no.
-fn refusal(no: No, plan: Plan, certificate: Certificate, detail: Detail) -> Outcome
+fn refusal(no: No, plan: Plan, certificate: Certificate, detail: Detail) -> Outcome<'static>
     ensures { result ≡ Outcome.Checked (Report.Refused no plan certificate) detail }
 {
     Outcome::Checked {
@@ -360,7 +360,7 @@ pub(crate) fn run_files<R: Threads + Wait + Clock + Sync>(
     deployment: &[u8],
     certificate: &[u8],
     wishes: &Wishes,
-) -> Result<Outcome, ToolFault>
+) -> Result<Outcome<'static>, ToolFault>
     ensures comes { (names : FileNames) → (style : Style) → ComesTo names style
         (IsAccepted (outcome deployment.now certificate.now))
         (MayRun wishes.now style (outcome deployment.now certificate.now)) result }

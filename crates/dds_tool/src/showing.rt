@@ -20,7 +20,7 @@ pub(crate) fn show_deployment(
     alloc: Global,
     deployment: &[u8],
     format: Format,
-) -> Result<Outcome, ToolFault>
+) -> Result<Outcome<'static>, ToolFault>
     ensures comes { (names : FileNames) → (style : Style) → ComesTo names style ⊥
         (λ end. end ≡ showing format (deployment_read deployment.now)) result }
     ensures fault { IfErr result IsAnswerFault }
@@ -32,7 +32,10 @@ pub(crate) fn show_deployment(
 }
 
 /// What `migrate` comes to for the bytes of a deployment of version 1.
-pub(crate) fn migrate_deployment(alloc: Global, deployment: &[u8]) -> Result<Outcome, ToolFault>
+pub(crate) fn migrate_deployment(
+    alloc: Global,
+    deployment: &[u8],
+) -> Result<Outcome<'static>, ToolFault>
     ensures comes { (names : FileNames) → (style : Style) → ComesTo names style ⊥
         (MayMigrate deployment.now (read_up_to 1 deployment.now)) result }
     ensures fault { IfErr result IsAnswerFault }
@@ -44,7 +47,7 @@ pub(crate) fn migrate_deployment(alloc: Global, deployment: &[u8]) -> Result<Out
 }
 
 /// What is drawn of a plan and the bytes of a certificate.
-fn draw_with(alloc: Global, plan: Plan, certificate: &[u8]) -> Result<Outcome, ToolFault>
+fn draw_with(alloc: Global, plan: Plan, certificate: &[u8]) -> Result<Outcome<'static>, ToolFault>
     ensures comes { (names : FileNames) → (style : Style) → ComesTo names style ⊥
         (λ end. end ≡ drawing (Ok plan) (Some certificate.now)) result }
     ensures fault { IfErr result IsAnswerFault }
@@ -62,7 +65,11 @@ fn draw_with(alloc: Global, plan: Plan, certificate: &[u8]) -> Result<Outcome, T
 }
 
 /// What is drawn of a plan and the bytes of a certificate, if there are some.
-fn draw_plan(alloc: Global, plan: Plan, certificate: Option<&[u8]>) -> Result<Outcome, ToolFault>
+fn draw_plan(
+    alloc: Global,
+    plan: Plan,
+    certificate: Option<&[u8]>,
+) -> Result<Outcome<'static>, ToolFault>
     ensures comes { (names : FileNames) → (style : Style) → ComesTo names style ⊥
         (λ end. end ≡ drawing (Ok plan) (option_map (λ c. c.now) certificate.entry)) result }
     ensures fault { IfErr result IsAnswerFault }
@@ -81,7 +88,7 @@ pub(crate) fn draw_deployment(
     alloc: Global,
     deployment: &[u8],
     certificate: Option<&[u8]>,
-) -> Result<Outcome, ToolFault>
+) -> Result<Outcome<'static>, ToolFault>
     ensures comes { (names : FileNames) → (style : Style) → ComesTo names style ⊥
         (λ end. end ≡ drawing (deployment_read deployment.now) (option_map (λ c. c.now) certificate.entry)) result }
     ensures fault { IfErr result IsAnswerFault }

@@ -22,7 +22,7 @@ fn size_plan<C: Clock>(
     plan: Plan,
     what: Sizing,
     budget: Budget<C>,
-) -> Result<Outcome, ToolFault>
+) -> Result<Outcome<'static>, ToolFault>
     ensures comes { (names : FileNames) → (style : Style) → ComesTo names style ⊥
         (MayLimit what style (Ok plan)) result }
     ensures fault { IfErr result IsAnswerFault }
@@ -42,7 +42,7 @@ pub(crate) fn size_limits<C: Clock>(
     deployment: &[u8],
     what: Sizing,
     budget: Budget<C>,
-) -> Result<Outcome, ToolFault>
+) -> Result<Outcome<'static>, ToolFault>
     ensures comes { (names : FileNames) → (style : Style) → ComesTo names style ⊥
         (MayLimit what style (deployment_read deployment.now)) result }
     ensures fault { IfErr result IsAnswerFault }

@@ -17,5 +17,5 @@ returns-in-Ok-clause-comes c = λ names style bytes text are.
     let run = subst (λ (xs : List Event). IsRun (network_of c.args.plan) (paired xs replies)) c.deref.ensures.value c.in-Ok.ensures.run in
     (tt, inl (text, events, replies, are, all, run, ap (λ (d : Lists). said (told_replay style d events replies) true) c.in-Ok.ensures.plan))
 
-pub returns-in-Err-clause-comes : goal.returns-in-Err-clause-comes
-returns-in-Err-clause-comes c = λ names style bytes text are. memory_comes ⊥ (MayReplay style (Ok c.args.plan) bytes) names style
+pub returns-clause-comes : goal.returns-clause-comes
+returns-clause-comes c = λ names style bytes text are. memory_comes ⊥ (MayReplay style (Ok c.args.plan) bytes) names style
