@@ -1,6 +1,6 @@
 -- Errors are found exactly where the check doesn't say yes.
-use Rattle.std.proofs.Common.{ℕ, ◌≡◌, ◌∙◌, ◌||◌, ◌&&◌, Bool, true, false, not, List, [], ◌∷◌, ◌++◌, map, slice_get, string_bytes, Option, Some, None, is_some, Result, Ok, Err, IfOk, refl, sym, ap, ap₂, arith, cond, ◌==◌}
-use Rattle.std.specs.List.{list_all, list_any}
+use Rattle.std.proofs.Common.{ℕ, ◌≡◌, ◌∙◌, ◌||◌, Bool, true, false, not, List, [], ◌∷◌, ◌++◌, map, slice_get, string_bytes, Option, Some, None, is_some, Result, Ok, Err, IfOk, refl, sym, ap, ap₂, arith}
+use Rattle.std.specs.List.{list_any}
 use Rattle.std.proofs.lemmas.List.Folds.{list_any-append}
 use Rattle.dds_fields.specs.Reading.{Read}
 use Rattle.dds_lists.specs.Lists.{Lists}
@@ -17,7 +17,7 @@ use Rattle.dds_answers.specs.Outcome.{judged, outcome, planned, verdict}
 use Rattle.dds_answers.specs.declared.answer.Answer.{Answer}
 use Rattle.dds_findings.specs.Agreement.{AgreesWithCheck, AnswersAsCheck, has_error, says_yes}
 use Rattle.dds_findings.specs.Answers.{is_clean}
-use Rattle.dds_findings.specs.Findings.{AreFaults, IsBare, IsFound, IsJudged, IsLint, abouts, is_denied, is_denied_about, is_denied_note, is_error, is_fault, of_lists}
+use Rattle.dds_findings.specs.Findings.{AreFaults, IsBare, IsFound, IsJudged, IsLint, Matter, condition_matter, fault_matter, is_denied, is_denied_about, is_denied_note, is_error, matters, no_certificate, note_matter, of_lists}
 use Rattle.dds_findings.specs.Kinds.{kind_of}
 use Rattle.dds_findings.specs.declared.answer.Deny.{Deny}
 use Rattle.dds_findings.specs.declared.answer.Deny.TheVariants as deny
@@ -29,42 +29,39 @@ use Rattle.dds_findings.specs.declared.finding.Finding.{Finding}
 has_one : List No → Bool
 has_one nos = is_some (slice_get nos 0)
 
-conditions_errors : (nos : List No) → list_any is_error (map about.Condition nos) ≡ is_some (slice_get nos 0)
+conditions_errors : (nos : List No) → has_error (map condition_matter nos) ≡ is_some (slice_get nos 0)
 conditions_errors [] = refl
 conditions_errors (refused ∷ nos) = refl
 
-notes_errors : (notes : List Note) → list_any is_error (map about.Note notes) ≡ false
-notes_errors [] = refl
-notes_errors (note ∷ notes) = notes_errors notes
+notes_errors : (d : Lists) (cert : Certificate) (notes : List Note) → has_error (map (note_matter d cert) notes) ≡ false
+notes_errors d cert [] = refl
+notes_errors d cert (note ∷ notes) = notes_errors d cert notes
 
 or_false : (b : Bool) → (b || false) ≡ b
 or_false true = refl
 or_false false = refl
 
-lists_errors : (nos : List No) (notes : List Note) → has_error (of_lists nos notes) ≡ is_some (slice_get nos 0)
-lists_errors nos notes =
-    list_any-append is_error (map about.Condition nos) (map about.Note notes)
-    ∙ (ap₂ (λ a b. a || b) (conditions_errors nos) (notes_errors notes) ∙ or_false (is_some (slice_get nos 0)))
+lists_errors : (d : Lists) (cert : Certificate) (nos : List No) (notes : List Note) → has_error (of_lists d cert nos notes) ≡ is_some (slice_get nos 0)
+lists_errors d cert nos notes =
+    list_any-append (λ (m : Matter). is_error m.0) (map condition_matter nos) (map (note_matter d cert) notes)
+    ∙ (ap₂ (λ a b. a || b) (conditions_errors nos) (notes_errors d cert notes) ∙ or_false (is_some (slice_get nos 0)))
 
-fault_error : (one : About) (more rest : Bool) → (is_fault one && rest) ≡ true → (is_error one || more) ≡ true
-fault_error about.Fault more rest h = refl
-fault_error (about.Condition refused) more rest h = refl
-fault_error (about.Note note) more rest h = cc
-
-faults_errors : (found : List About) → AreFaults found → has_error found ≡ true
+faults_errors : (found : List Matter) → AreFaults found → has_error found ≡ true
 faults_errors [] (some, all) = absurd (omega (arith, some))
-faults_errors (one ∷ found) (some, all) = fault_error one (list_any is_error found) (list_all is_fault found) all
+faults_errors (one ∷ found) (some, all) =
+    let first : one ≡ fault_matter = all 0 one some in
+    ap (λ (m : Matter). is_error m.0 || has_error found) first
 
 -- ── the check of what was read
 verdict_says : (o : Option No) (d : Lists) (cert : Certificate) → is_some o ≡ not (says_yes (verdict o d cert))
 verdict_says None d cert = refl
 verdict_says (Some refused) d cert = refl
 
-judged_agrees : (d : Lists) (read : Read Certificate) (found : List About) → IsJudged d read found → has_error found ≡ not (says_yes (judged d read))
+judged_agrees : (d : Lists) (read : Read Certificate) (found : List Matter) → IsJudged d read found → has_error found ≡ not (says_yes (judged d read))
 judged_agrees d (Ok cert) found (notes, are, same) =
-    ap has_error same ∙ (lists_errors (all_nos d cert) notes ∙ (ap is_some (first_of_all d cert) ∙ verdict_says (first_no d cert) d cert))
+    ap has_error same ∙ (lists_errors d cert (all_nos d cert) notes ∙ (ap is_some (first_of_all d cert) ∙ verdict_says (first_no d cert) d cert))
 judged_agrees d (Err flaw) found (faults, rest, are, bare, same) =
-    ap has_error same ∙ (list_any-append is_error faults rest ∙ ap (λ b. b || has_error rest) (faults_errors faults are))
+    ap has_error same ∙ (list_any-append (λ (m : Matter). is_error m.0) faults rest ∙ ap (λ b. b || has_error rest) (faults_errors faults are))
 
 -- ── what asks no certificate fails with each
 has_two : (xs ys : List No) → has_one (xs ++ ys) ≡ (has_one xs || has_one ys)
@@ -111,26 +108,26 @@ unfolding has_one
 bare_refuses d (Ok cert) some = verdict_refuses (first_no d cert) d cert (bare_fails d cert some)
 bare_refuses d (Err flaw) some = refl
 
-bare_agrees : (d : Lists) (found : List About) → IsBare d found → has_error found ≡ true → (c : List ℕ) → says_yes (planned (Ok d) c) ≡ false
+bare_agrees : (d : Lists) (found : List Matter) → IsBare d found → has_error found ≡ true → (c : List ℕ) → says_yes (planned (Ok d) c) ≡ false
 bare_agrees d found (notes, are, same) has c =
-    bare_refuses d (certificate.read d c) (sym (ap has_error same ∙ lists_errors (bare_nos d) notes) ∙ has)
+    bare_refuses d (certificate.read d c) (sym (ap has_error same ∙ lists_errors d no_certificate (bare_nos d) notes) ∙ has)
 
 -- ── lint and the check read the same files
-found_agrees : (read : Read Lists) (d : List ℕ) (c : Option (List ℕ)) (found : List About) → read ≡ deployment.read d → IsFound read c found → AgreesWithCheck d c found
+found_agrees : (read : Read Lists) (d : List ℕ) (c : Option (List ℕ)) (found : List Matter) → read ≡ deployment.read d → IsFound read c found → AgreesWithCheck d c found
 unfolding outcome
 found_agrees (Err flaw) d None found is faults = λ has c. ap (λ r. says_yes (planned r c)) (sym is)
 found_agrees (Err flaw) d (Some c) found is faults = faults_errors found faults ∙ ap (λ r. not (says_yes (planned r c))) is
 found_agrees (Ok lists) d None found is bare = λ has c. ap (λ r. says_yes (planned r c)) (sym is) ∙ bare_agrees lists found bare has c
 found_agrees (Ok lists) d (Some c) found is judged = judged_agrees lists (certificate.read lists c) found judged ∙ ap (λ r. not (says_yes (planned r c))) is
 
-lint_agrees : (d : List ℕ) (c : Option (List ℕ)) (found : List About) → IsLint d c found → AgreesWithCheck d c found
+lint_agrees : (d : List ℕ) (c : Option (List ℕ)) (found : List Matter) → IsLint d c found → AgreesWithCheck d c found
 unfolding IsLint
 lint_agrees d c found lint = found_agrees (deployment.read d) d c found refl lint
 
 -- what lint finds agrees with the check
-pub found_as_check : {V E : Type 0} (items : V → List Finding) (d : List ℕ) (c : Option (List ℕ)) (r : Result V E) → IfOk r (λ v. IsLint d c (abouts (items v)))
-    → IfOk r (λ v. AgreesWithCheck d c (abouts (items v)))
-found_as_check items d c (Ok v) lint = lint_agrees d c (abouts (items v)) lint
+pub found_as_check : {V E : Type 0} (items : V → List Finding) (d : List ℕ) (c : Option (List ℕ)) (r : Result V E) → IfOk r (λ v. IsLint d c (matters (items v)))
+    → IfOk r (λ v. AgreesWithCheck d c (matters (items v)))
+found_as_check items d c (Ok v) lint = lint_agrees d c (matters (items v)) lint
 found_as_check items d c (Err e) lint = tt
 
 -- ── the answer of lint
@@ -140,7 +137,7 @@ one_denied subject about.Fault = refl
 one_denied subject (about.Condition refused) = refl
 one_denied subject (about.Note note) = refl
 
-errors_denied : (findings : List Finding) → list_any (is_denied deny.Errors) findings ≡ has_error (abouts findings)
+errors_denied : (findings : List Finding) → list_any (is_denied deny.Errors) findings ≡ has_error (matters findings)
 errors_denied [] = refl
 errors_denied (one ∷ findings) = ap₂ (λ a b. a || b) (one_denied (string_bytes one.subject) one.about) (errors_denied findings)
 
@@ -155,10 +152,10 @@ none_step denied subject about.Fault rest any step h = h
 none_step denied subject (about.Condition refused) rest any step h = h
 none_step denied subject (about.Note note) rest any step h = step (or_right (is_denied_note denied (kind_of note) subject) any h)
 
-none_denied : (denied : Deny) (findings : List Finding) → list_any (is_denied denied) findings ≡ false → has_error (abouts findings) ≡ false
+none_denied : (denied : Deny) (findings : List Finding) → list_any (is_denied denied) findings ≡ false → has_error (matters findings) ≡ false
 none_denied denied [] h = refl
 none_denied denied (one ∷ findings) h =
-    none_step denied (string_bytes one.subject) one.about (has_error (abouts findings)) (list_any (is_denied denied) findings) (none_denied denied findings) h
+    none_step denied (string_bytes one.subject) one.about (has_error (matters findings)) (list_any (is_denied denied) findings) (none_denied denied findings) h
 
 not_not : (b : Bool) → not (not b) ≡ b
 not_not true = refl
@@ -173,16 +170,16 @@ not_true true h = cc
 not_true false h = refl
 
 -- whatever is denied, a yes to two files is one of the check
-yes_agrees : (denied : Deny) (d c : List ℕ) (answer : Answer) (findings : List Finding) → AgreesWithCheck d (Some c) (abouts findings) → answer.is_yes ≡ is_clean denied findings
+yes_agrees : (denied : Deny) (d c : List ℕ) (answer : Answer) (findings : List Finding) → AgreesWithCheck d (Some c) (matters findings) → answer.is_yes ≡ is_clean denied findings
     → answer.is_yes ≡ true → says_yes (outcome d c) ≡ true
 yes_agrees denied d c answer findings agrees clean holds =
     not_false (says_yes (outcome d c)) (sym agrees ∙ none_denied denied findings (not_true (list_any (is_denied denied) findings) (sym clean ∙ holds)))
 
-as_check : (denied : Deny) (d : List ℕ) (c : Option (List ℕ)) (answer : Answer) (findings : List Finding) → AgreesWithCheck d c (abouts findings)
+as_check : (denied : Deny) (d : List ℕ) (c : Option (List ℕ)) (answer : Answer) (findings : List Finding) → AgreesWithCheck d c (matters findings)
     → answer.is_yes ≡ is_clean denied findings → AnswersAsCheck denied d c answer
 as_check deny.Errors d (Some c) answer findings agrees clean = clean ∙ (ap not (errors_denied findings ∙ agrees) ∙ not_not (says_yes (outcome d c)))
 as_check deny.Errors d None answer findings agrees clean =
-    λ denies c. agrees (not_false (has_error (abouts findings)) (sym (clean ∙ ap not (errors_denied findings)) ∙ denies)) c
+    λ denies c. agrees (not_false (has_error (matters findings)) (sym (clean ∙ ap not (errors_denied findings)) ∙ denies)) c
 as_check (deny.Notes allowed) d (Some c) answer findings agrees clean = yes_agrees (deny.Notes allowed) d c answer findings agrees clean
 as_check (deny.Notes allowed) d None answer findings agrees clean = tt
 as_check (deny.All allowed) d (Some c) answer findings agrees clean = yes_agrees (deny.All allowed) d c answer findings agrees clean
@@ -190,6 +187,6 @@ as_check (deny.All allowed) d None answer findings agrees clean = tt
 
 -- an answer that is yes where findings are clean agrees with the check as they do
 pub answers_as_check : {E : Type 0} (P : Answer → Type 0) (denied : Deny) (d : List ℕ) (c : Option (List ℕ)) (findings : List Finding) (b : Bool) (r : Result Answer E)
-    → b ≡ is_clean denied findings → IfOk r (λ a. (a.is_yes ≡ b) × P a) → AgreesWithCheck d c (abouts findings) → IfOk r (AnswersAsCheck denied d c)
+    → b ≡ is_clean denied findings → IfOk r (λ a. (a.is_yes ≡ b) × P a) → AgreesWithCheck d c (matters findings) → IfOk r (AnswersAsCheck denied d c)
 answers_as_check P denied d c findings b (Ok answer) clean is agrees = as_check denied d c answer findings agrees (is.0 ∙ clean)
 answers_as_check P denied d c findings b (Err e) clean is agrees = tt

@@ -1,5 +1,5 @@
 -- Documents without fractions.
-use Rattle.std.proofs.Common.{◌≡◌, refl, false, List, Bool, String, map, string_bytes}
+use Rattle.std.proofs.Common.{◌≡◌, refl, false, List, Bool, String, string_bytes}
 use Rattle.std.specs.declared.alloc.Global.{Global}
 use Rattle.serde_json.specs.Data.{string}
 use Rattle.serde_json.specs.Written.{has_float}

@@ -3,14 +3,13 @@ use Rattle.std.specs.Prelude.{ℕ, ◌≡◌, Bool, true, false, not, List, Opti
 use Rattle.std.specs.List.{list_any}
 use Rattle.dds_answers.specs.Outcome.{Outcome, accepted, outcome}
 use Rattle.dds_answers.specs.declared.answer.Answer.{Answer}
-use Rattle.dds_findings.specs.Findings.{is_error}
+use Rattle.dds_findings.specs.Findings.{Matter, is_error}
 use Rattle.dds_findings.specs.declared.answer.Deny.{Deny}
 use Rattle.dds_findings.specs.declared.answer.Deny.TheVariants as deny
-use Rattle.dds_findings.specs.declared.finding.About.{About}
 
 -- one finding at least is an error
-abbrev pub has_error : List About → Bool
-has_error found = list_any is_error found
+abbrev pub has_error : List Matter → Bool
+has_error found = list_any (λ m. is_error m.0) found
 
 -- the check says yes
 abbrev pub says_yes : Outcome → Bool
@@ -19,7 +18,7 @@ says_yes _ = false
 
 -- of two files there's an error exactly where the check of them doesn't say yes; of a deployment alone there's one only where the check says yes to no
 -- certificate of it
-abbrev pub AgreesWithCheck : (deployment : List ℕ) → (certificate : Option (List ℕ)) → List About → Type 0
+abbrev pub AgreesWithCheck : (deployment : List ℕ) → (certificate : Option (List ℕ)) → List Matter → Type 0
 AgreesWithCheck d (Some c) found = has_error found ≡ not (says_yes (outcome d c))
 AgreesWithCheck d None found = has_error found ≡ true → (c : List ℕ) → says_yes (outcome d c) ≡ false
 

@@ -2,7 +2,7 @@
 ghost use Rattle.std.specs.Prelude.{◌≡◌, ℕ, List, Option, IfErr, IfOk, option_map, string_bytes};
 ghost use Rattle.dds_findings.specs.Agreement.{AgreesWithCheck, AnswersAsCheck};
 ghost use Rattle.dds_findings.specs.Answers.{findings_text, has_denied, is_clean, names_of};
-ghost use Rattle.dds_findings.specs.Findings.{abouts, is_denied_note};
+ghost use Rattle.dds_findings.specs.Findings.{is_denied_note, matters};
 
 use crate::allowed::Allowed;
 use crate::block::{FileNames, blocks_text};
@@ -113,7 +113,7 @@ pub fn answer_findings(
 ) -> Result<Answer, ToolFault>
     ensures text { IfOk result (λ a. string_bytes a.text ≡ findings_text style names.now deny.now findings.now) }
     ensures yes { IfOk result (λ a. a.is_yes ≡ is_clean deny.now findings.now) }
-    ensures agrees { (d : List ℕ) → (c : Option (List ℕ)) → AgreesWithCheck d c (abouts findings.now)
+    ensures agrees { (d : List ℕ) → (c : Option (List ℕ)) → AgreesWithCheck d c (matters findings.now)
         → IfOk result (AnswersAsCheck deny.now d c) }
     ensures memory { IfErr result (λ e. e ≡ ToolFault.NoMemory) }
 {

@@ -1,6 +1,6 @@
 //! The findings of conditions that fail.
 ghost use Rattle.std.specs.Prelude.{◌≡◌, IfOk};
-ghost use Rattle.dds_findings.specs.declared.finding.About.TheVariants as about;
+ghost use Rattle.dds_findings.specs.Findings.{condition_matter, matter_of};
 
 use crate::bounds::{bound_place, total_place};
 use crate::finding::{About, Finding, Role};
@@ -272,7 +272,7 @@ pub(crate) fn condition(
     judged: &Judged,
     no: &No,
 ) -> Result<Finding, NoMemory>
-    ensures { IfOk result (λ finding. finding.about ≡ about.Condition no.now) }
+    ensures { IfOk result (λ finding. matter_of finding ≡ condition_matter no.now) }
 {
     let because = reason(alloc, judged.plan, judged.certificate, *no)?;
     let message = first_line(alloc, because.as_str())?;

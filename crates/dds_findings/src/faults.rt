@@ -1,8 +1,7 @@
 //! The findings of faults of files.
 ghost use Rattle.std.specs.Prelude.{◌≡◌, ◌<◌, IfOk, length, map};
 ghost use Rattle.dds_faults.specs.declared.fault.FileFault.{FileFault};
-ghost use Rattle.dds_findings.specs.Findings.{AreFaults, abouts};
-ghost use Rattle.dds_findings.specs.declared.finding.About.TheVariants as about;
+ghost use Rattle.dds_findings.specs.Findings.{AreFaults, fault_matter, matter_of, matters};
 
 use crate::finding::{About, Finding, Role};
 use crate::located::Located;
@@ -39,7 +38,7 @@ fn document_fault(
     role: Role,
     fault: &FileFault,
 ) -> Result<Finding, NoMemory>
-    ensures { IfOk result (λ finding. finding.about ≡ about.Fault) }
+    ensures { IfOk result (λ finding. matter_of finding ≡ fault_matter) }
 {
     Ok(Finding {
         about: About::Fault,
@@ -74,7 +73,7 @@ fn syntax_help(file: &Located, message: &str) -> &'static str {
 
 /// The finding of a text that is no TOML: where the parser stopped, and what it says.
 fn syntax_fault(alloc: Global, file: &Located, role: Role) -> Result<Finding, NoMemory>
-    ensures { IfOk result (λ finding. finding.about ≡ about.Fault) }
+    ensures { IfOk result (λ finding. matter_of finding ≡ fault_matter) }
 {
     let (at, message) = file.syntax(alloc)?;
     let help = String::from_str(alloc, syntax_help(file, message.as_str()))?;
@@ -98,7 +97,7 @@ fn fault_finding(
     role: Role,
     fault: &FileFault,
 ) -> Result<Finding, NoMemory>
-    ensures { IfOk result (λ finding. finding.about ≡ about.Fault) }
+    ensures { IfOk result (λ finding. matter_of finding ≡ fault_matter) }
 {
     match fault.name {
         "NotToml" => syntax_fault(alloc, file, role),
@@ -113,7 +112,7 @@ fn each_finding(
     role: Role,
     faults: &[FileFault],
 ) -> Result<Vec<Finding>, NoMemory>
-    ensures { IfOk result (λ found. abouts found.items ≡ map (λ (f : FileFault). about.Fault) faults.now) }
+    ensures { IfOk result (λ found. matters found.items ≡ map (λ (f : FileFault). fault_matter) faults.now) }
 {
     let mut found = Vec::new(alloc);
     for one in faults {
@@ -130,7 +129,7 @@ pub(crate) fn fault_findings(
     faults: &[FileFault],
 ) -> Result<Vec<Finding>, NoMemory>
     requires { 0 < length faults.now }
-    ensures { IfOk result (λ found. AreFaults (abouts found.items)) }
+    ensures { IfOk result (λ found. AreFaults (matters found.items)) }
 {
     each_finding(alloc, file, role, faults)
 }

@@ -5,9 +5,8 @@ ghost use Rattle.dds_weights.specs.Fits.{fits};
 ghost use Rattle.dds_weights.specs.Views.{certificate_view};
 ghost use Rattle.dds_cert.specs.Document.{read as certificate_read};
 ghost use Rattle.dds_findings.specs.Agreement.{AgreesWithCheck};
-ghost use Rattle.dds_findings.specs.Findings.{AreFaults, IsBare, IsFound, IsJudged, IsLint, abouts};
-ghost use Rattle.dds_findings.specs.Findings.{no_certificate, of_lists};
-ghost use Rattle.dds_findings.specs.declared.finding.About.TheVariants as about;
+ghost use Rattle.dds_findings.specs.Findings.{AreFaults, IsBare, IsFound, IsJudged, IsLint, condition_matter};
+ghost use Rattle.dds_findings.specs.Findings.{matters, no_certificate, note_matter, of_lists};
 
 use crate::bounds::bound_entries;
 use crate::conditions::condition;
@@ -78,7 +77,7 @@ fn push_conditions(
     nos: &[No],
     found: &mut Vec<Finding>,
 ) -> Result<(), NoMemory>
-    ensures { OnOk result (abouts found.new.items ≡ abouts found.old.items ++ map about.Condition nos.now) }
+    ensures { OnOk result (matters found.new.items ≡ matters found.old.items ++ map condition_matter nos.now) }
 {
     for no in nos {
         found.push(condition(alloc, files, judged, no)?)?;
@@ -94,7 +93,9 @@ fn push_notes(
     notes: &[Note],
     found: &mut Vec<Finding>,
 ) -> Result<(), NoMemory>
-    ensures { OnOk result (abouts found.new.items ≡ abouts found.old.items ++ map about.Note notes.now) }
+    ensures { OnOk result
+        (matters found.new.items ≡ matters found.old.items
+        ++ map (note_matter judged.entry.now.plan.now (certificate_view judged.entry.now.certificate.now)) notes.now) }
 {
     for one in notes {
         found.push(note(alloc, files, judged, one)?)?;
@@ -110,7 +111,9 @@ fn findings_of(
     nos: &[No],
     notes: &[Note],
 ) -> Result<Vec<Finding>, NoMemory>
-    ensures { IfOk result (λ found. abouts found.items ≡ of_lists nos.now notes.now) }
+    ensures { IfOk result
+        (λ found. matters found.items
+        ≡ of_lists judged.entry.now.plan.now (certificate_view judged.entry.now.certificate.now) nos.now notes.now) }
 {
     let mut found = Vec::new(alloc);
     push_conditions(alloc, files, judged, nos, &mut found)?;
@@ -137,7 +140,7 @@ fn findings_by_none(
     certificate: &Certificate,
 ) -> Result<Vec<Finding>, NoMemory>
     requires { certificate_view certificate.now ≡ no_certificate }
-    ensures { IfOk result (λ found. IsBare plan.now (abouts found.items)) }
+    ensures { IfOk result (λ found. IsBare plan.now (matters found.items)) }
 {
     let nos = bare_nos(alloc, plan)?;
     let notes = all_notes(alloc, plan, certificate)?;
@@ -151,7 +154,7 @@ fn findings_by_none(
 
 /// What is found of a plan without a certificate.
 fn bare_findings(alloc: Global, files: &Files, plan: &Plan) -> Result<Vec<Finding>, NoMemory>
-    ensures { IfOk result (λ found. IsBare plan.now (abouts found.items)) }
+    ensures { IfOk result (λ found. IsBare plan.now (matters found.items)) }
 {
     let certificate = no_certificate(alloc);
     let found = findings_by_none(alloc, files, plan, &certificate);
@@ -167,7 +170,7 @@ fn judged_findings(
     certificate: &Certificate,
 ) -> Result<Vec<Finding>, NoMemory>
     requires { fits (network_of plan.now) (certificate_view certificate.now) ≡ true }
-    ensures { IfOk result (λ found. IsJudged plan.now (Ok (certificate_view certificate.now)) (abouts found.items)) }
+    ensures { IfOk result (λ found. IsJudged plan.now (Ok (certificate_view certificate.now)) (matters found.items)) }
 {
     let nos = all_nos(alloc, plan, certificate)?;
     let notes = all_notes(alloc, plan, certificate)?;
@@ -190,7 +193,7 @@ fn certificate_findings(
     bytes: &[u8],
     first: &CertFlaw,
 ) -> Result<Vec<Finding>, NoMemory>
-    ensures { IfOk result (λ found. AreFaults (abouts found.items)) }
+    ensures { IfOk result (λ found. AreFaults (matters found.items)) }
 {
     let known = Known {
         number: first.kind.number(),
@@ -214,7 +217,7 @@ fn flawed_findings(
     bytes: &[u8],
     first: &CertFlaw,
 ) -> Result<Vec<Finding>, NoMemory>
-    ensures { (flaw : _) → IfOk result (λ found. IsJudged plan.now (Err flaw) (abouts found.items)) }
+    ensures { (flaw : _) → IfOk result (λ found. IsJudged plan.now (Err flaw) (matters found.items)) }
 {
     let mut found = certificate_findings(alloc, files, plan, bytes, first)?;
     let mut rest = bare_findings(alloc, files, plan)?;
@@ -229,7 +232,7 @@ fn certified_findings(
     plan: &Plan,
     bytes: &[u8],
 ) -> Result<Vec<Finding>, NoMemory>
-    ensures { IfOk result (λ found. IsJudged plan.now (certificate_read plan.now bytes.now) (abouts found.items)) }
+    ensures { IfOk result (λ found. IsJudged plan.now (certificate_read plan.now bytes.now) (matters found.items)) }
 {
     match read_certificate(alloc, plan, bytes) {
         Ok(certificate) => {
@@ -254,7 +257,7 @@ fn plan_findings(
     certificate: Option<&[u8]>,
 ) -> Result<Vec<Finding>, NoMemory>
     ensures { IfOk result
-        (λ found. IsFound (Ok plan.now) (option_map (λ c. c.now) certificate.entry) (abouts found.items)) }
+        (λ found. IsFound (Ok plan.now) (option_map (λ c. c.now) certificate.entry) (matters found.items)) }
 {
     match certificate {
         None => bare_findings(alloc, files, plan),
@@ -270,7 +273,7 @@ fn lists_findings(
     certificate: Option<&[u8]>,
 ) -> Result<Vec<Finding>, NoMemory>
     ensures { IfOk result
-        (λ found. IsFound (Ok lists) (option_map (λ c. c.now) certificate.entry) (abouts found.items)) }
+        (λ found. IsFound (Ok lists) (option_map (λ c. c.now) certificate.entry) (matters found.items)) }
 {
     match plan(alloc, lists) {
         Ok(plan) => {
@@ -293,7 +296,7 @@ fn deployment_findings(
     bytes: &[u8],
     first: &Fault,
 ) -> Result<Vec<Finding>, NoMemory>
-    ensures { IfOk result (λ found. AreFaults (abouts found.items)) }
+    ensures { IfOk result (λ found. AreFaults (matters found.items)) }
 {
     let known = Known {
         number: first.kind.number(),
@@ -313,7 +316,7 @@ fn file_findings(
     certificate: Option<&[u8]>,
 ) -> Result<Vec<Finding>, NoMemory>
     ensures { IfOk result
-        (λ found. IsLint deployment.now (option_map (λ c. c.now) certificate.entry) (abouts found.items)) }
+        (λ found. IsLint deployment.now (option_map (λ c. c.now) certificate.entry) (matters found.items)) }
 {
     match read_deployment(alloc, deployment) {
         Ok(lists) => lists_findings(alloc, files, lists, certificate),
@@ -329,19 +332,19 @@ fn file_findings(
 /// Everything that is found in the bytes of a deployment and of a certificate, if there is one.
 ///
 /// Of a deployment that has a fault, its faults: the first that `read_deployment` gives is among them. Of another one
-/// the faults of the certificate, the same way, then each condition of the checker that fails and at last the notes;
-/// without a certificate, or where it has a fault, the conditions that ask for none. So an error is found of two files
-/// exactly where the check of them doesn't say yes, and of a deployment alone only where the check says yes to no
-/// certificate of it. `NoMemory` is the only error.
+/// the faults of the certificate, the same way, then each condition of the checker that fails and at last the notes,
+/// each with the name of what it's about; without a certificate, or where it has a fault, the conditions that ask for
+/// none. So an error is found of two files exactly where the check of them doesn't say yes, and of a deployment alone
+/// only where the check says yes to no certificate of it. `NoMemory` is the only error.
 pub fn lint(
     alloc: Global,
     deployment: &[u8],
     certificate: Option<&[u8]>,
 ) -> Result<Vec<Finding>, NoMemory>
     ensures found { IfOk result
-        (λ found. IsLint deployment.now (option_map (λ c. c.now) certificate.entry) (abouts found.items)) }
+        (λ found. IsLint deployment.now (option_map (λ c. c.now) certificate.entry) (matters found.items)) }
     ensures agrees { IfOk result
-        (λ found. AgreesWithCheck deployment.now (option_map (λ c. c.now) certificate.entry) (abouts found.items)) }
+        (λ found. AgreesWithCheck deployment.now (option_map (λ c. c.now) certificate.entry) (matters found.items)) }
 {
     match Files::new(alloc, deployment, certificate) {
         Ok(files) => {

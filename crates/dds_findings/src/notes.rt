@@ -1,8 +1,7 @@
 //! The findings of notes.
-ghost use Rattle.std.specs.Prelude.{◌≡◌, IfOk, string_bytes};
+ghost use Rattle.std.specs.Prelude.{◌≡◌, IfOk};
 ghost use Rattle.dds_weights.specs.Views.{certificate_view};
-ghost use Rattle.dds_explain.specs.Notes.{note_subject};
-ghost use Rattle.dds_findings.specs.declared.finding.About.TheVariants as about;
+ghost use Rattle.dds_findings.specs.Findings.{matter_of, note_matter};
 
 use crate::conditions::{Spotted, rule_entry};
 use crate::finding::{About, Finding, Role};
@@ -11,7 +10,7 @@ use crate::linting::{Files, Judged};
 use dds_base::{NoMemory, Portion, ReaderNo, RuleNo, WriterNo};
 use dds_explain::{note_subject, note_text};
 use dds_lint::Note;
-use dds_lists::Deployment;
+use dds_lists::{Deployment, Rule};
 use dds_match::Plan;
 use dds_text::names::{reader_key, reader_name, writer_name};
 use dds_text::texts::TextResult;
@@ -59,6 +58,15 @@ fn missing_help(alloc: Global, plan: &Plan, take: &Portion<ReaderNo>) -> TextRes
     }
 }
 
+/// What would be right for a rule that waits for rules which can't fire either.
+fn waiting_help(rule: &Rule) -> &'static str {
+    if 0 < rule.start {
+        "once its `start` is used up, it waits for rules that can't fire: mend these"
+    } else {
+        "what it takes is written only by rules that can't fire either: give one of them a `start`"
+    }
+}
+
 /// What would be right for a rule that can never fire once its start is used up.
 fn stuck_help(alloc: Global, plan: &Plan, rule: RuleNo) -> TextResult {
     if rule.number() >= plan.lists().rules() {
@@ -67,16 +75,12 @@ fn stuck_help(alloc: Global, plan: &Plan, rule: RuleNo) -> TextResult {
     let rule = plan.lists().rule(rule);
     if rule.takes.is_empty() {
         let help =
-            "give it a `start`: how often it writes, or `\"unlimited\"` for what follows a clock";
+            "say in `takes` what it waits for, or in `start` how often it writes (`\"unlimited\"` by a clock)";
         return String::from_str(alloc, help);
     }
     match missing_take(plan, &rule.takes) {
         Some(take) => missing_help(alloc, plan, take),
-        None => {
-            let help =
-                "what it takes is written only by rules that can't fire either: give one of them a `start`";
-            String::from_str(alloc, help)
-        }
+        None => String::from_str(alloc, waiting_help(rule)),
     }
 }
 
@@ -181,10 +185,9 @@ pub(crate) fn note(
     judged: &Judged,
     note: &Note,
 ) -> Result<Finding, NoMemory>
-    ensures about { IfOk result (λ finding. finding.about ≡ about.Note note.now) }
-    ensures subject { IfOk result
-        (λ finding. string_bytes finding.subject
-        ≡ note_subject judged.entry.now.plan.now (certificate_view judged.entry.now.certificate.now) note.now) }
+    ensures { IfOk result
+        (λ finding. matter_of finding
+        ≡ note_matter judged.entry.now.plan.now (certificate_view judged.entry.now.certificate.now) note.now) }
 {
     let message = note_text(alloc, judged.plan, judged.certificate, *note)?;
     let help = help_of(alloc, judged.plan, *note)?;

@@ -1,5 +1,5 @@
 -- A certificate that is accepted leaves no rule that writes without end to a reader that must lose nothing.
-use Rattle.std.proofs.Common.{ℕ, zero, suc, eq-eqb, inl, inr, ◌⊎◌, ◌≡◌, ◌<◌, ◌≤◌, ◌*◌, ◌&&◌, ◌||◌, ◌==◌, Bool, true, false, List, [], ◌∷◌, map, slice_get, Option, Some, None, is_some, if◌then◌else◌, refl, sym, subst, ◌∙◌, arith}
+use Rattle.std.proofs.Common.{ℕ, zero, suc, eq-eqb, inl, inr, ◌≡◌, ◌<◌, ◌≤◌, ◌&&◌, ◌||◌, ◌==◌, Bool, true, false, List, [], ◌∷◌, slice_get, Option, Some, None, is_some, if◌then◌else◌, refl, sym, subst, arith}
 use Rattle.std.specs.List.{list_any}
 use Rattle.std.proofs.lemmas.Bool.{and_from, cases_eq, false≢true, or_cases, or_left, or_right}
 use Rattle.std.proofs.lemmas.Option.{none-some, same_Some}
@@ -17,7 +17,6 @@ use Rattle.dds_check.proofs.FirstLemmas.{first_below_all}
 use Rattle.dds_check.proofs.Mapped.{list_any_one}
 use Rattle.dds_check.proofs.Whole.{accepted_where_none}
 use Rattle.dds_lint.specs.Notes.{AreRefused, comes_limited, endless, endless_at, has_limit, is_endless, noted}
-use Rattle.dds_lint.specs.declared.notes.Note.{Note}
 use Rattle.dds_lint.specs.declared.notes.Note.TheVariants as note
 
 -- ── what is named

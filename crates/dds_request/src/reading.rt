@@ -44,10 +44,16 @@ const PLAIN_CONNECTIONS: &str = "error: --connections has no JSON format\n";
 /// The message for a word that is no form of findings.
 const WRONG_FORM: &str = "error: the format is text, json or sarif\n";
 
-/// The message for words that deny nothing.
-const WRONG_DENY: &str =
-    "error: --deny takes errors, notes or all, and beside the last two --allow takes NOTE or NOTE:NAME, with commas \
-     between them\n";
+/// The message for a word that denies nothing.
+const WRONG_DENY: &str = "error: --deny takes errors, notes or all\n";
+
+/// The message for notes that are let pass where none is denied.
+const LONE_ALLOW: &str = "error: --allow needs --deny notes or --deny all\n";
+
+/// The message for words that are no notes.
+const WRONG_ALLOW: &str =
+    "error: --allow takes notes, as Finite or Finite:RULE, with commas between them; `ddscheck lint` prints their \
+     names\n";
 
 /// The message for seconds that are no number.
 const WRONG_SECONDS: &str = "error: the seconds are a number\n";
@@ -428,6 +434,15 @@ fn deny<'a>(matches: &ArgMatches<'a>) -> Option<Deny<'a>>
     }
 }
 
+/// What is wrong with words that deny nothing.
+fn wrong_denial(matches: &ArgMatches) -> &'static str {
+    match (argument(matches, "deny"), argument(matches, "allow")) {
+        (Some("notes"), Some(_)) | (Some("all"), Some(_)) => WRONG_ALLOW,
+        (Some("errors"), Some(_)) => LONE_ALLOW,
+        _ => WRONG_DENY,
+    }
+}
+
 fn lint_request<'a>(alloc: Global, matches: &ArgMatches<'a>) -> Result<Request<'a>, NoRequest>
     ensures asked { Reads (codes "lint") (rows_of (found_of matches.now)) result }
     ensures fault { IfErr result (λ e. ¬ IsHelp e) }
@@ -437,7 +452,7 @@ fn lint_request<'a>(alloc: Global, matches: &ArgMatches<'a>) -> Result<Request<'
         return Err(usage(alloc, WRONG_FORM));
     };
     let Some(deny) = deny(matches) else {
-        return Err(usage(alloc, WRONG_DENY));
+        return Err(usage(alloc, wrong_denial(matches)));
     };
     let deployment = deployment(alloc, matches)?;
     match argument(matches, "certificate") {

@@ -1,8 +1,9 @@
 use Rattle.std.proofs.Common.{◌≡◌, ◌++◌, map, take}
-use Rattle.dds_findings.specs.Findings.{abouts}
-use Rattle.dds_findings.specs.declared.finding.About.TheVariants as about
+use Rattle.dds_weights.specs.Views.{certificate_view}
+use Rattle.dds_findings.specs.Findings.{matters, note_matter}
 use Rattle.dds_findings.proofs.linting.push_notes.Given as goal
 
 -- those of the notes so far are added
 abbrev pub invariant-loop-one : goal.invariant-loop-one
-invariant-loop-one l = abouts l.found.items ≡ abouts l.initial.found.items ++ map about.Note (take l.one-index l.notes)
+invariant-loop-one l =
+    matters l.found.items ≡ matters l.initial.found.items ++ map (note_matter l.judged.plan.now (certificate_view l.judged.certificate.now)) (take l.one-index l.notes)
