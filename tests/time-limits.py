@@ -4,7 +4,7 @@
   tests/time-limits.py
 
 Each case is a command on files of legal sizes, how its output begins and ends, its status, and the seconds that it may take. What the table says is held in seconds of the
-processor, so that other work doesn't count. A search gets 3 seconds, `--seconds 3`. The last line is 'N passed, M failed'; the status is 1 if one failed.
+processor, so that other work doesn't count. A search gets a second, `--seconds 1`. The last line is 'N passed, M failed'; the status is 1 if one failed.
 """
 import os
 import re
@@ -43,7 +43,8 @@ CASES = [explain_all_bounds, replay_gaps, conform_largest_trace]
 
 # ── each command on its largest inputs, by the table of docs/FORMAT.md
 MIB = 1 << 20
-SEARCH = 3
+# so that a search of thousands of limits is cut off: docs/FORMAT.md says what one takes that isn't
+SEARCH = 1
 INPUTS = {
     "largest": lambda: (inputs.largest_deployment(), inputs.largest_certificate(), "deliver 0\n" * (64 * MIB // 10)),
     "keyed": lambda: (inputs.keyed_deployment(), inputs.keyed_certificate(), ""),
@@ -67,12 +68,16 @@ LARGEST = {
     "draw": ("draw d c", ("largest", "keyed")),
     "lint": ("lint d c", ("largest", "keyed", "backward")),
 }
+# searches of 4,096 limits that end, whose certificates nothing cuts off, and the seconds and MiB that these may take: 52 s and 92 MiB were seen, and there's room for
+# slower machines
+UNCUT = ("propose d --thorough --seconds 20", "limits d --certificate --seconds 20")
+UNCUT_LIMITS = (200, 512)
 
 
 def owed():
     """The seconds and the MiB of each command by docs/FORMAT.md, a search's beside those that it's given."""
     text = (ROOT / "docs/FORMAT.md").read_text()
-    rows = re.findall(r"(?m)^\| `([^`]+)` \| (?:N \+ )?([\d,]+) s \| ([\d,]+) MiB \|", text)
+    rows = re.findall(r"(?m)^\| `([^`]+)` \| (?:N \+ )?([\d,]+) s(?: if cut off)? \| ([\d,]+) MiB \|", text)
     return {name: (int(seconds.replace(",", "")), int(size.replace(",", ""))) for name, seconds, size in rows}
 
 
@@ -89,9 +94,8 @@ def spent(words, room):
     return os.waitstatus_to_exitcode(status), usage.ru_utime + usage.ru_stime, usage.ru_maxrss / 1024
 
 
-def excess_of(name, kind, limits):
+def excess_of(words, kind, limits):
     """What is wrong with what a command takes on an input, if anything is."""
-    words, _ = LARGEST[name]
     seconds, size = limits
     seconds += SEARCH if "--seconds" in words else 0
     with tempfile.TemporaryDirectory() as room:
@@ -124,9 +128,11 @@ def main():
         tally.judge(case.__name__, fault_of, case)
     limits = owed()
     tally.check(set(limits) == {*LARGEST, "run"}, "the table of docs/FORMAT.md has a row for each command", sorted(limits))
-    for name, (_, kinds) in LARGEST.items():
+    for name, (words, kinds) in LARGEST.items():
         for kind in kinds:
-            tally.judge(f"{name} on {kind}", excess_of, name, kind, limits.get(name, (0, 0)))
+            tally.judge(f"{name} on {kind}", excess_of, words, kind, limits.get(name, (0, 0)))
+    for words in UNCUT:
+        tally.judge(words, excess_of, words, "limited keys", UNCUT_LIMITS)
     return tally.finish()
 
 
