@@ -1,10 +1,11 @@
 #!/usr/bin/env python3
 """Compares the wrong bodies, those of the gate and those of tools/more-edits, with the sources.
 
-An edit has a line `file:`, and then pairs of a line `old:` and a line `new:`. Each text that it replaces has to stand exactly once in its file: else the wrong body can't be
-tried any longer, which nobody would notice before somebody tries it. An edit that replaces nothing, or a text by itself, can't be refused either. The last line
-is 'N passed, M failed'; the status is 1 if one failed.
+An edit has a line `file:`, and then pairs of a line `old:` and a line `new:`. Each text that it replaces has to stand exactly once in its file: else the wrong body can't
+be tried any longer, which nobody would notice before somebody tries it. An edit that replaces nothing, or a text by itself, can't be refused either. And one that
+names what its file doesn't know is refused for that name, which shows nothing of a contract. The last line is 'N passed, M failed'; the status is 1 if one failed.
 """
+import re
 import sys
 
 sys.dont_write_bytecode = True
@@ -12,6 +13,13 @@ from harness import ROOT, Tally  # noqa: E402
 
 CRATES = ROOT / "crates"
 FIELDS = ("file: ", "old: ", "new: ")
+# a name that stands by itself: what follows a dot or `::` is a member, and what a single `:` follows is a field
+NAME = re.compile(r"(?<![\w.:'])(?:\.\.=?)?([A-Za-z_]\w*)\b(?!\s*:[^:])")
+# what every file knows
+KNOWN = set(
+    "as bool break char const continue else enum false for fn if impl in let loop match mod move mut pub ref return self Self static str struct super true type u8 u16 u32 u64"
+    " u128 usize i64 use where while Box Err None Ok Option Result Some String Vec debug_assert format matches max min unreachable vec drop Default".split()
+)
 
 
 def lines_of(edit):
@@ -20,6 +28,20 @@ def lines_of(edit):
         field = next((field for field in FIELDS if line.startswith(field)), None)
         if field:
             yield field.strip(": "), line.removeprefix(field)
+
+
+def names_in(code):
+    """The names that a line of code takes from elsewhere: not those of its strings, members, parameters and bindings."""
+    code = re.sub(r'"(?:[^"\\]|\\.)*"', "", code.split(" // ")[0])
+    bound = set(re.findall(r"\b(?:let|mut|fn|Some\()\s*(\w+)", code))
+    bound |= {name for parameters in re.findall(r"\|([^|]*)\|", code) for name in re.findall(r"\w+", parameters)}
+    return set(NAME.findall(code)) - bound
+
+
+def brought(edit):
+    """The names that an edit brings into a file: what it imports, and the functions that it writes."""
+    new = [value for name, value in lines_of(edit) if name == "new"]
+    return {name for line in new if line.startswith("use ") for name in re.findall(r"\w+", line)} | set(re.findall(r"\bfn (\w+)", " ".join(new)))
 
 
 def fault_of(edit, crate):
@@ -43,6 +65,9 @@ def fault_of(edit, crate):
                 return f"it stands {text.count(value)} times in {file}: {value}"
             if value == new:
                 return f"it replaces a text by itself: {value}"
+            unknown = names_in(new) - KNOWN - brought(edit) - set(re.findall(r"\w+", text))
+            if unknown:
+                return f"{file} doesn't know {', '.join(sorted(unknown))}"
             text, pairs = text.replace(value, new), pairs + 1
     return None if pairs else "it replaces nothing"
 
