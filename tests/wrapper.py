@@ -6,6 +6,8 @@
 It works on small trees of its own, in folders with a blank in their names, with a stand-in for the toolchain's `rt`: `rt ci` makes a program that prints which source it was made of,
 `rt try` answers as the interpreter does. So each case has known answers. The last line is 'N passed, M failed'; the status is 1 if one failed.
 """
+import gzip
+import hashlib
 import os
 import shutil
 import signal
@@ -19,7 +21,7 @@ sys.dont_write_bytecode = True
 from harness import ROOT, Tally, run  # noqa: E402
 
 # what the script needs of the system
-TOOLS = ["awk", "cat", "chmod", "cp", "find", "grep", "gzip", "head", "install", "ls", "mkdir", "mktemp", "mv", "rm", "readlink", "sed", "sha256sum", "sh", "sleep", "sort", "stat", "tail", "xargs"]
+TOOLS = ["awk", "cat", "chmod", "cp", "find", "grep", "gzip", "head", "id", "install", "ls", "mkdir", "mktemp", "mv", "rm", "readlink", "sed", "sha256sum", "sh", "sleep", "sort", "stat", "tail", "xargs"]
 # `rt ci` makes the program of the sources that it finds; `rt try` answers by the words after `--`. Where the file `slow` is there, both wait, and note their process.
 RT = r"""#!/bin/sh
 here=${0%/*}
@@ -273,7 +275,7 @@ def lack_tools(tree, tally):
     """Where a tool is missing that finds out whether the program is current, no stale one answers."""
     tree.build()
     tree.write("crates/base/src/lib.rt", "b2")
-    for tool in ("awk", "find", "sort", "xargs", "sha256sum"):
+    for tool in ("awk", "find", "id", "sort", "xargs", "sha256sum"):
         (tree.tools / tool).rename(tree.tools / "away")
         given = tree.ask(*CHECK)
         tally.check(is_failure(given, "whether the program is current is not known"), f"without {tool}", given)
@@ -355,8 +357,9 @@ def install(tree, tally):
     (tree.top / "file").touch()
     tally.check(is_failure(tree.ask("--install", str(tree.top / "file")), "can't be written"), "a prefix in which nothing can be written")
     tally.check(is_failure(tree.ask("--install", HOME=""), "HOME"), "no prefix and no HOME")
-    for words in (("--install", "a", "b"), ("--build", "a")):
-        tally.check(tree.ask(*words).status == 4, f"{' '.join(words)} is a fault of usage")
+    for words in (("--install", "a", "b"), ("--install", ""), ("--install", "--help"), ("--build", "a")):
+        given = tree.ask(*words)
+        tally.check((given.status, given.out) == (4, "") and not (tree.top / "--help").exists(), f"{words} is a fault of usage", given)
 
 
 def name_the_commit(tree, tally):
@@ -412,9 +415,96 @@ def answer_by_release(tree, tally):
     tally.check(tree.ask(*CHECK).out.startswith("interpreted"), "without gzip")
 
 
+def keep_others_out(tree, tally):
+    """Nothing is made that others may write, whatever the umask, and no program is run that others own or may write."""
+    tree.release()
+    program = tree.top / "crates/ddscheck/out/ddscheck"
+    planted = "#!/bin/sh\necho planted\n"
+    given = tree.ask_by_shell('umask 000; "$1" check d.toml c.toml')
+    made = [path for path in (program.parent, *program.parent.iterdir()) if path.stat().st_mode & 0o022]
+    tally.check(is_answer_of(given, "d1", "b1") and not made, "under umask 000 nothing is made that others may write", [given, *made])
+    sums = [line.split()[0] for line in program.with_suffix(".sources").read_text().splitlines()]
+    program.write_text(planted)
+    program.with_suffix(".sources").write_text(f"{sums[0]}\n{hashlib.sha256(planted.encode()).hexdigest()}\n")
+    tally.check(tree.ask(*CHECK).out == "planted\n", "a program with the right checksums answers where others may not write")
+    for path in (program, program.parent, program.parent.parent, program.with_suffix(".sources")):
+        mode = path.stat().st_mode
+        path.chmod(mode | 0o002)
+        given = tree.ask(*CHECK)
+        tally.check(is_answer_of(given, "d1", "b1"), f"not where others may write {path.name}", given)
+        path.chmod(mode)
+        if not program.exists() or program.read_text() != planted:
+            program.parent.mkdir(exist_ok=True)
+            program.write_text(planted)
+            program.chmod(0o755)
+            program.with_suffix(".sources").write_text(f"{sums[0]}\n{hashlib.sha256(planted.encode()).hexdigest()}\n")
+    shutil.rmtree(program.parent)
+    packed = tree.top / "dist/ddscheck.gz"
+    packed.chmod(0o666)
+    tally.check(tree.ask(*CHECK).out.startswith("interpreted"), "nor a packed one that others may write")
+    packed.chmod(0o644)
+    if os.geteuid() != 0:
+        tally.skip("only root can give a file to another user")
+        return
+    os.chown(packed, 65534, 65534)
+    tally.check(tree.ask(*CHECK).out.startswith("interpreted"), "nor one that another user owns")
+
+
+def end_beside(tree, tally):
+    """Where the program of dist/ can't be put beside the sources, it runs in a folder of its own, by the standard input of the script, and a signal ends both at once."""
+    tree.release()
+    tree.write("crates/ddscheck/out", "a file where the folder belongs")
+    program = f"#!/bin/sh\necho $$ >'{tree.tools}/own'\ncat\nexec sleep 60\n"
+    packed = gzip.compress(program.encode())
+    (tree.top / "dist/ddscheck.gz").write_bytes(packed)
+    stamp = tree.top / "dist/ddscheck.sources"
+    stamp.write_text(f"{stamp.read_text().split()[0]}\n{hashlib.sha256(program.encode()).hexdigest()}\n")
+    own = tree.tools / "own"
+    for number in SIGNALS:
+        own.unlink(missing_ok=True)
+        how = {"cwd": tree.top, "env": tree.environment(), "stdin": subprocess.PIPE, "stdout": subprocess.PIPE, "stderr": subprocess.DEVNULL}
+        started = subprocess.Popen([str(tree.script), "check", "-"], preexec_fn=restore_signals, **how)
+        started.stdin.write(b"what is read")
+        started.stdin.close()
+        for _ in range(100):
+            if own.exists() and own.read_text().strip():
+                break
+            time.sleep(0.1)
+        process = own.read_text().strip() if own.exists() else ""
+        read = started.stdout.read(12)
+        begun = time.monotonic()
+        started.send_signal(number)
+        try:
+            status = started.wait(20)
+        except subprocess.TimeoutExpired:
+            started.kill()
+            status = None
+        took, left = time.monotonic() - begun, [path.name for path in tree.temporary.iterdir()]
+        what = f"{number.name} where nothing can be written beside the sources"
+        tally.check((read, status, left) == (b"what is read", -number, []) and took < 10 and is_gone(process), what, f"{read}, status {status} after {took:.1f} s, left {left}")
+
+
+def lack_execution(tree, tally):
+    """File systems that run no programs."""
+    tree.release()
+    here = shutil.which("unshare")
+    script = 'mount -t tmpfs -o noexec none "$1" && shift && exec "$@"'
+    if not here or run([here, "-rm", "sh", "-c", script, "sh", tree.temporary, "true"]).status != 0:
+        tally.skip("no file system without execution can be mounted here", 2)
+        return
+    tree.write("crates/ddscheck/out/kept", "")
+    inside = [here, "-rm", shutil.which("sh"), "-c", f'PATH="{os.environ["PATH"]}"; {script}', "sh"]
+    given = run([*inside, tree.top / "crates/ddscheck/out", tree.script, *CHECK], cwd=tree.top, env=tree.environment(), seconds=30)
+    tally.check(is_answer_of(given, "d1", "b1"), "a tree in which no program can be run", given)
+    shutil.rmtree(tree.top / "crates/ddscheck/out")
+    tree.write("crates/ddscheck/out", "a file where the folder belongs")
+    given = run([*inside, tree.temporary, tree.script, *CHECK], cwd=tree.top, env=tree.environment(), seconds=30)
+    tally.check(is_failure(given, "no program can be run in", str(tree.temporary)), "a TMPDIR in which no program can be run", given)
+
+
 CASES = [
     build_and_answer, follow_sources, edit_during_build, take_over, say_what_needs_a_build, fail_by_devices, write_nothing, follow_links, lack_tools,
-    end_by_signals, install, name_the_commit, answer_by_release,
+    end_by_signals, install, name_the_commit, answer_by_release, keep_others_out, end_beside, lack_execution,
 ]
 
 
