@@ -438,6 +438,9 @@ def keep_others_out(tree, tally):
             program.write_text(planted)
             program.chmod(0o755)
             program.with_suffix(".sources").write_text(f"{sums[0]}\n{hashlib.sha256(planted.encode()).hexdigest()}\n")
+    program.parent.chmod(0o777)
+    given = tree.ask("--build")
+    tally.check(is_failure(given, "all may write there") and tree.calls() == [], "nothing is built where others may write", given)
     shutil.rmtree(program.parent)
     packed = tree.top / "dist/ddscheck.gz"
     packed.chmod(0o666)
