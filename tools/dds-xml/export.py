@@ -123,4 +123,20 @@ def xml_text(lists):
     )
 
 
-sys.stdout.write(xml_text(json.load(sys.stdin)))
+def main():
+    """The status: 0 all was printed, 2 standard input isn't what `ddscheck show` prints, 3 it can't be read, or the output failed."""
+    try:
+        text = xml_text(json.load(sys.stdin))
+        sys.stdout.write(text)
+        sys.stdout.flush()
+    except (ValueError, LookupError, TypeError, AttributeError, RecursionError):
+        print("export.py: standard input isn't what `ddscheck show` prints", file=sys.stderr)
+        return 2
+    except OSError as why:
+        print(f"export.py: {why.strerror}", file=sys.stderr)
+        return 3
+    return 0
+
+
+if __name__ == "__main__":
+    sys.exit(main())

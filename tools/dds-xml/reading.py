@@ -2,6 +2,7 @@
 
 from __future__ import annotations
 
+import errno
 import re
 import sys
 from dataclasses import dataclass, field
@@ -84,6 +85,8 @@ def quoted(text: str) -> str:
 def read_bytes(path: str) -> bytes:
     """The bytes of a file, or of standard input for `-`. Raises `OSError`, and `Refused` past 16 MiB."""
     if path == "-":
+        if sys.stdin is None:
+            raise OSError(errno.EBADF, "it's closed")
         data = sys.stdin.buffer.read(MAX_BYTES + 1)
     else:
         with open(path, "rb") as file:
