@@ -1,41 +1,41 @@
 #include "matching.h"
 
+#include <limits.h>
 #include <string.h>
 
-// A name against a pattern, in which `*` stands for any bytes and `?` for one.
-static bool name_matches(const char *pattern, const char *name)
+// The right parts of a name, a bit for each: bit k is for its last k bytes. A name has at most 64 bytes.
+typedef unsigned __int128 parts;
+
+// A name without wildcards, with the parts whose first byte each byte of a pattern but `*` stands for.
+struct plain {
+    size_t length;
+    parts beginning[UCHAR_MAX + 1];
+};
+
+static void index_name(struct plain *plain, const char *name)
 {
-    const char *star = NULL, *from = NULL;
-    while (*name != '\0') {
-        if (*pattern == '*') {
-            star = pattern++;
-            from = name;
-        } else if (*pattern == '?' || *pattern == *name) {
-            pattern++;
-            name++;
-        } else if (star != NULL) {
-            // the last star takes one byte more
-            pattern = star + 1;
-            name = ++from;
-        } else {
-            return false;
-        }
+    *plain = (struct plain){.length = strlen(name)};
+    for (size_t at = 0; at < plain->length; at++) {
+        plain->beginning[(unsigned char)name[at]] |= (parts)1 << (plain->length - at);
     }
-    return pattern[strspn(pattern, "*")] == '\0';
+    plain->beginning['?'] = ~(parts)0;
+}
+
+// Whether the name has a pattern, in which `*` stands for any bytes and `?` for one. From the back of the pattern on, each byte turns the parts that the bytes behind
+// it stand for into those that it stands for with them: `*` adds all that are longer.
+static bool has_pattern(const struct plain *plain, const char *pattern)
+{
+    parts found = 1;
+    for (size_t at = strlen(pattern); at > 0 && found != 0; at--) {
+        unsigned char byte = (unsigned char)pattern[at - 1];
+        found = byte == '*' ? found | -found : found << 1 & plain->beginning[byte];
+    }
+    return (found >> plain->length & 1) != 0;
 }
 
 static bool is_pattern(const char *name)
 {
     return strpbrk(name, "*?") != NULL;
-}
-
-// Two patterns never match.
-static bool names_match(const char *one, const char *other)
-{
-    if (is_pattern(one)) {
-        return !is_pattern(other) && name_matches(one, other);
-    }
-    return is_pattern(other) ? name_matches(other, one) : strcmp(one, other) == 0;
 }
 
 // The names of a list; none count as one empty name.
@@ -44,15 +44,39 @@ static const char *partition_at(const struct policies *policies, int at)
     return policies->partitions == 0 ? "" : policies->partition[at];
 }
 
-static bool partitions_match(const struct policies *one, const struct policies *other)
+static int partitions_of(const struct policies *policies)
 {
-    int most = one->partitions > 0 ? one->partitions : 1, most_other = other->partitions > 0 ? other->partitions : 1;
-    for (int at = 0; at < most * most_other; at++) {
-        if (names_match(partition_at(one, at / most_other), partition_at(other, at % most_other))) {
+    return policies->partitions == 0 ? 1 : policies->partitions;
+}
+
+// Whether a name without wildcards has some pattern of a list, in which a name is a pattern, too.
+static bool meets_some(const char *name, const struct policies *others)
+{
+    struct plain plain;
+    index_name(&plain, name);
+    for (int at = 0; at < partitions_of(others); at++) {
+        if (has_pattern(&plain, partition_at(others, at))) {
             return true;
         }
     }
     return false;
+}
+
+static bool some_meets(const struct policies *names, const struct policies *others)
+{
+    for (int at = 0; at < partitions_of(names); at++) {
+        const char *name = partition_at(names, at);
+        if (!is_pattern(name) && meets_some(name, others)) {
+            return true;
+        }
+    }
+    return false;
+}
+
+// Two patterns never match.
+static bool partitions_match(const struct policies *one, const struct policies *other)
+{
+    return some_meets(one, other) || some_meets(other, one);
 }
 
 // The words of each policy rise in the order in which an offer meets requests.

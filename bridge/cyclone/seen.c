@@ -220,6 +220,9 @@ struct seen *listen_to(const struct listening *listening)
     while (now() < until && !is_interrupted) {
         sleep_for(20000000);
     }
+    // what was heard is printed now, and another signal ends that
+    signal(SIGINT, SIG_DFL);
+    signal(SIGTERM, SIG_DFL);
     struct seen *seen = room(1, sizeof *seen);
     for (int at = 0; at < count; at++) {
         take_all(seen, listening, &ears[at]);
