@@ -52,12 +52,14 @@ INPUTS = {
     "ring": lambda: (inputs.limited_ring(255, 64), "", ""),
     "crowd": lambda: (inputs.crowded_pair(65535), "", ""),
     "backward": lambda: (*inputs.backward_rules(), ""),
+    "paced": lambda: (inputs.paced_topic(), "version = 1\n", ""),
+    "patterns": lambda: (inputs.patterned_deployment(), "", ""),
 }
 # words on the files d, c and e of each input
 LARGEST = {
-    "check": ("check d c", ("largest", "keyed")),
+    "check": ("check d c", ("largest", "keyed", "paced", "patterns")),
     "check --explain": ("check d c --explain", ("largest", "keyed", "backward")),
-    "match": ("match d --format json", ("largest", "keyed")),
+    "match": ("match d --format json", ("largest", "keyed", "paced", "patterns")),
     "propose": ("propose d", ("largest", "keyed", "ring")),
     "propose --thorough": (f"propose d --thorough --seconds {SEARCH}", ("largest", "limited keys", "ring")),
     "limits": (f"limits d --seconds {SEARCH}", ("largest", "keyed", "ring")),
@@ -66,7 +68,7 @@ LARGEST = {
     "migrate": ("migrate d", ("largest",)),
     "show": ("show d", ("largest", "keyed")),
     "draw": ("draw d c", ("largest", "keyed")),
-    "lint": ("lint d c", ("largest", "keyed", "backward")),
+    "lint": ("lint d c", ("largest", "keyed", "backward", "paced")),
 }
 # searches of 4,096 limits that end, whose certificates nothing cuts off, and the seconds and MiB that these may take: 52 s and 92 MiB were seen, and there's room for
 # slower machines

@@ -2,6 +2,9 @@ pub mod Acceptance
 pub mod Refusal
 pub mod Pieces
 pub mod Values
+pub mod Paces
+pub mod Budgets
+pub mod Premises
 pub mod Places
 pub mod Pairs
 pub mod Policies

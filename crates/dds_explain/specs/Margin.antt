@@ -1,31 +1,28 @@
 -- How tight the bounds and totals of a certificate are: each beside the limit that it keeps, and what its row weighs.
-use Rattle.std.specs.Prelude.{codes, ℕ, List, [], ◌++◌, Option, Some, None, flat_map, map, slice_get}
+use Rattle.std.specs.Prelude.{codes, ℕ, List, [], ◌++◌, Option, Some, None, flat_map, slice_get}
 use Rattle.std.specs.Fmt.{decimal}
 use Rattle.std.specs.Option.{option_map_or}
 use Rattle.dds_lists.specs.Lists.{Lists}
-use Rattle.dds_match.specs.Network.{Network}
 use Rattle.dds_match.specs.Plan.{network_of}
 use Rattle.dds_weights.specs.Lists.{Certificate, Row}
 use Rattle.dds_text.specs.Names.{reader_key, reader_name}
 use Rattle.dds_weights.specs.declared.certificate.Bound.{Bound}
 use Rattle.dds_weights.specs.declared.certificate.Total.{Total}
 use Rattle.dds_runs.specs.Accepted.{row_of, budget, instance_limit}
+use Rattle.dds_explain.specs.declared.budgets.Budget.{Budget}
+use Rattle.dds_explain.specs.Budgets.{budget_of, carried_lines, carried_text}
 use Rattle.dds_explain.specs.Pieces.{instance_limit_name}
 use Rattle.dds_explain.specs.Shown.{shown_text}
-
--- what the permits at the opening weigh by each of these rows
-abbrev pub openings : Network → List Row → List ℕ
-openings net rows = map (λ row. budget net (row_of row)) rows
 
 -- a limit with the name of its policy, or that there is none
 abbrev pub named_limit : List ℕ → Option ℕ → List ℕ
 named_limit name (Some n) = name ++ (codes " " ++ decimal n)
 named_limit name None = codes "no limit"
 
--- what a bound or a total is and of which limit, and what the permits at the opening weigh by its row
-abbrev pub margin_text : List ℕ → List ℕ → Row → ℕ → List ℕ
-margin_text claim limit row opening =
-    codes "because " ++ (claim ++ (codes " of " ++ (limit ++ (codes ": " ++ (row.name ++ (codes " weighs " ++ (decimal opening ++ codes " at the opening")))))))
+-- what a bound or a total is and of which limit, what the permits at the opening weigh by its row, and what caps carry
+abbrev pub margin_text : List ℕ → List ℕ → Row → Budget → List ℕ
+margin_text claim limit row b =
+    codes "because " ++ (claim ++ (codes " of " ++ (limit ++ (codes ": " ++ (row.name ++ (codes " weighs " ++ (decimal b.opening ++ (codes " at the opening" ++ carried_text (codes ", ") b (codes " by caps")))))))))
 
 -- ── bounds
 -- the reader, the key and the number of a bound
@@ -39,12 +36,16 @@ named_instance_limit d r = named_limit (instance_limit_name ((network_of d).read
 -- a bound beside its limit, and the least that its row shows
 abbrev pub bound_line : Lists → Row → Bound → List ℕ
 bound_line d row b =
-    margin_text (bound_words d b) (named_instance_limit d b.reader) row (budget (network_of d) (row_of row)) ++ (codes " and a sample " ++ (decimal ((row_of row).samples b.reader b.key)
+    margin_text (bound_words d b) (named_instance_limit d b.reader) row (budget_of (network_of d) (row_of row)) ++ (codes " and a sample " ++ (decimal ((row_of row).samples b.reader b.key)
     ++ (codes ", which shows " ++ (shown_text (budget (network_of d) (row_of row)) ((row_of row).samples b.reader b.key) ++ codes "\n"))))
+
+-- the same with what caps carry
+abbrev pub bound_lines : Lists → Row → Bound → List ℕ
+bound_lines d row b = bound_line d row b ++ carried_lines d row
 
 -- the same by the place of the row
 abbrev pub bound_margin : Lists → Certificate → Bound → List ℕ
-bound_margin d c b = option_map_or (λ row. bound_line d row b) (slice_get c.rows b.row) []
+bound_margin d c b = option_map_or (λ row. bound_lines d row b) (slice_get c.rows b.row) []
 
 -- ── totals
 -- the reader and the number of a total
@@ -54,11 +55,15 @@ total_words d t = reader_name d t.reader ++ (codes " " ++ decimal t.bound)
 -- a total beside its limit
 abbrev pub total_line : Lists → Row → Total → List ℕ
 total_line d row t =
-    margin_text (total_words d t) (named_limit (codes "max_samples") ((network_of d).reader_limits t.reader).max_samples) row (budget (network_of d) (row_of row)) ++ codes "\n"
+    margin_text (total_words d t) (named_limit (codes "max_samples") ((network_of d).reader_limits t.reader).max_samples) row (budget_of (network_of d) (row_of row)) ++ codes "\n"
+
+-- the same with what caps carry
+abbrev pub total_lines : Lists → Row → Total → List ℕ
+total_lines d row t = total_line d row t ++ carried_lines d row
 
 -- the same by the place of the row
 abbrev pub total_margin : Lists → Certificate → Total → List ℕ
-total_margin d c t = option_map_or (λ row. total_line d row t) (slice_get c.rows t.row) []
+total_margin d c t = option_map_or (λ row. total_lines d row t) (slice_get c.rows t.row) []
 
 -- each bound, then each total
 abbrev pub margin_lines : Lists → Certificate → List ℕ

@@ -18,13 +18,6 @@ use Rattle.dds_text.specs.Words.{access_scope_word, destination_order_word, dura
 abbrev pub value_line : (field offered requested : List ℕ) → List ℕ
 value_line field offered requested = codes "  " ++ (field ++ (codes ": offered " ++ (offered ++ (codes ", requested " ++ (requested ++ codes "\n")))))
 
--- so many nanoseconds, in the greatest unit that makes them a whole number
-abbrev pub time_text : ℕ → List ℕ
-time_text n =
-    if n % 1000000000 == 0 then decimal (n / 1000000000) ++ codes " s" else
-    (if n % 1000000 == 0 then decimal (n / 1000000) ++ codes " ms" else
-    (if n % 1000 == 0 then decimal (n / 1000) ++ codes " us" else decimal n ++ codes " ns"))
-
 -- a length of time
 abbrev pub duration_text : Duration → List ℕ
 duration_text (Nanoseconds n) = time_text n

@@ -3,14 +3,17 @@
 #![tactic(auto, using(dds_runs::proofs::Sums::total_start, dds_runs::proofs::Sums::total_more))]
 
 mod acceptance;
+mod budgets;
 mod explanation;
 mod limits;
 mod margin;
 mod notes;
+mod paces;
 mod pairs;
 mod pieces;
 mod places;
 mod policies;
+mod premises;
 mod refusal;
 mod rows;
 mod shown;
@@ -19,5 +22,6 @@ mod weights;
 
 pub use acceptance::acceptance_text;
 pub use explanation::{margins, reason};
-pub use notes::{note_lines, note_subject, note_text};
+pub use notes::{endless_text, note_lines, note_subject, note_terms, note_text};
+pub use premises::premise_lines;
 pub use refusal::refusal_text;

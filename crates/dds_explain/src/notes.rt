@@ -2,12 +2,14 @@
 ghost use Rattle.std.specs.Prelude.{◌≡◌, [], IfOk, flat_map, option_map, slice_get, string_bytes};
 ghost use Rattle.std.specs.Option.{option_map_or};
 ghost use Rattle.dds_weights.specs.Views.{certificate_view};
-ghost use Rattle.dds_explain.specs.Notes.{bound_words, endless_words, entry_name, finite_words, held_up_words};
-ghost use Rattle.dds_explain.specs.Notes.{lossy_words, note_line, note_lines, note_subject, note_text, stuck_words};
-ghost use Rattle.dds_explain.specs.Notes.{takes_nothing, total_words, unwritten_words};
+ghost use Rattle.dds_explain.specs.Notes.{bound_words, endless_text, entry_name, finite_words, held_up_words};
+ghost use Rattle.dds_explain.specs.Notes.{incompatible_words, late_words, lossy_words, note_line, note_lines};
+ghost use Rattle.dds_explain.specs.Notes.{note_subject, note_terms, note_text, pace_words, span_words, stalls_words};
+ghost use Rattle.dds_explain.specs.Notes.{stuck_words, takes_nothing, total_words, unwritten_words, watcher_span_words};
 
+use crate::pairs::{mismatch_lines, why_not_text};
 use dds_base::{KeyNo, ReaderNo, RuleNo, TopicNo, WriterNo};
-use dds_lint::{Note, all_notes};
+use dds_lint::{EndlessRule, Note, all_notes};
 use dds_lists::Deployment;
 use dds_match::Plan;
 use dds_text::names::{name_at, reader_key, reader_name, rule_text, writer_name};
@@ -128,13 +130,74 @@ fn lossy_words(alloc: Global, lists: &Deployment, rule: RuleNo) -> TextResult
     )
 }
 
-/// A rule that writes without end to a reader with a limit.
-fn endless_words(alloc: Global, lists: &Deployment, reader: ReaderNo, rule: RuleNo) -> TextResult
-    ensures { IfOk result (λ text. string_bytes text ≡ endless_words lists.now reader rule) }
+/// A rule that writes without end to a reader that must lose nothing, in words, on one line. `NoMemory` is the only
+/// error.
+pub fn endless_text(alloc: Global, plan: &Plan, endless: EndlessRule) -> TextResult
+    ensures { IfOk result (λ text. string_bytes text ≡ endless_text plan.now endless) }
 {
-    let place = reader_name(lists, reader);
-    let name = rule_text(alloc, lists, rule)?;
-    format!(in alloc; "{name} writes whatever was taken, so no bound holds at {place}")
+    let reader = reader_name(plan.lists(), endless.reader);
+    let rule = rule_text(alloc, plan.lists(), endless.rule)?;
+    format!(in alloc; "{rule} writes whatever was taken, so no bound holds at {reader}")
+}
+
+/// A pair whose policies don't agree.
+fn incompatible_words(alloc: Global, plan: &Plan, writer: WriterNo, reader: ReaderNo) -> TextResult
+    ensures { IfOk result (λ text. string_bytes text ≡ incompatible_words plan.now writer reader) }
+{
+    let reason = why_not_text(alloc, plan, writer, reader)?;
+    let writer = writer_name(plan.lists(), writer);
+    let reader = reader_name(plan.lists(), reader);
+    format!(in alloc; "{writer} and {reader} don't match: {reason}")
+}
+
+/// A reader that may lose samples and is sent again what it refuses.
+fn stalls_words(alloc: Global, lists: &Deployment, reader: ReaderNo) -> TextResult
+    ensures { IfOk result (λ text. string_bytes text ≡ stalls_words lists.now reader) }
+{
+    let reader = reader_name(lists, reader);
+    format!(in alloc;
+        "{reader} is RELIABLE, so what it refuses when it's full is sent again and again, and other readers may wait"
+    )
+}
+
+/// A reader that takes soon what a rule without a pace writes.
+fn span_words(alloc: Global, lists: &Deployment, reader: ReaderNo, rule: RuleNo) -> TextResult
+    ensures { IfOk result (λ text. string_bytes text ≡ span_words lists.now reader rule) }
+{
+    let rule = rule_text(alloc, lists, rule)?;
+    let reader = reader_name(lists, reader);
+    format!(in alloc;
+        "{rule} has no period, so taken_within of {reader} bounds nothing that it writes"
+    )
+}
+
+/// A watcher that takes soon.
+fn watcher_span_words(alloc: Global, lists: &Deployment, reader: ReaderNo) -> TextResult
+    ensures { IfOk result (λ text. string_bytes text ≡ watcher_span_words lists.now reader) }
+{
+    let reader = reader_name(lists, reader);
+    format!(in alloc; "{reader} may miss samples, so nothing needs its taken_within")
+}
+
+/// A rule with a pace that bounds nothing.
+fn pace_words(alloc: Global, lists: &Deployment, rule: RuleNo) -> TextResult
+    ensures { IfOk result (λ text. string_bytes text ≡ pace_words lists.now rule) }
+{
+    let rule = rule_text(alloc, lists, rule)?;
+    format!(in alloc;
+        "nothing needs the period of {rule}: no strict reader that hears it has taken_within"
+    )
+}
+
+/// A reader that comes too late for what a writer wrote.
+fn late_words(alloc: Global, lists: &Deployment, reader: ReaderNo, writer: WriterNo) -> TextResult
+    ensures { IfOk result (λ text. string_bytes text ≡ late_words lists.now reader writer) }
+{
+    let writer = writer_name(lists, writer);
+    let reader = reader_name(lists, reader);
+    format!(in alloc;
+        "{reader} is VOLATILE, and gets nothing that {writer} writes before the two match"
+    )
 }
 
 /// A note in words, on one line: what a yes doesn't say of something. Of a bound or a total that isn't there, nothing.
@@ -160,10 +223,17 @@ pub fn note_text(alloc: Global, plan: &Plan, certificate: &Certificate, note: No
             let reader = reader_name(plan.lists(), reader);
             format!(in alloc; "no sample can come to {reader}")
         }
+        Note::Stalls(reader) => stalls_words(alloc, plan.lists(), reader),
+        Note::SpanUnused { reader, rule } => span_words(alloc, plan.lists(), reader, rule),
+        Note::WatcherSpan(reader) => watcher_span_words(alloc, plan.lists(), reader),
         Note::UnwrittenKey { topic, key } => unwritten_words(alloc, plan.lists(), topic, key),
         Note::IdleWriter(writer) => {
             let writer = writer_name(plan.lists(), writer);
             format!(in alloc; "no rule writes at {writer}")
+        }
+        Note::UnheardWriter(writer) => {
+            let writer = writer_name(plan.lists(), writer);
+            format!(in alloc; "no reader matches {writer}")
         }
         Note::NoRules => { String::from_str(alloc, "there's no rule, so nothing is ever written") }
         Note::NoStart => {
@@ -177,15 +247,28 @@ pub fn note_text(alloc: Global, plan: &Plan, certificate: &Certificate, note: No
         }
         Note::StuckRule(rule) => stuck_words(alloc, plan.lists(), rule),
         Note::Finite(rule) => finite_words(alloc, plan.lists(), rule),
-        Note::Endless { reader, rule } => endless_words(alloc, plan.lists(), reader, rule),
         Note::LossyTake(rule) => lossy_words(alloc, plan.lists(), rule),
+        Note::PaceUnused(rule) => pace_words(alloc, plan.lists(), rule),
         Note::UnusedRow(row) => {
             let name = row_name(certificate, row);
             format!(in alloc; "no bound and no total names row {name}")
         }
         Note::NeedlessBound(place) => needless_bound(alloc, plan, certificate, place),
         Note::NeedlessTotal(place) => needless_total(alloc, plan, certificate, place),
+        Note::Incompatible { writer, reader } => incompatible_words(alloc, plan, writer, reader),
         Note::HeldUp { writer, reader } => held_up_words(alloc, plan, writer, reader),
+        Note::LateReader { reader, writer } => late_words(alloc, plan.lists(), reader, writer),
+    }
+}
+
+/// The terms of a note, a line each behind two blanks: of policies that don't agree what is offered and what is
+/// requested; of any other note none. `NoMemory` is the only error.
+pub fn note_terms(alloc: Global, plan: &Plan, note: Note) -> TextResult
+    ensures { IfOk result (λ text. string_bytes text ≡ note_terms plan.now note) }
+{
+    match note {
+        Note::Incompatible { writer, reader } => mismatch_lines(alloc, plan, writer, reader),
+        _ => Ok(String::new(alloc)),
     }
 }
 
@@ -210,13 +293,20 @@ pub fn note_subject<'a>(plan: &'a Plan, certificate: &'a Certificate, note: Note
         | Note::MayLose(reader)
         | Note::Unlimited(reader)
         | Note::IdleLimit(reader)
-        | Note::IdleReader(reader) => reader_name(lists, reader),
+        | Note::IdleReader(reader)
+        | Note::Stalls(reader)
+        | Note::SpanUnused { reader, .. }
+        | Note::WatcherSpan(reader)
+        | Note::LateReader { reader, .. } => reader_name(lists, reader),
         Note::UnwrittenKey { topic, .. } => name_at(lists.topic_names(), topic.number()),
-        Note::IdleWriter(writer) | Note::HeldUp { writer, .. } => writer_name(lists, writer),
+        Note::IdleWriter(writer)
+        | Note::UnheardWriter(writer)
+        | Note::Incompatible { writer, .. }
+        | Note::HeldUp { writer, .. } => writer_name(lists, writer),
         Note::StuckRule(rule)
         | Note::Finite(rule)
-        | Note::Endless { rule, .. }
-        | Note::LossyTake(rule) => entry_name(lists, rule),
+        | Note::LossyTake(rule)
+        | Note::PaceUnused(rule) => entry_name(lists, rule),
         Note::UnusedRow(row) => row_name(certificate, row),
         Note::NoRules
         | Note::NoStart
@@ -226,13 +316,14 @@ pub fn note_subject<'a>(plan: &'a Plan, certificate: &'a Certificate, note: Note
     }
 }
 
-/// The line of a note.
+/// The line of a note, and those of its terms.
 fn note_line(alloc: Global, plan: &Plan, certificate: &Certificate, note: &Note) -> TextResult
     ensures { IfOk result
         (λ text. string_bytes text ≡ note_line plan.now (certificate_view certificate.now) note.now) }
 {
     let words = note_text(alloc, plan, certificate, *note)?;
-    format!(in alloc; "note: {words}\n")
+    let terms = note_terms(alloc, plan, *note)?;
+    format!(in alloc; "note: {words}\n{terms}")
 }
 
 /// The lines of these notes.
@@ -252,7 +343,7 @@ fn lines_of(alloc: Global, plan: &Plan, certificate: &Certificate, notes: &[Note
 }
 
 /// What a yes to a plan and a certificate doesn't say: a line for each note, in the order of `dds_lint::all_notes`,
-/// `note: ` and the words of `note_text`. `NoMemory` is the only error.
+/// `note: ` and the words of `note_text`, and below it those of `note_terms`. `NoMemory` is the only error.
 #[tactic(auto, unfolding(crate::specs::Notes::note_lines))]
 pub fn note_lines(alloc: Global, plan: &Plan, certificate: &Certificate) -> TextResult
     ensures { IfOk result

@@ -15,7 +15,12 @@ use dds_text::texts::TextResult;
 use std::alloc::Global;
 
 /// Why a pair doesn't match, in words: none where there is no reason.
-fn why_not_text(alloc: Global, plan: &Plan, writer: WriterNo, reader: ReaderNo) -> TextResult
+pub(crate) fn why_not_text(
+    alloc: Global,
+    plan: &Plan,
+    writer: WriterNo,
+    reader: ReaderNo,
+) -> TextResult
     ensures { IfOk result (λ text. string_bytes text ≡ option_map_or reason_words (why_not plan.now writer reader) []) }
 {
     match plan.why_not(writer, reader) {
@@ -44,7 +49,12 @@ fn reason_lines(
 }
 
 /// The same of the reason why the two don't match, none where they match.
-fn mismatch_lines(alloc: Global, plan: &Plan, writer: WriterNo, reader: ReaderNo) -> TextResult
+pub(crate) fn mismatch_lines(
+    alloc: Global,
+    plan: &Plan,
+    writer: WriterNo,
+    reader: ReaderNo,
+) -> TextResult
     ensures { IfOk result (λ text. string_bytes text ≡ mismatch_lines plan.now writer reader) }
 {
     match plan.why_not(writer, reader) {

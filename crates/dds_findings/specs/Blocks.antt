@@ -56,9 +56,10 @@ block names f =
     ++ flat_map (λ detail. detail_line (string_bytes f.spot.margin) (string_bytes detail)) f.details.items))
 
 -- ── rows of findings
--- the two are of one kind, at one place of the document
+-- the two are of one kind, at one place of the document and about the same
 abbrev pub is_alike : Finding → Finding → Bool
-is_alike f g = bytes_eq f.name.now g.name.now && bytes_eq (string_bytes f.path) (string_bytes g.path)
+is_alike f g =
+    bytes_eq f.name.now g.name.now && (bytes_eq (string_bytes f.path) (string_bytes g.path) && bytes_eq (string_bytes f.subject) (string_bytes g.subject))
 
 -- the one behind the finding with this place is there, and alike
 abbrev pub goes_on : List Finding → ℕ → Bool
@@ -106,6 +107,7 @@ denied_line word = codes "denied: " ++ (word ++ (codes " (if that's meant, `--al
 abbrev pub denied_text : Deny → (subject : List ℕ) → About → List ℕ
 denied_text denied subject about.Fault = []
 denied_text denied subject (about.Condition refused) = []
+denied_text denied subject (about.Endless rule) = []
 denied_text denied subject (about.Note note) = if is_denied_note denied (kind_of note) subject then denied_line (note_word (kind_of note) subject) else []
 
 -- the line of the finding with this place, where it's the first of a row

@@ -119,11 +119,13 @@ fn block(alloc: Global, names: &FileNames, finding: &Finding) -> Result<String, 
     format!(in alloc; "{head}{place}{source}{details}")
 }
 
-/// Whether two findings are of one kind, at one place of the document.
+/// Whether two findings are of one kind, at one place of the document and about the same.
 fn is_alike(one: &Finding, other: &Finding) -> bool
     ensures { result ≡ is_alike one.now other.now }
 {
-    one.name == other.name && one.path.as_str() == other.path.as_str()
+    one.name == other.name
+        && one.path.as_str() == other.path.as_str()
+        && one.subject.as_str() == other.subject.as_str()
 }
 
 /// Whether the finding behind the one with this place is alike.
@@ -286,7 +288,7 @@ fn denied_text(alloc: Global, deny: &Deny, finding: &Finding) -> Result<String, 
         ≡ denied_text deny.now (string_bytes finding.now.subject) finding.now.about) }
 {
     match finding.about {
-        About::Fault | About::Condition(_) => Ok(String::new(alloc)),
+        About::Fault | About::Condition(_) | About::Endless(_) => Ok(String::new(alloc)),
         About::Note(note) => note_line(alloc, deny, NoteKind::of(note), finding.subject.as_str()),
     }
 }

@@ -1,5 +1,6 @@
 //! What `lint` finds in the files of a deployment and prints of it: each fault of a file, each condition of the checker
-//! that fails, and what a yes doesn't say, each with its place in the file and what would be right.
+//! that fails, each rule for which no certificate is accepted, and what a yes doesn't say, each with its place in the
+//! file and what would be right.
 #![tactic(auto)]
 
 mod allowed;
@@ -8,6 +9,7 @@ mod block;
 mod bounds;
 mod conditions;
 mod document;
+mod endless;
 mod faults;
 mod finding;
 mod kinds;
@@ -16,6 +18,8 @@ mod located;
 mod notes;
 mod sarif;
 mod spot;
+mod topics;
+mod volatile;
 mod words;
 
 pub use allowed::Allowed;

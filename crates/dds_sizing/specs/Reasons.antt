@@ -20,7 +20,8 @@ use Rattle.dds_search.specs.declared.certificate.reasons.Reason.{Reason}
 use Rattle.dds_search.specs.declared.certificate.reasons.Reason.TheVariants.{Weights, Growth, Nothing}
 use Rattle.dds_search.specs.declared.certificate.sizes.Size.{Size}
 use Rattle.dds_explain.specs.Explanation.{margins}
-use Rattle.dds_sizing.specs.Needs.{is_for, limit_of_key, limit_of_total}
+use Rattle.dds_propose.specs.Targets.{reader_of}
+use Rattle.dds_sizing.specs.Needs.{depth_for, is_for, limit_of_key, limit_of_total}
 use Rattle.dds_sizing.specs.NeedsText.{least_word, policy_word}
 use Rattle.dds_sizing.specs.declared.needs.Limit.{Limit}
 use Rattle.dds_sizing.specs.declared.needs.Need.{Need}
@@ -115,19 +116,20 @@ abbrev pub because_of_size : Lists → ℕ → Room → Explained → List ℕ
 because_of_size d r room e =
     if is_as_much e.size.least room.least then string_bytes e.because else because_line (reader_name d r) room (codes "this is the sum of the bounds of its keys")
 
--- a size is one of the key at a reader that the writer matches, and as much as the writer needs
+-- a size is one of the key at a reader that the writer matches, for which it has to be so deep
 abbrev pub is_for_as_much : Network → ℕ → ℕ → Least → Explained → Bool
-is_for_as_much net w k least e = is_for net w k e.size.target && is_as_much e.size.least least
+is_for_as_much net w k least e =
+    is_for net w k e.size.target && is_as_much (depth_for net w (reader_of e.size.target) k e.size.least) least
 
--- the reader of a target
-abbrev pub reader_of : Target → ℕ
-reader_of (target.Instance r k) = r
-reader_of (target.Reader r) = r
+-- a writer has to be as deep as a reader needs, or less, since no more of what it writes can be missing there
+abbrev pub depth_words : Bool → List ℕ
+depth_words as_much = if as_much then codes "as much as reader " else codes "no more that it wrote can be missing at reader "
 
--- why a writer needs so much: a reader does
+-- why a writer needs so much: a reader does, or no more can be missing there
 abbrev pub because_of_reader : Lists → ℕ → ℕ → Room → Explained → List ℕ
 because_of_reader d w k room e =
-    because_line (writer_name d w ++ (codes " " ++ writer_key d w k)) room (codes "as much as reader " ++ reader_name d (reader_of e.size.target))
+    because_line (writer_name d w ++ (codes " " ++ writer_key d w k)) room
+    (depth_words (is_as_much e.size.least room.least) ++ reader_name d (reader_of e.size.target))
 
 -- the line for a need
 abbrev pub because_of : Lists → List Explained → Need → List ℕ

@@ -3,11 +3,11 @@ ghost use Rattle.std.specs.Prelude.{◌≡◌, ◌++◌, IfOk, codes, find, flat
 ghost use Rattle.dds_match.specs.Plan.{network_of};
 ghost use Rattle.dds_search.specs.Reasons.{IsReason, IsReasoned};
 ghost use Rattle.dds_sizing.specs.Reasons.{AreExplained, IsExplained, because_line, because_of, because_of_reader};
-ghost use Rattle.dds_sizing.specs.Reasons.{because_of_size, because_of_target, deeds, firings_words, is_as_much};
-ghost use Rattle.dds_sizing.specs.Reasons.{is_for_as_much, is_target, limit_of_target, limit_or_none, listed};
-ghost use Rattle.dds_sizing.specs.Reasons.{reader_of, reason_line, sizes_of, target_words, unshown_line, writes_words};
+ghost use Rattle.dds_sizing.specs.Reasons.{because_of_size, because_of_target, deeds, depth_words, firings_words};
+ghost use Rattle.dds_sizing.specs.Reasons.{is_as_much, is_for_as_much, is_target, limit_of_target, limit_or_none};
+ghost use Rattle.dds_sizing.specs.Reasons.{listed, reason_line, sizes_of, target_words, unshown_line, writes_words};
 
-use crate::needs::{Limit, Need, Room, is_for, limit_of_key, limit_of_total};
+use crate::needs::{Limit, Need, Room, depth_for, is_for, limit_of_key, limit_of_total};
 use crate::needs_text::{least_text, policy_word};
 use dds_base::{KeyNo, NoMemory, ReaderNo, WriterNo};
 use dds_explain::margins;
@@ -342,7 +342,7 @@ fn because_of_size(
     }
 }
 
-/// Whether a size is one of the key at a reader that the writer matches, and as much as the writer needs.
+/// Whether a size is one of the key at a reader that the writer matches, for which it has to be so deep.
 fn is_for_as_much(
     plan: &Plan,
     writer: WriterNo,
@@ -352,10 +352,15 @@ fn is_for_as_much(
 ) -> bool
     ensures { result ≡ is_for_as_much (network_of plan.now) writer key least explained.now }
 {
-    is_for(plan, writer, key, &explained.size.target) && is_as_much(explained.size.least, least)
+    let size = explained.size;
+    is_for(plan, writer, key, &size.target)
+        && is_as_much(
+            depth_for(plan, writer, size.target.reader(), key, size.least),
+            least,
+        )
 }
 
-/// The first of these that is of the key at a reader that the writer matches, and as much as the writer needs.
+/// The first of these that is of the key at a reader that the writer matches, for which it has to be so deep.
 fn find_reader<'a>(
     plan: &Plan,
     explained: &'a [Explained],
@@ -371,17 +376,18 @@ fn find_reader<'a>(
         .find(|one| is_for_as_much(plan, writer, key, least, one))
 }
 
-/// The reader of a target.
-fn reader_of(target: &Target) -> ReaderNo
-    ensures { result ≡ reader_of target.now }
+/// The words for why a writer has to be so deep, before the reader's name.
+fn depth_words(as_much: bool) -> &'static str
+    ensures { result.now ≡ depth_words as_much }
 {
-    match target {
-        Target::Instance { reader, .. } => *reader,
-        Target::Reader(reader) => *reader,
+    if as_much {
+        "as much as reader "
+    } else {
+        "no more that it wrote can be missing at reader "
     }
 }
 
-/// Why a writer needs so much: a reader does.
+/// Why a writer needs so much: a reader does, or no more can be missing there.
 fn because_of_reader(
     alloc: Global,
     lists: &Deployment,
@@ -392,12 +398,12 @@ fn because_of_reader(
 ) -> TextResult
     ensures { IfOk result (λ text. string_bytes text ≡ because_of_reader lists.now writer key room explained.now) }
 {
-    let reader = reader_of(&explained.size.target);
-    let reader = reader_name(lists, reader);
+    let reader = reader_name(lists, explained.size.target.reader());
+    let words = depth_words(is_as_much(explained.size.least, room.least));
     let key = writer_key(lists, writer, key);
     let writer = writer_name(lists, writer);
     let who = format!(in alloc; "{writer} {key}")?;
-    let why = format!(in alloc; "as much as reader {reader}")?;
+    let why = format!(in alloc; "{words}{reader}")?;
     because_line(alloc, who.as_str(), room, why.as_str())
 }
 
