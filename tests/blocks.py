@@ -1,5 +1,5 @@
 #!/usr/bin/env python3
-"""Runs what the documents print: README, GUIDE, FORMAT, GUARD, HOSTILE, REAL-DDS and examples/README.
+"""Runs what the documents print: README, GUIDE, FORMAT, GUARD, HOSTILE, REAL-DDS, examples/README and the pages of the commands.
 
   tests/blocks.py
 
@@ -22,7 +22,8 @@ sys.dont_write_bytecode = True
 from harness import PROGRAM, ROOT, Skipped, Tally, ddscheck, need_program, run  # noqa: E402
 
 DOCUMENTS = ["README.md", "docs/GUIDE.md", "docs/FORMAT.md", "docs/GUARD.md", "docs/HOSTILE.md", "docs/REAL-DDS.md", "examples/README.md"]
-COMMAND = re.compile(r"(?:\./)?ddscheck |(?:bench|tests|tools)/")
+DOCUMENTS += sorted(str(page.relative_to(ROOT)) for page in (ROOT / "docs/commands").glob("*.md"))
+COMMAND = re.compile(r"(?:\./)?ddscheck |cp examples/|(?:bench|tests|tools)/")
 # builds and tests are no commands to try within a test, and what needs Cyclone DDS doesn't run here
 NOT_RUN = re.compile(r"\./test$|\./ddscheck --build$|bridge/|make -C bridge/|\(cd crates/dds_guard_c && rt lib\)$|cc -Iinclude ")
 # what stands for a word in capitals

@@ -129,6 +129,20 @@ def label_of(endpoint, more):
     return "\\n".join(lines + more)
 
 
+def time_of(nanoseconds):
+    """Nanoseconds in the greatest unit in which they are a whole number."""
+    size, unit = next((size, unit) for size, unit in ((10**9, "s"), (10**6, "ms"), (1000, "us"), (1, "ns")) if nanoseconds % size == 0)
+    return f"{nanoseconds // size} {unit}"
+
+
+def pace_of(rule):
+    """The line of a rule that follows a clock."""
+    if "period" not in rule:
+        return ""
+    jitter = f", jitter {time_of(rule['jitter'])}" if rule["jitter"] else ""
+    return f"\\nevery {time_of(rule['period'])}{jitter}"
+
+
 def application_of(application, rules):
     """The lines of an application's cluster."""
     yield 2, "cluster", f"cluster application {application['name']}"
@@ -140,7 +154,7 @@ def application_of(application, rules):
         if rule["application"] == application["name"]:
             name = f"{rule['name']} {rule['key']}" if "key" in rule else rule["name"]
             start = f"\\nstart {rule['start']}" if rule["start"] else ""
-            yield 3, "node", f"rule {number}", {"shape": "ellipse", "label": name + start}
+            yield 3, "node", f"rule {number}", {"shape": "ellipse", "label": name + start + pace_of(rule)}
     yield 2, "end"
 
 
@@ -158,8 +172,9 @@ def participant_of(participant, lists, claims):
         yield 2, "node", f"writer {writer['name']}", {"label": label_of(writer, [])}
     for reader in own("readers"):
         may_lose = ["may lose"] if reader.get("may_lose", False) else []
+        spans = [f"{done} within {time_of(reader[f'{done}_within'])}" for done in ("taken", "available") if f"{done}_within" in reader]
         lines, colour = claims[reader["name"]]
-        yield 2, "node", f"reader {reader['name']}", {"style": "filled", "fillcolor": colour, "label": label_of(reader, may_lose + lines)}
+        yield 2, "node", f"reader {reader['name']}", {"style": "filled", "fillcolor": colour, "label": label_of(reader, may_lose + spans + lines)}
     yield 1, "end"
 
 

@@ -1,7 +1,7 @@
 #!/usr/bin/env python3
 """Says what `ddscheck check --explain` owes, by sums of its own, and holds the built program against it.
 
-  tests/explained.py                          # every check of tests/commands and of the examples
+  tests/explained.py                          # every check of tests/commands and of the examples, and 300 drawn ones of version 4
   tests/explained.py DEPLOYMENT CERTIFICATE   # prints what is owed
 
 The answer is found a second time by tests/judged.py, and each number of a reason is added up here a second time, as are the policies that don't agree compared. From the
@@ -12,14 +12,19 @@ import json
 import os
 import re
 import sys
+import tempfile
 import tomllib
 from pathlib import Path
 
 sys.dont_write_bytecode = True
 import judged  # noqa: E402
+import paced  # noqa: E402
 import shown  # noqa: E402
 from commands import DATA, cases  # noqa: E402
-from harness import ADVICE, ROOT, Tally, need_program  # noqa: E402
+from harness import ADVICE, ROOT, Tally, need_program, side_by_side  # noqa: E402
+
+# how many deployments of version 4 are drawn
+DRAWN = 2000
 
 
 # The reasons of a refusal, by number: lines without `because`
@@ -49,11 +54,51 @@ def instances_lines(case, number, name):
     return [f"rules write {len(keys)} keys at {name}, and its max_instances is {limit}"] + keys
 
 
+def span_text(span):
+    """A time in words: none is 0 ms."""
+    return value_text(span) if span else "0 ms"
+
+
+def pace_lines(case, writer, reader, key, field):
+    """The terms of a cap or a lag, one for each rule."""
+    if case.in_flight(writer, reader, key, field) is None:
+        return []
+    span, lines = case.spans[field][reader], []
+    for rule, count, most in case.brought(writer, key, span):
+        period, jitter = case.paces[rule["name"]]
+        turns = f"(1 + ({span_text(span)} + {span_text(jitter)}) / {span_text(period)})"
+        lines.append(f"paces show {most}: {count} x {turns} of {' '.join(judged.words_of(rule))}")
+    return lines
+
+
+def capped_lines(case, reader, key):
+    """The terms of the caps of all writers, where each has one."""
+    if case.capped(reader, key) is None:
+        return []
+    return [line for writer in case.writers for line in pace_lines(case, writer, reader, key, "taken_within")]
+
+
+def carried_lines(case, row):
+    """The samples that a row carries by caps, each with the terms of the caps."""
+    lines = []
+    for (reader, key), weight in case.carried_weights(row).items():
+        if weight:
+            lines.append(f"samples {case.carried(row, reader, key)} x {case.weight(row, 'samples', reader, key)} of {key} at {reader}")
+            lines += capped_lines(case, reader, key)
+    return lines
+
+
+def carried_text(case, row, before, after):
+    """What caps carry, between other words, if that's something."""
+    weight = sum(case.carried_weights(row).values())
+    return f"{before}{weight}{after}" if weight else ""
+
+
 def limit_lines(case, number, reader, key):
     name, limit = case.instance_limit(reader)
     if number == 21:
         return [f"{key} can reach {reader}, whose {name} is {limit}, and no bound is given"]
-    return [f"the bound of {key} at {reader} is {case.bound(reader, key)}, and its {name} is {limit}"]
+    return [f"the bound of {key} at {reader} is {case.bound(reader, key)}, and its {name} is {limit}"] + capped_lines(case, reader, key)
 
 
 def samples_lines(case, number, reader):
@@ -73,9 +118,16 @@ def filter_lines(case, writer, reader):
 
 
 def depth_lines(case, writer, reader, key):
-    depth, bound, total = case.writers[writer]["depth"], case.bound(reader, key), case.total(reader)
-    given = f"no bound of {key} at {reader} is given" if bound is None else f"the bound of {key} at {reader} is {bound}"
-    return [f"{writer} keeps {depth} of {key}, and {given}"] + ([f"total {total}"] if total is not None else [])
+    depth, numbers = case.writers[writer]["depth"], case.depths(writer, reader, key)
+    known = [number for number in numbers.values() if number is not None]
+    enough = f"{min(known)} would be enough" if known else f"no bound of {key} at {reader} is given"
+    words = {"bound": f"bound {key} {numbers['bound']}", "writes": f"writes {numbers['writes']} in all"}
+    terms = {"cap": pace_lines(case, writer, reader, key, "taken_within"), "lag": pace_lines(case, writer, reader, key, "available_within")}
+    lines = [f"{writer} keeps {depth} of {key}, and {enough}"]
+    for name, number in numbers.items():
+        if number is not None:
+            lines += [words.get(name, f"{name} {number}")] + terms.get(name, [])
+    return lines
 
 
 def row_lines(case, number, row, *words):
@@ -114,8 +166,9 @@ def unshown_lines(case, reader, key=None):
         one = next(b for b in case.bounds if (b["reader"], b["key"]) == (reader, key) and not case.is_shown(b["row"], reader, key, b["bound"]))
         claim, keys = f"the bound {one['bound']} of {key} at {reader}", [key]
     row = one["row"]
-    lines = [f"{row} doesn't show {claim}: permits at the opening weigh {case.budget(row)}"]
-    return lines + [sample_line(case, row, reader, k) for k in keys] + permit_lines(case, row)
+    carried = carried_text(case, row, ", and samples that caps carry ", "")
+    lines = [f"{row} doesn't show {claim}: permits at the opening weigh {case.opening_weight(row)}{carried}"]
+    return lines + [sample_line(case, row, reader, k) for k in keys] + permit_lines(case, row) + carried_lines(case, row)
 
 
 # Where policies don't agree: the fields in the order of the standard, and the words of each that has some, the weakest first
@@ -192,22 +245,50 @@ def of_limit(name, limit):
     return "of no limit" if limit == "unlimited" else f"of {name} {limit}"
 
 
+def opening_text(case, row):
+    return f"{row} weighs {case.opening_weight(row)} at the opening" + carried_text(case, row, ", ", " by caps")
+
+
 def margin_lines(case):
     lines = []
     for one in case.bounds:
         reader, key, row = one["reader"], one["key"], one["row"]
         weight = case.weight(row, "samples", reader, key)
         limit = of_limit(*case.instance_limit(reader))
-        lines.append(f"{reader} {key} {one['bound']} {limit}: {row} weighs {case.budget(row)} at the opening and a sample {weight}, which shows {shows(case.budget(row), weight)}")
+        least = shows(case.budget(row), weight)
+        lines.append(f"because {reader} {key} {one['bound']} {limit}: {opening_text(case, row)} and a sample {weight}, which shows {least}")
     for one in case.totals:
         limit = of_limit("max_samples", case.readers[one["reader"]]["max_samples"])
-        lines.append(f"{one['reader']} {one['bound']} {limit}: {one['row']} weighs {case.budget(one['row'])} at the opening")
-    return "".join(f"because {line}\n" for line in lines)
+        lines.append(f"because {one['reader']} {one['bound']} {limit}: {opening_text(case, one['row'])}")
+    for row in case.rows:
+        carried = carried_lines(case, row)
+        lines += [carried_text(case, row, f"{row} carries ", " by caps")] * bool(carried) + [f"  {line}" for line in carried]
+    return "".join(f"{line}\n" for line in lines)
+
+
+def premise_lines(case):
+    """What a yes takes for granted of clocks."""
+    lines = []
+    for reader in case.strict():
+        for field, does in (("taken_within", "takes"), ("available_within", "can take")):
+            if reader in case.spans[field]:
+                lines.append(f"{reader} {does} each sample within {span_text(case.spans[field][reader])}")
+    for rule in case.lists["rules"]:
+        if rule["name"] in case.paces:
+            period, jitter = map(span_text, case.paces[rule["name"]])
+            lines.append(f"rule {' '.join(judged.words_of(rule))}: every {period}, jitter {jitter}")
+    return "".join(f"premise {line}\n" for line in lines)
+
+
+def note_line(finding):
+    """The line of a note, and below it what policies that don't agree offer and request."""
+    terms = finding["explanation"]["details"] if finding["name"] == "Incompatible" else []
+    return f"note: {finding['message']}\n" + "".join(f"  {term}\n" for term in terms)
 
 
 def note_lines(deployment, certificate):
     found = json.loads(shown.answer_of(["lint", deployment, certificate, "--format", "json"])[0])["findings"]
-    return "".join(f"note: {one['message']}\n" for one in found if one["level"] == "note")
+    return "".join(note_line(one) for one in found if one["level"] == "note")
 
 
 def advice(status, *files):
@@ -227,7 +308,7 @@ def owed(deployment, certificate):
     refusal = judged.refusal_of(case)
     answer = judged.answer_of(case, refusal)
     if refusal is None:
-        return answer + margin_lines(case) + note_lines(deployment, certificate), "", 0
+        return answer + margin_lines(case) + premise_lines(case) + note_lines(deployment, certificate), "", 0
     first, *terms = refusal_lines(case, *refusal)
     return answer + f"because {first}\n" + "".join(f"  {term}\n" for term in terms), "", 1
 
@@ -265,6 +346,13 @@ def fault_of(deployment, certificate):
     return None if agrees(given, wanted) else f"{given} and not {wanted}"
 
 
+def drawn_fault(seed):
+    """What is wrong with what `check --explain` gives of a drawn deployment of version 4, if anything is."""
+    with tempfile.TemporaryDirectory() as room:
+        found = fault_of(*paced.paced(seed, Path(room)))
+    return f"seed {seed}: {found}" if found else None
+
+
 def main(words):
     if words:
         sys.stdout.write(owed(Path(words[0]), Path(words[1]))[0])
@@ -273,6 +361,8 @@ def main(words):
     tally = Tally()
     for deployment, certificate in dict.fromkeys(checks()):
         tally.judge(f"check --explain {deployment.relative_to(ROOT)} {certificate.relative_to(ROOT)}", fault_of, deployment, certificate)
+    for seed, found in enumerate(side_by_side(drawn_fault, range(DRAWN))):
+        tally.check(found is None, f"check --explain of the drawn deployment {seed}", found or "")
     return tally.finish()
 
 

@@ -66,6 +66,47 @@ def keyed_certificate(topics=ENDPOINTS):
     return "\n".join(["version=2", f'rows=[{{name="r",samples={of_readers},takes={of_readers},permits={permits}}}]', f"bounds={inline(bounds)}"]) + "\n"
 
 
+def paced_topic(endpoints=180):
+    """One topic of 64 keys that so many KEEP_LAST writers write and as many readers hear, each in time, with as many paced rules and writes as there may be. A writer has a
+    cap, a lag and no bound at each reader for each key: all are above its depth, and all that it ever writes of a key is within it. More endpoints don't fit the file, with
+    a connection for each pair."""
+    names = short_names(endpoints)
+    written = names[: rules_of(ENDPOINTS) * PER_RULE]
+    rules = [
+        f'{{name="e{at}",application="a",each=true,start=1,period=1000000,writes={inline(f"""{{writer="{w}",count=1}}""" for w in written[at * PER_RULE : (at + 1) * PER_RULE])}}}'
+        for at in range(rules_of(ENDPOINTS))
+    ]
+    sections = {
+        "topics": [f'{{name="t",type="t",keys={quoted(KEYS)}}}'],
+        "writers": [f'{{name="{w}",participant="p",topic="t",history="KEEP_LAST",depth=1}}' for w in names],
+        "readers": [
+            f'{{name="{r}",participant="p",topic="t",reliability="RELIABLE",history="KEEP_ALL",taken_within=10000000,available_within=5000000}}' for r in names
+        ],
+        "applications": [f'{{name="a",participant="p",writers={quoted(names)},readers={quoted(names)}}}'],
+        "rules": rules,
+        "connections": [f'{{writer="{w}",reader="{r}"}}' for w in names for r in names],
+    }
+    lines = ["version=4", HEAD] + [f"{name}={inline(entries)}" for name, entries in sections.items()]
+    return "\n".join(lines) + "\n"
+
+
+def patterned_deployment():
+    """A writer and a reader for each place, of one topic, with 16 partitions each, of which no two match: a pattern is compared with each name, and from neither end it's
+    soon plain that the name doesn't have it."""
+    names = short_names(ENDPOINTS)
+    fronts = quoted([f"b*{'a' * (30 + at)}" for at in range(16)])
+    backs = quoted([f"*{'a' * (20 + at)}b" for at in range(16)])
+    plain = quoted(["a" * (49 + at) for at in range(16)])
+    sections = {
+        "topics": ['{name="t",type="t",keys=["k"]}'],
+        "writers": [f'{{name="{w}",participant="p",topic="t",partitions={backs if at % 2 else fronts}}}' for at, w in enumerate(names)],
+        "readers": [f'{{name="{r}",participant="p",topic="t",may_lose=true,partitions={plain}}}' for r in names],
+        "applications": [f'{{name="a",participant="p",writers={quoted(names)},readers={quoted(names)}}}'],
+    }
+    lines = ["version=3", HEAD] + [f"{name}={inline(entries)}" for name, entries in sections.items()]
+    return "\n".join(lines) + "\n"
+
+
 def limited_ring(stages, limited):
     """A ring of `stages` stages, of which the first readers are limited."""
     text = ring(stages)

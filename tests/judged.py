@@ -32,6 +32,9 @@ class Case:
         self.writer_keys = {name: topics[one["topic"]] for name, one in self.writers.items()}
         self.reader_keys = {name: topics[one["topic"]] for name, one in self.readers.items()}
         self.connected = {(c["writer"], c["reader"]) for c in self.lists["connections"]}
+        said = shown.document_of(deployment)
+        self.paces = {rule["name"]: (rule["period"], rule.get("jitter", 0)) for rule in said.get("rules", []) if "period" in rule}
+        self.spans = {field: {r["name"]: r[field] for r in said.get("readers", []) if field in r} for field in ("taken_within", "available_within")}
         self.reasons, self.matched = {}, set()
         for line in shown.answer_of(["match", deployment])[0].splitlines():
             word, writer, reader, *reason = line.split(" ", 3)
@@ -104,16 +107,73 @@ class Case:
         started = [rule for rule in self.lists["rules"] if rule["start"] != "unlimited"]
         return sum(x["count"] * rule["start"] for rule in started for x in rule["writes"] if (x["writer"], x["key"]) == (writer, key))
 
-    def budget(self, row):
+    def brought(self, writer, key, span):
+        """For each rule that writes the key at the writer how many samples it brings there in a turn, its pace, and how many it brings at most in a closed span;
+        `None` where one of them has no pace."""
+        found = []
+        for rule in self.lists["rules"]:
+            count = sum(x["count"] for x in rule["writes"] if (x["writer"], x["key"]) == (writer, key))
+            if count and rule["name"] not in self.paces:
+                return None
+            if count:
+                period, jitter = self.paces[rule["name"]]
+                found.append((rule, count, count * (1 + (span + jitter) // period)))
+        return found
+
+    def in_flight(self, writer, reader, key, field):
+        """At most how many samples of the key, written at the writer, the reader lacks by the clock; `None` where the file doesn't say enough."""
+        span = self.spans[field].get(reader)
+        if span is None or (writer, reader) not in self.matched or self.is_watcher(reader) or not self.hears(reader, key):
+            return None
+        brought = self.brought(writer, key, span)
+        number = None if brought is None else sum(most for _, _, most in brought)
+        return number if number is not None and number < 2**32 else None
+
+    def cap(self, writer, reader, key):
+        return self.in_flight(writer, reader, key, "taken_within")
+
+    def lag(self, writer, reader, key):
+        return self.in_flight(writer, reader, key, "available_within")
+
+    def capped(self, reader, key):
+        """The sum of the caps of all writers that match; `None` where one has none."""
+        caps = [self.cap(w, reader, key) for w, r in self.matched if r == reader]
+        return None if None in caps else sum(caps)
+
+    def carried(self, row, reader, key):
+        """The cap by which a row carries the samples of a key in flight to a reader; `None` where it gives takes or permits of them weight."""
+        permits = [self.weight(row, "permits", w, key) for w, r in self.matched if r == reader]
+        return None if self.weight(row, "takes", reader, key) or any(permits) else self.capped(reader, key)
+
+    def opening_weight(self, row):
         return sum(self.weight(row, "permits", w, k) * self.opening(w, k) for w in self.writers for k in self.writer_keys[w])
+
+    def carried_weights(self, row):
+        """What the samples weigh, at most, that a row carries by caps, by reader and key."""
+        pairs = [(r, k) for r in self.readers for k in self.reader_keys[r]]
+        return {(r, k): self.weight(row, "samples", r, k) * (self.carried(row, r, k) or 0) for r, k in pairs}
+
+    def budget(self, row):
+        return self.opening_weight(row) + sum(self.carried_weights(row).values())
+
+    def writes_at_all(self, writer, key):
+        """How often a key is ever written at a writer; `None` where it's free or a rule with takes writes it."""
+        writing = [rule for rule in self.lists["rules"] if any((x["writer"], x["key"]) == (writer, key) for x in rule["writes"])]
+        return None if self.is_free(writer, key) or any(rule["takes"] for rule in writing) else self.opening(writer, key)
+
+    def depths(self, writer, reader, key):
+        """What the depth of a KEEP_LAST writer is compared with, by name."""
+        numbers = {"bound": self.bound(reader, key), "total": self.total(reader), "cap": self.cap(writer, reader, key), "lag": self.lag(writer, reader, key)}
+        return numbers | {"writes": self.writes_at_all(writer, key)}
 
     def permit(self, row, writer, key):
         """What the permit weighs that a write uses: a free write uses none."""
         return 0 if self.is_free(writer, key) else self.weight(row, "permits", writer, key)
 
     def spread(self, row, writer, key):
-        """What a write puts in flight, by reader."""
-        return {r: self.weight(row, "samples", r, key) for r in self.readers if (writer, r) in self.matched and self.hears(r, key)}
+        """What a write puts in flight, by reader, but for samples that caps carry."""
+        heard = [r for r in self.readers if (writer, r) in self.matched and self.hears(r, key) and self.carried(row, r, key) is None]
+        return {r: self.weight(row, "samples", r, key) for r in heard}
 
     def bound(self, reader, key):
         return next((b["bound"] for b in self.bounds if (b["reader"], b["key"]) == (reader, key)), None)
@@ -131,7 +191,7 @@ class Case:
         return next(u for u in self.lists["rules"] if words == words_of(u))
 
     def is_shown(self, row, reader, key, bound):
-        """Whether a sample weighs something, and one more than the bound weigh more than the permits at the opening."""
+        """Whether a sample weighs something, and one more than the bound weigh more than the budget."""
         weight = self.weight(row, "samples", reader, key)
         return weight > 0 and self.budget(row) < (bound + 1) * weight
 
@@ -190,12 +250,12 @@ def failing_limits(case):
 
 
 def failing_depths(case):
-    """Numbers 25 and 26: what a writer with KEEP_LAST drops each reader that loses nothing has taken."""
+    """Numbers 25 and 26: what a writer with KEEP_LAST drops each reader that loses nothing has received."""
     guarded = [pair for pair in case.pairs() if case.is_guarded(*pair)]
     yield from ((25, (w, r)) for w, r in guarded if not all(case.hears(r, key) for key in case.written(w)))
     for w, r in guarded:
         for key in filter(lambda key: case.hears(r, key), case.written(w)):
-            if not any(n is not None and n <= case.writers[w]["depth"] for n in (case.bound(r, key), case.total(r))):
+            if not any(n is not None and n <= case.writers[w]["depth"] for n in case.depths(w, r, key).values()):
                 yield 26, [w, r, key]
 
 

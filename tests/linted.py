@@ -7,9 +7,10 @@
   reading of tests/places.py leads.
 - Of 300 worked deployments with two to five changes that the schemas refuse, none of the faults comes twice, the one with which `match` ends is among them, and each
   has the line and the columns of that reading.
-- Of each worked deployment and certificate `lint` finds an error exactly where `check` says other than yes, and the first error's name is the one that `check` gives.
+- Of each worked deployment and certificate, and of 300 drawn ones of version 4, `lint` finds an error exactly where `check` says other than yes, and the first error's name is the one that `check` gives.
 - Each vacuous system of tests/commands/data/vacuous, which gets a yes, by its own certificate or by an empty one, has the note that its name asks for.
   With --deny notes all its notes but MayLose make the answer no, with --deny all that too, and with --allow all but the kind or the one note that is named.
+- Of each worked deployment the notes on pairs, on writers that nobody hears and on paces are those of the second reading of tests/noted.py.
 - SARIF documents have the members of version 2.1.0 that code hosts read, and each names its file by the URI reference that Python makes of the path.
 - A file of 1 MiB with 10,000 faults is answered within a second.
 The last line is 'N passed, M failed'.
@@ -19,12 +20,17 @@ import random
 import re
 import sys
 import tempfile
+import tomllib
 from pathlib import Path
 from urllib.parse import quote
 
 sys.dont_write_bytecode = True
+import noted  # noqa: E402
+import paced  # noqa: E402
+import shown  # noqa: E402
 from commands import DATA, cases  # noqa: E402
 from harness import ROOT, Tally, ddscheck, need_program, side_by_side  # noqa: E402
+from judged import Case  # noqa: E402
 from places import places, spot  # noqa: E402
 
 FAULT = re.compile(r"ddscheck: (deployment|certificate) \d+ (\w+)(?: (\S+))?\n")
@@ -137,13 +143,35 @@ def judged(pair):
     return None
 
 
+def drawn_pair(seed):
+    """The same of a drawn deployment of version 4 and its certificate."""
+    with tempfile.TemporaryDirectory() as room:
+        found = judged(paced.paced(seed, Path(room)))
+    return f"seed {seed}: {found}" if found else None
+
+
 def pairs():
     """The worked deployments with their certificates, and the cases of `check`."""
     for certificate in sorted((ROOT / "examples").rglob("*.cert.toml")):
         yield [certificate.with_name(certificate.name.replace(".cert", "")), certificate]
-    for case in cases(["check", "version_3", "watchers", "explain"]):
+    for case in cases(["check", "version_3", "watchers", "explain", "paces"]):
         if case.words[0] == "check" and "-" not in case.words and FAULT.fullmatch(case.errors()) is None and not case.errors():
             yield case.words[1:3]
+
+
+def second_notes(deployment):
+    """What is wrong with the notes of a deployment, by a second reading, if anything is."""
+    if shown.answer_of(["match", deployment])[2] > 1:
+        return None
+    findings, given = findings_of(deployment)
+    if findings is None:
+        return f"ended otherwise: {given}"
+    found = sorted((one["name"], one["subject"]) for one in findings if one["name"] in noted.KINDS)
+    try:
+        owed = noted.notes_of(Case(deployment, DATA / "vacuous/none.cert.toml"), deployment)
+    except tomllib.TOMLDecodeError:
+        return None
+    return None if found == owed else f"finds {found}, not {owed}"
 
 
 def vacuous(file):
@@ -174,7 +202,7 @@ def words_of(findings):
 
 
 def place_of(finding):
-    return finding["name"], finding["place"]["path"]
+    return finding["name"], finding["place"]["path"], finding["subject"]
 
 
 def denied_in(text):
@@ -246,12 +274,16 @@ def many_faults():
     return None if count and int(count[1]) >= 10_000 else f"finds {given.out[-80:]!r}"
 
 
+# what no output has of a file: control characters, ends of lines but its own, characters without a width or for the direction of a text, tags; and bytes that are no text
+UNSEEN = re.compile("[\x00-\x09\x0b-\x1f\x7f-\x9f\xad\u061c\u180e\u200b-\u200f\u2028-\u202e\u2060-\u206f\ufeff\U000e0000-\U000e007f]|\\\\x")
+
+
 def hostile_line(text):
     """What is wrong with what is shown of a line with control characters, characters of several bytes or bytes that are no text, if anything is."""
     with tempfile.TemporaryDirectory() as room:
         (Path(room) / "d.toml").write_bytes(text)
         given = ddscheck("lint", "d.toml", cwd=room)
-    if given.status != 1 or re.search(r"[\x00-\x09\x0b-\x1f\x7f\x80-\x9f]|\\x", given.out):
+    if given.status != 1 or UNSEEN.search(given.out):
         return f"status {given.status}, and shows {given.out[:200]!r}"
     blocks = re.findall(r"(?m)^ *\d+ \| (.*)\n *\| ( *)(\^+)", given.out)
     return None if blocks and all(len(blanks) <= len(shown) or not shown for shown, blanks, _ in blocks) else f"underlines nothing: {given.out[:200]!r}"
@@ -261,6 +293,8 @@ HOSTILE = [
     b'version = 1\n[[topics]]\nname = "\\u001b[31m"\n"\\u001b[31m" = 1\n',
     b'version = 1\n[[topics]]\nname = "t"\ntype = "T"\nkeys = ["k"] # \t tabs\tand \xc2\x9b escapes\nodd = 1\n',
     b"version = 1\n\todd\t=\t1\t# \t\n",
+    b'version = 1\n"\\u202ereversed\\u2066 \\u061c\\u00ad\\u180e\\ufeff\\U000e0041\\u2028" = 1\n',
+    b'version = 1\n[[topics]]\nname = "t\\u061c\\u00ad\\u180e\\ufeff\\U000e0041\\u2029\\u2060"\n',
     "version = 1\n[[participants]]\nname = \"größe 日本 🚀\"\ndomain = 0\n".encode(),
     b"version = 1\nname = \"\x1b[31mred\"\n",
     b"version = 1\nname = \"\xff\xfe\"\n",
@@ -284,7 +318,9 @@ def main():
     worked = [(fault_case, case, f"{case.file.name}:{case.line}") for case in fault_cases()]
     worked += [(drawn_faults, seed, f"drawn faults {seed}") for seed in range(300)]
     worked += [(judged, pair, f"lint {pair[0]} {pair[1]}") for pair in pairs()]
+    worked += [(drawn_pair, seed, f"lint of the drawn deployment {seed}") for seed in range(300)]
     worked += [(vacuous, file, f"vacuous {file.name}") for file in sorted((DATA / "vacuous").glob("[A-Z]*.toml")) if ".cert" not in file.name]
+    worked += [(second_notes, path, f"notes of {path.relative_to(ROOT)}") for path in shown.deployments()]
     worked += [(hostile_line, text, f"a line of {text[:60]}") for text in HOSTILE]
     worked += [(sarif_members, case.words[1], f"sarif {case.words[1]}") for case in list(fault_cases())[:40]]
     worked += [(sarif_uri, name, f"sarif {name}") for name in NAMES]

@@ -3,9 +3,9 @@
 
   tests/refuted.py
 
-What is owed stands in the file `refuted` there, as a search in exact numbers found it, and of the last six cases as it was worked out by hand: `certificate`, `unsafe`, or `no run`
+What is owed stands in the file `refuted` there, as a search in exact numbers found it, and of the last eight cases as it was worked out by hand: `certificate`, `unsafe`, or `no run`
 where neither a certificate nor a run that loses a sample exists. `refute` has to answer `safe`, `unsafe ..` and `unknown exhausted`, each within a second. A run has as many events as its first line says, is summed up
-in its second line, ends with the loss that it names, loses nothing before, and `replay` of what was printed has to print the same lines. The last line is 'N passed, M failed'; the status is 1 if one failed.
+in its second line, ends with the loss that it names, loses nothing before, and `replay` of what was printed has to print the same lines. No deployment there may be missing in that file. The last line is 'N passed, M failed'; the status is 1 if one failed.
 """
 import sys
 import tempfile
@@ -75,9 +75,11 @@ def fault_of(path, owed):
 def main():
     need_program()
     tally = Tally()
-    for line in (CASES / "refuted").read_text().splitlines():
-        name, owed = line.split(" ", 1)
+    listed = dict(line.split(" ", 1) for line in (CASES / "refuted").read_text().splitlines())
+    for name, owed in listed.items():
         tally.judge(name, fault_of, CASES / name, owed)
+    for case in sorted(CASES.glob("*.toml")):
+        tally.check(case.name in listed, f"{case.name} is in the list of what is owed", "it isn't")
     return tally.finish()
 
 

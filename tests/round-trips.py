@@ -82,20 +82,36 @@ def propose_thoroughly(path, room):
     return propose(path, room, "--thorough")
 
 
-def migrate(path, room):
-    """`migrate` and then `show`. A file of a later version has nothing to migrate."""
-    given, first = ask("migrate", path), ask("show", path)
-    if tomllib.loads(path.read_text())["version"] != 1:
+def is_within(one, other):
+    """Whether one document is within another, which may have fields more, of later versions: none of these says anything."""
+    if isinstance(one, dict) and isinstance(other, dict):
+        return all(key in other and is_within(value, other[key]) for key, value in one.items()) and not any(other[key] for key in other.keys() - one.keys())
+    if isinstance(one, list) and isinstance(other, list):
+        return len(one) == len(other) and all(map(is_within, one, other))
+    return one == other
+
+
+def migrate_to(version, path, room):
+    """`migrate` to this version and then `show`. A file of this version or a later one has nothing to migrate."""
+    words = ("migrate", path) if version == 2 else ("migrate", path, "--to", str(version))
+    given, first = ask(*words), ask("show", path)
+    if tomllib.loads(path.read_text())["version"] >= version:
         return None if (given.status, given.err) == (2, "ddscheck: deployment 2 WrongVersion version\n") else str(given)
     if given.status != 0:
         return str(given)
-    migrated = room / "migrated"
+    migrated = room / f"migrated_{version}"
     migrated.write_text(given.out)
     if len(given.out) > LIMIT:
         return above_limit(given, "show", "show", migrated)
-    if first.status != 0 or ask("show", migrated).out != first.out:
-        return "other lists"
-    return None if passes("deployment", given.out) else "the deployment doesn't pass its schema"
+    again = ask("show", migrated)
+    if (first.status, again.status) != (0, 0) or not is_within(json.loads(first.out), json.loads(again.out)):
+        return f"other lists in version {version}"
+    return None if passes("deployment", given.out) else f"the deployment doesn't pass its schema in version {version}"
+
+
+def migrate(path, room):
+    """`migrate` to each version."""
+    return next(filter(None, (migrate_to(version, path, room) for version in (2, 3, 4))), None)
 
 
 def connect(path, room):

@@ -6,8 +6,8 @@
 
 A file that is read without a fault has to pass its schema. One whose first fault is WrongVersion, UnknownKey, MissingKey, WrongKind, OutOfRange, BadName or
 TooMany has to fail it, but for what a schema can't see: a whole number that is written as a float, and what short forms of version 2 come to. Of the other
-kinds a schema sees nothing: that a name is there, that names and entries stand once, who owns an endpoint, that depth and limits agree, and that the bytes
-are TOML. Without Python's jsonschema (Debian's python3-jsonschema) everything counts as skipped. The last line is 'N passed, M failed'; the status is 1 if one failed.
+kinds a schema sees nothing: that a name is there, that names and entries stand once, who owns an endpoint, that depth and limits agree, that
+`available_within` is above `taken_within`, and that the bytes are TOML. Without Python's jsonschema (Debian's python3-jsonschema) everything counts as skipped. The last line is 'N passed, M failed'; the status is 1 if one failed.
 """
 import json
 import re
@@ -20,7 +20,7 @@ from commands import DATA, cases  # noqa: E402
 from harness import ROOT, Tally  # noqa: E402
 
 SEEN = {"WrongVersion", "UnknownKey", "MissingKey", "WrongKind", "OutOfRange", "BadName", "TooMany"}
-FAULT = re.compile(r"ddscheck: (deployment|certificate) \d+ (\w+)")
+FAULT = re.compile(r"ddscheck: (deployment|certificate) \d+ (\w+)(?: (\S+))?")
 TAKES_CERTIFICATE = {"check", "run"}
 
 
@@ -52,6 +52,12 @@ def has_short_rules(document):
     return isinstance(rules, list) and any(isinstance(rule, dict) and rule.get("each") is True for rule in rules)
 
 
+def told_by(found):
+    """The kind of file and the name of a fault. That `available_within` is above another field is of a kind that a schema doesn't see."""
+    kind, name, path = found.groups()
+    return kind, "Above" if name == "OutOfRange" and (path or "").endswith(".available_within") else name
+
+
 def answers(folder, words, errors):
     """The files that a command line reads, each with its kind and the name of its fault; None where nothing is said about it."""
     files = [word for word in words[1:] if not word.startswith("-")]
@@ -60,7 +66,7 @@ def answers(folder, words, errors):
     found = FAULT.match(errors)
     if errors.startswith("error:") or re.match(r"ddscheck: [4-8] ", errors):
         return
-    told = found.groups() if found else None
+    told = told_by(found) if found else None
     if words[0] != "migrate" or not (told and told[1] == "WrongVersion"):
         yield folder / files[0], "deployment", told[1] if told and told[0] == "deployment" else ""
     if words[0] in TAKES_CERTIFICATE and len(files) > 1 and not (told and told[0] == "deployment"):

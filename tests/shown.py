@@ -59,7 +59,8 @@ def rules_of(entry, topics, writers, readers):
             "takes": [{"reader": t["reader"], "key": more.get("key") or t["key"], "count": t["count"]} for t in takes],
             "writes": [{"writer": w["writer"], "key": more.get("key") or w["key"], "count": w["count"]} for w in writes],
         }
-        return {"name": entry["name"]} | key | {"application": entry["application"]} | lists | {"start": start}
+        pace = {"period": entry["period"], "jitter": entry.get("jitter", 0)} if "period" in entry else {}
+        return {"name": entry["name"]} | key | {"application": entry["application"]} | lists | {"start": start} | pace
 
     if not entry.get("each", False):
         return [rule({}, {})]
@@ -70,10 +71,11 @@ def rules_of(entry, topics, writers, readers):
 
 
 def reader_of(entry, keys, version):
-    """All fields of a reader. Since version 3 one says whether it may lose samples."""
+    """All fields of a reader. Since version 3 one says whether it may lose samples, since version 4 it may say how soon it takes."""
     more = {"filter": entry.get("filter", keys[entry["topic"]])}
     if version > 2:
         more["may_lose"] = entry.get("may_lose", False)
+    more |= {field: entry[field] for field in ("taken_within", "available_within") if field in entry}
     return endpoint(entry, "BEST_EFFORT", **more)
 
 
@@ -83,7 +85,7 @@ def document_of(path):
 
 
 def lists_of(path):
-    """Every section, with every field, in the order of the format. The start of a free rule is "unlimited"."""
+    """Every section, with every field, in the order of the format. The start of a free rule is "unlimited". What nobody says of paces isn't there."""
     found = document_of(path)
     topics = [{"name": t["name"], "type": t["type"], "keys": t["keys"]} for t in found.get("topics", [])]
     keys = {t["name"]: t["keys"] for t in topics}

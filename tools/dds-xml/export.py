@@ -5,7 +5,8 @@
 
 The text is what `ddscheck show --format dds-xml` prints, which the test beside holds against this second reading. It reads what
 `ddscheck show` prints: types, a QoS profile for each endpoint, topics, participants with their endpoints, and applications, in
-the order of the deployment. Rules and connections have no place in DDS-XML and are left out. The type of a topic is a struct
+the order of the deployment. Rules and connections have no place in DDS-XML and are left out; how soon readers take stands in
+comments. The type of a topic is a struct
 of a key and 32 bytes, in a module of the topic's name; the enum beside it has the topic's keys. No name has a character that
 XML escapes.
 """
@@ -79,11 +80,16 @@ def filter_of(one, keys):
     return f'          <content_filter name="{one["name"]}">\n            <expression>{expression}</expression>\n          </content_filter>\n'
 
 
+def comments_of(one):
+    """The fields of a reader that have no place in DDS-XML and matter to its premises."""
+    return "".join(f"          <!-- {field} = {one[field]} -->\n" for field in ("taken_within", "available_within") if field in one)
+
+
 def reader_of(one, keys):
     name = one["name"]
     return (
         f'      <subscriber name="{name}">\n        <subscriber_qos base_name="readers::{name}"/>\n        <data_reader name="{name}" topic_ref="{one["topic"]}">\n'
-        + f'          <datareader_qos base_name="readers::{name}"/>\n' + filter_of(one, keys) + "        </data_reader>\n      </subscriber>\n"
+        + f'          <datareader_qos base_name="readers::{name}"/>\n' + filter_of(one, keys) + comments_of(one) + "        </data_reader>\n      </subscriber>\n"
     )
 
 
@@ -124,14 +130,18 @@ def xml_text(lists):
 
 
 def main():
-    """The status: 0 all was printed, 2 standard input isn't what `ddscheck show` prints, 3 it can't be read, or the output failed."""
+    """Writes the text and gives the status: 0, 2 where the input isn't what `ddscheck show` prints, 3 where it's closed or the output fails."""
+    if sys.stdin is None:
+        print("export.py: standard input is closed", file=sys.stderr)
+        return 3
     try:
         text = xml_text(json.load(sys.stdin))
-        sys.stdout.write(text)
-        sys.stdout.flush()
-    except (ValueError, LookupError, TypeError, AttributeError, RecursionError):
+    except (AttributeError, KeyError, RecursionError, TypeError, ValueError):
         print("export.py: standard input isn't what `ddscheck show` prints", file=sys.stderr)
         return 2
+    try:
+        sys.stdout.write(text)
+        sys.stdout.flush()
     except OSError as why:
         print(f"export.py: {why.strerror}", file=sys.stderr)
         return 3

@@ -84,9 +84,9 @@ def quoted(text: str) -> str:
 
 def read_bytes(path: str) -> bytes:
     """The bytes of a file, or of standard input for `-`. Raises `OSError`, and `Refused` past 16 MiB."""
+    if path == "-" and sys.stdin is None:
+        raise OSError(errno.EBADF, "standard input is closed")
     if path == "-":
-        if sys.stdin is None:
-            raise OSError(errno.EBADF, "it's closed")
         data = sys.stdin.buffer.read(MAX_BYTES + 1)
     else:
         with open(path, "rb") as file:

@@ -9,8 +9,8 @@ use Rattle.dds_cert.specs.declared.fault.CertFault.{CertFault}
 use Rattle.dds_cert.specs.declared.fault.CertFault.TheVariants.{At, NoMemory}
 use Rattle.dds_answers.specs.declared.fault.ToolFault.{ToolFault}
 use Rattle.dds_answers.specs.declared.fault.ToolFault.TheVariants as fault
-use Rattle.dds_answers.specs.declared.report.Detail.{Detail}
-use Rattle.dds_answers.specs.declared.report.Detail.TheVariants.{Plain, Explained}
+use Rattle.dds_options.specs.declared.detail.Detail.{Detail}
+use Rattle.dds_options.specs.declared.detail.Detail.TheVariants.{Plain, Explained}
 use Rattle.dds_answers.specs.Outcome.{Outcome, bad_certificate, bad_deployment, drawing_with, judged, told}
 use Rattle.dds_answers.specs.Report.{Ends, IsCertificateFault, Tells}
 

@@ -5,8 +5,8 @@ use Rattle.std.specs.Option.{option_map_or}
 use Rattle.std.specs.Str.{bytes_eq}
 use Rattle.dds_answers.specs.declared.exit.Exit.{Exit}
 use Rattle.dds_answers.specs.declared.exit.Exit.TheVariants.{BadFile, Device}
-use Rattle.dds_answers.specs.declared.report.Detail.{Detail}
-use Rattle.dds_answers.specs.declared.report.Detail.TheVariants.{Plain, Explained}
+use Rattle.dds_options.specs.declared.detail.Detail.{Detail}
+use Rattle.dds_options.specs.declared.detail.Detail.TheVariants.{Plain, Explained}
 
 -- the commands after whose faults nothing stands but the line of the fault, unless a reason is asked for
 abbrev pub is_fixed : (command : List ℕ) → Bool

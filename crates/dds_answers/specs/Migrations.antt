@@ -6,7 +6,7 @@ use Rattle.dds_deploy.specs.Migration.{IsMigrated}
 use Rattle.dds_deploy.specs.Document.{read_up_to}
 use Rattle.dds_answers.specs.Outcome.{MayOfFile, Outcome, bad_deployment, migrated}
 
--- bytes that are read as a deployment of version 1 become a text of version 2 that stands for the same lists; else the flaw is reported
-abbrev pub MayMigrate : List ℕ → Read Lists → Outcome → Type 0
-MayMigrate d (Ok lists) end = (text : List ℕ) × IsMigrated d text × (end ≡ migrated text)
-MayMigrate d (Err flaw) end = end ≡ bad_deployment flaw
+-- bytes that are read as a deployment of a version below this one become a text of this version that stands for the same lists; else the flaw is reported
+abbrev pub MayMigrate : (to : ℕ) → List ℕ → Read Lists → Outcome → Type 0
+MayMigrate to d (Ok lists) end = (text : List ℕ) × IsMigrated to d text × (end ≡ migrated text)
+MayMigrate to d (Err flaw) end = end ≡ bad_deployment flaw

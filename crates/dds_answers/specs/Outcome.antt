@@ -1,8 +1,8 @@
 -- How a command on files ends.
 use Rattle.std.specs.Prelude.{ℕ, ◌≡◌, Bool, true, false, List, length, nat_le, ◌&&◌, Option, Some, None, Ok, Err, if◌then◌else◌}
-use Rattle.dds_answers.specs.declared.format.Format.{Format}
-use Rattle.dds_answers.specs.declared.report.Detail.{Detail}
-use Rattle.dds_answers.specs.declared.report.Detail.TheVariants.{Plain, Explained}
+use Rattle.dds_options.specs.declared.format.Format.{Format}
+use Rattle.dds_options.specs.declared.detail.Detail.{Detail}
+use Rattle.dds_options.specs.declared.detail.Detail.TheVariants.{Plain, Explained}
 use Rattle.dds_fields.specs.Reading.{Read, Flaw}
 use Rattle.dds_lists.specs.Lists.{Lists}
 use Rattle.dds_deploy.specs.Document as deployment

@@ -16,11 +16,12 @@ use Rattle.dds_show.specs.Json.{deployment_json}
 use Rattle.dds_xml.specs.Document.{deployment_xml}
 use Rattle.dds_draw.specs.Picture.{drawing}
 use Rattle.dds_explain.specs.Explanation.{margins, reason}
-use Rattle.dds_explain.specs.Notes.{note_lines}
-use Rattle.dds_explain.specs.Acceptance.{acceptance_lines}
-use Rattle.dds_explain.specs.Refusal.{refusal_line}
-use Rattle.dds_answers.specs.declared.format.Format.{Format}
-use Rattle.dds_answers.specs.declared.format.Format.TheVariants.{Json, DdsXml}
+use Rattle.dds_notes.specs.Notes.{note_lines}
+use Rattle.dds_explain.specs.Premises.{premise_lines}
+use Rattle.dds_report.specs.Acceptance.{acceptance_lines}
+use Rattle.dds_report.specs.Refusal.{refusal_line}
+use Rattle.dds_options.specs.declared.format.Format.{Format}
+use Rattle.dds_options.specs.declared.format.Format.TheVariants.{Json, DdsXml}
 use Rattle.dds_answers.specs.Outcome.{Outcome, accepted, refused, accepted_because, refused_because, bad_deployment, bad_certificate, too_large, compared, proposed, unproposed, migrated, shown, drawn, said, bad_events, bad_trace}
 use Rattle.dds_answers.specs.declared.fault.ToolFault.{ToolFault}
 use Rattle.dds_answers.specs.declared.fault.ToolFault.TheVariants as fault
@@ -51,11 +52,15 @@ abbrev pub shown_text : Format → Lists → List ℕ
 shown_text Json d = deployment_json d
 shown_text DdsXml d = deployment_xml d
 
+-- the reason of an acceptance: how near each bound is to its limit, what the yes takes for granted of clocks, and what it doesn't say
+abbrev pub acceptance_reason : Lists → Certificate → List ℕ
+acceptance_reason d c = margins d c ++ (premise_lines d ++ note_lines d c)
+
 -- what a command writes to its output; of a bad file nothing
 unfoldable pub output_of : Outcome → List ℕ
 output_of (accepted d c) = acceptance_lines d c
 output_of (refused first d c) = refusal_line d c first
-output_of (accepted_because d c) = acceptance_lines d c ++ (margins d c ++ note_lines d c)
+output_of (accepted_because d c) = acceptance_lines d c ++ acceptance_reason d c
 output_of (refused_because first d c) = refusal_line d c first ++ reason d c first
 output_of (compared d) = lines_of d (length d.writers.entries) (length d.readers.entries)
 output_of (proposed d c) = certificate_text d c
@@ -72,7 +77,7 @@ output_of too_large = []
 
 -- the lines of the reason of a report
 abbrev pub because_lines : Report → List ℕ
-because_lines (answer.Yes checked) = margins checked.plan checked.certificate ++ note_lines checked.plan checked.certificate
+because_lines (answer.Yes checked) = acceptance_reason checked.plan checked.certificate
 because_lines (answer.Refused first lists cert) = reason lists (certificate_view cert) first
 
 -- the lines of a report

@@ -7,8 +7,8 @@ use Rattle.dds_fields.specs.declared.fault.FaultKind.TheVariants.{NotToml}
 use Rattle.dds_cert.specs.Faults.{kind_of}
 use Rattle.dds_answers.specs.declared.fault.ToolFault.{ToolFault}
 use Rattle.dds_answers.specs.declared.fault.ToolFault.TheVariants as fault
-use Rattle.dds_answers.specs.declared.report.Detail.{Detail}
-use Rattle.dds_answers.specs.declared.report.Detail.TheVariants.{Plain, Explained}
+use Rattle.dds_options.specs.declared.detail.Detail.{Detail}
+use Rattle.dds_options.specs.declared.detail.Detail.TheVariants.{Plain, Explained}
 use Rattle.dds_answers.specs.declared.syntax.SyntaxError.{SyntaxError}
 
 -- the line of the place after these bytes, from 1: one more than the line feeds among them

@@ -6,7 +6,7 @@ ghost use Rattle.dds_answers.specs.Advice.{advice, is_bare, is_fixed, reads_depl
 use crate::exit::Exit;
 use crate::giving::say;
 use crate::output::Output;
-use crate::report::Detail;
+use dds_options::Detail;
 
 /// The line that refers to the command that knows more of a fault of a file.
 const LINT_LINE: &str = "`ddscheck lint` shows each fault in its line, and what would be right\n";

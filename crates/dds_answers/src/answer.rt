@@ -14,15 +14,15 @@ ghost use Rattle.dds_deploy.specs.Document.{read as deployment_read, read_up_to}
 
 use crate::exit::Exit;
 use crate::fault::ToolFault;
-use crate::format::Format;
 use crate::matches::{is_as_intended, match_text};
 use crate::planning::read_plan;
 use crate::reading::MAX_FILE;
-use crate::report::{Detail, Report, deployment_fault, detailed_check, detailed_text};
+use crate::report::{Report, deployment_fault, detailed_check, detailed_text};
 use dds_base::NoMemory;
 use dds_deploy::migrate;
 use dds_lists::Deployment;
 use dds_match::Plan;
+use dds_options::{Detail, Format};
 use dds_propose::propose;
 use dds_show::deployment_json;
 use dds_weights::{Certificate, certificate_text};
@@ -266,11 +266,11 @@ pub fn answer_migration(alloc: Global, text: String) -> Result<Answer, ToolFault
 /// The answer of `migrate` to the bytes of a deployment of version 1: yes with a text of version 2 that stands for the
 /// same lists. A line says so where it's longer than a file may be.
 pub fn migrate_answer(alloc: Global, deployment: &[u8]) -> Result<Answer, ToolFault>
-    ensures gives { GivesOneOf (MayMigrate deployment.now (read_up_to 1 deployment.now)) result }
+    ensures gives { GivesOneOf (MayMigrate 2 deployment.now (read_up_to 1 deployment.now)) result }
     ensures note { IfOk result (λ a. option_map string_bytes a.note ≡ length_note (string_bytes a.text)) }
     ensures fault { IfErr result IsAnswerFault }
 {
-    match migrate(alloc, deployment) {
+    match migrate(alloc, deployment, 2) {
         Ok(text) => answer_migration(alloc, text),
         Err(fault) => Err(deployment_fault(fault)),
     }

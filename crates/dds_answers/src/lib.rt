@@ -13,7 +13,6 @@ mod drawing;
 mod exit;
 mod fault;
 mod files;
-mod format;
 mod giving;
 mod matches;
 mod output;
@@ -36,19 +35,15 @@ pub use drawing::answer_drawing;
 pub use exit::Exit;
 pub use fault::{ToolFault, exit_of, fault_text};
 pub use files::{read_file, read_file_up_to, read_files};
-pub use format::Format;
 pub use giving::{give, print, tell_fault};
 pub use matches::{is_as_intended, match_text};
 pub use output::{Output, Stream};
 pub use planning::{plan_of, read_plan};
 pub use reading::{MAX_FILE, read_all, read_up_to};
 pub use report::{
-    Detail, Report, answer_check, because_text, certificate_fault, deployment_fault,
-    detailed_check, detailed_text, report_text,
+    Report, answer_check, because_text, certificate_fault, deployment_fault, detailed_check,
+    detailed_text, report_text,
 };
 pub use sources::Sources;
 pub use structure::structure_text;
 pub use syntax::SyntaxError;
-
-/// The version of the program, as `--version` and SARIF documents give it.
-pub const VERSION: &str = "0.1.0";

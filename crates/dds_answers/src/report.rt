@@ -6,10 +6,8 @@ ghost use Rattle.dds_weights.specs.Views.{certificate_view};
 ghost use Rattle.dds_check.specs.Accepts.{first_no};
 ghost use Rattle.dds_answers.specs.Outcome.{Outcome, judged, outcome, told, verdict};
 ghost use Rattle.dds_cert.specs.Document.{read as certificate_read};
-ghost use Rattle.dds_explain.specs.Explanation.{margins};
-ghost use Rattle.dds_explain.specs.Notes.{note_lines};
-ghost use Rattle.dds_answers.specs.Report.{IsCertificateFault, IsDeploymentFault, Tells, because_lines, outcome_of};
-ghost use Rattle.dds_answers.specs.Report.{output_of, report_text_of};
+ghost use Rattle.dds_answers.specs.Report.{IsCertificateFault, IsDeploymentFault, Tells, acceptance_reason};
+ghost use Rattle.dds_answers.specs.Report.{because_lines, outcome_of, output_of, report_text_of};
 ghost use Rattle.dds_answers.specs.Syntax.{IsFaultTold};
 
 use crate::fault::ToolFault;
@@ -19,21 +17,14 @@ use dds_base::NoMemory;
 use dds_cert::{CertFault, CertKind, read_certificate};
 use dds_check::{Checked, No, check};
 use dds_deploy::DeployFault;
-use dds_explain::{acceptance_text, margins, note_lines, reason, refusal_text};
+use dds_explain::{margins, premise_lines, reason};
 use dds_fields::fault::FaultKind;
 use dds_match::Plan;
+use dds_notes::note_lines;
+use dds_options::Detail;
+use dds_report::{acceptance_text, refusal_text};
 use dds_weights::Certificate;
 use std::alloc::Global;
-
-/// How much of a report is printed.
-#[derive(Clone, Copy, Debug, PartialEq, Eq)]
-pub enum Detail {
-    /// The answer.
-    Plain,
-    /// The answer, and after it its reason: the numbers behind a refusal, or how near each bound is to its limit and
-    /// what the yes doesn't say.
-    Explained,
-}
 
 /// What a check of two files that could be read answers.
 #[derive(Drop)]
@@ -153,16 +144,15 @@ pub fn detailed_check(
     }
 }
 
-/// How near each bound is to its limit, and what the yes doesn't say.
+/// How near each bound is to its limit, what the yes takes for granted of clocks, and what it doesn't say.
 fn accepted_because(alloc: Global, checked: &Checked) -> Result<String, NoMemory>
     ensures { IfOk result
-        (λ text. string_bytes text
-        ≡ margins checked.now.plan checked.now.certificate
-        ++ note_lines checked.now.plan checked.now.certificate) }
+        (λ text. string_bytes text ≡ acceptance_reason checked.now.plan checked.now.certificate) }
 {
     let margins = margins(alloc, checked.plan(), checked.certificate())?;
+    let premises = premise_lines(alloc, checked.plan())?;
     let notes = note_lines(alloc, checked.plan(), checked.certificate())?;
-    format!(in alloc; "{margins}{notes}")
+    format!(in alloc; "{margins}{premises}{notes}")
 }
 
 /// The lines of the reason of a report. `NoMemory` is the only error.

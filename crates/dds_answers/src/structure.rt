@@ -1,12 +1,12 @@
 //! The line of a condition that fails whatever the certificate.
 ghost use Rattle.std.specs.Prelude.{◌≡◌, IfOk, string_bytes};
 ghost use Rattle.dds_answers.specs.Structure.{nothing};
-ghost use Rattle.dds_explain.specs.Refusal.{refusal_line};
+ghost use Rattle.dds_report.specs.Refusal.{refusal_line};
 
 use dds_base::NoMemory;
 use dds_check::No;
-use dds_explain::refusal_text;
 use dds_lists::Deployment;
+use dds_report::refusal_text;
 use dds_weights::Certificate;
 use std::alloc::Global;
 

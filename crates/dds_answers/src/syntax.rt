@@ -2,8 +2,8 @@
 ghost use Rattle.std.specs.Prelude.{◌≡◌, IfOk};
 ghost use Rattle.dds_answers.specs.Syntax.{IsSyntaxOf, IsSyntaxTold, begins_character, column_after, line_after};
 
-use crate::report::Detail;
 use dds_base::NoMemory;
+use dds_options::Detail;
 use std::alloc::Global;
 
 /// Where a text is no TOML, and why.

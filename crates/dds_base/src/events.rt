@@ -61,6 +61,8 @@ pub enum Refusal {
     Foreign,
     /// No permit is left for the writer and key.
     NoPermit,
+    /// As many samples of the key as its paces allow are in flight to a matched reader, or not yet available there.
+    NotYet,
     /// 2^63 - 1 samples are written.
     SequenceEnd,
     /// A new key while max_instances keys are written.

@@ -31,6 +31,8 @@ use Rattle.dds_cert.specs.Bounds.{bound_entry, row_and_bound, bound_number, boun
 use Rattle.dds_cert.specs.Totals.{total_entry, total, totals}
 use Rattle.dds_cert.specs.Document.{head, certificate, read}
 use Rattle.dds_weights.specs.Named.{bound_place, has_total}
+use Rattle.dds_weights.specs.Order.{in_order}
+use Rattle.dds_weights.proofs.OrderLaws.{in_order_fits}
 use Rattle.dds_weights.proofs.DistinctLaws.{is_distinct-push}
 use Rattle.dds_weights.proofs.FitLaws.{first_of_both, second_of_both}
 use Rattle.dds_cert.proofs.KeyLaws.{AreKeys, lt_true, present, optional_keeps, reader_and_keys_are, writer_and_keys_are, made_distinct}
@@ -131,14 +133,14 @@ writer_weights_fit version d path x ws q = weights_read_fit (writes_key d) (code
 row_lists_is : (version : ℕ) (d : Lists) (name path : List ℕ) (ms : Members) (r : Row) → NamesOnce d → row_lists version d name path ms ≡ Ok r → (r.name ≡ name) × (row_fits (network_of d) r ≡ true)
 unfolding row_lists
 row_lists_is version d name path ms r once q =
-    let a = bind_ok (optional (codes "samples") [] (reader_weights version d) path ms) (λ xs. optional (codes "takes") [] (reader_weights version d) path ms >>= λ ys. optional (codes "permits") [] (writer_weights version d) path ms >>= λ zs. Ok (record { name = name; samples = xs; takes = ys; permits = zs })) r q in
-    let b = bind_ok (optional (codes "takes") [] (reader_weights version d) path ms) (λ ys. optional (codes "permits") [] (writer_weights version d) path ms >>= λ zs. Ok (record { name = name; samples = a.0; takes = ys; permits = zs })) r a.2 in
-    let c = bind_ok (optional (codes "permits") [] (writer_weights version d) path ms) (λ zs. Ok (record { name = name; samples = a.0; takes = b.0; permits = zs })) r b.2 in
-    let made : Row = record { name = name; samples = a.0; takes = b.0; permits = c.0 } in
-    let same = ok_is made r c.2 in
+    let made : List (Weight ℕ) → List (Weight ℕ) → List (Weight ℕ) → Row = λ xs ys zs. record { name = name; samples = in_order (λ n. n) xs; takes = in_order (λ n. n) ys; permits = in_order (λ n. n) zs } in
+    let a = bind_ok (optional (codes "samples") [] (reader_weights version d) path ms) (λ xs. optional (codes "takes") [] (reader_weights version d) path ms >>= λ ys. optional (codes "permits") [] (writer_weights version d) path ms >>= λ zs. Ok (made xs ys zs)) r q in
+    let b = bind_ok (optional (codes "takes") [] (reader_weights version d) path ms) (λ ys. optional (codes "permits") [] (writer_weights version d) path ms >>= λ zs. Ok (made a.0 ys zs)) r a.2 in
+    let c = bind_ok (optional (codes "permits") [] (writer_weights version d) path ms) (λ zs. Ok (made a.0 b.0 zs)) r b.2 in
+    let same = ok_is (made a.0 b.0 c.0) r c.2 in
     let heard = λ (key : List ℕ) (xs : List (Weight ℕ)) (e : optional key [] (reader_weights version d) path ms ≡ Ok xs). optional_keeps (λ ys. weights_fit (hears d) ys ≡ true) key [] (reader_weights version d) path ms xs e refl (λ p x z. reader_weights_fit version d p x xs once z) in
     let written = optional_keeps (λ ys. weights_fit (writes_key d) ys ≡ true) (codes "permits") [] (writer_weights version d) path ms c.0 c.1 refl (λ p x z. writer_weights_fit version d p x c.0 z) in
-    let fit : row_fits (network_of d) made ≡ true = both _ _ (heard (codes "samples") a.0 a.1) (both _ _ (heard (codes "takes") b.0 b.1) written) in
+    let fit : row_fits (network_of d) (made a.0 b.0 c.0) ≡ true = both _ _ (in_order_fits (hears d) a.0 (heard (codes "samples") a.0 a.1)) (both _ _ (in_order_fits (hears d) b.0 (heard (codes "takes") b.0 b.1)) (in_order_fits (writes_key d) c.0 written)) in
     (ap (λ (x : Row). x.name) (sym same), subst (λ x. row_fits (network_of d) x ≡ true) same fit)
 
 new_name_is : (names : List (List ℕ)) (path : List ℕ) (x : Data) (name : List ℕ) → a_new_name names path x ≡ Ok name → list_any (bytes_eq name) names ≡ false

@@ -18,6 +18,7 @@ use dds_fields::items::{Items, section_of};
 use dds_fields::place::Place;
 use dds_lists::Deployment;
 use dds_weights::Row;
+use dds_weights::order::in_order;
 use std::alloc::Global;
 use toml::{Table, Value};
 
@@ -81,9 +82,9 @@ fn row_lists(
     let name = String::from_str(alloc, name)?;
     Ok(Row {
         name,
-        samples,
-        takes,
-        permits,
+        samples: in_order(samples)?,
+        takes: in_order(takes)?,
+        permits: in_order(permits)?,
     })
 }
 

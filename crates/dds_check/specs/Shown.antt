@@ -10,9 +10,13 @@ use Rattle.dds_check.specs.declared.verdict.Number.TheVariants.{BoundNotShown}
 use Rattle.dds_check.specs.declared.verdict.Subject.TheVariants.{Instance, Reader}
 use Rattle.dds_runs.specs.First.{◌orElse◌, first_in, all_below}
 use Rattle.dds_check.specs.Verdict.{fails}
-use Rattle.dds_runs.specs.Accepted.{Row, row_of, budget}
+use Rattle.dds_runs.specs.Accepted.{Row, row_of, carried, budget}
 
--- a sample in flight weighs something, and the bound and one sample more weigh more than the permits at the opening
+-- what the samples of the key weigh that are in flight to the reader, at most, where the row carries them by caps
+abbrev pub carried_weight : Network → Row → ℕ → ℕ → ℕ
+carried_weight net row r k = option_map_or (λ n. row.samples r k * n) (carried net row r k) 0
+
+-- a sample in flight weighs something, and the bound and one sample more weigh more than the budget
 abbrev pub shows : Network → Row → ℕ → ℕ → ℕ → Bool
 shows net row b r k = nat_lt 0 (row.samples r k) && nat_lt (budget net row) (suc b * row.samples r k)
 
@@ -33,7 +37,7 @@ abbrev pub total_not_shown : Network → List lists.Row → Total → ℕ → Op
 total_not_shown net rows t i =
     fails (not (option_map_or (λ row. shows_all net (row_of row) t) (slice_get rows t.row) false)) BoundNotShown (Reader t.reader)
 
--- the place of a row has what the permits at the opening weigh by it
+-- the place of a row has its budget
 abbrev pub HasBudgets : Network → List lists.Row → List ℕ → Type 0
 HasBudgets net rows sums = (n : ℕ) (row : lists.Row) → slice_get rows n ≡ Some row → slice_index sums n ≡ budget net (row_of row)
 

@@ -1,6 +1,6 @@
 -- Look-ups in the lists of a certificate, and tables that answer them at once.
 use Rattle.std.specs.Prelude.{ℕ, ◌≡◌, ◌+◌, ◌*◌, ◌<◌, ◌≤◌, ◌==◌, ◌&&◌, List, [], ◌∷◌, length, slice_index_or, Option, Some, None, if◌then◌else◌}
-use Rattle.dds_base.specs.Grid.{most_endpoints, most_keys, most_places}
+use Rattle.dds_base.specs.Grid.{most_endpoints, most_keys}
 use Rattle.dds_base.specs.Limits.{most_rows}
 use Rattle.dds_base.specs.declared.portion.Portion.{Portion}
 use Rattle.dds_weights.specs.Lists.{Certificate}
@@ -26,10 +26,10 @@ weighed_by number (x ∷ xs) f = x.count * f (number x.endpoint) x.key + weighed
 abbrev pub HasFewRows : Certificate → Type 0
 HasFewRows cert = length cert.rows ≤ most_rows
 
--- the place of key k of reader r has its bound
-pub record ShowsBounds (cells : List (Option ℕ)) (entries : List Bound) : Type 0 where
-  pub len : length cells ≡ most_places
-  pub shown : (r k : ℕ) → r < most_endpoints → k < most_keys → slice_index_or cells (r * most_keys + k) None ≡ bound_of entries r k
+-- the place of key k has the bound of the key at the reader
+pub record ShowsBounds (r : ℕ) (cells : List (Option ℕ)) (entries : List Bound) : Type 0 where
+  pub len : length cells ≡ most_keys
+  pub shown : (k : ℕ) → k < most_keys → slice_index_or cells k None ≡ bound_of entries r k
 
 -- the place of reader r has its total
 pub record ShowsTotals (cells : List (Option ℕ)) (entries : List Total) : Type 0 where

@@ -44,9 +44,12 @@ fn first_no(plan: &Plan, certificate: &Certificate) -> Option<No>
 ///
 /// Where it answers yes, the deployment is safe: exactly the intended pairs match, and in every run of the peers,
 /// whatever the order of writes, firings, takes, sends, losses, repeats and reorderings, no reader but a watcher
-/// rejects, overwrites or gives up a sample, what a KEEP_LAST writer drops each of them has taken, unread samples stay
-/// within the certified bounds, and each takes from each matched writer and instance a prefix, each watcher a part, of
-/// what was written, in order, once. A watcher is a best-effort reader, or one that the deployment lets lose samples.
+/// rejects, overwrites or gives up a sample, what a KEEP_LAST writer drops each of them has received (and taken, unless
+/// the writer has a lag there), unread samples stay within the certified bounds, and each takes from each matched
+/// writer and instance a prefix, each watcher a part, of what was written, in order, once. A watcher is a best-effort
+/// reader, or one that the deployment lets lose samples. Runs are those of the network, whose caps and lags keep a
+/// write back that would break the deployment's paces or the times within which its readers take; so where a
+/// deployment has any, a yes is one for the runs that keep them.
 pub fn accepts(plan: &Plan, certificate: &Certificate) -> Result<(), No>
     requires fits { fits (network_of plan.now) (certificate_view certificate.now) ≡ true }
     ensures answer { result_err result ≡ first_no plan.now (certificate_view certificate.now) }

@@ -1,13 +1,17 @@
-//! What the permits at the opening weigh by a row.
+//! What bounds the weighted sum of a row: what the permits at the opening weigh, and the samples that caps carry.
 ghost use Rattle.std.specs.Prelude.{◌≡◌, ◌≤◌, ◌<◌, ◌*◌, ◌^◌, length};
+ghost use Rattle.dds_base.specs.Sums.{total, total_pairs};
 ghost use Rattle.dds_lists.specs.Views.{rule_view};
 ghost use Rattle.dds_match.specs.Network.{weighed};
 ghost use Rattle.dds_match.specs.Plan.{network_of};
-ghost use Rattle.dds_runs.specs.Accepted.{row_of, budget};
+ghost use Rattle.dds_runs.specs.Accepted.{row_of, opening_weight, budget};
+ghost use Rattle.dds_check.specs.Shown.{carried_weight};
 
+use crate::carried::carried;
 use crate::tables::Tables;
-use dds_base::RuleNo;
-use dds_conditions::rules_of;
+use dds_base::grid::KEYS;
+use dds_base::{KeyNo, ReaderNo, RuleNo};
+use dds_conditions::{readers_of, rules_of};
 use dds_lists::Rule;
 use dds_match::Plan;
 
@@ -40,13 +44,63 @@ fn opened_by_rule(plan: &Plan, weights: &Tables, u: RuleNo) -> u128
     opened_by(weights, rule_at(plan, u))
 }
 
-/// The sum of weight times opening permits over the keys of all writers, in one pass over the rules. It is below 2^77.
-pub fn budget(plan: &Plan, weights: &Tables) -> u128
-    ensures { result ≡ budget (network_of plan.now) (row_of weights.now) }
+/// The sum of weight times opening permits over the keys of all writers, in one pass over the rules: at most 2^76.
+pub fn opening_weight(plan: &Plan, weights: &Tables) -> u128
+    ensures value { result ≡ opening_weight (network_of plan.now) (row_of weights.now) }
+    ensures small { result ≤ 2 ^ 76 }
 {
     let mut total: u128 = 0;
     for u in 0..rules_of(plan) {
         total += opened_by_rule(plan, weights, RuleNo::new(u));
     }
     total
+}
+
+/// What the samples of a key weigh that are in flight to a reader, at most, where the row carries them by caps: 0 where
+/// it doesn't.
+fn carried_weight(plan: &Plan, weights: &Tables, reader: ReaderNo, key: KeyNo) -> u128
+    requires reader { reader < (network_of plan.now).readers }
+    requires key { key < (network_of plan.now).keys }
+    ensures value { result ≡ carried_weight (network_of plan.now) (row_of weights.now) reader key }
+    ensures small { result ≤ 2 ^ 96 }
+{
+    match carried(plan, weights, reader, key) {
+        Some(most) => u128::from(weights.sample(reader, key)) * u128::from(most),
+        None => 0,
+    }
+}
+
+/// That of all keys of a reader.
+fn reader_carried(plan: &Plan, weights: &Tables, reader: ReaderNo) -> u128
+    requires { reader < (network_of plan.now).readers }
+    ensures value { result ≡ total (network_of plan.now).keys
+        (carried_weight (network_of plan.now) (row_of weights.now) reader) }
+    ensures small { result ≤ 2 ^ 102 }
+{
+    let mut total: u128 = 0;
+    for k in 0..KEYS {
+        total += carried_weight(plan, weights, reader, KeyNo::new(k));
+    }
+    total
+}
+
+/// That of all keys of all readers.
+fn all_carried(plan: &Plan, weights: &Tables) -> u128
+    ensures value { result ≡ total_pairs (network_of plan.now).readers (network_of plan.now).keys
+        (carried_weight (network_of plan.now) (row_of weights.now)) }
+    ensures small { result ≤ 2 ^ 110 }
+{
+    let mut total: u128 = 0;
+    for r in 0..readers_of(plan) {
+        total += reader_carried(plan, weights, ReaderNo::new(r));
+    }
+    total
+}
+
+/// What the weighted sum of the row never rises above: what the permits at the opening weigh, and as many samples as
+/// each cap that carries them allows. It is below 2^111.
+pub fn budget(plan: &Plan, weights: &Tables) -> u128
+    ensures { result ≡ budget (network_of plan.now) (row_of weights.now) }
+{
+    opening_weight(plan, weights) + all_carried(plan, weights)
 }

@@ -76,8 +76,8 @@ impl Checked {
         }
     }
 
-    /// What `bound` answers, as a table: it is made in one pass over the certificate, and each look-up takes constant
-    /// time. It takes no memory, and stands on the caller's stack with 128 KiB.
+    /// What `bound` answers, as a table: it is made in one pass over the certificate, and a look-up halves the bounds
+    /// where they're in the order of readers and then of keys. It takes no memory.
     pub fn bounds<'a>(&'a self) -> Bounds<'a>
         ensures value { result ≡ self.now.certificate.bounds }
         ensures least { (r k : ℕ) → IfSome (bound_of result r k) (IsLeastBound self.now.certificate r k) }

@@ -21,7 +21,7 @@ use dds_conditions::is_enough;
 use dds_match::Plan;
 use dds_weights::{Bound, Certificate, Row, Total};
 
-/// By the number of the row, what the permits at the opening weigh by it.
+/// By the number of the row, its budget.
 pub fn budgets_of(plan: &Plan, certificate: &Certificate) -> [u128; ROWS]
     requires { HasFewRows (certificate_view certificate.now) }
     ensures { HasBudgets (network_of plan.now) (certificate_view certificate.now).rows result }
@@ -35,39 +35,38 @@ pub fn budgets_of(plan: &Plan, certificate: &Certificate) -> [u128; ROWS]
 }
 
 /// Whether a row shows a bound: a sample weighs something, and one sample more than the bound weighs more than the
-/// permits at the opening.
+/// budget, the most that the row ever weighs.
 pub fn shows(
     plan: &Plan,
     weights: &Tables,
-    opening: u128,
+    most: u128,
     bound: u32,
     reader: ReaderNo,
     key: KeyNo,
 ) -> bool
-    requires { opening ≡ budget (network_of plan.now) (row_of weights.now) }
+    requires { most ≡ budget (network_of plan.now) (row_of weights.now) }
     ensures { result ≡ shows (network_of plan.now) (row_of weights.now) bound reader key }
 {
-    is_enough(weights.sample(reader, key), opening, bound)
+    is_enough(weights.sample(reader, key), most, bound)
 }
 
 /// Whether a key can't reach the reader of a total, or the row shows the total for it.
-fn shows_reached(plan: &Plan, weights: &Tables, opening: u128, total: &Total, key: KeyNo) -> bool
-    requires { opening ≡ budget (network_of plan.now) (row_of weights.now) }
+fn shows_reached(plan: &Plan, weights: &Tables, most: u128, total: &Total, key: KeyNo) -> bool
+    requires { most ≡ budget (network_of plan.now) (row_of weights.now) }
     ensures { result ≡ (not (reach (network_of plan.now) total.now.reader key)
         || shows (network_of plan.now) (row_of weights.now) total.now.bound total.now.reader key) }
 {
-    !plan.reaches(total.reader, key)
-        || shows(plan, weights, opening, total.bound, total.reader, key)
+    !plan.reaches(total.reader, key) || shows(plan, weights, most, total.bound, total.reader, key)
 }
 
 /// Whether a row shows a total for each key that can reach its reader.
-pub fn shows_all(plan: &Plan, weights: &Tables, opening: u128, total: &Total) -> bool
-    requires { opening ≡ budget (network_of plan.now) (row_of weights.now) }
+pub fn shows_all(plan: &Plan, weights: &Tables, most: u128, total: &Total) -> bool
+    requires { most ≡ budget (network_of plan.now) (row_of weights.now) }
     ensures { result ≡ shows_all (network_of plan.now) (row_of weights.now) total.now }
 {
     all_below(
         KEYS,
-        |k| shows_reached(plan, weights, opening, total, KeyNo::new(k)),
+        |k| shows_reached(plan, weights, most, total, KeyNo::new(k)),
     )
 }
 
@@ -95,11 +94,11 @@ pub fn total_at(certificate: &Certificate, i: usize) -> &Total
 }
 
 /// Whether the bound names row n, and the row doesn't show it.
-fn is_unshown_by(plan: &Plan, weights: &Tables, opening: u128, n: usize, bound: &Bound) -> bool
-    requires { opening ≡ budget (network_of plan.now) (row_of weights.now) }
+fn is_unshown_by(plan: &Plan, weights: &Tables, most: u128, n: usize, bound: &Bound) -> bool
+    requires { most ≡ budget (network_of plan.now) (row_of weights.now) }
     ensures { result ≡ is_unshown_by (network_of plan.now) weights.now n bound.now }
 {
-    bound.row == n && !shows(plan, weights, opening, bound.bound, bound.reader, bound.key)
+    bound.row == n && !shows(plan, weights, most, bound.bound, bound.reader, bound.key)
 }
 
 /// The place of the first bound before `end` that names row n and that the row doesn't show, else `end`.
@@ -107,17 +106,17 @@ fn first_unshown_by(
     plan: &Plan,
     certificate: &Certificate,
     weights: &Tables,
-    opening: u128,
+    most: u128,
     n: usize,
     end: usize,
 ) -> usize
-    requires weighed { opening ≡ budget (network_of plan.now) (row_of weights.now) }
+    requires weighed { most ≡ budget (network_of plan.now) (row_of weights.now) }
     requires there { end ≤ length (certificate_view certificate.now).bounds }
     ensures { IsFirstBefore (certificate_view certificate.now).bounds
         (is_unshown_by (network_of plan.now) weights.now n) end result }
 {
     for i in 0..end {
-        if is_unshown_by(plan, weights, opening, n, bound_at(certificate, i)) {
+        if is_unshown_by(plan, weights, most, n, bound_at(certificate, i)) {
             return i;
         }
     }
@@ -138,8 +137,7 @@ fn first_without_row(certificate: &Certificate) -> usize
     certificate.bounds.len()
 }
 
-/// The place of the first bound that its row doesn't show, else how many bounds there are. It fills the tables of each
-/// row once.
+/// The place of the first bound that its row doesn't show, else how many bounds there are, found row by row.
 fn first_unshown(plan: &Plan, certificate: &Certificate, budgets: &[u128; ROWS]) -> usize
     requires few { HasFewRows (certificate_view certificate.now) }
     requires opened { HasBudgets (network_of plan.now) (certificate_view certificate.now).rows budgets.now }

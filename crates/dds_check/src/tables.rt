@@ -1,4 +1,4 @@
-//! The weights of a row by endpoint and key, in arrays of fixed size: a look-up takes constant time and no memory.
+//! The weights of a row by endpoint and key.
 ghost use Rattle.std.specs.Prelude.{◌≡◌, ◌<◌, ◌≤◌, ◌*◌, ◌^◌, length, slice_get, Some, vec_len};
 ghost use Rattle.dds_match.specs.Network.{weighed};
 ghost use Rattle.dds_weights.specs.Views.{row_view, certificate_view};
@@ -6,68 +6,10 @@ ghost use Rattle.dds_runs.specs.Accepted.{row_of};
 ghost use Rattle.dds_weights.specs.Weighing.{weight_by};
 ghost use Rattle.dds_check.specs.Tables.{weighed_by};
 
-use dds_base::grid::{ENDPOINTS, KEYS, PLACES};
 use dds_base::{Endpoint, KeyNo, Portion, ReaderNo, WriterNo};
-use dds_weights::weighing::weights_by_place;
-use dds_weights::{Certificate, Row, Weight};
+use dds_weights::weighing::Table;
+use dds_weights::{Certificate, Row};
 use std::marker::Model;
-
-/// The weight of a key of an endpoint in a list of weights, 0 where none is named: the first counts. Each call goes
-/// over the list.
-pub fn find_weight<E: Endpoint>(weights: &[Weight<E>], endpoint: E, key: KeyNo) -> u32
-    ensures { result ≡ weight_by E.number_of weights.now (E.number_of endpoint) key }
-{
-    for x in weights {
-        if x.endpoint.place() == endpoint.place() && x.key == key {
-            return x.weight;
-        }
-    }
-    0
-}
-
-/// A list of weights, with each where its endpoint and key say if that is a place. Contracts see it as the list.
-#[derive(Drop)]
-pub struct Table<'a, E: Endpoint> {
-    entries: &'a [Weight<E>],
-    cells: [u32; PLACES],
-}
-
-impl<'a, E: Endpoint> Model for Table<'a, E> {
-    ghost use Rattle.std.specs.Prelude.{List};
-    ghost use Rattle.dds_weights.specs.declared.certificate.Weight.{Weight};
-    ghost use Rattle.dds_weights.specs.Weighing.{ShowsWeights};
-
-    ghost Value = { List (Weight E) };
-
-    ghost view = { λ t. t.entries.now };
-
-    ghost invariant = { λ t. ShowsWeights E.number_of t.cells t.entries.now };
-}
-
-impl<'a, E: Endpoint> Table<'a, E> {
-    /// The table of a list of weights. Of entries for one endpoint and key the first counts.
-    pub fn new(entries: &'a [Weight<E>]) -> Table<'a, E>
-        ensures { result ≡ entries.now }
-    {
-        Table {
-            entries,
-            cells: weights_by_place(entries),
-        }
-    }
-
-    /// The weight of a key of an endpoint, 0 where none is named.
-    pub fn at(&self, endpoint: E, key: KeyNo) -> u32
-        ensures { result ≡ weight_by E.number_of self.now (E.number_of endpoint) key }
-    {
-        let e = endpoint.place();
-        let k = key.number();
-        if e < ENDPOINTS && k < KEYS {
-            self.cells[e * KEYS + k]
-        } else {
-            find_weight(self.entries, endpoint, key)
-        }
-    }
-}
 
 /// The three lists of a row as tables. Contracts see them as the row.
 #[derive(Drop)]

@@ -1,7 +1,7 @@
 -- When a trace keeps the rules: firings can be put in between so that each write has its permit and each firing its takes.
-use Rattle.std.specs.Prelude.{◌≡◌, ◌<◌, ◌≤◌, ℕ, false, List, [], ◌∷◌}
+use Rattle.std.specs.Prelude.{◌≡◌, ◌≢◌, ◌⊎◌, ◌<◌, ◌≤◌, ℕ, true, false, List, [], ◌∷◌}
 use Rattle.dds_match.specs.Network.{Network, named}
-use Rattle.dds_runs.specs.World.{World, opening}
+use Rattle.dds_runs.specs.World.{World, opening, permits}
 use Rattle.dds_runs.specs.Steps.{is_empty}
 use Rattle.dds_runs.specs.CountRuns.{CountMove, Suffices, counted}
 use Rattle.dds_runs.specs.CountRuns.CountMove.{Writes, Fires, Takes}
@@ -16,9 +16,10 @@ traced (Takes r s ∷ ms) = Take r s.key ∷ traced ms
 traced (Fires u ∷ ms) = traced ms
 
 -- the rules allow a move: a write is free or has a permit, a firing has the takes that its rule needs, and the rule needs some. Which sample is taken,
--- and whether it was written before in the order of the lines, isn't asked: a trace is of several programs, each with a clock of its own
+-- whether it was written before in the order of the lines, and whether a write came too early for a cap or a lag, isn't asked: a trace is of several
+-- programs, each with a clock of its own
 abbrev pub Allows : Network → World → CountMove → Type 0
-Allows net v (Writes w k d) = Suffices net v (Writes w k d)
+Allows net v (Writes w k d) = (net.writes_key w k ≡ true) × ((net.free w k ≡ true) ⊎ (permits net v w k ≢ 0))
 Allows net v (Fires u) = Suffices net v (Fires u)
 Allows net v (Takes r s) = Unit {0}
 

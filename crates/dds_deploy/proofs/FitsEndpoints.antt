@@ -20,8 +20,10 @@ use Rattle.dds_lists.specs.Lists.{Topic, Writer, Reader, Lists, keys_at, all_key
 use Rattle.dds_deploy.specs.Policies.{policies, partitions, timing, delivery, history_kind, depth, history, resource_limits}
 use Rattle.dds_deploy.specs.Topics.{key}
 use Rattle.dds_deploy.specs.Writers.{writer_fields}
-use Rattle.dds_deploy.specs.Readers.{reader_fields, filter, filter_key}
-use Rattle.dds_lists.specs.WellFormed.{IsWriterOf, IsReaderOf, KeepsWithin, AreNumbered, AreDistinctBy}
+use Rattle.dds_deploy.specs.Readers.{reader_fields, taking, filter, filter_key}
+use Rattle.dds_deploy.specs.Paces.{spans}
+use Rattle.dds_lists.specs.WellFormed.{IsWriterOf, IsReaderOf, KeepsWithin, AreSpans, AreNumbered, AreDistinctBy}
+use Rattle.dds_deploy.proofs.FitsPaces.{AreSoon, spans_fit}
 use Rattle.dds_deploy.proofs.Pushes.{optional_keeps, each_counts, push_size, pushes_few, pushes_all}
 use Rattle.dds_deploy.proofs.Distinct.{pushes_distinct, pushes_numbered, none_shows}
 use Rattle.dds_deploy.proofs.Readings.{number_field, number_between, keys_each, key_pushes, IsNewName, list_each, filter_key_pushes, IsFilterKey, keys_are, consistent_is, IsTopicRead, IsWriterRead, IsReaderRead}
@@ -95,6 +97,13 @@ all_keys_fit ks = record {
     in_list : (i : ℕ) → i < length (all_keys ks) → i < length ks
     in_list i lt = let n = length-range_with_len 0 (length ks) in omega (arith, lt, n)
 
+taking_fits : (path : List ℕ) (ms : Members) (x : Bool × Option ℕ × Option ℕ) → taking path ms ≡ Ok x → AreSoon x.1 x.2
+unfolding taking
+taking_fits path ms x e =
+    let l = bind_ok (optional (codes "may_lose") false a_flag path ms) _ x e in
+    let s = bind_ok (spans path ms) _ x l.2 in
+    subst (λ y. AreSoon y.1 y.2) (ok_is (l.0, s.0.0, s.0.1) x s.2) (spans_fit path ms s.0 s.1)
+
 module _ (d : Lists) (ps : length d.participants.names ≡ length d.participants.entries) (ts : length d.topics.names ≡ length d.topics.entries) where
   -- the numbers of a writer
   record HasWriterNumbers (w : Writer) : Type 0 where
@@ -128,6 +137,7 @@ module _ (d : Lists) (ps : length d.participants.names ≡ length d.participants
     pub topic : r.topic < length d.topics.entries
     pub filter : IsFilterOf (length (keys_at d.topics r.topic)) r.filter
     pub some_depth : 1 ≤ r.qos.requested.history.depth
+    pub soon : AreSoon r.taken_within r.available_within
 
   reader_fields_fit : (path : List ℕ) (ms : Members) (r : Reader) → reader_fields d.participants d.topics path ms ≡ Ok r → HasNumbers r
   unfolding reader_fields
@@ -135,16 +145,22 @@ module _ (d : Lists) (ps : length d.participants.names ≡ length d.participants
       let a = bind_ok (field (codes "participant") (a_known_name d.participants.names) path ms) _ r e in
       let b = bind_ok (field (codes "topic") (a_known_name d.topics.names) path ms) _ r a.2 in
       let c = bind_ok (optional (codes "filter") (all_keys (keys_at d.topics b.0)) (filter (keys_at d.topics b.0)) path ms) _ r b.2 in
-      let l = bind_ok (optional (codes "may_lose") false a_flag path ms) _ r c.2 in
+      let l = bind_ok (taking path ms) _ r c.2 in
       let q = bind_ok (policies BestEffort path ms) _ r l.2 in
       let n = bind_ok (partitions path ms) _ r q.2 in
-      let made : Reader = record { participant = a.0; topic = b.0; filter = c.0; qos = record { requested = q.0 }; partitions = n.0; may_lose = l.0 } in
+      let made : Reader = record { participant = a.0; topic = b.0; filter = c.0; qos = record { requested = q.0 }; partitions = n.0; may_lose = l.0.0; taken_within = l.0.1; available_within = l.0.2 } in
       subst HasNumbers {x = made} (ok_is made r n.2) (record {
         participant = number_field d.participants ps (codes "participant") path ms a.0 a.1;
         topic = number_field d.topics ts (codes "topic") path ms b.0 b.1;
         filter = optional_keeps (IsFilterOf (length (keys_at d.topics b.0))) (codes "filter") (all_keys (keys_at d.topics b.0)) (filter (keys_at d.topics b.0)) path ms c.0 (all_keys_fit (keys_at d.topics b.0)) (λ p x h. filter_fits (keys_at d.topics b.0) p x c.0 h) c.1;
         some_depth = some_depth BestEffort path ms q.0 q.1;
+        soon = taking_fits path ms l.0 l.1;
       })
+
+  pub reader_spans : (before : Listed Reader) (r : Reader) → IsReaderRead d.participants d.topics before r → AreSpans r
+  reader_spans before r read =
+      let soon = (reader_fields_fit read.0 read.1 r (consistent_is _ _ read.0 read.1 r read.2).0).soon in
+      record { taken = soon.few_taken; available = soon.few_available; no_later = soon.no_later }
 
   pub reader_fits : (before : Listed Reader) (r : Reader) → IsReaderRead d.participants d.topics before r → IsReaderOf d r
   reader_fits before r read =

@@ -1,5 +1,5 @@
 -- The start of a rule as it was read is in its range, and none only where the rule takes nothing.
-use Rattle.std.proofs.Common.{codes, ◌≡◌, ℕ, ◌≤◌, Bool, true, false, cond, List, [], ◌∷◌, length, Option, Some, None, Ok, refl, subst, arith, eqb-true, nat_le}
+use Rattle.std.proofs.Common.{codes, ◌≡◌, ℕ, ◌≤◌, Bool, true, false, cond, List, [], ◌∷◌, length, Option, Some, None, Ok, refl, subst, arith, eqb-true}
 use Rattle.std.specs.Prelude.{◌||◌, ◌==◌, is_none, is_some, unwrap_or}
 use Rattle.toml.specs.Data.{Data, Members, as_str}
 use Rattle.dds_fields.specs.declared.fault.FaultKind.TheVariants.{OutOfRange}
@@ -7,6 +7,7 @@ use Rattle.dds_fields.specs.Paths.{key_path}
 use Rattle.dds_fields.specs.Reading.{Read, a_number, optional}
 use Rattle.dds_fields.specs.Words.{word_or}
 use Rattle.dds_fields.proofs.Laws.{bind_ok, ok_is}
+use Rattle.dds_deploy.specs.Versions.{since_third}
 use Rattle.dds_deploy.specs.Starts.{some_times, a_start, start_field}
 use Rattle.dds_deploy.proofs.Pushes.{passed, optional_keeps}
 use Rattle.dds_deploy.proofs.Readings.{number_between}
@@ -39,11 +40,11 @@ word_few other path (Some text) n few e = subst IsFew (passed OutOfRange path _ 
 
 start_few : (v : ℕ) (path : List ℕ) (d : Data) (n : Option ℕ) → a_start v path d ≡ Ok n → IsFew n
 unfolding a_start
-start_few v path d n e = by (nat_le v 2) e
+start_few v path d n e = by (since_third v) e
   where
-    by : (b : Bool) → cond b (some_times path d) (word_or (codes "unlimited") None (some_times path d) path (as_str d)) ≡ Ok n → IsFew n
-    by true h = some_times_few path d n h
-    by false h = word_few (some_times path d) path (as_str d) n (λ k. some_times_few path d n k) h
+    by : (b : Bool) → cond b (word_or (codes "unlimited") None (some_times path d) path (as_str d)) (some_times path d) ≡ Ok n → IsFew n
+    by true h = word_few (some_times path d) path (as_str d) n (λ k. some_times_few path d n k) h
+    by false h = some_times_few path d n h
 
 free_takes_nothing : (takes_nothing : Bool) (n : Option ℕ) → (takes_nothing || is_some n) ≡ true → is_none n ≡ true → takes_nothing ≡ true
 free_takes_nothing takes_nothing (Some k) e none = absurd cc

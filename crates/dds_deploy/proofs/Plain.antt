@@ -1,6 +1,6 @@
 -- What is read without a fault is plain: it nests no deeper than its place allows, and has no date in it.
 use Rattle.std.proofs.Common.{codes, ◌≡◌, ℕ, ℤ, suc, ◌≤◌, ◌+◌, Bool, true, false, not, cond, ◌⊎◌, inl, inr, List, [], ◌∷◌, Option, Some, None, Ok, Less, nat_cmp, refl, sym, ap, subst, ◌∙◌, arith}
-use Rattle.std.specs.Prelude.{◌&&◌, nat_le}
+use Rattle.std.specs.Prelude.{◌&&◌, unwrap_or}
 use Rattle.std.specs.List.{list_any, AllByRecursion}
 use Rattle.std.specs.Str.{bytes_eq}
 use Rattle.std.specs.Cmp.{tied_itself}
@@ -17,10 +17,14 @@ use Rattle.dds_fields.specs.Reading.{Read, ◌>>=◌, or_fault, a_text, a_number
 use Rattle.dds_fields.specs.Words.{a_word, a_flag, a_long, a_duration, a_limit, word_or}
 use Rattle.dds_fields.specs.Document.{version}
 use Rattle.dds_fields.proofs.Laws.{bind_ok, ok_is, found_is}
+use Rattle.dds_lists.specs.declared.lists.Pace.{Pace}
+use Rattle.dds_lists.specs.WellFormed.{most_nanoseconds}
+use Rattle.dds_deploy.specs.Versions.{since_third}
 use Rattle.dds_deploy.specs.Starts.{some_times, a_start, start_field}
+use Rattle.dds_deploy.specs.Paces.{nanoseconds, optional_nanoseconds, nanoseconds_before, pace, how_often, spans}
 use Rattle.dds_deploy.specs.Topics.{a_type_name}
 use Rattle.dds_deploy.proofs.Pushes.{passed}
-use Rattle.dds_deploy.proofs.Migrated.{only_is}
+use Rattle.dds_deploy.proofs.Later.{only_is}
 
 -- where the keys of each table inside are in order, the data is at most n deep and has no date that a text cannot write
 pub record IsPlain (n : ℕ) (d : Data) : Type 0 where
@@ -272,12 +276,48 @@ module _ {n : ℕ} where
 
   start_plain : (v : ℕ) → ReadsPlain n (a_start v)
   unfolding a_start
-  start_plain v = record { plain = λ path d x e. by path d x (nat_le v 2) e }
+  start_plain v = record { plain = λ path d x e. by path d x (since_third v) e }
     where
-      by : (path : List ℕ) (d : Data) (x : Option ℕ) (b : Bool) → cond b (some_times path d) (word_or (codes "unlimited") None (some_times path d) path (as_str d)) ≡ Ok x → IsPlain n d
-      by path d x true e = some_times_plain.plain path d x e
-      by path d x false e = word_or_plain (codes "unlimited") None (some_times path d) path d x (λ h. some_times_plain.plain path d x h) (as_str d) refl e
+      by : (path : List ℕ) (d : Data) (x : Option ℕ) (b : Bool) → cond b (word_or (codes "unlimited") None (some_times path d) path (as_str d)) (some_times path d) ≡ Ok x → IsPlain n d
+      by path d x true e = word_or_plain (codes "unlimited") None (some_times path d) path d x (λ h. some_times_plain.plain path d x h) (as_str d) refl e
+      by path d x false e = some_times_plain.plain path d x e
 
-  pub start_field_plain : (v : ℕ) (takes_nothing : Bool) (path : List ℕ) (ms : Members) (x : Option ℕ) → start_field v takes_nothing path ms ≡ Ok x → IsPlainAt n ms (codes "start")
+  start_field_plain : (v : ℕ) (takes_nothing : Bool) (path : List ℕ) (ms : Members) (x : Option ℕ) → start_field v takes_nothing path ms ≡ Ok x → IsPlainAt n ms (codes "start")
   unfolding start_field
   start_field_plain v takes_nothing path ms x e = let start = bind_ok (optional (codes "start") (Some 0) (a_start v) path ms) _ x e in optional_plain (start_plain v) _ path _ start.1
+
+  nanoseconds_plain : (low high : ℕ) → ReadsPlain n (nanoseconds low high)
+  unfolding nanoseconds
+  nanoseconds_plain low high = record { plain = λ path d x e. let m = bind_ok (a_number low high path d) _ x e in (number_plain low high).plain path d m.0 m.1 }
+
+  optional_nanoseconds_plain : (low high : ℕ) (key path : List ℕ) (ms : Members) (x : Option ℕ) → optional_nanoseconds low high key path ms ≡ Ok x → IsPlainAt n ms key
+  unfolding optional_nanoseconds
+  optional_nanoseconds_plain low high key path ms x e = optional_plain (nanoseconds_plain low high) _ path _ e
+
+  nanoseconds_before_plain : (other : List ℕ) (low : ℕ) (key path : List ℕ) (ms : Members) (x : Option ℕ) → nanoseconds_before other low key path ms ≡ Ok x → IsPlainAt n ms key
+  unfolding nanoseconds_before
+  nanoseconds_before_plain other low key path ms x e =
+      let a = bind_ok (optional_nanoseconds low most_nanoseconds key path ms) _ x e in
+      optional_nanoseconds_plain low most_nanoseconds key path ms a.0 a.1
+
+  pace_plain : (path : List ℕ) (ms : Members) (x : Option Pace) → pace path ms ≡ Ok x → IsPlainAt n ms (codes "period") × IsPlainAt n ms (codes "jitter")
+  unfolding pace
+  pace_plain path ms x e =
+      let period = bind_ok (nanoseconds_before (codes "jitter") 1 (codes "period") path ms) _ x e in
+      let jitter = bind_ok (optional_nanoseconds 0 most_nanoseconds (codes "jitter") path ms) _ x period.2 in
+      (nanoseconds_before_plain _ _ (codes "period") path ms period.0 period.1, optional_nanoseconds_plain _ _ (codes "jitter") path ms jitter.0 jitter.1)
+
+  pub often_plain : (v : ℕ) (takes_nothing : Bool) (path : List ℕ) (ms : Members) (x : Option ℕ × Option Pace) → how_often v takes_nothing path ms ≡ Ok x → IsPlainAt n ms (codes "start") × IsPlainAt n ms (codes "period") × IsPlainAt n ms (codes "jitter")
+  unfolding how_often
+  often_plain v takes_nothing path ms x e =
+      let start = bind_ok (start_field v takes_nothing path ms) _ x e in
+      let by_clock = bind_ok (pace path ms) _ x start.2 in
+      let p = pace_plain path ms by_clock.0 by_clock.1 in
+      (start_field_plain v takes_nothing path ms start.0 start.1, p.0, p.1)
+
+  pub spans_plain : (path : List ℕ) (ms : Members) (x : Option ℕ × Option ℕ) → spans path ms ≡ Ok x → IsPlainAt n ms (codes "taken_within") × IsPlainAt n ms (codes "available_within")
+  unfolding spans
+  spans_plain path ms x e =
+      let taken = bind_ok (nanoseconds_before (codes "available_within") 0 (codes "taken_within") path ms) _ x e in
+      let available = bind_ok (optional_nanoseconds 0 (unwrap_or taken.0 most_nanoseconds) (codes "available_within") path ms) _ x taken.2 in
+      (nanoseconds_before_plain _ _ (codes "taken_within") path ms taken.0 taken.1, optional_nanoseconds_plain _ _ (codes "available_within") path ms available.0 available.1)

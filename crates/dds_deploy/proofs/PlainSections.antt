@@ -29,18 +29,19 @@ use Rattle.dds_deploy.specs.Entries.{one_more}
 use Rattle.dds_deploy.specs.Participants.{participant, participant_keys, participant_fields, participants}
 use Rattle.dds_deploy.specs.Topics.{key, keys, topic, topic_keys, topic_fields, topics}
 use Rattle.dds_deploy.specs.Writers.{writer, writer_fields, writers}
-use Rattle.dds_deploy.specs.Readers.{filter_key, filter, reader, reader_fields, reader_keys, readers}
+use Rattle.dds_deploy.specs.Readers.{filter_key, filter, taking, reader, reader_fields, reader_keys, readers}
 use Rattle.dds_deploy.specs.Applications.{own, own_writers, own_readers, application, application_keys, application_fields, application_list, applications}
 use Rattle.dds_deploy.specs.Expansion.{expanded}
-use Rattle.dds_deploy.specs.Starts.{start_field}
-use Rattle.dds_deploy.specs.Rules.{portion, takes, writes, plain_rule, single, rule, rule_entry, rule_fields, rules}
+use Rattle.dds_deploy.specs.Versions.{since_third, since_fourth}
+use Rattle.dds_deploy.specs.Paces.{how_often, spans}
+use Rattle.dds_deploy.specs.Rules.{portion, takes, writes, plain_rule, single, rule, plain_keys, rule_keys, rule_entry, rule_fields, rules}
 use Rattle.dds_deploy.specs.Connections.{connection, connection_entry, connections}
 use Rattle.dds_deploy.specs.Document.{head, endpoints, lists, deployment}
 use Rattle.dds_deploy.proofs.Ascending.{document_in_order}
 use Rattle.dds_deploy.proofs.Pushes.{passed}
 use Rattle.dds_deploy.proofs.Readings.{consistent_is}
-use Rattle.dds_deploy.proofs.Migrated.{only_is}
-use Rattle.dds_deploy.proofs.Plain.{IsPlain, IsPlainAt, HasPlain, ReadsPlain, listed_plain, entry_plain, field_plain, optional_plain, list_plain, section_plain, text_plain, flag_plain, number_plain, version_plain, new_name_plain, known_name_plain, type_name_plain, word_plain, duration_plain, limit_plain, start_field_plain}
+use Rattle.dds_deploy.proofs.Later.{only_is}
+use Rattle.dds_deploy.proofs.Plain.{IsPlain, IsPlainAt, HasPlain, ReadsPlain, listed_plain, entry_plain, field_plain, optional_plain, list_plain, section_plain, text_plain, flag_plain, number_plain, version_plain, new_name_plain, known_name_plain, type_name_plain, word_plain, duration_plain, limit_plain, often_plain, spans_plain}
 
 -- participants and topics
 
@@ -196,26 +197,40 @@ filter_key_plain keys before = record { plain = λ path d x e. let n = bind_ok (
 filter_plain : (keys : List (List ℕ)) → ReadsPlain 2 (filter keys)
 filter_plain keys = list_plain 64 [] (filter_key_plain keys)
 
+taking_plain : (path : List ℕ) (ms : Members) (x : Bool × Option ℕ × Option ℕ) → taking path ms ≡ Ok x → IsPlainAt 2 ms (codes "may_lose") × IsPlainAt 2 ms (codes "taken_within") × IsPlainAt 2 ms (codes "available_within")
+unfolding taking
+taking_plain path ms x e =
+    let lose = bind_ok (optional (codes "may_lose") false a_flag path ms) _ x e in
+    let soon = bind_ok (spans path ms) _ x lose.2 in
+    let s = spans_plain path ms soon.0 soon.1 in
+    (optional_plain flag_plain _ path _ lose.1, s.0, s.1)
+
+-- the keys of a reader in the newest version
+abbrev all_reader_keys : List (List ℕ)
+all_reader_keys = codes "taken_within" ∷ codes "available_within" ∷ codes "may_lose" ∷ codes "filter" ∷ endpoint_keys
+
 reader_fields_plain : (ps : Listed Participant) (ts : Listed Topic) (path : List ℕ) (ms : Members) (r : Reader) → reader_fields ps ts path ms ≡ Ok r → IsPlainAt 2 ms (codes "name")
-    → AllByRecursion (IsPlainAt 2 ms) (codes "may_lose" ∷ codes "filter" ∷ endpoint_keys)
+    → AllByRecursion (IsPlainAt 2 ms) all_reader_keys
 unfolding reader_fields
 reader_fields_plain ps ts path ms r e name =
     let p = bind_ok _ _ r e in
     let t = bind_ok _ _ r p.2 in
     let keys = bind_ok _ _ r t.2 in
-    let lose = bind_ok (optional (codes "may_lose") false a_flag path ms) _ r keys.2 in
-    let q = bind_ok (policies BestEffort path ms) _ r lose.2 in
+    let takes = bind_ok (taking path ms) _ r keys.2 in
+    let q = bind_ok (policies BestEffort path ms) _ r takes.2 in
     let names = bind_ok (partitions path ms) _ r q.2 in
     let rest = policies_plain path ms BestEffort q.0 names.0 q.1 names.1 in
-    (optional_plain flag_plain _ path _ lose.1, (optional_plain (filter_plain _) _ path _ keys.1, (name, (field_plain (known_name_plain _) path _ p.1, (field_plain (known_name_plain _) path _ t.1, rest)))))
+    let soon = taking_plain path ms takes.0 takes.1 in
+    (soon.1, (soon.2, (soon.0, (optional_plain (filter_plain _) _ path _ keys.1, (name, (field_plain (known_name_plain _) path _ p.1, (field_plain (known_name_plain _) path _ t.1, rest)))))))
 
 -- what holds of all the keys of a reader holds of those of each version
-of_version : (P : List ℕ → Type 0) (v : ℕ) → AllByRecursion P (codes "may_lose" ∷ codes "filter" ∷ endpoint_keys) → AllByRecursion P (reader_keys v)
-of_version P v all = by (nat_le v 2)
+of_version : (P : List ℕ → Type 0) (v : ℕ) → AllByRecursion P all_reader_keys → AllByRecursion P (reader_keys v)
+of_version P v all = by (since_fourth v) (since_third v)
   where
-    by : (b : Bool) → AllByRecursion P (cond b (codes "filter" ∷ endpoint_keys) (codes "may_lose" ∷ codes "filter" ∷ endpoint_keys))
-    by true = all.1
-    by false = all
+    by : (b c : Bool) → AllByRecursion P (cond b all_reader_keys (cond c (codes "may_lose" ∷ codes "filter" ∷ endpoint_keys) (codes "filter" ∷ endpoint_keys)))
+    by true c = all
+    by false true = all.1.1
+    by false false = all.1.1.1
 
 reader_plain : (v : ℕ) (ps : Listed Participant) (ts : Listed Topic) (before : Listed Reader) → ReadsPlain 3 (reader v ps ts before)
 reader_plain v ps ts before = one_more_plain (reader_keys v) (λ _. consistent (λ r. r.qos.requested) (reader_fields ps ts)) before
@@ -288,25 +303,31 @@ module _ (ts : Listed Topic) (ws : Listed Writer) (rs : Listed Reader) (apps : L
   each_writes_plain : (a : ℕ) → ReadsPlain 2 (each_writes ws apps a)
   each_writes_plain a = list_plain 16 [] (share_plain _ _ _)
 
-  -- the fields of a rule that its elements stand in
-  abbrev PlainElements : Members → Type 0
-  PlainElements ms = AllByRecursion (IsPlainAt 2 ms) (codes "takes" ∷ codes "writes" ∷ codes "start" ∷ [])
+  -- the fields of a rule that its elements stand in, and those that say how often it writes
+  record PlainElements (ms : Members) : Type 0 where
+    pub takes : IsPlainAt 2 ms (codes "takes")
+    pub writes : IsPlainAt 2 ms (codes "writes")
+    pub start : IsPlainAt 2 ms (codes "start")
+    pub period : IsPlainAt 2 ms (codes "period")
+    pub jitter : IsPlainAt 2 ms (codes "jitter")
 
   plain_rule_plain : (v a : ℕ) (path : List ℕ) (ms : Members) (u : Rule) → plain_rule v ts ws rs apps a path ms ≡ Ok u → PlainElements ms
   unfolding plain_rule
   plain_rule_plain v a path ms u e =
       let the_takes = bind_ok _ _ u e in
       let the_writes = bind_ok _ _ u the_takes.2 in
-      let n = bind_ok (start_field v (length the_takes.0 == 0) path ms) _ u the_writes.2 in
-      (optional_plain (takes_plain a) _ path _ the_takes.1, (optional_plain (writes_plain a) _ path _ the_writes.1, (start_field_plain v (length the_takes.0 == 0) path ms n.0 n.1, tt)))
+      let n = bind_ok (how_often v (length the_takes.0 == 0) path ms) _ u the_writes.2 in
+      let often = often_plain v (length the_takes.0 == 0) path ms n.0 n.1 in
+      record { takes = optional_plain (takes_plain a) _ path _ the_takes.1; writes = optional_plain (writes_plain a) _ path _ the_writes.1; start = often.0; period = often.1; jitter = often.2 }
 
   each_rule_plain : (v a : ℕ) (path : List ℕ) (ms : Members) (u : EachRule) → each_rule v ws rs apps a path ms ≡ Ok u → PlainElements ms
   unfolding each_rule
   each_rule_plain v a path ms u e =
       let the_takes = bind_ok _ _ u e in
       let the_writes = bind_ok _ _ u the_takes.2 in
-      let n = bind_ok (start_field v (length the_takes.0 == 0) path ms) _ u the_writes.2 in
-      (optional_plain (each_takes_plain a) _ path _ the_takes.1, (optional_plain (each_writes_plain a) _ path _ the_writes.1, (start_field_plain v (length the_takes.0 == 0) path ms n.0 n.1, tt)))
+      let n = bind_ok (how_often v (length the_takes.0 == 0) path ms) _ u the_writes.2 in
+      let often = often_plain v (length the_takes.0 == 0) path ms n.0 n.1 in
+      record { takes = optional_plain (each_takes_plain a) _ path _ the_takes.1; writes = optional_plain (each_writes_plain a) _ path _ the_writes.1; start = often.0; period = often.1; jitter = often.2 }
 
   elements_plain : (v name a : ℕ) (path : List ℕ) (ms : Members) (us : List Origin × List Rule) (b : Bool) → cond b (expanded v ts ws rs apps name a path ms) (single v ts ws rs apps name a path ms) ≡ Ok us → PlainElements ms
   unfolding expanded single
@@ -315,12 +336,15 @@ module _ (ts : Listed Topic) (ws : Listed Writer) (rs : Listed Reader) (apps : L
 
   rule_entry_plain : (v : ℕ) (path : List ℕ) (d : Data) (ms : Members) → rule_entry v path d ≡ Ok ms → IsPlainAt 2 ms (codes "name") → IsPlainAt 2 ms (codes "application") → IsPlainAt 2 ms (codes "each") → PlainElements ms → IsPlain 3 d
   unfolding rule_entry
-  rule_entry_plain v path d ms e name application each elements = by (v == 1) e
+  rule_entry_plain v path d ms e name application each some = entry_plain (rule_keys v) path d ms e (by (since_fourth v) (v == 1))
     where
-      by : (b : Bool) → cond b (entry (codes "name" ∷ codes "application" ∷ codes "takes" ∷ codes "writes" ∷ codes "start" ∷ []) path d)
-          (entry (codes "name" ∷ codes "application" ∷ codes "each" ∷ codes "takes" ∷ codes "writes" ∷ codes "start" ∷ []) path d) ≡ Ok ms → IsPlain 3 d
-      by true h = entry_plain _ path d ms h (name, (application, elements))
-      by false h = entry_plain _ path d ms h (name, (application, (each, elements)))
+      plain : AllByRecursion (IsPlainAt 2 ms) plain_keys
+      plain = (name, (application, (some.takes, (some.writes, (some.start, tt)))))
+
+      by : (b c : Bool) → AllByRecursion (IsPlainAt 2 ms) (cond b (codes "period" ∷ codes "jitter" ∷ codes "each" ∷ plain_keys) (cond c plain_keys (codes "each" ∷ plain_keys)))
+      by true c = (some.period, (some.jitter, (each, plain)))
+      by false true = plain
+      by false false = (each, plain)
 
   rule_plain : (v : ℕ) (before : Rules) → ReadsPlain 3 (rule v ts ws rs apps before)
   unfolding rule rule_fields

@@ -6,6 +6,7 @@ use Rattle.dds_fields.specs.Reading.{◌>>=◌, Read, or_fault, field, only}
 use Rattle.dds_base.specs.Section.{Listed}
 use Rattle.dds_fields.specs.Document.{version, document}
 use Rattle.dds_lists.specs.Lists.{Participant, Topic, Writer, Reader, Lists}
+use Rattle.dds_deploy.specs.Versions.{newest_version}
 use Rattle.dds_deploy.specs.Participants.{participants}
 use Rattle.dds_deploy.specs.Topics.{topics}
 use Rattle.dds_deploy.specs.Writers.{writers}
@@ -50,6 +51,6 @@ read_up_to newest bytes = do
   ms ← or_fault NotToml [] (document bytes)
   deployment newest ms
 
--- the lists of a deployment file of version 1, 2 or 3, or its first fault
+-- the lists of a deployment file of any version, or its first fault
 abbrev pub read : List ℕ → Read Lists
-read bytes = read_up_to 3 bytes
+read bytes = read_up_to newest_version bytes

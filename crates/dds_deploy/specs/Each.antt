@@ -6,7 +6,8 @@ use Rattle.dds_fields.specs.declared.fault.FaultKind.TheVariants.{RuleEntry}
 use Rattle.dds_fields.specs.Reading.{◌>>=◌, Read, unless, a_number, a_known_name, field, optional, entry, a_list_of}
 use Rattle.dds_base.specs.Section.{Listed}
 use Rattle.dds_lists.specs.Lists.{Writer, Reader, Application, has, writers_at, readers_at}
-use Rattle.dds_deploy.specs.Starts.{start_field}
+use Rattle.dds_lists.specs.declared.lists.Pace.{Pace}
+use Rattle.dds_deploy.specs.Paces.{how_often}
 use Rattle.dds_deploy.specs.declared.each.EachRule.{EachRule as CodeEachRule}
 
 -- a rule with `each` as it stands in the file: each element is an endpoint and a count, for every key
@@ -16,10 +17,11 @@ pub record EachRule : Type 0 where
   pub writes : List (ℕ × ℕ)
   -- none where the rule is free
   pub start : Option ℕ
+  pub pace : Option Pace
 
 -- what such a rule of the code stands for
 abbrev pub each_rule_view : CodeEachRule → EachRule
-each_rule_view u = record { application = u.application; takes = u.takes.items; writes = u.writes.items; start = u.start }
+each_rule_view u = record { application = u.application; takes = u.takes.items; writes = u.writes.items; start = u.start; pace = u.pace }
 
 -- what a rule with `each` takes or writes of every key: an endpoint of the application that no earlier element names
 abbrev pub may_share : List ℕ → List (ℕ × ℕ) → ℕ → Bool
@@ -44,5 +46,5 @@ unfoldable pub each_rule : ℕ → Listed Writer → Listed Reader → Listed Ap
 each_rule v ws rs apps a path ms = do
   the_takes ← optional (codes "takes") [] (each_takes rs apps a) path ms
   the_writes ← optional (codes "writes") [] (each_writes ws apps a) path ms
-  n ← start_field v (length the_takes == 0) path ms
-  Ok (record { application = a; takes = the_takes; writes = the_writes; start = n })
+  often ← how_often v (length the_takes == 0) path ms
+  Ok (record { application = a; takes = the_takes; writes = the_writes; start = often.0; pace = often.1 })

@@ -38,6 +38,7 @@ rule_for ts ws rs u name = record {
   writes = map (portion_at (key_to_write ts ws name)) u.writes;
   start = unwrap_or u.start 0;
   free = is_none u.start;
+  pace = u.pace;
 }
 
 -- the rules that a rule with `each` stands for, one for each common key

@@ -12,7 +12,8 @@ use Rattle.dds_lists.specs.declared.lists.Origin.{Origin}
 use Rattle.dds_lists.specs.Lists.{Topic, Writer, Reader, Application, Rule, Rules, no_rules, and_rules, has, writers_at, readers_at}
 use Rattle.dds_deploy.specs.Endpoints.{key_to_take, key_to_write}
 use Rattle.dds_deploy.specs.Expansion.{expanded}
-use Rattle.dds_deploy.specs.Starts.{start_field}
+use Rattle.dds_deploy.specs.Versions.{since_fourth}
+use Rattle.dds_deploy.specs.Paces.{how_often}
 
 -- whether one of these is of this endpoint and key
 abbrev pub is_named : List (Portion ℕ) → ℕ → ℕ → Bool
@@ -44,19 +45,27 @@ unfoldable pub plain_rule : ℕ → Listed Topic → Listed Writer → Listed Re
 plain_rule v ts ws rs apps a path ms = do
   the_takes ← optional (codes "takes") [] (takes ts rs apps a) path ms
   the_writes ← optional (codes "writes") [] (writes ts ws apps a) path ms
-  n ← start_field v (length the_takes == 0) path ms
-  Ok (record { application = a; takes = the_takes; writes = the_writes; start = unwrap_or n 0; free = is_none n })
+  often ← how_often v (length the_takes == 0) path ms
+  Ok (record { application = a; takes = the_takes; writes = the_writes; start = unwrap_or often.0 0; free = is_none often.0; pace = often.1 })
 
 unfoldable pub single : ℕ → Listed Topic → Listed Writer → Listed Reader → Listed Application → ℕ → ℕ → List ℕ → Members → Read (List Origin × List Rule)
 single v ts ws rs apps name a path ms = do
   u ← plain_rule v ts ws rs apps a path ms
   Ok (record { name = name; key = None } ∷ [], u ∷ [])
 
--- in version 1 `each` is no field of a rule
+-- the keys that a rule's entry may have in every version
+abbrev pub plain_keys : List (List ℕ)
+plain_keys = codes "name" ∷ codes "application" ∷ codes "takes" ∷ codes "writes" ∷ codes "start" ∷ []
+
+-- the keys of a rule's entry: since version 2 `each` is one, and since version 4 so are `period` and `jitter`
+abbrev pub rule_keys : ℕ → List (List ℕ)
+rule_keys v =
+    if since_fourth v then codes "period" ∷ codes "jitter" ∷ codes "each" ∷ plain_keys
+    else if v == 1 then plain_keys
+    else codes "each" ∷ plain_keys
+
 unfoldable pub rule_entry : ℕ → List ℕ → Data → Read Members
-rule_entry v path d =
-    if v == 1 then entry (codes "name" ∷ codes "application" ∷ codes "takes" ∷ codes "writes" ∷ codes "start" ∷ []) path d
-    else entry (codes "name" ∷ codes "application" ∷ codes "each" ∷ codes "takes" ∷ codes "writes" ∷ codes "start" ∷ []) path d
+rule_entry v path d = entry (rule_keys v) path d
 
 unfoldable pub rule_fields : ℕ → Listed Topic → Listed Writer → Listed Reader → Listed Application → ℕ → List ℕ → Members → Read (List Origin × List Rule)
 rule_fields v ts ws rs apps name path ms = do

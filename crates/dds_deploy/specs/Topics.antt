@@ -9,6 +9,7 @@ use Rattle.dds_fields.specs.declared.fault.FaultKind.TheVariants.{OutOfRange, Ba
 use Rattle.dds_fields.specs.Reading.{◌>>=◌, Read, unless, a_text, a_new_name, field, each, count, an_array_of, a_section}
 use Rattle.dds_base.specs.Section.{Listed, nothing}
 use Rattle.dds_lists.specs.Lists.{Topic}
+use Rattle.dds_deploy.specs.Versions.{since_third}
 use Rattle.dds_deploy.specs.Entries.{one_more}
 
 -- one more key of a topic
@@ -36,7 +37,7 @@ is_type_name text = is_between 1 most_type_bytes (length text) && list_all is_ty
 unfoldable pub a_type_name : ℕ → List ℕ → Data → Read (List ℕ)
 a_type_name v path d = do
   text ← a_text path d
-  unless BadName path (if nat_le v 2 then is_name text else is_type_name text) text
+  unless BadName path (if since_third v then is_type_name text else is_name text) text
 
 abbrev pub topic_keys : List (List ℕ)
 topic_keys = codes "name" ∷ codes "type" ∷ codes "keys" ∷ []

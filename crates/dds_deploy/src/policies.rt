@@ -408,9 +408,12 @@ pub(crate) fn partitions(
     optional_list(alloc, 16, &PartitionNames, none, path, table, "partitions")
 }
 
-/// The keys that the entry of a reader may have since version 3. Before it `may_lose`, the first, is none of them. But
-/// for `filter`, the second, the others are also keys of a writer.
-pub(crate) const READER_KEYS: [&str; 22] = [
+/// The keys that the entry of a reader may have since version 4. Before it `taken_within` and `available_within` are
+/// none of them, and before version 3 `may_lose` isn't either. But for `filter`, the fourth, the others are also keys
+/// of a writer.
+pub(crate) const READER_KEYS: [&str; 24] = [
+    "taken_within",
+    "available_within",
     "may_lose",
     "filter",
     "name",

@@ -7,11 +7,13 @@ ghost use Rattle.dds_fields.specs.Places.{place_text};
 ghost use Rattle.dds_fields.specs.Reading.{optional};
 ghost use Rattle.dds_lists.specs.Lists.{Reader as ReaderView, keys_at, has, all_keys};
 ghost use Rattle.dds_deploy.specs.Policies.{consistent};
-ghost use Rattle.dds_deploy.specs.Readers.{filter_key, filter, reader_fields, reader_keys, readers};
+ghost use Rattle.dds_deploy.specs.Readers.{filter_key, filter, taking, reader_fields, reader_keys, readers};
 ghost use Rattle.dds_lists.specs.Views.{participant_view, topic_view, reader_view};
 
 use crate::entries::{Entries, section};
+use crate::paces::spans;
 use crate::policies::{READER_KEYS, partitions, policies};
+use crate::versions::{since_fourth, since_third};
 use dds_base::grid::{ENDPOINTS, KEYS};
 use dds_base::{KeyNo, Names, NoMemory, ParticipantNo, Section, TopicNo};
 use dds_fields::fault::{FaultKind, ReadFault, refuse};
@@ -107,6 +109,20 @@ fn filter_field(
     }
 }
 
+// Whether a reader may lose samples, and how soon it takes and can take.
+#[tactic(auto, unfolding(crate::specs::Readers::taking))]
+fn taking(
+    alloc: Global,
+    path: &Place,
+    table: &Table,
+) -> Result<(bool, Option<u64>, Option<u64>), ReadFault>
+    ensures { Gives (λ x. x) result (taking (place_text path.now) (table_view table.now)) }
+{
+    let may_lose = optional_flag(alloc, path, table, "may_lose")?;
+    let (taken_within, available_within) = spans(alloc, path, table)?;
+    Ok((may_lose, taken_within, available_within))
+}
+
 #[tactic(auto, unfolding(crate::specs::Readers::reader_fields))]
 fn reader_fields(
     alloc: Global,
@@ -122,8 +138,8 @@ fn reader_fields(
     let participant = known_name_field(alloc, &participants.names, path, table, "participant")?;
     let topic = known_name_field(alloc, &topics.names, path, table, "topic")?;
     let filter = filter_field(alloc, topic_keys(topics, topic), path, table, "filter")?;
-    let may_lose = match optional_flag(alloc, path, table, "may_lose") {
-        Ok(may_lose) => may_lose,
+    let (may_lose, taken_within, available_within) = match taking(alloc, path, table) {
+        Ok(taking) => taking,
         Err(fault) => {
             drop(filter);
             return Err(fault);
@@ -144,6 +160,8 @@ fn reader_fields(
             qos: ReaderQos { requested },
             partitions,
             may_lose,
+            taken_within,
+            available_within,
         }),
         Err(fault) => {
             drop(filter);
@@ -176,10 +194,12 @@ impl Entries for ReaderEntries<'_> {
     fn keys(&self) -> &'static [&'static str]
         ensures { map (λ key. key.now) result.now ≡ reader_keys self.now.version }
     {
-        if self.version <= 2 {
-            &READER_KEYS[1..]
-        } else {
+        if since_fourth(self.version) {
             &READER_KEYS
+        } else if since_third(self.version) {
+            &READER_KEYS[2..]
+        } else {
+            &READER_KEYS[3..]
         }
     }
 

@@ -6,6 +6,7 @@ ghost use Rattle.dds_fields.specs.Places.{place_text};
 ghost use Rattle.dds_fields.specs.Reading.{optional};
 ghost use Rattle.dds_deploy.specs.Starts.{some_times, a_start, start_field};
 
+use crate::versions::since_third;
 use dds_fields::fault::{FaultKind, ReadFault, refuse};
 use dds_fields::field::{short_number_of, value_at};
 use dds_fields::place::Place;
@@ -29,7 +30,7 @@ fn start_of(
 ) -> Result<Option<u16>, ReadFault>
     ensures { Gives (λ n. n) result (a_start version (place_text path.now) (view value.now)) }
 {
-    if version <= 2 {
+    if !since_third(version) {
         return some_times(alloc, path, value);
     }
     match value.as_str() {
@@ -59,8 +60,8 @@ fn optional_start(
     }
 }
 
-/// The start of a rule, 0 to 65,535 and 0 where it is absent, or `None` where the rule is free, which version 3 alone
-/// can say. OutOfRange where a rule that takes something would be free.
+/// The start of a rule, 0 to 65,535 and 0 where it is absent, or `None` where the rule is free, which a file can say
+/// since version 3. OutOfRange where a rule that takes something would be free.
 #[tactic(auto, unfolding(crate::specs::Starts::start_field))]
 pub(crate) fn start_field(
     alloc: Global,

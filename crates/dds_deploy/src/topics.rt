@@ -12,6 +12,7 @@ ghost use Rattle.dds_deploy.specs.Topics.{topic_fields, topics};
 ghost use Rattle.dds_lists.specs.Views.{topic_view};
 
 use crate::entries::{Entries, section};
+use crate::versions::since_third;
 use dds_base::grid::KEYS;
 use dds_base::limits::{TOPICS, TYPE_BYTES};
 use dds_base::{Names, Section, is_name, is_name_byte};
@@ -98,10 +99,10 @@ fn type_name_of<'a>(
     ensures { Gives (λ s. s.now) result (a_type_name version (place_text path.now) (view value.now)) }
 {
     let text = text_of(alloc, path, value)?;
-    let good = if version <= 2 {
-        is_name(text)
-    } else {
+    let good = if since_third(version) {
         is_type_name(text)
+    } else {
+        is_name(text)
     };
     if good {
         Ok(text)

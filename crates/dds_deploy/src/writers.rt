@@ -68,7 +68,7 @@ impl Entries for WriterEntries<'_> {
     fn keys(&self) -> &'static [&'static str]
         ensures { map (λ key. key.now) result.now ≡ endpoint_keys }
     {
-        &READER_KEYS[2..]
+        &READER_KEYS[4..]
     }
 
     #[tactic(auto, unfolding(crate::specs::Policies::consistent))]

@@ -10,6 +10,7 @@ use Rattle.dds_base.specs.declared.events.Reply.TheVariants.{Written, Fired, Too
 use Rattle.dds_qos.specs.Notes.{Notes}
 use Rattle.dds_match.specs.Network.{Network}
 use Rattle.dds_rules.specs.Ledger.{LedgerState}
+use Rattle.dds_flights.specs.Flight.{FlightState}
 use Rattle.dds_writer.specs.Proxies.{proxy_of}
 use Rattle.dds_writer.specs.Writer.{WriterState}
 use Rattle.dds_reader.specs.Notes.{owes_in}
@@ -48,9 +49,10 @@ reader_kept net owes xs r x y all b at kind same = set_all (OwesOf net) owes owe
 
 -- ── steps
 -- a write
-pub write_kept : (d : PartsState) (w k n : ℕ) (payload : List ℕ) (x y : WriterState) (l : LedgerState) → w < length d.writers → x ≡ get_or d.writers w x → y.proxies ≡ x.proxies → StepsNotes d (Write w k payload) (Written n) (record d { writers = set d.writers w y; ledger = l })
+pub write_kept : (d : PartsState) (w k n : ℕ) (payload : List ℕ) (x y : WriterState) (l : LedgerState) (fs : List (List FlightState)) → w < length d.writers → x ≡ get_or d.writers w x → y.proxies ≡ x.proxies
+    → StepsNotes d (Write w k payload) (Written n) (record d { writers = set d.writers w y; ledger = l; flights = fs })
 unfolding StepsNotes
-write_kept d w k n payload x y l b at same net v noted known reached s h = record { notes = writer_kept net noted.notes d.writers w x y h.notes b at same; owes = h.owes }
+write_kept d w k n payload x y l fs b at same net v noted known reached s h = record { notes = writer_kept net noted.notes d.writers w x y h.notes b at same; owes = h.owes }
 
 -- a firing
 pub fire_kept : (d : PartsState) (u : ℕ) (l : LedgerState) → StepsNotes d (Fire u) Fired (record d { ledger = l })
@@ -58,9 +60,10 @@ unfolding StepsNotes
 fire_kept d u l net v noted known reached s h = record { notes = h.notes; owes = h.owes }
 
 -- a take
-pub take_kept : (d : PartsState) (r k : ℕ) (t : Sample) (x y : ReaderState) (l : LedgerState) → r < length d.readers → x ≡ get_or d.readers r x → y.watching ≡ x.watching → y.proxies ≡ x.proxies → StepsNotes d (Take r k) (Took t) (record d { readers = set d.readers r y; ledger = l })
+pub take_kept : (d : PartsState) (r k : ℕ) (t : Sample) (x y : ReaderState) (l : LedgerState) (fs : List (List FlightState)) → r < length d.readers → x ≡ get_or d.readers r x → y.watching ≡ x.watching → y.proxies ≡ x.proxies
+    → StepsNotes d (Take r k) (Took t) (record d { readers = set d.readers r y; ledger = l; flights = fs })
 unfolding StepsNotes
-take_kept d r k t x y l b at kind same net v noted known reached s h = record { notes = h.notes; owes = reader_kept net noted.owes d.readers r x y h.owes b at kind same }
+take_kept d r k t x y l fs b at kind same net v noted known reached s h = record { notes = h.notes; owes = reader_kept net noted.owes d.readers r x y h.owes b at kind same }
 
 -- a HEARTBEAT that is sent
 pub heartbeat_kept : (d : PartsState) (w r : ℕ) (place : Option ℕ) (bus : List (Option Packet)) → StepsNotes d (SendHeartbeat w r) (Sent place) (record d { bus = bus })

@@ -28,11 +28,12 @@ lent_at xs i j x number item = subst (λ k. x ≡ get_or xs k x) number item
 pub lent_back : {X : Type 0} (xs : List X) (i j : ℕ) (x y : X) → j ≡ i → x ≡ get_or xs j x → i < length xs → y ≡ x → set xs j y ≡ xs
 lent_back xs i j x y number item b same = (λ k. set xs (number k) (same k)) ∙ set_back xs i x b (lent_at xs i j x number item)
 
+-- a place that is there has its element, whatever stands for places that aren't
+pub defaults : {X : Type 0} (xs : List X) (i : ℕ) (x y : X) → i < length xs → get_or xs i x ≡ get_or xs i y
+defaults [] i x y b = absurd (omega arith)
+defaults (z ∷ zs) zero x y b = refl
+defaults (z ∷ zs) (suc i) x y b = defaults zs i x y (omega arith)
+
 -- what stands at one place is one
 pub same_at : {X : Type 0} (xs : List X) (i : ℕ) (x y : X) → i < length xs → x ≡ get_or xs i x → y ≡ get_or xs i y → x ≡ y
 same_at xs i x y b e f = e ∙ (defaults xs i x y b ∙ sym f)
-  where
-    defaults : {X : Type 0} (xs : List X) (i : ℕ) (x y : X) → i < length xs → get_or xs i x ≡ get_or xs i y
-    defaults [] i x y b = absurd (omega arith)
-    defaults (z ∷ zs) zero x y b = refl
-    defaults (z ∷ zs) (suc i) x y b = defaults zs i x y (omega arith)

@@ -72,6 +72,8 @@ module _ (d : PartsState) (u : ℕ) where
         writers = s.writers;
         readers = s.readers;
         ledger = makes net v known (healthy net v known reached).sound.counts s.ledger;
+        flight_count = s.flight_count;
+        flights = s.flights;
         bus = s.bus;
       },
     )

@@ -46,6 +46,8 @@ reader_world net v d r y received overwritten irrelevant lost heard s same over 
   readers = set_all (λ i p z. ReaderStands net i p z) (part_of v) (part_of (arrived v received overwritten irrelevant lost heard)) d.readers r y s.readers
       (λ j ne i. part_of (arrived v (λ k. same j ne i) (λ k. over j ne i) (λ k. same' j ne i) (λ k. same'' j ne i) (λ k. same''' j ne i)) j) h;
   ledger = record { of = s.ledger.of; permits = s.ledger.permits; spare = s.ledger.spare };
+  flight_count = s.flight_count;
+  flights = s.flights;
   bus = s.bus;
 }
 

@@ -1,5 +1,5 @@
 -- An application takes a sample.
-use Rattle.std.proofs.Common.{◌≡◌, ℕ, ◌-◌, ◌<◌, ◌≤◌, ◌^◌, Bool, true, false, cond, List, [], ◌∷◌, ◌++◌, Some, None, length, get_or, set, refl, sym, ap, subst, ◌∙◌, arith, length-set}
+use Rattle.std.proofs.Common.{◌≡◌, ℕ, ◌-◌, ◌<◌, ◌≤◌, ◌^◌, Bool, true, false, cond, List, [], ◌∷◌, ◌++◌, Some, None, length, map, get_or, set, refl, sym, ap, subst, ◌∙◌, arith, length-set}
 use Rattle.std.proofs.lemmas.Bool.{le-leb, lt-leb, eqb-true, and_parts}
 use Rattle.dds_base.specs.Sums.{In}
 use Rattle.dds_base.specs.declared.sample.Sample.{Sample}
@@ -12,7 +12,7 @@ use Rattle.dds_qos.specs.Taking.{IsLeastOfWriter}
 use Rattle.dds_match.specs.Network.{Network, IsNetwork}
 use Rattle.dds_match.specs.Plan.{network_of}
 use Rattle.dds_runs.specs.CountRuns.CountMove.{Takes}
-use Rattle.dds_runs.specs.World.{World, spare, stored}
+use Rattle.dds_runs.specs.World.{World, spare, stored, is_stored, taken_from}
 use Rattle.dds_runs.specs.Steps.{refusal, is_empty, is_available, available as available_at}
 use Rattle.dds_runs.proofs.Moves.{Healthy}
 use Rattle.dds_runs.proofs.StoredPlaces.{filter_in}
@@ -20,8 +20,12 @@ use Rattle.dds_runs.proofs.CountsWeights.{after_take}
 use Rattle.dds_rules.specs.Counts.{count_at}
 use Rattle.dds_rules.specs.Ledger.{LedgerState}
 use Rattle.dds_rules.specs.Standing.{Makes}
+use Rattle.dds_flights.specs.Flight.{FlightState}
+use Rattle.dds_flights.specs.Flight.{after_take as after_flight}
+use Rattle.dds_flights.specs.Standing.{FlightsStand}
+use Rattle.dds_flights.proofs.Laws.{flies_on_take, took_elsewhere}
 use Rattle.dds_reader.specs.Reader.{ReaderState, available, SameMarks, SameReader}
-use Rattle.dds_domain.specs.Standing.{PartsState, HasWorld, ReaderStands, Stands, StepsWorld, part_of}
+use Rattle.dds_domain.specs.Standing.{PartsState, HasWorld, ReaderStands, Stands, StepsWorld, flights_of, flights_taken, part_of}
 use Rattle.dds_domain.proofs.NotesKept.{take_kept}
 use Rattle.dds_domain.proofs.Slots.{lent_at, lent_back, set_all}
 use Rattle.dds_domain.proofs.Steps.{Steps, refused_as, steps_as}
@@ -80,7 +84,7 @@ module _ (d : PartsState) (r k : ℕ) where
 
       -- a sample is taken
       pub take_done : (t : Sample) (l : LedgerState) → IsLeastOfWriter t (available x k) → y.stored ≡ without t x.stored → y.keys ≡ x.keys → SameMarks x y → y.proxies ≡ x.proxies → SameReader x y →
-          ((u : Sample) → u.key ≡ k → Makes (Takes r u) d.ledger l) → StepsWorld d (Take r k) (Took t) (record d { readers = set d.readers r y; ledger = l })
+          ((u : Sample) → u.key ≡ k → Makes (Takes r u) d.ledger l) → StepsWorld d (Take r k) (Took t) (record d { readers = set d.readers r y; ledger = l; flights = flights_taken d.flights t.writer r k })
       unfolding StepsWorld
       take_done t l least fewer keys marks notes rest makes net v known reached s = (
         may net v (Take r k) (Took t) (passed net v s false some) (t, least', refl),
@@ -93,6 +97,11 @@ module _ (d : PartsState) (r k : ℕ) where
               (λ j ne i. part_of (record v { taken = λ q. put_other v.taken r j (v.taken r ++ t ∷ []) ne i }) j)
               (take_stands net v r x y (stands net v known s) rest t well.sound fewer keys marks notes);
           ledger = makes t key_is net v known well.sound.counts s.ledger;
+          flight_count = length-set d.flights t.writer (map (after_flight r k) (flights_of d.flights t.writer)) ∙ s.flight_count;
+          flights = set_all (λ i (T : ℕ → ℕ → ℕ) fs. FlightsStand net i (v.written i) T fs) (taken_from v) (taken_from (after_take v r t)) d.flights t.writer (map (after_flight r k) (flights_of d.flights t.writer)) s.flights
+              (λ j ne. took_elsewhere v r t j ne)
+              (subst (λ l. FlightsStand net t.writer (v.written t.writer) (taken_from (after_take v r t) t.writer) (map (after_flight r l) (flights_of d.flights t.writer))) key_is
+              (flies_on_take net v r t (flights_of d.flights t.writer) (s.flights t.writer [] writer_is)));
           bus = s.bus;
         },
       )
@@ -105,6 +114,13 @@ module _ (d : PartsState) (r k : ℕ) where
 
           among : In t (stored v r) × (is_available v r k t ≡ true)
           among = filter_in (is_available v r k) (stored v r) t least'.among
+
+          -- the flights of its writer are there
+          writer_is : t.writer < length d.flights
+          writer_is =
+              let below = known.matched_writer t.writer r (well.sound.samples r t (filter_in (is_stored v r) (v.received r) t among.0).0).matched in
+              let count = s.flight_count in
+              omega arith
 
           key_is : t.key ≡ k
           key_is = eqb-true t.key k (and_parts (has_key k t) _ among.1).0
@@ -127,8 +143,9 @@ module _ (d old : PartsState) (r k i : ℕ) (x y : ReaderState) (olds : d ≡ ol
   pub takes_none : available x k ≡ [] → y ≡ x → Steps (Take r k) old (Refused Empty) (record d { readers = set d.readers i y })
   takes_none none same = refused_as (Take r k) Empty d old _ olds (λ j. record d { readers = lent_back d.readers r i x y number item below same j }) (take_empty d r k hears room x y borrowed none)
 
-  pub takes_one : (t : Sample) (l : LedgerState) → IsLeastOfWriter t (available x k) → y.stored ≡ without t x.stored → y.keys ≡ x.keys → SameMarks x y → y.proxies ≡ x.proxies → SameReader x y →
-      ((u : Sample) → u.key ≡ k → Makes (Takes r u) d.ledger l) → Steps (Take r k) old (Took t) (record d { readers = set d.readers i y; ledger = l })
-  takes_one t l least fewer keys marks notes rest makes =
-      steps_as (Take r k) d old (Took t) (Took t) _ _ olds refl (λ j. record d { readers = set d.readers (number j) y; ledger = l })
-      (take_done d r k hears room x y borrowed t l least fewer keys marks notes rest makes, take_kept d r k t x y l below borrowed rest.watching notes)
+  pub takes_one : (t : Sample) (l : LedgerState) (fs : List (List FlightState)) → IsLeastOfWriter t (available x k) → y.stored ≡ without t x.stored → y.keys ≡ x.keys → SameMarks x y → y.proxies ≡ x.proxies → SameReader x y →
+      ((u : Sample) → u.key ≡ k → Makes (Takes r u) d.ledger l) → fs ≡ flights_taken d.flights t.writer r k
+      → Steps (Take r k) old (Took t) (record d { readers = set d.readers i y; ledger = l; flights = fs })
+  takes_one t l fs least fewer keys marks notes rest makes flown =
+      steps_as (Take r k) d old (Took t) (Took t) _ _ olds refl (λ j. record d { readers = set d.readers (number j) y; ledger = l; flights = flown j })
+      (take_done d r k hears room x y borrowed t l least fewer keys marks notes rest makes, take_kept d r k t x y l (flights_taken d.flights t.writer r k) below borrowed rest.watching notes)

@@ -49,5 +49,7 @@ bus_changes net v d sent bus held s h = record {
   writers = s.writers;
   readers = s.readers;
   ledger = record { of = s.ledger.of; permits = s.ledger.permits; spare = s.ledger.spare };
+  flight_count = s.flight_count;
+  flights = s.flights;
   bus = h;
 }

@@ -20,6 +20,7 @@ mod sending;
 pub mod simulator;
 mod stepping;
 mod taking;
+mod waiting;
 mod writing;
 
 pub use domain::Domain;

@@ -1,6 +1,7 @@
-//! The parts of a deployment that is run: its plan, the writers and readers, the ledger and the bus.
+//! The parts of a deployment that is run: its plan, the writers and readers, the ledger, the flights and the bus.
 
 use crate::bus::Bus;
+use dds_flights::Flights;
 use dds_match::Plan;
 use dds_reader::Reader;
 use dds_rules::Ledger;
@@ -14,6 +15,8 @@ pub(crate) struct Parts {
     pub(crate) writers: Vec<Writer>,
     pub(crate) readers: Vec<Reader>,
     pub(crate) ledger: Ledger,
+    /// What is under way from each writer to readers with a cap or a lag.
+    pub(crate) flights: Vec<Flights>,
     pub(crate) bus: Bus,
 }
 

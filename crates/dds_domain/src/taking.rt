@@ -4,6 +4,7 @@ ghost use Rattle.dds_base.specs.declared.events.Event.TheVariants.{Take};
 ghost use Rattle.dds_domain.specs.Standing.{HasWorld, OnRefused, StepsNotes, StepsWorld};
 
 use crate::parts::Parts;
+use crate::waiting::note_take;
 use dds_base::{KeyNo, ReaderNo, Refusal, Reply};
 
 impl Parts {
@@ -25,6 +26,7 @@ impl Parts {
             None => Reply::Refused(Refusal::Empty),
             Some(sample) => {
                 self.ledger.note_take(reader, key).unwrap();
+                note_take(&mut self.flights, sample.writer, reader, key);
                 Reply::Took(sample)
             }
         }

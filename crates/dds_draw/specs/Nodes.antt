@@ -9,6 +9,8 @@ use Rattle.dds_qos.specs.declared.policies.Policies.{Policies}
 use Rattle.dds_qos.specs.declared.policies.Reliability.{Reliability}
 use Rattle.dds_qos.specs.declared.policies.Reliability.TheVariants.{BestEffort, Reliable}
 use Rattle.dds_lists.specs.Lists.{Lists, Reader, Rule, Writer}
+use Rattle.dds_lists.specs.declared.lists.Pace.{Pace}
+use Rattle.dds_show.specs.Times.{time_text}
 use Rattle.dds_weights.specs.Lists.{Certificate}
 use Rattle.dds_text.specs.Names.{name_at, reader_key, reader_name, rule_text, writer_name}
 use Rattle.dds_weights.specs.declared.certificate.Bound.{Bound}
@@ -74,6 +76,15 @@ writer_node d w x =
 abbrev pub may_lose_line : Bool → List ℕ
 may_lose_line may_lose = if may_lose then codes "\\nmay lose" else []
 
+-- how soon something is done after a write; nothing where that isn't known
+abbrev pub span_line : List ℕ → Option ℕ → List ℕ
+span_line done (Some n) = codes "\\n" ++ (done ++ (codes " within " ++ time_text n))
+span_line done None = []
+
+-- how soon after its write a reader takes each sample, and can take it
+abbrev pub span_lines : Reader → List ℕ
+span_lines x = span_line (codes "taken") x.taken_within ++ span_line (codes "available") x.available_within
+
 -- the node of a reader with this number, with what a certificate shows of it and, as its colour, how much room that leaves
 unfoldable pub reader_node : Lists → Option Certificate → ℕ → Reader → List ℕ
 reader_node d c r x =
@@ -83,12 +94,21 @@ reader_node d c r x =
     ++ (colour_of c r (reader_limits_of x.qos.requested)
     ++ (codes ", label=\""
     ++ (endpoint_label (reader_name d r) (name_at d.topics.names x.topic) x.qos.requested
-    ++ (may_lose_line x.may_lose ++ (certificate_lines d r (reader_limits_of x.qos.requested) c ++ codes "\"];\n")))))))
+    ++ (may_lose_line x.may_lose ++ (span_lines x ++ (certificate_lines d r (reader_limits_of x.qos.requested) c ++ codes "\"];\n"))))))))
 
 -- how often a rule may write at the opening, nothing where it may not
 abbrev pub start_line : Rule → List ℕ
 start_line x = if x.free then codes "\\nstart unlimited" else if x.start == 0 then [] else codes "\\nstart " ++ decimal x.start
 
+-- by how much turns may be nearer than the period
+abbrev pub jitter_words : ℕ → List ℕ
+jitter_words jitter = if jitter == 0 then [] else codes ", jitter " ++ time_text jitter
+
+-- how often a rule writes at most, by the clock; nothing where nothing bounds that
+abbrev pub pace_line : Option Pace → List ℕ
+pace_line (Some pace) = codes "\\nevery " ++ (time_text pace.period ++ jitter_words pace.jitter)
+pace_line None = []
+
 -- the node of a rule with this number
 unfoldable pub rule_node : Lists → ℕ → Rule → List ℕ
-rule_node d u x = codes "      \"rule " ++ (decimal u ++ (codes "\" [shape=ellipse, label=\"" ++ (rule_text d u ++ (start_line x ++ codes "\"];\n"))))
+rule_node d u x = codes "      \"rule " ++ (decimal u ++ (codes "\" [shape=ellipse, label=\"" ++ (rule_text d u ++ (start_line x ++ (pace_line x.pace ++ codes "\"];\n")))))

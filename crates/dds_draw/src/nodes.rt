@@ -3,15 +3,17 @@
 ghost use Rattle.std.specs.Prelude.{◌≡◌, IfOk, option_map, string_bytes};
 ghost use Rattle.dds_lists.specs.Views.{reader_view, rule_view, writer_view};
 ghost use Rattle.dds_weights.specs.Views.{certificate_view};
-ghost use Rattle.dds_draw.specs.Nodes.{bound_line, certificate_lines, endpoint_label, history_line, limit_line};
-ghost use Rattle.dds_draw.specs.Nodes.{limit_words, may_lose_line, policies_lines, reader_node, reliability_line};
-ghost use Rattle.dds_draw.specs.Nodes.{rule_node, start_line, total_line, writer_node};
+ghost use Rattle.dds_draw.specs.Nodes.{bound_line, certificate_lines, endpoint_label, history_line, jitter_words};
+ghost use Rattle.dds_draw.specs.Nodes.{limit_line, limit_words, may_lose_line, pace_line, policies_lines};
+ghost use Rattle.dds_draw.specs.Nodes.{reader_node, reliability_line, rule_node, span_line, span_lines, start_line};
+ghost use Rattle.dds_draw.specs.Nodes.{total_line, writer_node};
 
 use crate::room::colour_of;
 use dds_base::{ReaderNo, RuleNo, WriterNo};
 use dds_check::limits::instance_limit;
-use dds_lists::{Deployment, Reader, Rule, Writer};
+use dds_lists::{Deployment, Pace, Reader, Rule, Writer};
 use dds_qos::{History, HistoryKind, Policies, ReaderLimits, Reliability, reader_limits};
+use dds_show::times::time_text;
 use dds_text::names::{name_at, reader_key, reader_name, rule_text, writer_name};
 use dds_text::texts::{TextResult, text_of_each};
 use dds_weights::{Bound, Certificate, Total};
@@ -165,6 +167,28 @@ fn may_lose_line(may_lose: bool) -> &'static str
     if may_lose { "\\nmay lose" } else { "" }
 }
 
+/// How soon something is done after a write; nothing where that isn't known.
+fn span_line(alloc: Global, done: &str, nanoseconds: Option<u64>) -> TextResult
+    ensures { IfOk result (λ text. string_bytes text ≡ span_line done.now nanoseconds) }
+{
+    match nanoseconds {
+        Some(nanoseconds) => {
+            let time = time_text(alloc, nanoseconds)?;
+            format!(in alloc; "\\n{done} within {time}")
+        }
+        None => Ok(String::new(alloc)),
+    }
+}
+
+/// How soon after its write a reader takes each sample, and can take it.
+fn span_lines(alloc: Global, x: &Reader) -> TextResult
+    ensures { IfOk result (λ text. string_bytes text ≡ span_lines (reader_view x.now)) }
+{
+    let taken = span_line(alloc, "taken", x.taken_within)?;
+    let available = span_line(alloc, "available", x.available_within)?;
+    format!(in alloc; "{taken}{available}")
+}
+
 /// The node of a reader, with what a certificate shows of it and, as its colour, how much room that leaves.
 pub(crate) fn reader_node(
     alloc: Global,
@@ -184,9 +208,10 @@ pub(crate) fn reader_node(
     let may_lose = may_lose_line(x.may_lose);
     let limits = reader_limits(&x.qos);
     let colour = colour_of(certificate, reader, &limits);
+    let spans = span_lines(alloc, x)?;
     let claims = certificate_lines(alloc, lists, certificate, reader, &limits)?;
     format!(in alloc;
-        "    \"reader {name}\" [style=filled, fillcolor={colour}, label=\"{label}{may_lose}{claims}\"];\n"
+        "    \"reader {name}\" [style=filled, fillcolor={colour}, label=\"{label}{may_lose}{spans}{claims}\"];\n"
     )
 }
 
@@ -204,6 +229,31 @@ fn start_line(alloc: Global, x: &Rule) -> TextResult
     format!(in alloc; "\\nstart {start}")
 }
 
+/// By how much turns may be nearer than the period.
+fn jitter_words(alloc: Global, jitter: u64) -> TextResult
+    ensures { IfOk result (λ text. string_bytes text ≡ jitter_words jitter) }
+{
+    if jitter == 0 {
+        return Ok(String::new(alloc));
+    }
+    let jitter = time_text(alloc, jitter)?;
+    format!(in alloc; ", jitter {jitter}")
+}
+
+/// How often a rule writes at most, by the clock; nothing where nothing bounds that.
+fn pace_line(alloc: Global, pace: Option<Pace>) -> TextResult
+    ensures { IfOk result (λ text. string_bytes text ≡ pace_line pace) }
+{
+    match pace {
+        Some(Pace { period, jitter }) => {
+            let period = time_text(alloc, period)?;
+            let jitter = jitter_words(alloc, jitter)?;
+            format!(in alloc; "\\nevery {period}{jitter}")
+        }
+        None => Ok(String::new(alloc)),
+    }
+}
+
 /// The node of a rule.
 pub(crate) fn rule_node(alloc: Global, lists: &Deployment, rule: RuleNo, x: &Rule) -> TextResult
     ensures { IfOk result (λ text. string_bytes text ≡ rule_node lists.now rule (rule_view x.now)) }
@@ -211,5 +261,6 @@ pub(crate) fn rule_node(alloc: Global, lists: &Deployment, rule: RuleNo, x: &Rul
     let number = rule.number();
     let name = rule_text(alloc, lists, rule)?;
     let start = start_line(alloc, x)?;
-    format!(in alloc; "      \"rule {number}\" [shape=ellipse, label=\"{name}{start}\"];\n")
+    let pace = pace_line(alloc, x.pace)?;
+    format!(in alloc; "      \"rule {number}\" [shape=ellipse, label=\"{name}{start}{pace}\"];\n")
 }

@@ -18,6 +18,7 @@ use Rattle.dds_text.specs.Names.{writer_name}
 abbrev pub refusal_name : Refusal → List ℕ
 refusal_name refusal.Foreign = codes "Foreign"
 refusal_name refusal.NoPermit = codes "NoPermit"
+refusal_name refusal.NotYet = codes "NotYet"
 refusal_name refusal.SequenceEnd = codes "SequenceEnd"
 refusal_name refusal.InstanceLimit = codes "InstanceLimit"
 refusal_name refusal.Full = codes "Full"

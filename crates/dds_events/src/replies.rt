@@ -14,6 +14,7 @@ pub(crate) fn refusal_name(refusal: Refusal) -> &'static str
     match refusal {
         Refusal::Foreign => "Foreign",
         Refusal::NoPermit => "NoPermit",
+        Refusal::NotYet => "NotYet",
         Refusal::SequenceEnd => "SequenceEnd",
         Refusal::InstanceLimit => "InstanceLimit",
         Refusal::Full => "Full",

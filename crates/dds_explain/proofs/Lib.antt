@@ -1,1 +1,2 @@
 mod ExplainLaws
+mod Periods

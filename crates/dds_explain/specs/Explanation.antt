@@ -7,7 +7,7 @@ use Rattle.dds_check.specs.declared.verdict.Number.{Number}
 use Rattle.dds_check.specs.declared.verdict.Number.TheVariants.{IntendedNotMatched, UnintendedMatch, WriterKeepsLast, Exclusive, SourceOrder, OrderedOrCoherent, WriterBestEffort, ReaderInstances, NoBound, BoundOverInstanceLimit, BoundOverSamples, WriterInstances, KeepLastFilter, WriterDepth, TakeRaises, RuleRaises, WriteRaises, BoundNotShown}
 use Rattle.dds_check.specs.declared.verdict.Subject.{Subject}
 use Rattle.dds_check.specs.declared.verdict.Subject.TheVariants as subject
-use Rattle.dds_explain.specs.Limits.{reader_instances_lines, writer_instances_lines, no_bound_line, no_total_lines, bound_over_line, samples_over_lines, keep_last_filter_lines, writer_depth_lines}
+use Rattle.dds_explain.specs.Limits.{reader_instances_lines, writer_instances_lines, no_bound_line, no_total_lines, bound_over_lines, samples_over_lines, keep_last_filter_lines, writer_depth_lines}
 use Rattle.dds_explain.specs.Margin.{margin_lines}
 use Rattle.dds_explain.specs.Pairs.{not_matched_lines, not_intended_line}
 use Rattle.dds_text.specs.Names.{writer_name, reader_name}
@@ -30,7 +30,7 @@ pair_key_reason d c _ w r k = []
 -- why a key of a reader is refused
 abbrev pub instance_reason : Lists → Certificate → Number → ℕ → ℕ → List ℕ
 instance_reason d c NoBound r k = no_bound_line d r k
-instance_reason d c BoundOverInstanceLimit r k = bound_over_line d c r k
+instance_reason d c BoundOverInstanceLimit r k = bound_over_lines d c r k
 instance_reason d c BoundNotShown r k = bound_not_shown_lines d c r k
 instance_reason d c _ r k = []
 

@@ -1,7 +1,8 @@
-pub mod Acceptance
-pub mod Refusal
 pub mod Pieces
 pub mod Values
+pub mod Paces
+pub mod Budgets
+pub mod Premises
 pub mod Places
 pub mod Pairs
 pub mod Policies
@@ -9,5 +10,4 @@ pub mod Limits
 pub mod Rows
 pub mod Shown
 pub mod Margin
-pub mod Notes
 pub mod Explanation

@@ -1,19 +1,21 @@
 -- Why numbers 20 to 24 refuse an endpoint: how much can come, and the limit that is too small for it (DDS 1.4, clause 2.2.3.19); and why 25
 -- and 26 refuse a writer that keeps the last samples alone (DDS 1.4, clause 2.2.3.18).
-use Rattle.std.specs.Prelude.{codes, ℕ, List, [], ◌++◌, Option, Some, None, if◌then◌else◌}
+use Rattle.std.specs.Prelude.{codes, ℕ, List, [], ◌++◌, Option, Some, None, min, if◌then◌else◌}
 use Rattle.std.specs.Fmt.{decimal}
 use Rattle.dds_base.specs.Grid.{most_keys}
 use Rattle.dds_base.specs.Sums.{total, count_below}
 use Rattle.dds_lists.specs.Lists.{Lists}
-use Rattle.dds_match.specs.Network.{reach, is_written}
+use Rattle.dds_match.specs.Network.{Network, reach, is_written}
+use Rattle.dds_match.specs.Paces.{available_span, taken_span}
 use Rattle.dds_match.specs.Plan.{network_of}
 use Rattle.dds_weights.specs.Lists.{Certificate}
 use Rattle.dds_text.specs.Names.{reader_key, writer_key, writer_name, reader_name}
 use Rattle.dds_text.specs.Texts.{each_below, number_or}
 use Rattle.dds_weights.specs.declared.certificate.Bound.{Bound}
-use Rattle.dds_runs.specs.Accepted.{instance_limit}
+use Rattle.dds_runs.specs.Accepted.{instance_limit, is_finite, opening_permits}
 use Rattle.dds_check.specs.Limits.{is_bounded, is_heard, reached_bound}
 use Rattle.dds_check.specs.Tables.{bound_of, total_of}
+use Rattle.dds_explain.specs.Paces.{capped_lines, pace_lines}
 use Rattle.dds_explain.specs.Pieces.{limit_text, instance_limit_name, key_line}
 
 -- ── 20
@@ -66,6 +68,10 @@ bound_over_line d c r k =
     codes "because the bound of " ++ (reader_key d r k ++ (codes " at " ++ (reader_name d r ++ (codes " is " ++ (bound_text (bound_of c.bounds r k) ++ (codes ", and its "
     ++ (instance_limit_name ((network_of d).reader_limits r) ++ (codes " is " ++ (limit_text (instance_limit ((network_of d).reader_limits r)) ++ codes "\n")))))))))
 
+-- the same with the terms of the caps that bound how many samples of the key the reader has yet to take
+abbrev pub bound_over_lines : Lists → Certificate → ℕ → ℕ → List ℕ
+bound_over_lines d c r k = bound_over_line d c r k ++ capped_lines d r k
+
 -- ── 23
 -- a total in a line of its own, if there is one
 abbrev pub total_line : Option ℕ → List ℕ
@@ -100,13 +106,50 @@ keep_last_filter_lines d w r =
     ++ each_below most_keys (unheard_key d w r)))))
 
 -- ── 26
--- the bound of a key at a reader in words
-abbrev pub bound_given : List ℕ → List ℕ → Option ℕ → List ℕ
-bound_given key reader (Some n) = codes "the bound of " ++ (key ++ (codes " at " ++ (reader ++ (codes " is " ++ decimal n))))
-bound_given key reader None = codes "no bound of " ++ (key ++ (codes " at " ++ (reader ++ codes " is given")))
+-- the lesser of two numbers, either of which may be missing
+abbrev pub lesser : Option ℕ → Option ℕ → Option ℕ
+lesser None y = y
+lesser (Some x) None = Some x
+lesser (Some x) (Some y) = Some (min x y)
 
--- the depth of a writer with KEEP_LAST, the bound of the key at the reader, and the reader's total if there is one
+-- how often a key is ever written at a writer, unless it may be written at any time or firings let it be written again
+abbrev pub writes_at_all : Network → ℕ → ℕ → Option ℕ
+writes_at_all net w k = if is_finite net w k then Some (opening_permits net w k) else None
+
+-- the least depth of the writer that would be enough for a key of a reader
+abbrev pub least_depth : Network → Certificate → ℕ → ℕ → ℕ → Option ℕ
+least_depth net c w r k = lesser (bound_of c.bounds r k) (lesser (total_of c.totals r) (lesser (net.cap w r k) (lesser (net.lag w r k) (writes_at_all net w k))))
+
+-- what would be enough, if anything would
+abbrev pub depth_words : List ℕ → List ℕ → Option ℕ → List ℕ
+depth_words key reader (Some n) = decimal n ++ codes " would be enough"
+depth_words key reader None = codes "no bound of " ++ (key ++ (codes " at " ++ (reader ++ codes " is given")))
+
+-- the bound of a key in a line of its own, if there is one
+abbrev pub given_bound_line : List ℕ → Option ℕ → List ℕ
+given_bound_line key (Some n) = codes "  bound " ++ (key ++ (codes " " ++ (decimal n ++ codes "\n")))
+given_bound_line key None = []
+
+-- a number that bounds what a reader lacks in a line of its own, if there is one
+abbrev pub number_line : List ℕ → Option ℕ → List ℕ → List ℕ
+number_line before (Some n) after = codes "  " ++ (before ++ (codes " " ++ (decimal n ++ (after ++ codes "\n"))))
+number_line before None after = []
+
+-- how many samples of the writer a reader has yet to take by the clock, and how many it can't take yet, with their terms
+abbrev pub clock_lines : Lists → ℕ → ℕ → ℕ → List ℕ
+clock_lines d w r k =
+    number_line (codes "cap") ((network_of d).cap w r k) [] ++ (pace_lines d w k ((network_of d).cap w r k) (taken_span d r)
+    ++ (number_line (codes "lag") ((network_of d).lag w r k) [] ++ pace_lines d w k ((network_of d).lag w r k) (available_span d r)))
+
+-- the depth of a writer with KEEP_LAST, and what would be enough
+abbrev pub writer_depth_line : Lists → Certificate → ℕ → ℕ → ℕ → List ℕ
+writer_depth_line d c w r k =
+    codes "because " ++ (writer_name d w ++ (codes " keeps " ++ (limit_text ((network_of d).writer_limits w).keep_last ++ (codes " of " ++ (writer_key d w k ++ (codes ", and "
+    ++ (depth_words (reader_key d r k) (reader_name d r) (least_depth (network_of d) c w r k) ++ codes "\n")))))))
+
+-- the same with each number that the depth may be compared with: the bound, the total, the cap and the lag with their terms, and all that is ever
+-- written
 abbrev pub writer_depth_lines : Lists → Certificate → ℕ → ℕ → ℕ → List ℕ
 writer_depth_lines d c w r k =
-    codes "because " ++ (writer_name d w ++ (codes " keeps " ++ (limit_text ((network_of d).writer_limits w).keep_last ++ (codes " of " ++ (writer_key d w k ++ (codes ", and "
-    ++ (bound_given (reader_key d r k) (reader_name d r) (bound_of c.bounds r k) ++ (codes "\n" ++ total_line (total_of c.totals r)))))))))
+    writer_depth_line d c w r k ++ (given_bound_line (reader_key d r k) (bound_of c.bounds r k) ++ (total_line (total_of c.totals r)
+    ++ (clock_lines d w r k ++ number_line (codes "writes") (writes_at_all (network_of d) w k) (codes " in all"))))

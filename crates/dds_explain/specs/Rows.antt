@@ -1,5 +1,5 @@
 -- Why numbers 30 to 32 refuse a row: what weighs more after a take, a firing or a write than before it.
-use Rattle.std.specs.Prelude.{codes, ℕ, List, [], ◌++◌, ◌&&◌, flat_map, length, slice_get, if◌then◌else◌}
+use Rattle.std.specs.Prelude.{codes, ℕ, List, [], ◌++◌, ◌&&◌, is_none, flat_map, length, slice_get, if◌then◌else◌}
 use Rattle.std.specs.Fmt.{decimal}
 use Rattle.std.specs.Option.{option_map_or}
 use Rattle.dds_base.specs.declared.portion.Portion.{Portion}
@@ -9,7 +9,7 @@ use Rattle.dds_match.specs.Plan.{network_of}
 use Rattle.dds_weights.specs.Lists.{Certificate, Row}
 use Rattle.dds_text.specs.Names.{reader_key, writer_key, writer_name, reader_name, rule_text}
 use Rattle.dds_text.specs.Texts.{each_below}
-use Rattle.dds_runs.specs.Accepted.{row_of, spread}
+use Rattle.dds_runs.specs.Accepted.{row_of, carried, spread}
 use Rattle.dds_explain.specs.Pieces.{weighed_term}
 
 -- ── 30
@@ -51,10 +51,10 @@ abbrev pub rule_raises_lines : Lists → Certificate → ℕ → ℕ → List �
 rule_raises_lines d c n u = option_map_or (λ row. rule_lines d row u) (slice_get c.rows n) []
 
 -- ── 32
--- what a sample of the key weighs at a matched reader that hears it
+-- what a sample of the key weighs at a matched reader that hears it, unless caps carry it
 abbrev pub heard_line : Lists → Row → ℕ → ℕ → ℕ → List ℕ
 heard_line d row w k r =
-    if (network_of d).matched w r && (network_of d).hears r k
+    if (network_of d).matched w r && ((network_of d).hears r k && is_none (carried (network_of d) (row_of row) r k))
     then codes "  a sample at " ++ (reader_name d r ++ (codes " weighs " ++ (decimal ((row_of row).samples r k) ++ codes "\n")))
     else []
 

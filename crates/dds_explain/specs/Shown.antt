@@ -1,4 +1,4 @@
--- Why number 33 refuses a bound or a total: what the permits at the opening weigh by its row, and what a sample does.
+-- Why number 33 refuses a bound or a total: what the permits at the opening weigh by its row, what caps carry, and what a sample weighs.
 use Rattle.std.specs.Prelude.{codes, ℕ, List, [], ◌++◌, ◌==◌, ◌&&◌, ◌/◌, flat_map, length, slice_get, if◌then◌else◌}
 use Rattle.std.specs.Fmt.{decimal}
 use Rattle.std.specs.Option.{option_map_or}
@@ -11,18 +11,20 @@ use Rattle.dds_text.specs.Names.{reader_key, writer_key, writer_name, reader_nam
 use Rattle.dds_text.specs.Texts.{each_below}
 use Rattle.dds_weights.specs.declared.certificate.Bound.{Bound}
 use Rattle.dds_weights.specs.declared.certificate.Total.{Total}
-use Rattle.dds_runs.specs.Accepted.{row_of, budget, opening_permits}
+use Rattle.dds_runs.specs.Accepted.{row_of, opening_permits}
 use Rattle.dds_check.specs.Shown.{shows, shows_all}
+use Rattle.dds_explain.specs.declared.budgets.Budget.{Budget}
+use Rattle.dds_explain.specs.Budgets.{budget_of, carried_lines, carried_text}
 use Rattle.dds_explain.specs.Pieces.{weighed_term}
 
--- the least bound that a row shows, by what the permits at the opening weigh and what a sample weighs
+-- the least bound that a row shows, by its budget and what a sample weighs
 abbrev pub shown_text : ℕ → ℕ → List ℕ
-shown_text opening weight = if weight == 0 then codes "no bound" else decimal (opening / weight)
+shown_text whole weight = if weight == 0 then codes "no bound" else decimal (whole / weight)
 
 -- what a sample of a key weighs, and what that shows
 abbrev pub sample_line : Lists → Row → ℕ → ℕ → ℕ → List ℕ
-sample_line d row opening r k =
-    codes "  a sample of " ++ (reader_key d r k ++ (codes " weighs " ++ (decimal ((row_of row).samples r k) ++ (codes ", which shows " ++ (shown_text opening ((row_of row).samples r k) ++ codes "\n")))))
+sample_line d row whole r k =
+    codes "  a sample of " ++ (reader_key d r k ++ (codes " weighs " ++ (decimal ((row_of row).samples r k) ++ (codes ", which shows " ++ (shown_text whole ((row_of row).samples r k) ++ codes "\n")))))
 
 -- the permits to write a key at a writer at the opening, if there are any
 abbrev pub permit_line : Lists → Row → ℕ → ℕ → List ℕ
@@ -39,22 +41,27 @@ writer_permit_lines d row w = each_below most_keys (permit_line d row w)
 abbrev pub permit_lines : Lists → Row → List ℕ
 permit_lines d row = each_below (length d.writers.entries) (writer_permit_lines d row)
 
--- what a row doesn't show, and what the permits at the opening weigh by it
-abbrev pub unshown_line : Row → List ℕ → ℕ → List ℕ
-unshown_line row claim opening = codes "because " ++ (row.name ++ (codes " doesn't show " ++ (claim ++ (codes ": permits at the opening weigh " ++ (decimal opening ++ codes "\n")))))
+-- what a row doesn't show, what the permits at the opening weigh by it, and what caps carry
+abbrev pub unshown_line : Row → List ℕ → Budget → List ℕ
+unshown_line row claim b =
+    codes "because " ++ (row.name ++ (codes " doesn't show " ++ (claim ++ (codes ": permits at the opening weigh " ++ (decimal b.opening ++ (carried_text (codes ", and samples that caps carry ") b [] ++ codes "\n"))))))
 
 -- ── bounds
 -- a bound in words
 abbrev pub bound_claim : Lists → Bound → List ℕ
 bound_claim d b = codes "the bound " ++ (decimal b.bound ++ (codes " of " ++ (reader_key d b.reader b.key ++ (codes " at " ++ reader_name d b.reader))))
 
--- a bound that its row doesn't show, with a sample of its key and the permits
-abbrev pub bound_lines : Lists → Row → Bound → ℕ → List ℕ
-bound_lines d row b opening = unshown_line row (bound_claim d b) opening ++ (sample_line d row opening b.reader b.key ++ permit_lines d row)
+-- the terms of a row's budget: the permits at the opening, and the samples that caps carry
+abbrev pub budget_lines : Lists → Row → List ℕ
+budget_lines d row = permit_lines d row ++ carried_lines d row
+
+-- a bound that its row doesn't show, with a sample of its key and the terms of the budget
+abbrev pub bound_lines : Lists → Row → Bound → Budget → List ℕ
+bound_lines d row x b = unshown_line row (bound_claim d x) b ++ (sample_line d row b.whole x.reader x.key ++ budget_lines d row)
 
 -- the same, if the row doesn't show it
 abbrev pub unshown_bound_by : Lists → Row → Bound → List ℕ
-unshown_bound_by d row b = if shows (network_of d) (row_of row) b.bound b.reader b.key then [] else bound_lines d row b (budget (network_of d) (row_of row))
+unshown_bound_by d row b = if shows (network_of d) (row_of row) b.bound b.reader b.key then [] else bound_lines d row b (budget_of (network_of d) (row_of row))
 
 -- the same, if it is a bound of the key at the reader
 abbrev pub unshown_bound : Lists → Certificate → ℕ → ℕ → Bound → List ℕ
@@ -71,15 +78,15 @@ total_claim d t = codes "the total " ++ (decimal t.bound ++ (codes " of " ++ rea
 
 -- what a sample of a key weighs that can reach the reader
 abbrev pub reached_sample_line : Lists → Row → ℕ → ℕ → ℕ → List ℕ
-reached_sample_line d row opening r k = if reach (network_of d) r k then sample_line d row opening r k else []
+reached_sample_line d row whole r k = if reach (network_of d) r k then sample_line d row whole r k else []
 
--- a total that its row doesn't show, with a sample of each key and the permits
-abbrev pub total_lines : Lists → Row → Total → ℕ → List ℕ
-total_lines d row t opening = unshown_line row (total_claim d t) opening ++ (each_below most_keys (reached_sample_line d row opening t.reader) ++ permit_lines d row)
+-- a total that its row doesn't show, with a sample of each key and the terms of the budget
+abbrev pub total_lines : Lists → Row → Total → Budget → List ℕ
+total_lines d row t b = unshown_line row (total_claim d t) b ++ (each_below most_keys (reached_sample_line d row b.whole t.reader) ++ budget_lines d row)
 
 -- the same, if the row doesn't show it
 abbrev pub unshown_total_by : Lists → Row → Total → List ℕ
-unshown_total_by d row t = if shows_all (network_of d) (row_of row) t then [] else total_lines d row t (budget (network_of d) (row_of row))
+unshown_total_by d row t = if shows_all (network_of d) (row_of row) t then [] else total_lines d row t (budget_of (network_of d) (row_of row))
 
 -- the same, if it is a total of the reader
 abbrev pub unshown_total : Lists → Certificate → ℕ → Total → List ℕ

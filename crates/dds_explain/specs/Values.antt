@@ -1,6 +1,5 @@
 -- What a writer offers and a reader requests where their policies don't agree, field by field (OMG DDS 1.4, clause 2.2.3).
-use Rattle.std.specs.Prelude.{ℕ, Bool, ◌%◌, ◌/◌, ◌==◌, nat_le, if◌then◌else◌, codes, List, [], ◌++◌, flat_map, Option, option_map, slice_get}
-use Rattle.std.specs.Fmt.{decimal}
+use Rattle.std.specs.Prelude.{ℕ, Bool, nat_le, if◌then◌else◌, codes, List, [], ◌++◌, flat_map, Option, option_map, slice_get}
 use Rattle.std.specs.Option.{option_map_or}
 use Rattle.dds_qos.specs.Compatibility.{contains, is_granted, is_no_longer, liveliness_rank, policies, scope_rank}
 use Rattle.dds_qos.specs.declared.compatibility.Policy.{Policy}
@@ -13,17 +12,11 @@ use Rattle.dds_qos.specs.declared.policies.Policies.{Policies}
 use Rattle.dds_qos.specs.declared.policies.Presentation.{Presentation}
 use Rattle.dds_lists.specs.Lists.{Lists, Reader, Writer}
 use Rattle.dds_text.specs.Words.{access_scope_word, destination_order_word, durability_word, liveliness_word, ownership_word, reliability_word}
+use Rattle.dds_show.specs.Times.{time_text}
 
 -- a field of the file, with what is offered and what is requested there
 abbrev pub value_line : (field offered requested : List ℕ) → List ℕ
 value_line field offered requested = codes "  " ++ (field ++ (codes ": offered " ++ (offered ++ (codes ", requested " ++ (requested ++ codes "\n")))))
-
--- so many nanoseconds, in the greatest unit that makes them a whole number
-abbrev pub time_text : ℕ → List ℕ
-time_text n =
-    if n % 1000000000 == 0 then decimal (n / 1000000000) ++ codes " s" else
-    (if n % 1000000 == 0 then decimal (n / 1000000) ++ codes " ms" else
-    (if n % 1000 == 0 then decimal (n / 1000) ++ codes " us" else decimal n ++ codes " ns"))
 
 -- a length of time
 abbrev pub duration_text : Duration → List ℕ

@@ -6,8 +6,8 @@ ghost use Rattle.dds_explain.specs.Explanation.{reason, reason_of, rule_reason, 
 ghost use Rattle.dds_explain.specs.Explanation.{writer_reason};
 
 use crate::limits::{
-    bound_over_line, keep_last_filter_lines, no_bound_line, no_total_lines, reader_instances_lines,
-    samples_over_lines, writer_depth_lines, writer_instances_lines,
+    bound_over_lines, keep_last_filter_lines, no_bound_line, no_total_lines,
+    reader_instances_lines, samples_over_lines, writer_depth_lines, writer_instances_lines,
 };
 use crate::margin::margin_lines;
 use crate::pairs::{not_intended_line, not_matched_lines};
@@ -76,7 +76,7 @@ fn instance_reason(
 {
     match number {
         Number::NoBound => no_bound_line(alloc, plan, reader, key),
-        Number::BoundOverInstanceLimit => bound_over_line(alloc, plan, certificate, reader, key),
+        Number::BoundOverInstanceLimit => bound_over_lines(alloc, plan, certificate, reader, key),
         Number::BoundNotShown => bound_not_shown_lines(alloc, plan, certificate, reader, key),
         _ => Ok(String::new(alloc)),
     }
@@ -222,8 +222,10 @@ pub fn reason(alloc: Global, plan: &Plan, certificate: &Certificate, no: No) -> 
 
 /// How tight an accepted certificate is: a line for each bound and then for each total, in the order of the
 /// certificate. It has the number of samples, the limit of the reader that it keeps or `no limit` (OMG DDS 1.4, clauses
-/// 2.2.3.18 and 2.2.3.19), what the permits at the opening weigh by its row and, of a bound, what a sample weighs and
-/// the least bound that the row shows. `NoMemory` is the only error.
+/// 2.2.3.18 and 2.2.3.19), what the permits at the opening weigh by its row, what the samples weigh that caps carry, if
+/// there are such, and, of a bound, what a sample weighs and the least bound that the row shows. Below it is a line,
+/// indented by two blanks, for each key of a reader that a cap carries, and one for each term of the cap. `NoMemory` is
+/// the only error.
 #[tactic(auto, unfolding(crate::specs::Explanation::margins))]
 pub fn margins(alloc: Global, plan: &Plan, certificate: &Certificate) -> TextResult
     ensures { IfOk result (λ text. string_bytes text ≡ margins plan.now (certificate_view certificate.now)) }

@@ -2,22 +2,22 @@
 //! numbers behind a refusal, how tight what is accepted is, and what a yes doesn't say.
 #![tactic(auto, using(dds_runs::proofs::Sums::total_start, dds_runs::proofs::Sums::total_more))]
 
-mod acceptance;
+mod budgets;
 mod explanation;
 mod limits;
 mod margin;
-mod notes;
+mod paces;
 mod pairs;
 mod pieces;
 mod places;
 mod policies;
-mod refusal;
+mod premises;
 mod rows;
 mod shown;
 mod values;
 mod weights;
 
-pub use acceptance::acceptance_text;
 pub use explanation::{margins, reason};
-pub use notes::{note_lines, note_subject, note_text};
-pub use refusal::refusal_text;
+pub use paces::span_text;
+pub use pairs::{mismatch_lines, why_not_text};
+pub use premises::premise_lines;

@@ -2,18 +2,20 @@
 //! 26 refuse a writer that keeps the last samples alone.
 ghost use Rattle.std.specs.Prelude.{◌≡◌, ◌<◌, IfOk, string_bytes};
 ghost use Rattle.dds_base.specs.Grid.{most_keys};
-ghost use Rattle.dds_base.specs.Sums.{total};
-ghost use Rattle.dds_text.specs.Names.{reader_key, reader_name};
+ghost use Rattle.dds_match.specs.Plan.{network_of};
 ghost use Rattle.dds_text.specs.Texts.{each_below};
 ghost use Rattle.dds_weights.specs.Views.{certificate_view};
 ghost use Rattle.dds_check.specs.Limits.{is_bounded, is_heard};
-ghost use Rattle.dds_check.specs.Tables.{bound_of};
-ghost use Rattle.dds_explain.specs.Limits.{bound_given, keep_last_filter_lines, unheard_key, writer_depth_lines};
-ghost use Rattle.dds_explain.specs.Limits.{bound_line, bound_over_line, bound_text, no_bound_line, no_total_lines};
-ghost use Rattle.dds_explain.specs.Limits.{reached_bound_line, reached_key, reader_instances_lines, samples_over_lines};
-ghost use Rattle.dds_explain.specs.Limits.{total_line, unbounded_key, writer_instances_lines, written_key};
+ghost use Rattle.dds_explain.specs.Limits.{bound_line, bound_over_line, bound_over_lines, bound_text, clock_lines};
+ghost use Rattle.dds_explain.specs.Limits.{depth_words, given_bound_line, keep_last_filter_lines, least_depth, lesser};
+ghost use Rattle.dds_explain.specs.Limits.{no_bound_line, no_total_lines, number_line, reached_bound_line, reached_key};
+ghost use Rattle.dds_explain.specs.Limits.{reader_instances_lines, samples_over_lines, total_line, unbounded_key};
+ghost use Rattle.dds_explain.specs.Limits.{unheard_key, writer_depth_line, writer_depth_lines, writer_instances_lines};
+ghost use Rattle.dds_explain.specs.Limits.{written_key};
 
+use crate::paces::{capped_lines, pace_lines};
 use crate::pieces::{instance_limit_name, key_line, limit_text, reader_limits, writer_limits};
+use crate::weights::writes_at_all;
 use dds_base::grid::KEYS;
 use dds_base::{KeyNo, ReaderNo, WriterNo};
 use dds_check::limits::{is_bounded, is_heard, sum_of_bounds};
@@ -170,7 +172,7 @@ fn bound_text(alloc: Global, bound: Option<u32>) -> TextResult
 }
 
 /// The bound of a key, and the limit of an instance.
-pub(crate) fn bound_over_line(
+fn bound_over_line(
     alloc: Global,
     plan: &Plan,
     certificate: &Certificate,
@@ -192,6 +194,23 @@ pub(crate) fn bound_over_line(
     format!(in alloc;
         "because the bound of {key} at {name} is {bound}, and its {policy} is {limit}\n"
     )
+}
+
+/// The bound of a key and the limit of an instance, with the terms of the caps that bound how many samples of the key
+/// the reader has yet to take.
+pub(crate) fn bound_over_lines(
+    alloc: Global,
+    plan: &Plan,
+    certificate: &Certificate,
+    reader: ReaderNo,
+    key: KeyNo,
+) -> TextResult
+    ensures { IfOk result
+        (λ text. string_bytes text ≡ bound_over_lines plan.now (certificate_view certificate.now) reader key) }
+{
+    let line = bound_over_line(alloc, plan, certificate, reader, key)?;
+    let terms = capped_lines(alloc, plan, reader, key)?;
+    format!(in alloc; "{line}{terms}")
 }
 
 /// A total in a line of its own, if there is one.
@@ -316,35 +335,125 @@ pub(crate) fn keep_last_filter_lines(
     )
 }
 
-/// The bound of a key at a reader in words.
-fn bound_given(alloc: Global, key: &str, reader: &str, bound: Option<u32>) -> TextResult
-    ensures { IfOk result (λ text. string_bytes text ≡ bound_given key.now reader.now bound) }
+/// The lesser of two numbers, either of which may be missing.
+fn lesser(x: Option<u128>, y: Option<u128>) -> Option<u128>
+    ensures { result ≡ lesser x y }
 {
-    match bound {
-        Some(bound) => format!(in alloc; "the bound of {key} at {reader} is {bound}"),
+    match (x, y) {
+        (Some(x), Some(y)) => Some(x.min(y)),
+        (Some(x), None) => Some(x),
+        (None, y) => y,
+    }
+}
+
+/// A number of 32 bits as one of 128.
+fn widened(number: Option<u32>) -> Option<u128>
+    ensures { result ≡ number }
+{
+    match number {
+        Some(n) => Some(u128::from(n)),
+        None => None,
+    }
+}
+
+/// The least depth of the writer that would be enough for a key of a reader.
+fn least_depth(
+    plan: &Plan,
+    certificate: &Certificate,
+    writer: WriterNo,
+    reader: ReaderNo,
+    key: KeyNo,
+) -> Option<u128>
+    ensures { result ≡ least_depth (network_of plan.now) (certificate_view certificate.now) writer reader key }
+{
+    let bound = find_bound(&certificate.bounds, reader, key);
+    let total = find_total(&certificate.totals, reader);
+    let cap = plan.cap(writer, reader, key);
+    let lag = plan.lag(writer, reader, key);
+    let clock = lesser(
+        widened(cap),
+        lesser(widened(lag), writes_at_all(plan, writer, key)),
+    );
+    lesser(widened(bound), lesser(widened(total), clock))
+}
+
+/// What would be enough, if anything would.
+fn depth_words(alloc: Global, key: &str, reader: &str, least: Option<u128>) -> TextResult
+    ensures { IfOk result (λ text. string_bytes text ≡ depth_words key.now reader.now least) }
+{
+    match least {
+        Some(n) => format!(in alloc; "{n} would be enough"),
         None => format!(in alloc; "no bound of {key} at {reader} is given"),
     }
 }
 
-/// The bound of a key at a reader by a certificate, in words.
-fn bound_of_key(
+/// The bound of a key in a line of its own, if there is one.
+fn given_bound_line(alloc: Global, key: &str, bound: Option<u32>) -> TextResult
+    ensures { IfOk result (λ text. string_bytes text ≡ given_bound_line key.now bound) }
+{
+    match bound {
+        Some(n) => format!(in alloc; "  bound {key} {n}\n"),
+        None => Ok(String::new(alloc)),
+    }
+}
+
+/// A number that bounds what a reader lacks in a line of its own, if there is one.
+fn number_line(alloc: Global, before: &str, number: Option<u128>, after: &str) -> TextResult
+    ensures { IfOk result (λ text. string_bytes text ≡ number_line before.now number after.now) }
+{
+    match number {
+        Some(n) => format!(in alloc; "  {before} {n}{after}\n"),
+        None => Ok(String::new(alloc)),
+    }
+}
+
+/// How many samples of the writer a reader has yet to take by the clock, and how many it can't take yet, with their
+/// terms.
+fn clock_lines(
+    alloc: Global,
+    plan: &Plan,
+    writer: WriterNo,
+    reader: ReaderNo,
+    key: KeyNo,
+) -> TextResult
+    ensures { IfOk result (λ text. string_bytes text ≡ clock_lines plan.now writer reader key) }
+{
+    let cap = plan.cap(writer, reader, key);
+    let lag = plan.lag(writer, reader, key);
+    let cap_line = number_line(alloc, "cap", widened(cap), "")?;
+    let cap_terms = pace_lines(alloc, plan, writer, key, cap, plan.taken_within(reader))?;
+    let lag_line = number_line(alloc, "lag", widened(lag), "")?;
+    let lag_terms = pace_lines(alloc, plan, writer, key, lag, plan.available_within(reader))?;
+    format!(in alloc; "{cap_line}{cap_terms}{lag_line}{lag_terms}")
+}
+
+/// The depth of a writer with KEEP_LAST, and what would be enough.
+fn writer_depth_line(
     alloc: Global,
     plan: &Plan,
     certificate: &Certificate,
+    writer: WriterNo,
     reader: ReaderNo,
     key: KeyNo,
 ) -> TextResult
     ensures { IfOk result
-        (λ text. string_bytes text
-        ≡ bound_given (reader_key plan.now reader key) (reader_name plan.now reader)
-        (bound_of (certificate_view certificate.now).bounds reader key)) }
+        (λ text. string_bytes text ≡ writer_depth_line plan.now (certificate_view certificate.now) writer reader key) }
 {
-    let bound = find_bound(certificate.bounds.as_slice(), reader, key);
-    let name = reader_key(plan.lists(), reader, key);
-    bound_given(alloc, name, reader_name(plan.lists(), reader), bound)
+    let depth = limit_text(alloc, writer_limits(plan, writer).keep_last)?;
+    let least = least_depth(plan, certificate, writer, reader, key);
+    let lists = plan.lists();
+    let enough = depth_words(
+        alloc,
+        reader_key(lists, reader, key),
+        reader_name(lists, reader),
+        least,
+    )?;
+    let key = writer_key(lists, writer, key);
+    let writer = writer_name(lists, writer);
+    format!(in alloc; "because {writer} keeps {depth} of {key}, and {enough}\n")
 }
 
-/// The depth of a writer with KEEP_LAST, the bound of the key at the reader, and the reader's total if there is one.
+/// The depth of a writer with KEEP_LAST, what would be enough, and each number that the depth may be compared with.
 pub(crate) fn writer_depth_lines(
     alloc: Global,
     plan: &Plan,
@@ -356,10 +465,12 @@ pub(crate) fn writer_depth_lines(
     ensures { IfOk result
         (λ text. string_bytes text ≡ writer_depth_lines plan.now (certificate_view certificate.now) writer reader key) }
 {
-    let depth = limit_text(alloc, writer_limits(plan, writer).keep_last)?;
-    let bound = bound_of_key(alloc, plan, certificate, reader, key)?;
-    let total = total_line(alloc, find_total(certificate.totals.as_slice(), reader))?;
-    let key = writer_key(plan.lists(), writer, key);
-    let writer = writer_name(plan.lists(), writer);
-    format!(in alloc; "because {writer} keeps {depth} of {key}, and {bound}\n{total}")
+    let line = writer_depth_line(alloc, plan, certificate, writer, reader, key)?;
+    let bound = find_bound(&certificate.bounds, reader, key);
+    let bound = given_bound_line(alloc, reader_key(plan.lists(), reader, key), bound)?;
+    let total = total_line(alloc, find_total(&certificate.totals, reader))?;
+    let clock = clock_lines(alloc, plan, writer, reader, key)?;
+    let writes = writes_at_all(plan, writer, key);
+    let writes = number_line(alloc, "writes", writes, " in all")?;
+    format!(in alloc; "{line}{bound}{total}{clock}{writes}")
 }

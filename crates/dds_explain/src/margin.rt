@@ -1,17 +1,18 @@
 //! How tight the bounds and totals of a certificate are: each beside the limit that it keeps, and what its row weighs.
-ghost use Rattle.std.specs.Prelude.{◌≡◌, IfNone, IfOk, IfSome, None, Some, slice_get, string_bytes};
+ghost use Rattle.std.specs.Prelude.{◌≡◌, IfNone, IfOk, IfSome, None, Some, flat_map, slice_get, string_bytes};
 ghost use Rattle.dds_match.specs.Plan.{network_of};
 ghost use Rattle.dds_weights.specs.Views.{certificate_view, row_view};
-ghost use Rattle.dds_runs.specs.Accepted.{budget, row_of};
-ghost use Rattle.dds_explain.specs.Margin.{bound_line, bound_margin, bound_words, margin_lines, margin_text};
-ghost use Rattle.dds_explain.specs.Margin.{named_instance_limit, named_limit, openings, total_line, total_margin};
-ghost use Rattle.dds_explain.specs.Margin.{total_words};
+ghost use Rattle.dds_runs.specs.Accepted.{row_of};
+ghost use Rattle.dds_explain.specs.Budgets.{budget_of, budgets};
+ghost use Rattle.dds_explain.specs.Margin.{bound_line, bound_margin, bound_words, carried_by, margin_lines};
+ghost use Rattle.dds_explain.specs.Margin.{margin_text, named_instance_limit, named_limit, row_margin, total_line};
+ghost use Rattle.dds_explain.specs.Margin.{total_margin, total_words};
 
+use crate::budgets::{Budget, carried_lines, carried_text};
 use crate::pieces::{instance_limit_name, reader_limits};
 use crate::shown::shown_text;
 use crate::weights::sample_weight;
 use dds_base::{NoMemory, ReaderNo};
-use dds_check::budget::budget;
 use dds_check::instance_limit;
 use dds_check::shown::find_row;
 use dds_check::tables::Tables;
@@ -32,12 +33,15 @@ fn named_limit(alloc: Global, name: &str, limit: Option<u32>) -> TextResult
     }
 }
 
-/// What a bound or a total is and of which limit, and what the permits at the opening weigh by its row.
-fn margin_text(alloc: Global, claim: &str, limit: &str, row: &Row, opening: u128) -> TextResult
-    ensures { IfOk result (λ text. string_bytes text ≡ margin_text claim.now limit.now (row_view row.now) opening) }
+/// What a bound or a total is and of which limit, what the permits at the opening weigh by its row, and what caps
+/// carry.
+fn margin_text(alloc: Global, claim: &str, limit: &str, row: &Row, budget: Budget) -> TextResult
+    ensures { IfOk result (λ text. string_bytes text ≡ margin_text claim.now limit.now (row_view row.now) budget) }
 {
+    let carried = carried_text(alloc, ", ", budget, " by caps")?;
+    let opening = budget.opening;
     let row = row.name.as_str();
-    format!(in alloc; "because {claim} of {limit}: {row} weighs {opening} at the opening")
+    format!(in alloc; "because {claim} of {limit}: {row} weighs {opening} at the opening{carried}")
 }
 
 /// The reader, the key and the number of a bound.
@@ -58,97 +62,96 @@ fn named_instance_limit(alloc: Global, plan: &Plan, reader: ReaderNo) -> TextRes
     named_limit(alloc, instance_limit_name(&limits), instance_limit(&limits))
 }
 
-/// A plan and a certificate, with what the permits at the opening weigh by each of its rows. Contracts see it as the
-/// two.
+/// A plan and a certificate, with the budget of each of its rows. Contracts see it as the two.
 #[derive(Drop)]
-struct Openings<'a> {
+struct Budgets<'a> {
     plan: &'a Plan,
     certificate: &'a Certificate,
-    weights: Vec<u128>,
+    of_rows: Vec<Budget>,
 }
 
-impl<'a> Model for Openings<'a> {
+impl<'a> Model for Budgets<'a> {
     ghost use Rattle.std.specs.Prelude.{◌≡◌};
     ghost use Rattle.dds_lists.specs.Lists.{Lists};
     ghost use Rattle.dds_match.specs.Plan.{network_of};
     ghost use Rattle.dds_weights.specs.Lists.{Certificate};
     ghost use Rattle.dds_weights.specs.Views.{certificate_view};
-    ghost use Rattle.dds_explain.specs.Margin.{openings};
+    ghost use Rattle.dds_explain.specs.Budgets.{budgets};
 
     ghost Value = { Lists × Certificate };
 
     ghost view = { λ o. (o.plan.now, certificate_view o.certificate.now) };
 
-    ghost invariant = { λ o. o.weights.items
-        ≡ openings (network_of o.plan.now) (certificate_view o.certificate.now).rows };
+    ghost invariant = { λ o. o.of_rows.items
+        ≡ budgets (network_of o.plan.now) (certificate_view o.certificate.now).rows };
 }
 
-/// What the permits at the opening weigh by each row, in the order of the rows.
-fn weigh_openings(
+/// The budget of each row, in the order of the rows.
+fn find_budgets(
     alloc: Global,
     plan: &Plan,
     certificate: &Certificate,
-) -> Result<Vec<u128>, NoMemory>
+) -> Result<Vec<Budget>, NoMemory>
     ensures { IfOk result
-        (λ weights. weights.items ≡ openings (network_of plan.now) (certificate_view certificate.now).rows) }
+        (λ list. list.items ≡ budgets (network_of plan.now) (certificate_view certificate.now).rows) }
 {
-    let mut weights = Vec::new(alloc);
+    let mut budgets = Vec::new(alloc);
     for row in &certificate.rows {
-        let opening = budget(plan, &Tables::new(row));
-        weights.push(opening)?;
+        let budget = Budget::of(plan, &Tables::new(row));
+        budgets.push(budget)?;
     }
-    Ok(weights)
+    Ok(budgets)
 }
 
-impl<'a> Openings<'a> {
-    /// Weighs the permits at the opening once by each row.
+impl<'a> Budgets<'a> {
+    /// Finds the budget of each row once.
     fn new(
         alloc: Global,
         plan: &'a Plan,
         certificate: &'a Certificate,
-    ) -> Result<Openings<'a>, NoMemory>
+    ) -> Result<Budgets<'a>, NoMemory>
         ensures { IfOk result (λ o. o ≡ (plan.now, certificate_view certificate.now)) }
     {
-        let weights = weigh_openings(alloc, plan, certificate)?;
-        Ok(Openings {
+        let of_rows = find_budgets(alloc, plan, certificate)?;
+        Ok(Budgets {
             plan,
             certificate,
-            weights,
+            of_rows,
         })
     }
 
-    /// The row at this place with what the permits weigh by it, if there is one.
-    fn row(&self, n: usize) -> Option<(&'a Row, u128)>
+    /// The row at this place with its budget, if there is one.
+    fn row(&self, n: usize) -> Option<(&'a Row, Budget)>
         ensures some { IfSome result (λ found. (slice_get self.now.1.rows n ≡ Some (row_view found.0.now))
-            × (found.1 ≡ budget (network_of self.now.0) (row_of (row_view found.0.now)))) }
+            × (found.1 ≡ budget_of (network_of self.now.0) (row_of (row_view found.0.now)))) }
         ensures none { IfNone result (slice_get self.now.1.rows n ≡ None) }
     {
-        match (find_row(self.certificate, n), self.weights.get(n)) {
-            (Some(row), Some(opening)) => Some((row, *opening)),
+        match (find_row(self.certificate, n), self.of_rows.get(n)) {
+            (Some(row), Some(budget)) => Some((row, *budget)),
             _ => None,
         }
     }
 }
 
 /// A bound beside its limit, and the least that its row shows.
-fn bound_line(alloc: Global, plan: &Plan, row: &Row, opening: u128, bound: &Bound) -> TextResult
-    requires { opening ≡ budget (network_of plan.now) (row_of (row_view row.now)) }
+fn bound_line(alloc: Global, plan: &Plan, row: &Row, budget: Budget, bound: &Bound) -> TextResult
+    requires { budget ≡ budget_of (network_of plan.now) (row_of (row_view row.now)) }
     ensures { IfOk result (λ text. string_bytes text ≡ bound_line plan.now (row_view row.now) bound.now) }
 {
     let weight = sample_weight(row, bound.reader, bound.key);
     let words = bound_words(alloc, plan, bound)?;
     let limit = named_instance_limit(alloc, plan, bound.reader)?;
-    let margin = margin_text(alloc, words.as_str(), limit.as_str(), row, opening)?;
-    let shown = shown_text(alloc, opening, weight)?;
+    let margin = margin_text(alloc, words.as_str(), limit.as_str(), row, budget)?;
+    let shown = shown_text(alloc, budget.whole, weight)?;
     format!(in alloc; "{margin} and a sample {weight}, which shows {shown}\n")
 }
 
-/// A bound beside its limit, and the least that its row shows.
-fn bound_margin(alloc: Global, openings: &Openings, bound: &Bound) -> TextResult
-    ensures { IfOk result (λ text. string_bytes text ≡ bound_margin openings.now.0 openings.now.1 bound.now) }
+/// The same by the place of the row.
+fn bound_margin(alloc: Global, budgets: &Budgets, bound: &Bound) -> TextResult
+    ensures { IfOk result (λ text. string_bytes text ≡ bound_margin budgets.now.0 budgets.now.1 bound.now) }
 {
-    match openings.row(bound.row) {
-        Some((row, opening)) => bound_line(alloc, openings.plan, row, opening, bound),
+    match budgets.row(bound.row) {
+        Some((row, budget)) => bound_line(alloc, budgets.plan, row, budget, bound),
         None => Ok(String::new(alloc)),
     }
 }
@@ -163,37 +166,81 @@ fn total_words(alloc: Global, plan: &Plan, total: &Total) -> TextResult
 }
 
 /// A total beside its limit.
-fn total_line(alloc: Global, plan: &Plan, row: &Row, opening: u128, total: &Total) -> TextResult
-    requires { opening ≡ budget (network_of plan.now) (row_of (row_view row.now)) }
+fn total_line(alloc: Global, plan: &Plan, row: &Row, budget: Budget, total: &Total) -> TextResult
+    requires { budget ≡ budget_of (network_of plan.now) (row_of (row_view row.now)) }
     ensures { IfOk result (λ text. string_bytes text ≡ total_line plan.now (row_view row.now) total.now) }
 {
     let words = total_words(alloc, plan, total)?;
     let max_samples = reader_limits(plan, total.reader).max_samples;
     let limit = named_limit(alloc, "max_samples", max_samples)?;
-    let margin = margin_text(alloc, words.as_str(), limit.as_str(), row, opening)?;
+    let margin = margin_text(alloc, words.as_str(), limit.as_str(), row, budget)?;
     format!(in alloc; "{margin}\n")
 }
 
-/// A total beside its limit.
-fn total_margin(alloc: Global, openings: &Openings, total: &Total) -> TextResult
-    ensures { IfOk result (λ text. string_bytes text ≡ total_margin openings.now.0 openings.now.1 total.now) }
+/// The same by the place of the row.
+fn total_margin(alloc: Global, budgets: &Budgets, total: &Total) -> TextResult
+    ensures { IfOk result (λ text. string_bytes text ≡ total_margin budgets.now.0 budgets.now.1 total.now) }
 {
-    match openings.row(total.row) {
-        Some((row, opening)) => total_line(alloc, openings.plan, row, opening, total),
+    match budgets.row(total.row) {
+        Some((row, budget)) => total_line(alloc, budgets.plan, row, budget, total),
         None => Ok(String::new(alloc)),
     }
 }
 
-/// A line for each bound, then a line for each total.
+/// What caps carry of a row with this budget, if that's something, with its terms.
+fn carried_by(alloc: Global, plan: &Plan, row: &Row, weights: &Tables, budget: Budget) -> TextResult
+    requires { weights.now ≡ row_view row.now }
+    ensures { IfOk result (λ text. string_bytes text ≡ carried_by plan.now (row_view row.now) budget) }
+{
+    let carried = budget.carried;
+    if carried == 0 {
+        return Ok(String::new(alloc));
+    }
+    let terms = carried_lines(alloc, plan, weights)?;
+    let row = row.name.as_str();
+    format!(in alloc; "{row} carries {carried} by caps\n{terms}")
+}
+
+/// What caps carry of a row.
+fn row_margin(alloc: Global, plan: &Plan, row: &Row) -> TextResult
+    ensures { IfOk result (λ text. string_bytes text ≡ row_margin plan.now (row_view row.now)) }
+{
+    let weights = Tables::new(row);
+    carried_by(alloc, plan, row, &weights, Budget::of(plan, &weights))
+}
+
+/// What caps carry of each of these rows.
+fn row_margins(alloc: Global, plan: &Plan, rows: &[Row]) -> TextResult
+    ensures { IfOk result
+        (λ text. string_bytes text ≡ flat_map (λ row. row_margin plan.now (row_view row)) rows.now) }
+{
+    let mut text = String::new(alloc);
+    for row in rows {
+        let lines = row_margin(alloc, plan, row)?;
+        text.push_str(lines.as_str())?;
+    }
+    Ok(text)
+}
+
+/// What caps carry of each row of a certificate.
+fn carrying_rows(alloc: Global, plan: &Plan, certificate: &Certificate) -> TextResult
+    ensures { IfOk result
+        (λ text. string_bytes text ≡ flat_map (row_margin plan.now) (certificate_view certificate.now).rows) }
+{
+    row_margins(alloc, plan, certificate.rows.as_slice())
+}
+
+/// For each bound its line, then for each total, and then what caps carry of each row.
 pub(crate) fn margin_lines(alloc: Global, plan: &Plan, certificate: &Certificate) -> TextResult
     ensures { IfOk result (λ text. string_bytes text ≡ margin_lines plan.now (certificate_view certificate.now)) }
 {
-    let openings = Openings::new(alloc, plan, certificate)?;
+    let budgets = Budgets::new(alloc, plan, certificate)?;
     let bounds = text_of_each(alloc, certificate.bounds.as_slice(), |bound| {
-        bound_margin(alloc, &openings, bound)
+        bound_margin(alloc, &budgets, bound)
     })?;
     let totals = text_of_each(alloc, certificate.totals.as_slice(), |total| {
-        total_margin(alloc, &openings, total)
+        total_margin(alloc, &budgets, total)
     })?;
-    format!(in alloc; "{bounds}{totals}")
+    let rows = carrying_rows(alloc, plan, certificate)?;
+    format!(in alloc; "{bounds}{totals}{rows}")
 }

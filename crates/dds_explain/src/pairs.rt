@@ -14,8 +14,8 @@ use dds_text::names::{reader_name, writer_name};
 use dds_text::texts::TextResult;
 use std::alloc::Global;
 
-/// Why a pair doesn't match, in words: none where there is no reason.
-fn why_not_text(alloc: Global, plan: &Plan, writer: WriterNo, reader: ReaderNo) -> TextResult
+/// Why a pair doesn't match, in words: none where there is no reason. `NoMemory` is the only error.
+pub fn why_not_text(alloc: Global, plan: &Plan, writer: WriterNo, reader: ReaderNo) -> TextResult
     ensures { IfOk result (λ text. string_bytes text ≡ option_map_or reason_words (why_not plan.now writer reader) []) }
 {
     match plan.why_not(writer, reader) {
@@ -43,8 +43,8 @@ fn reason_lines(
     }
 }
 
-/// The same of the reason why the two don't match, none where they match.
-fn mismatch_lines(alloc: Global, plan: &Plan, writer: WriterNo, reader: ReaderNo) -> TextResult
+/// What a writer and a reader have that keeps them apart, none where they match. `NoMemory` is the only error.
+pub fn mismatch_lines(alloc: Global, plan: &Plan, writer: WriterNo, reader: ReaderNo) -> TextResult
     ensures { IfOk result (λ text. string_bytes text ≡ mismatch_lines plan.now writer reader) }
 {
     match plan.why_not(writer, reader) {

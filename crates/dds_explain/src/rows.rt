@@ -8,7 +8,7 @@ ghost use Rattle.dds_explain.specs.Rows.{rule_raises_lines, take_line, take_rais
 ghost use Rattle.dds_explain.specs.Rows.{write_lines, write_raises_lines, write_term};
 
 use crate::pieces::{text_of_row, weighed_term};
-use crate::weights::{permit_weight, sample_weight, spread, take_weight};
+use crate::weights::{is_by_permits, permit_weight, sample_weight, spread, take_weight};
 use dds_base::{KeyNo, Portion, ReaderNo, RuleNo, WriterNo};
 use dds_check::tables::Tables;
 use dds_lists::Rule;
@@ -135,19 +135,22 @@ pub(crate) fn rule_raises_lines(
     })
 }
 
-/// What a sample of the key weighs at a matched reader that hears it.
+/// What a sample of the key weighs at a matched reader that hears it, unless caps carry it.
 fn heard_line(
     alloc: Global,
     plan: &Plan,
-    row: &Row,
+    weights: &Tables,
     writer: WriterNo,
     key: KeyNo,
     reader: ReaderNo,
 ) -> TextResult
-    ensures { IfOk result (λ text. string_bytes text ≡ heard_line plan.now (row_view row.now) writer key reader) }
+    ensures { IfOk result (λ text. string_bytes text ≡ heard_line plan.now weights.now writer key reader) }
 {
-    if plan.matched(writer, reader) && plan.hears(reader, key) {
-        let weight = sample_weight(row, reader, key);
+    if plan.matched(writer, reader)
+        && plan.hears(reader, key)
+        && is_by_permits(plan, weights, reader, key)
+    {
+        let weight = weights.sample(reader, key);
         let name = reader_name(plan.lists(), reader);
         format!(in alloc; "  a sample at {name} weighs {weight}\n")
     } else {
@@ -155,15 +158,26 @@ fn heard_line(
     }
 }
 
-/// What a sample of the key weighs at each matched reader that hears it.
-fn heard_lines(alloc: Global, plan: &Plan, row: &Row, writer: WriterNo, key: KeyNo) -> TextResult
+/// What a sample of the key weighs at each matched reader that hears it, unless caps carry it.
+fn heard_lines(
+    alloc: Global,
+    plan: &Plan,
+    weights: &Tables,
+    writer: WriterNo,
+    key: KeyNo,
+) -> TextResult
     ensures { IfOk result
         (λ text. string_bytes text
-        ≡ each_below (length plan.now.readers.entries) (heard_line plan.now (row_view row.now) writer key)) }
+        ≡ each_below (length plan.now.readers.entries) (heard_line plan.now weights.now writer key)) }
 {
-    text_below(alloc, plan.lists().readers(), |r| {
-        heard_line(alloc, plan, row, writer, key, ReaderNo::new(r))
-    })
+    text_below(
+        alloc,
+        plan.lists().readers(),
+        |r|
+            ensures { IfOk result
+                (λ text. string_bytes text ≡ heard_line plan.entry.now weights.entry.now writer key r) }
+        { heard_line(alloc, plan, weights, writer, key, ReaderNo::new(r)) },
+    )
 }
 
 /// What the permit of a write weighs, or that a free write uses none.
@@ -196,7 +210,7 @@ fn write_lines(alloc: Global, plan: &Plan, row: &Row, writer: WriterNo, key: Key
     ensures { IfOk result (λ text. string_bytes text ≡ write_lines plan.now (row_view row.now) writer key) }
 {
     let line = write_line(alloc, plan, row, writer, key)?;
-    let readers = heard_lines(alloc, plan, row, writer, key)?;
+    let readers = heard_lines(alloc, plan, &Tables::new(row), writer, key)?;
     format!(in alloc; "{line}{readers}")
 }
 

@@ -1,20 +1,22 @@
-//! Why number 33 refuses a bound or a total: what the permits at the opening weigh by its row, and what a sample does.
+//! Why number 33 refuses a bound or a total: what the permits at the opening weigh by its row, what caps carry, and
+//! what a sample weighs.
 ghost use Rattle.std.specs.Prelude.{◌≡◌, ◌&&◌, IfOk, string_bytes};
 ghost use Rattle.dds_base.specs.Grid.{most_keys};
 ghost use Rattle.dds_text.specs.Texts.{each_below};
 ghost use Rattle.dds_weights.specs.Views.{certificate_view, row_view};
-ghost use Rattle.dds_runs.specs.Accepted.{budget};
 ghost use Rattle.dds_check.specs.Shown.{shows, shows_all};
-ghost use Rattle.dds_explain.specs.Shown.{bound_claim, bound_lines, bound_not_shown_lines, permit_line, permit_lines};
+ghost use Rattle.dds_explain.specs.Shown.{bound_claim, bound_lines, bound_not_shown_lines, budget_lines};
+ghost use Rattle.dds_explain.specs.Shown.{permit_line, permit_lines};
 ghost use Rattle.dds_explain.specs.Shown.{reached_sample_line, sample_line, shown_text, total_claim, total_lines};
 ghost use Rattle.dds_explain.specs.Shown.{total_not_shown_lines, unshown_bound, unshown_bound_by, unshown_line};
 ghost use Rattle.dds_explain.specs.Shown.{unshown_total, unshown_total_by, writer_permit_lines};
 
+use crate::budgets::{Budget, carried_lines, carried_text};
 use crate::pieces::{text_of_row, weighed_term};
-use crate::weights::{opening_permits, permit_weight, sample_weight};
+use crate::weights::{permit_weight, sample_weight};
 use dds_base::grid::KEYS;
 use dds_base::{KeyNo, ReaderNo, WriterNo};
-use dds_check::budget::budget;
+use dds_check::finite::opening_permits;
 use dds_check::shown::{find_row, shows, shows_all};
 use dds_check::tables::Tables;
 use dds_match::Plan;
@@ -23,14 +25,14 @@ use dds_text::texts::{TextResult, text_below, text_of_each};
 use dds_weights::{Bound, Certificate, Row, Total};
 use std::alloc::Global;
 
-/// The least bound that a row shows, by what the permits at the opening weigh and what a sample weighs.
-pub(crate) fn shown_text(alloc: Global, opening: u128, weight: u32) -> TextResult
-    ensures { IfOk result (λ text. string_bytes text ≡ shown_text opening weight) }
+/// The least bound that a row shows, by its budget and what a sample weighs.
+pub(crate) fn shown_text(alloc: Global, whole: u128, weight: u32) -> TextResult
+    ensures { IfOk result (λ text. string_bytes text ≡ shown_text whole weight) }
 {
     if weight == 0 {
         String::from_str(alloc, "no bound")
     } else {
-        let least = opening / u128::from(weight);
+        let least = whole / u128::from(weight);
         format!(in alloc; "{least}")
     }
 }
@@ -40,14 +42,14 @@ fn sample_line(
     alloc: Global,
     plan: &Plan,
     row: &Row,
-    opening: u128,
+    whole: u128,
     reader: ReaderNo,
     key: KeyNo,
 ) -> TextResult
-    ensures { IfOk result (λ text. string_bytes text ≡ sample_line plan.now (row_view row.now) opening reader key) }
+    ensures { IfOk result (λ text. string_bytes text ≡ sample_line plan.now (row_view row.now) whole reader key) }
 {
     let weight = sample_weight(row, reader, key);
-    let shown = shown_text(alloc, opening, weight)?;
+    let shown = shown_text(alloc, whole, weight)?;
     let key = reader_key(plan.lists(), reader, key);
     format!(in alloc; "  a sample of {key} weighs {weight}, which shows {shown}\n")
 }
@@ -56,7 +58,7 @@ fn sample_line(
 fn permit_line(alloc: Global, plan: &Plan, row: &Row, writer: WriterNo, key: KeyNo) -> TextResult
     ensures { IfOk result (λ text. string_bytes text ≡ permit_line plan.now (row_view row.now) writer key) }
 {
-    let count = opening_permits(plan, writer, key);
+    let count = u128::from(opening_permits(plan, writer, key));
     if count == 0 {
         return Ok(String::new(alloc));
     }
@@ -94,13 +96,24 @@ fn permit_lines(alloc: Global, plan: &Plan, row: &Row) -> TextResult
     )
 }
 
-/// What a row doesn't show, and what the permits at the opening weigh by it.
-fn unshown_line(alloc: Global, row: &Row, claim: &str, opening: u128) -> TextResult
-    ensures { IfOk result (λ text. string_bytes text ≡ unshown_line (row_view row.now) claim.now opening) }
+/// The terms of a row's budget: the permits at the opening, and the samples that caps carry.
+fn budget_lines(alloc: Global, plan: &Plan, row: &Row) -> TextResult
+    ensures { IfOk result (λ text. string_bytes text ≡ budget_lines plan.now (row_view row.now)) }
 {
+    let permits = permit_lines(alloc, plan, row)?;
+    let carried = carried_lines(alloc, plan, &Tables::new(row))?;
+    format!(in alloc; "{permits}{carried}")
+}
+
+/// What a row doesn't show, what the permits at the opening weigh by it, and what caps carry.
+fn unshown_line(alloc: Global, row: &Row, claim: &str, budget: Budget) -> TextResult
+    ensures { IfOk result (λ text. string_bytes text ≡ unshown_line (row_view row.now) claim.now budget) }
+{
+    let carried = carried_text(alloc, ", and samples that caps carry ", budget, "")?;
+    let opening = budget.opening;
     let row = row.name.as_str();
     format!(in alloc;
-        "because {row} doesn't show {claim}: permits at the opening weigh {opening}\n"
+        "because {row} doesn't show {claim}: permits at the opening weigh {opening}{carried}\n"
     )
 }
 
@@ -114,15 +127,15 @@ fn bound_claim(alloc: Global, plan: &Plan, bound: &Bound) -> TextResult
     format!(in alloc; "the bound {number} of {key} at {name}")
 }
 
-/// A bound that its row doesn't show, with a sample of its key and the permits.
-fn bound_lines(alloc: Global, plan: &Plan, row: &Row, bound: &Bound, opening: u128) -> TextResult
-    ensures { IfOk result (λ text. string_bytes text ≡ bound_lines plan.now (row_view row.now) bound.now opening) }
+/// A bound that its row doesn't show, with a sample of its key and the terms of the budget.
+fn bound_lines(alloc: Global, plan: &Plan, row: &Row, bound: &Bound, budget: Budget) -> TextResult
+    ensures { IfOk result (λ text. string_bytes text ≡ bound_lines plan.now (row_view row.now) bound.now budget) }
 {
     let claim = bound_claim(alloc, plan, bound)?;
-    let line = unshown_line(alloc, row, claim.as_str(), opening)?;
-    let sample = sample_line(alloc, plan, row, opening, bound.reader, bound.key)?;
-    let permits = permit_lines(alloc, plan, row)?;
-    format!(in alloc; "{line}{sample}{permits}")
+    let line = unshown_line(alloc, row, claim.as_str(), budget)?;
+    let sample = sample_line(alloc, plan, row, budget.whole, bound.reader, bound.key)?;
+    let terms = budget_lines(alloc, plan, row)?;
+    format!(in alloc; "{line}{sample}{terms}")
 }
 
 /// A bound with what its row weighs, if the row doesn't show it.
@@ -130,18 +143,18 @@ fn unshown_bound_by(alloc: Global, plan: &Plan, row: &Row, bound: &Bound) -> Tex
     ensures { IfOk result (λ text. string_bytes text ≡ unshown_bound_by plan.now (row_view row.now) bound.now) }
 {
     let weights = Tables::new(row);
-    let opening = budget(plan, &weights);
+    let budget = Budget::of(plan, &weights);
     if shows(
         plan,
         &weights,
-        opening,
+        budget.whole,
         bound.bound,
         bound.reader,
         bound.key,
     ) {
         return Ok(String::new(alloc));
     }
-    bound_lines(alloc, plan, row, bound, opening)
+    bound_lines(alloc, plan, row, bound, budget)
 }
 
 /// A bound with what its row weighs, if it is one of the key at the reader and the row doesn't show it.
@@ -195,15 +208,15 @@ fn reached_sample_line(
     alloc: Global,
     plan: &Plan,
     row: &Row,
-    opening: u128,
+    whole: u128,
     reader: ReaderNo,
     key: KeyNo,
 ) -> TextResult
     ensures { IfOk result
-        (λ text. string_bytes text ≡ reached_sample_line plan.now (row_view row.now) opening reader key) }
+        (λ text. string_bytes text ≡ reached_sample_line plan.now (row_view row.now) whole reader key) }
 {
     if plan.reaches(reader, key) {
-        sample_line(alloc, plan, row, opening, reader, key)
+        sample_line(alloc, plan, row, whole, reader, key)
     } else {
         Ok(String::new(alloc))
     }
@@ -214,12 +227,12 @@ fn reached_sample_lines(
     alloc: Global,
     plan: &Plan,
     row: &Row,
-    opening: u128,
+    whole: u128,
     reader: ReaderNo,
 ) -> TextResult
     ensures { IfOk result
         (λ text. string_bytes text
-        ≡ each_below most_keys (reached_sample_line plan.now (row_view row.now) opening reader)) }
+        ≡ each_below most_keys (reached_sample_line plan.now (row_view row.now) whole reader)) }
 {
     text_below(
         alloc,
@@ -227,20 +240,20 @@ fn reached_sample_lines(
         |k|
             ensures { IfOk result
                 (λ text. string_bytes text
-                ≡ reached_sample_line plan.entry.now (row_view row.entry.now) opening reader k) }
-        { reached_sample_line(alloc, plan, row, opening, reader, KeyNo::new(k)) },
+                ≡ reached_sample_line plan.entry.now (row_view row.entry.now) whole reader k) }
+        { reached_sample_line(alloc, plan, row, whole, reader, KeyNo::new(k)) },
     )
 }
 
-/// A total that its row doesn't show, with a sample of each key and the permits.
-fn total_lines(alloc: Global, plan: &Plan, row: &Row, total: &Total, opening: u128) -> TextResult
-    ensures { IfOk result (λ text. string_bytes text ≡ total_lines plan.now (row_view row.now) total.now opening) }
+/// A total that its row doesn't show, with a sample of each key and the terms of the budget.
+fn total_lines(alloc: Global, plan: &Plan, row: &Row, total: &Total, budget: Budget) -> TextResult
+    ensures { IfOk result (λ text. string_bytes text ≡ total_lines plan.now (row_view row.now) total.now budget) }
 {
     let claim = total_claim(alloc, plan, total)?;
-    let line = unshown_line(alloc, row, claim.as_str(), opening)?;
-    let samples = reached_sample_lines(alloc, plan, row, opening, total.reader)?;
-    let permits = permit_lines(alloc, plan, row)?;
-    format!(in alloc; "{line}{samples}{permits}")
+    let line = unshown_line(alloc, row, claim.as_str(), budget)?;
+    let samples = reached_sample_lines(alloc, plan, row, budget.whole, total.reader)?;
+    let terms = budget_lines(alloc, plan, row)?;
+    format!(in alloc; "{line}{samples}{terms}")
 }
 
 /// A total with what its row weighs, if the row doesn't show it.
@@ -248,11 +261,11 @@ fn unshown_total_by(alloc: Global, plan: &Plan, row: &Row, total: &Total) -> Tex
     ensures { IfOk result (λ text. string_bytes text ≡ unshown_total_by plan.now (row_view row.now) total.now) }
 {
     let weights = Tables::new(row);
-    let opening = budget(plan, &weights);
-    if shows_all(plan, &weights, opening, total) {
+    let budget = Budget::of(plan, &weights);
+    if shows_all(plan, &weights, budget.whole, total) {
         return Ok(String::new(alloc));
     }
-    total_lines(alloc, plan, row, total, opening)
+    total_lines(alloc, plan, row, total, budget)
 }
 
 /// A total with what its row weighs, if it is one of the reader and the row doesn't show it.

@@ -3,12 +3,13 @@
 ghost use Rattle.std.specs.Prelude.{◌≡◌, IfOk, codes, option_map, string_bytes};
 ghost use Rattle.dds_explain.specs.Values.{compared_lines, duration_line, duration_text, flag_line, kind_line};
 ghost use Rattle.dds_explain.specs.Values.{lease_line, liveliness_lines, offer_of, policy_lines, presentation_lines};
-ghost use Rattle.dds_explain.specs.Values.{request_of, scope_line, set_lines, time_text, unmet_lines, value_line};
+ghost use Rattle.dds_explain.specs.Values.{request_of, scope_line, set_lines, unmet_lines, value_line};
 ghost use Rattle.dds_explain.specs.Values.{value_lines};
 
 use dds_base::{ReaderNo, WriterNo};
 use dds_match::Plan;
 use dds_qos::{Duration, Liveliness, Policies, Policy, PolicySet, Presentation};
+use dds_show::times::time_text;
 use dds_text::texts::{TextResult, text_of_each};
 use dds_text::words::{
     access_scope_word, destination_order_word, durability_word, liveliness_word, ownership_word,
@@ -21,24 +22,6 @@ fn value_line(alloc: Global, field: &str, offered: &str, requested: &str) -> Tex
     ensures { IfOk result (λ text. string_bytes text ≡ value_line field.now offered.now requested.now) }
 {
     format!(in alloc; "  {field}: offered {offered}, requested {requested}\n")
-}
-
-/// So many nanoseconds, in the greatest unit that makes them a whole number.
-fn time_text(alloc: Global, nanoseconds: u64) -> TextResult
-    ensures { IfOk result (λ text. string_bytes text ≡ time_text nanoseconds) }
-{
-    if nanoseconds % 1_000_000_000 == 0 {
-        let seconds = nanoseconds / 1_000_000_000;
-        format!(in alloc; "{seconds} s")
-    } else if nanoseconds % 1_000_000 == 0 {
-        let milliseconds = nanoseconds / 1_000_000;
-        format!(in alloc; "{milliseconds} ms")
-    } else if nanoseconds % 1000 == 0 {
-        let microseconds = nanoseconds / 1000;
-        format!(in alloc; "{microseconds} us")
-    } else {
-        format!(in alloc; "{nanoseconds} ns")
-    }
 }
 
 fn duration_text(alloc: Global, duration: Duration) -> TextResult

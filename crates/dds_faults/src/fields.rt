@@ -49,6 +49,10 @@ pub(crate) enum Takes {
     Flag,
     /// Nanoseconds, or `"infinite"`.
     Duration,
+    /// Nanoseconds from this on.
+    Nanoseconds { low: i64 },
+    /// Nanoseconds, at most those of the entry's `taken_within`.
+    AvailableWithin,
     /// A whole number from 1 on, or `"unlimited"`.
     Limit,
     /// How often a rule may write at the opening.
@@ -70,10 +74,12 @@ pub(crate) enum Takes {
 }
 
 /// Whether a field has to be there.
-#[derive(Clone, Copy, PartialEq, Eq)]
+#[derive(Clone, Copy)]
 pub(crate) enum Need {
     Always,
     InVersion1,
+    /// Where the entry has this other field.
+    With(&'static str),
     Never,
 }
 
@@ -249,7 +255,7 @@ impl FileKind {
     /// The newest version.
     pub(crate) fn newest(self) -> i64 {
         match self {
-            FileKind::Deployment => 3,
+            FileKind::Deployment => 4,
             FileKind::Certificate => 2,
         }
     }
@@ -257,7 +263,7 @@ impl FileKind {
     /// The versions, in words.
     pub(crate) fn versions(self) -> &'static str {
         match self {
-            FileKind::Deployment => "1, 2 or 3",
+            FileKind::Deployment => "1, 2, 3 or 4",
             FileKind::Certificate => "1 or 2",
         }
     }

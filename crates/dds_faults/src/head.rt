@@ -1,6 +1,7 @@
 //! The head of a document: its version, and the sections that it has.
 
 use crate::fault::{Faults, FileKind};
+use crate::foreign::own_word;
 use crate::walk::{Walk, help_with_words, tell_kind};
 use crate::wording::{choice, shown, shown_key};
 use dds_base::NoMemory;
@@ -80,6 +81,9 @@ fn help_with_section(
     if has_section(other, key) {
         let noun = other.noun();
         return Ok(Some(format!(in alloc; "this is {noun}")?));
+    }
+    if let Some(word) = own_word(key).filter(|word| has_section(walk.file, word)) {
+        return Ok(Some(format!(in alloc; "did you mean `{word}`?")?));
     }
     let keys = section_keys(alloc, walk.file)?;
     let list = choice(alloc, &keys, "`", " and ")?;

@@ -6,11 +6,12 @@ use crate::each::{check_common, has_each};
 use crate::fault::{Faults, FileFault, FileKind, Known};
 use crate::fields::{Elements, Entry, Field, Need, Part, Side, Takes};
 use crate::first::{keep_causes, with_first};
+use crate::foreign::{is_uncovered, own_word, whose_field};
 use crate::head::{check_head, is_of_document, version_of};
 use crate::lists::{KEYLESS, check_list};
 use crate::names::{KnownNames, entries_of, names_of_certificate, names_of_deployment};
 use crate::owners::check_all_owned;
-use crate::values::{Spot, check_value};
+use crate::values::{Spot, check_newer_types, check_value};
 use crate::walk::{Walk, help_with_words, tell_kind, tell_length};
 use crate::whole::{check_element, check_whole};
 use crate::wording::{choice, shown, shown_key};
@@ -34,6 +35,24 @@ fn is_second(walk: &Walk, table: &Table, key: &str) -> bool {
         && table.get(key).is_some_and(is_section)
 }
 
+// A help for a key that another tool, or another kind of entry has.
+fn help_with_foreign(walk: &Walk, entry: Entry, key: &str) -> Result<Option<String>, NoMemory> {
+    let alloc = walk.alloc;
+    if walk.file == FileKind::Certificate {
+        return Ok(None);
+    }
+    if is_uncovered(key) {
+        let help = "that can't be said here, and a yes doesn't cover it";
+        return Ok(Some(String::from_str(alloc, help)?));
+    }
+    match own_word(key) {
+        Some(word) if entry.fields().find(word).is_some() => {
+            Ok(Some(format!(in alloc; "did you mean `{word}`?")?))
+        }
+        _ => whose_field(alloc, key),
+    }
+}
+
 fn help_with_fields(
     walk: &Walk,
     faults: &mut Faults,
@@ -47,6 +66,9 @@ fn help_with_fields(
     }
     if is_second(walk, table, key) {
         return Ok(Some(format!(in alloc; "the document has `{key}` already: join the two lists")?));
+    }
+    if let Some(help) = help_with_foreign(walk, entry, key)? {
+        return Ok(Some(help));
     }
     let keys = entry.fields().keys(alloc, walk.version)?;
     let list = choice(alloc, &keys, "`", " and ")?;
@@ -111,10 +133,11 @@ fn check_keys(
     Ok(())
 }
 
-fn is_needed(walk: &Walk, need: Need) -> bool {
+fn is_needed(walk: &Walk, need: Need, table: &Table) -> bool {
     match need {
         Need::Always => true,
         Need::InVersion1 => walk.version <= 1,
+        Need::With(other) => table.get(other).is_some(),
         Need::Never => false,
     }
 }
@@ -131,21 +154,28 @@ fn help_with_absent(walk: &Walk, entry: Entry, key: &str) -> Result<Option<Strin
     Ok(Some(String::from_str(walk.alloc, help)?))
 }
 
+fn words_of_absent(alloc: Global, entry: Entry, field: &Field) -> Result<String, NoMemory> {
+    let (noun, key) = (entry.noun(), field.key);
+    match field.need {
+        Need::With(other) => format!(in alloc; "{noun} with `{other}` needs `{key}`"),
+        _ => format!(in alloc; "{noun} needs `{key}`"),
+    }
+}
+
 fn check_absent(
     walk: &Walk,
     faults: &mut Faults,
     entry: Entry,
+    spot: &Spot,
     field: &Field,
     at: &Place,
 ) -> Result<(), NoMemory> {
-    if !is_needed(walk, field.need) {
+    if !is_needed(walk, field.need, spot.table) {
         return Ok(());
     }
-    let alloc = walk.alloc;
-    let (noun, key) = (entry.noun(), field.key);
-    let help = help_with_absent(walk, entry, key)?;
-    let message = format!(in alloc; "{noun} needs `{key}`")?;
-    faults.add(alloc, FaultKind::MissingKey, at, message, help)
+    let help = help_with_absent(walk, entry, field.key)?;
+    let message = words_of_absent(walk.alloc, entry, field)?;
+    faults.add(walk.alloc, FaultKind::MissingKey, at, message, help)
 }
 
 // What is wrong with a field that has no tables in it.
@@ -161,7 +191,7 @@ fn check_plain_field(
         key: field.key,
     };
     let Some(value) = spot.table.get(field.key) else {
-        return check_absent(walk, faults, entry, field, &at);
+        return check_absent(walk, faults, entry, spot, field, &at);
     };
     match field.takes {
         Takes::TopicKeys | Takes::Filter | Takes::Owned(_) | Takes::Partitions => {
@@ -233,7 +263,12 @@ fn check_inner_list(
         match value.as_table() {
             Some(table) => {
                 let at = &at;
-                let spot = Spot { index, at, table };
+                let spot = Spot {
+                    index,
+                    entry,
+                    at,
+                    table,
+                };
                 check_inner(walk, faults, entry, outer, &mut stood, &spot)?;
             }
             None => tell_kind(walk, faults, "a table", &at, value)?,
@@ -327,7 +362,12 @@ fn check_entries(
         match value.as_table() {
             Some(table) => {
                 let at = &at;
-                let spot = Spot { index, at, table };
+                let spot = Spot {
+                    index,
+                    entry,
+                    at,
+                    table,
+                };
                 check_entry(walk, faults, entry, &mut stood, &spot)?;
             }
             None => tell_kind(walk, faults, "a table", &at, value)?,
@@ -351,7 +391,11 @@ fn check_section(walk: &Walk, faults: &mut Faults, part: &Part) -> Result<(), No
     };
     let values = array.as_slice();
     tell_length(walk, faults, key, part.limit, &at, values)?;
-    check_entries(walk, faults, part.entry, &at, values)
+    check_entries(walk, faults, part.entry, &at, values)?;
+    match part.entry {
+        Entry::Topic => check_newer_types(walk, faults, &at, values),
+        _ => Ok(()),
+    }
 }
 
 // The applications, and then whether each endpoint has one. Whether no fault was found.

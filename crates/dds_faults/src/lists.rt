@@ -3,15 +3,16 @@
 use crate::fault::Faults;
 use crate::fields::{Side, Takes};
 use crate::names::{PlacedNames, texts_of};
-use crate::owners::check_owner;
-use crate::values::{Spot, check_known, name_of, text_of};
+use crate::owners::{check_owner, text_in};
+use crate::values::{Spot, check_entry_name, check_key_known, name_of, reference_of, text_of};
 use crate::walk::{Walk, tell_kind, tell_length};
-use crate::wording::shown;
+use crate::wording::{shown, shown_whole};
 use dds_base::grid::{ENDPOINTS, KEYS};
 use dds_base::limits::NAME_BYTES;
 use dds_base::{NoMemory, is_name_byte};
 use dds_fields::fault::FaultKind;
 use dds_fields::place::Place;
+use std::alloc::Global;
 use toml::{Table, Value};
 
 // The fault of a name that stands in its list before, where it does.
@@ -26,6 +27,7 @@ fn check_once(
 ) -> Result<(), NoMemory> {
     match listed.place(name) {
         Some(place) if place != index => {
+            let name = shown(walk.alloc, name)?;
             let message = format!(in walk.alloc;
                 "there's already a key `{name}`, {list}[{place}]"
             )?;
@@ -66,27 +68,25 @@ fn check_topic_keys(
     Ok(())
 }
 
-fn check_filter_key(
+// The key that an element of a filter is, where it could be one. One that isn't there is told.
+fn filter_key_of<'a>(
     walk: &Walk,
     faults: &mut Faults,
     reader: &Table,
     at: &Place,
-    name: &str,
-) -> Result<(), NoMemory> {
-    let Some(topic) = reader.get("topic") else {
-        return Ok(());
+    value: &'a Value,
+) -> Result<Option<&'a str>, NoMemory> {
+    let topic = text_in(reader, "topic").unwrap_or("");
+    let Some(keys) = walk.known.keys_of(topic) else {
+        return name_of(walk, faults, at, value);
     };
-    let Some(topic) = topic.as_str() else {
-        return Ok(());
+    let Some(name) = reference_of(walk, faults, keys, at, value)? else {
+        return Ok(None);
     };
-    match walk.known.keys_of(topic) {
-        Some(keys) => {
-            let topic = shown(walk.alloc, topic)?;
-            let whose = format!(in walk.alloc; " in topic `{topic}`")?;
-            check_known(walk, faults, keys, "key", whose.as_str(), at, name)
-        }
-        None => Ok(()),
-    }
+    let topic = shown(walk.alloc, topic)?;
+    let whose = format!(in walk.alloc; " in topic `{topic}`")?;
+    check_key_known(walk, faults, keys, whose.as_str(), at, name)?;
+    Ok(Some(name))
 }
 
 fn check_filter(
@@ -104,8 +104,7 @@ fn check_filter(
             parent: &*at,
             index,
         };
-        if let Some(name) = name_of(walk, faults, &at, value)? {
-            check_filter_key(walk, faults, reader, &at, name)?;
+        if let Some(name) = filter_key_of(walk, faults, reader, &at, value)? {
             check_once(walk, faults, &listed, "filter", index, &at, name)?;
         }
     }
@@ -129,9 +128,9 @@ fn check_owned(
             parent: &*at,
             index,
         };
-        if let Some(name) = name_of(walk, faults, &at, value)? {
-            let names = walk.known.names(section);
-            check_known(walk, faults, names, section.noun(), "", &at, name)?;
+        let names = walk.known.names(section);
+        if let Some(name) = reference_of(walk, faults, names, &at, value)? {
+            check_entry_name(walk, faults, section, &at, name)?;
             let is_first = listed.place(name) == Some(index);
             check_owner(walk, faults, side, spot, is_first, &at, name)?;
         }
@@ -147,6 +146,17 @@ fn is_partition(text: &str) -> bool {
             .all(|b| is_name_byte(*b) || *b == b'*' || *b == b'?')
 }
 
+fn words_of_partition(alloc: Global, text: &str) -> Result<String, NoMemory> {
+    let rule = "partition: at most 64 letters, digits, `_`, `.`, `/`, `-`, `*` and `?`";
+    let length = text.len();
+    if NAME_BYTES < length {
+        let text = shown_whole(alloc, text)?;
+        return format!(in alloc; "`{text}` has {length} bytes, too many for a {rule}");
+    }
+    let text = shown(alloc, text)?;
+    format!(in alloc; "`{text}` is no {rule}")
+}
+
 fn check_partition(
     walk: &Walk,
     faults: &mut Faults,
@@ -155,9 +165,7 @@ fn check_partition(
 ) -> Result<(), NoMemory> {
     match text_of(walk, faults, "a text", at, value)? {
         Some(text) if !is_partition(text) => {
-            let text = shown(walk.alloc, text)?;
-            let rule = "at most 64 letters, digits, `_`, `.`, `/`, `-`, `*` and `?`";
-            let message = format!(in walk.alloc; "`{text}` is no partition: {rule}")?;
+            let message = words_of_partition(walk.alloc, text)?;
             faults.add(walk.alloc, FaultKind::BadName, at, message, None)
         }
         _ => Ok(()),

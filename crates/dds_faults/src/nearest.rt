@@ -66,8 +66,8 @@ fn ends_with_part(text: &str, word: &str) -> bool {
         .is_some_and(|rest| rest.ends_with('_'))
 }
 
-// Whether a text begins with a word, before `_`.
-fn begins_with_part(text: &str, word: &str) -> bool {
+/// Whether a text begins with a word, before `_`.
+pub(crate) fn begins_with_part(text: &str, word: &str) -> bool {
     text.strip_prefix(word)
         .is_some_and(|rest| rest.starts_with('_'))
 }

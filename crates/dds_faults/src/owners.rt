@@ -59,6 +59,7 @@ fn check_participant(
         return Ok(());
     }
     let (theirs, own) = (shown(alloc, theirs)?, shown(alloc, own)?);
+    let name = shown(alloc, name)?;
     let application = shown(
         alloc,
         text_in(application, "name").unwrap_or("its application"),
@@ -87,6 +88,7 @@ pub(crate) fn check_owner(
 ) -> Result<(), NoMemory> {
     let alloc = walk.alloc;
     if !is_first {
+        let name = shown(alloc, name)?;
         let message = format!(in alloc; "`{name}` stands in the list already")?;
         return tell_owner(walk, faults, at, message);
     }
@@ -94,6 +96,7 @@ pub(crate) fn check_owner(
         Some(owner) if owner != spot.index => {
             let owner = shown(alloc, name_at(walk, Named::Applications, owner))?;
             let other = shown(alloc, name_at(walk, Named::Applications, spot.index))?;
+            let name = shown(alloc, name)?;
             let message = format!(in alloc; "`{name}` is owned by {owner} and {other}")?;
             tell_owner(walk, faults, at, message)
         }

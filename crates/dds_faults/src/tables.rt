@@ -121,7 +121,7 @@ static WRITER: [Field; 3] = [
     },
 ];
 
-static READER: [Field; 5] = [
+static READER: [Field; 7] = [
     Field {
         key: "name",
         takes: Takes::NewName(Named::Readers),
@@ -151,6 +151,18 @@ static READER: [Field; 5] = [
         takes: Takes::Flag,
         need: Need::Never,
         since: 3,
+    },
+    Field {
+        key: "taken_within",
+        takes: Takes::Nanoseconds { low: 0 },
+        need: Need::With("available_within"),
+        since: 4,
+    },
+    Field {
+        key: "available_within",
+        takes: Takes::AvailableWithin,
+        need: Need::Never,
+        since: 4,
     },
 ];
 
@@ -290,7 +302,7 @@ static APPLICATION: [Field; 4] = [
     },
 ];
 
-static RULE: [Field; 6] = [
+static RULE: [Field; 8] = [
     Field {
         key: "name",
         takes: Takes::NewName(Named::Rules),
@@ -326,6 +338,18 @@ static RULE: [Field; 6] = [
         takes: Takes::Start,
         need: Need::Never,
         since: 1,
+    },
+    Field {
+        key: "period",
+        takes: Takes::Nanoseconds { low: 1 },
+        need: Need::With("jitter"),
+        since: 4,
+    },
+    Field {
+        key: "jitter",
+        takes: Takes::Nanoseconds { low: 0 },
+        need: Need::Never,
+        since: 4,
     },
 ];
 

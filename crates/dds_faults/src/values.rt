@@ -1,14 +1,17 @@
 //! Values of single fields.
 
 use crate::fault::Faults;
-use crate::fields::{Field, Named, Side, Takes};
-use crate::names::{PlacedNames, elements_of};
+use crate::fields::{Entry, Field, Named, Side, Takes};
+use crate::foreign::{help_with_default, in_capitals};
+use crate::names::{PlacedNames, elements_of, text_at};
+use crate::owners::text_in;
 use crate::walk::{Walk, help_with_names, help_with_words, quoted, tell_kind, tell_range};
-use crate::wording::{expected, shown, subject};
-use dds_base::limits::TYPE_BYTES;
+use crate::wording::{expected, shown, shown_whole, subject};
+use dds_base::limits::{NAME_BYTES, TYPE_BYTES};
 use dds_base::{NoMemory, is_name, is_name_byte};
 use dds_fields::fault::FaultKind;
 use dds_fields::place::Place;
+use std::alloc::Global;
 use toml::{Table, Value};
 
 /// Where an entry stands.
@@ -16,6 +19,7 @@ use toml::{Table, Value};
 pub(crate) struct Spot<'a> {
     /// Its place in its list.
     pub(crate) index: usize,
+    pub(crate) entry: Entry,
     pub(crate) at: &'a Place<'a>,
     pub(crate) table: &'a Table,
 }
@@ -40,19 +44,26 @@ pub(crate) fn text_of<'a>(
 fn tell_bad_name(
     walk: &Walk,
     faults: &mut Faults,
+    most: usize,
     rule: &str,
     at: &Place,
     text: &str,
 ) -> Result<(), NoMemory> {
     let alloc = walk.alloc;
-    let message = if text.is_empty() {
+    let length = text.len();
+    let message = if length == 0 {
         format!(in alloc; "an empty text is no {rule}")?
+    } else if most < length {
+        let text = shown_whole(alloc, text)?;
+        format!(in alloc; "`{text}` has {length} bytes, too many for a {rule}")?
     } else {
         let text = shown(alloc, text)?;
         format!(in alloc; "`{text}` is no {rule}")?
     };
     faults.add(alloc, FaultKind::BadName, at, message, None)
 }
+
+const NAME_RULE: &str = "name: 1 to 64 letters, digits, `_`, `.`, `/` and `-`";
 
 /// The name that a value is, where it is one.
 pub(crate) fn name_of<'a>(
@@ -63,8 +74,7 @@ pub(crate) fn name_of<'a>(
 ) -> Result<Option<&'a str>, NoMemory> {
     match text_of(walk, faults, "a name in quotes", at, value)? {
         Some(text) if !is_name(text) => {
-            let rule = "name: 1 to 64 letters, digits, `_`, `.`, `/` and `-`";
-            tell_bad_name(walk, faults, rule, at, text)?;
+            tell_bad_name(walk, faults, NAME_BYTES, NAME_RULE, at, text)?;
             Ok(None)
         }
         name => Ok(name),
@@ -93,23 +103,81 @@ fn check_new_name(
     }
 }
 
-/// The fault of a name that isn't one of the names that are there, where it isn't. `whose` ends the message.
-pub(crate) fn check_known(
+/// The fault of a name that isn't one of these keys, where it isn't. `whose` ends the message.
+pub(crate) fn check_key_known(
     walk: &Walk,
     faults: &mut Faults,
-    names: &PlacedNames,
-    noun: &str,
+    keys: &PlacedNames,
     whose: &str,
     at: &Place,
     name: &str,
 ) -> Result<(), NoMemory> {
-    if names.number(name).is_some() {
+    if keys.number(name).is_some() {
         return Ok(());
     }
     let alloc = walk.alloc;
-    let help = help_with_names(walk, faults, name, names, noun)?;
-    let message = format!(in alloc; "there's no {noun} `{name}`{whose}")?;
+    let help = help_with_names(walk, faults, name, keys, "key")?;
+    let message = format!(in alloc; "there's no key `{name}`{whose}")?;
     faults.add(alloc, FaultKind::UnknownName, at, message, help)
+}
+
+/// The text that a value is, where it's one of these names or could be: a name with a fault has it where it's given,
+/// not where it's used.
+pub(crate) fn reference_of<'a>(
+    walk: &Walk,
+    faults: &mut Faults,
+    names: &PlacedNames,
+    at: &Place,
+    value: &'a Value,
+) -> Result<Option<&'a str>, NoMemory> {
+    match value.as_str() {
+        Some(text) if names.number(text).is_some() => Ok(Some(text)),
+        _ => name_of(walk, faults, at, value),
+    }
+}
+
+fn other_side(section: Named) -> Option<Named> {
+    match section {
+        Named::Writers => Some(Named::Readers),
+        Named::Readers => Some(Named::Writers),
+        _ => None,
+    }
+}
+
+// A help for a name that isn't there: that it's an endpoint of the other side, else which is meant.
+fn help_with_entry(
+    walk: &Walk,
+    faults: &mut Faults,
+    section: Named,
+    name: &str,
+) -> Result<Option<String>, NoMemory> {
+    match other_side(section) {
+        Some(other) if walk.known.names(other).number(name).is_some() => {
+            let noun = other.noun();
+            Ok(Some(format!(in walk.alloc; "`{name}` is a {noun}")?))
+        }
+        _ => {
+            let names = walk.known.names(section);
+            help_with_names(walk, faults, name, names, section.noun())
+        }
+    }
+}
+
+/// The fault of a name that no entry of a section has, where none has it.
+pub(crate) fn check_entry_name(
+    walk: &Walk,
+    faults: &mut Faults,
+    section: Named,
+    at: &Place,
+    name: &str,
+) -> Result<(), NoMemory> {
+    if walk.known.names(section).number(name).is_some() {
+        return Ok(());
+    }
+    let noun = section.noun();
+    let help = help_with_entry(walk, faults, section, name)?;
+    let message = format!(in walk.alloc; "there's no {noun} `{name}`")?;
+    faults.add(walk.alloc, FaultKind::UnknownName, at, message, help)
 }
 
 fn check_name_in(
@@ -119,11 +187,8 @@ fn check_name_in(
     at: &Place,
     value: &Value,
 ) -> Result<(), NoMemory> {
-    match name_of(walk, faults, at, value)? {
-        Some(name) => {
-            let names = walk.known.names(section);
-            check_known(walk, faults, names, section.noun(), "", at, name)
-        }
+    match reference_of(walk, faults, walk.known.names(section), at, value)? {
+        Some(name) => check_entry_name(walk, faults, section, at, name),
         None => Ok(()),
     }
 }
@@ -137,23 +202,79 @@ fn is_type_name(text: &str) -> bool {
             .all(|b| is_name_byte(*b) || *b == b':')
 }
 
+// Whether a type is none of this version, and one of version 3.
+fn is_newer_type(walk: &Walk, text: &str) -> bool {
+    walk.version <= 2 && !is_name(text) && is_type_name(text)
+}
+
+fn tell_newer_type(
+    walk: &Walk,
+    faults: &mut Faults,
+    at: &Place,
+    text: &str,
+) -> Result<(), NoMemory> {
+    let alloc = walk.alloc;
+    let text = shown_whole(alloc, text)?;
+    let message = format!(in alloc; "the type `{text}` needs version = 3")?;
+    let help = String::from_str(alloc, "since then a type may have `:`, and up to 256 bytes")?;
+    faults.add(alloc, FaultKind::BadName, at, message, Some(help))
+}
+
+/// The fault of the first type of these topics that only needs a newer version, which says it for all.
+pub(crate) fn check_newer_types(
+    walk: &Walk,
+    faults: &mut Faults,
+    list: &Place,
+    topics: &[Value],
+) -> Result<(), NoMemory> {
+    for (index, topic) in topics.iter().enumerate() {
+        let entry = Place::Index {
+            parent: &*list,
+            index,
+        };
+        let at = Place::Key {
+            parent: &entry,
+            key: "type",
+        };
+        match text_at(topic, "type") {
+            Some(text) if is_newer_type(walk, text) => {
+                return tell_newer_type(walk, faults, &at, text);
+            }
+            _ => {}
+        }
+    }
+    Ok(())
+}
+
+fn check_old_type(
+    walk: &Walk,
+    faults: &mut Faults,
+    at: &Place,
+    text: &str,
+) -> Result<(), NoMemory> {
+    if is_name(text) {
+        return Ok(());
+    }
+    tell_bad_name(walk, faults, NAME_BYTES, NAME_RULE, at, text)
+}
+
+// A type that only needs a newer version is told with the topics as a whole.
 fn check_type(walk: &Walk, faults: &mut Faults, at: &Place, value: &Value) -> Result<(), NoMemory> {
     let expected = "the name of a type in quotes";
     let Some(text) = text_of(walk, faults, expected, at, value)? else {
         return Ok(());
     };
+    if is_newer_type(walk, text) {
+        return Ok(());
+    }
     if walk.version <= 2 {
-        if is_name(text) {
-            return Ok(());
-        }
-        let rule = "name: 1 to 64 letters, digits, `_`, `.`, `/` and `-`";
-        return tell_bad_name(walk, faults, rule, at, text);
+        return check_old_type(walk, faults, at, text);
     }
     if is_type_name(text) {
         return Ok(());
     }
     let rule = "type: 1 to 256 letters, digits, `_`, `.`, `/`, `-` and `:`";
-    tell_bad_name(walk, faults, rule, at, text)
+    tell_bad_name(walk, faults, TYPE_BYTES, rule, at, text)
 }
 
 fn check_number(
@@ -169,9 +290,19 @@ fn check_number(
         Some(number) if low <= number && number <= high => Ok(()),
         Some(number) => {
             let shown = format!(in walk.alloc; "{number}")?;
-            tell_range(walk, faults, expected, at, shown.as_str())
+            tell_range(walk, faults, expected, at, shown.as_str(), None)
         }
         None => tell_kind(walk, faults, expected, at, value),
+    }
+}
+
+// A help for a word whose letters are of another case.
+fn help_with_case(alloc: Global, word: &str, text: &str) -> Result<Option<String>, NoMemory> {
+    let (right, given) = (in_capitals(alloc, word)?, in_capitals(alloc, text)?);
+    if right.as_str() == given.as_str() {
+        Ok(Some(format!(in alloc; "in small letters: \"{word}\"")?))
+    } else {
+        Ok(None)
     }
 }
 
@@ -190,15 +321,40 @@ fn check_number_or(
         Some(text) if text == word => Ok(()),
         Some(text) => {
             let shown = quoted(walk.alloc, text)?;
-            tell_range(walk, faults, expected, at, shown.as_str())
+            let help = help_with_case(walk.alloc, word, text)?;
+            tell_range(walk, faults, expected, at, shown.as_str(), help)
         }
         None => check_number(walk, faults, low, high, expected, at, value),
+    }
+}
+
+// A help for a word that isn't one of these.
+fn help_with_choice(
+    walk: &Walk,
+    faults: &mut Faults,
+    spot: &Spot,
+    key: &str,
+    words: &[&str],
+    all: &str,
+    text: &str,
+) -> Result<Option<String>, NoMemory> {
+    let alloc = walk.alloc;
+    let capitals = in_capitals(alloc, text)?;
+    let capitals = capitals.as_str();
+    if let Some(help) = help_with_default(alloc, spot.entry, key, capitals)? {
+        return Ok(Some(help));
+    }
+    match words.iter().find(|word| **word == capitals) {
+        Some(word) => Ok(Some(format!(in alloc; "in capitals: \"{word}\"")?)),
+        None => help_with_words(walk, faults, capitals, words, "\"", all),
     }
 }
 
 fn check_word(
     walk: &Walk,
     faults: &mut Faults,
+    spot: &Spot,
+    key: &str,
     words: &[&str],
     expected: &str,
     at: &Place,
@@ -212,7 +368,7 @@ fn check_word(
     }
     let alloc = walk.alloc;
     let all = format!(in alloc; "it's {expected}")?;
-    let help = help_with_words(walk, faults, text, words, "\"", all.as_str())?;
+    let help = help_with_choice(walk, faults, spot, key, words, all.as_str(), text)?;
     let subject = subject(alloc, at)?;
     let shown = quoted(alloc, text)?;
     let message = format!(in alloc; "`{subject}` is {shown}")?;
@@ -277,19 +433,27 @@ fn check_key(
     let Some(name) = name_of(walk, faults, at, value)? else {
         return Ok(());
     };
-    let Some(endpoint) = entry.get(side.word()) else {
-        return Ok(());
-    };
-    let Some(endpoint) = endpoint.as_str() else {
+    let Some(endpoint) = text_in(entry, side.word()) else {
         return Ok(());
     };
     match walk.known.keys_at(side, endpoint) {
         Some(keys) => {
             let endpoint = shown(walk.alloc, endpoint)?;
             let whose = format!(in walk.alloc; " at `{endpoint}`")?;
-            check_known(walk, faults, keys, "key", whose.as_str(), at, name)
+            check_key_known(walk, faults, keys, whose.as_str(), at, name)
         }
         None => Ok(()),
+    }
+}
+
+// How soon a reader takes; the latest there is where the file doesn't say.
+fn taken_within(reader: &Table) -> i64 {
+    let given = reader
+        .get("taken_within")
+        .and_then(|value| value.as_integer());
+    match given {
+        Some(span) if 0 <= span => span,
+        _ => i64::MAX,
     }
 }
 
@@ -311,10 +475,19 @@ pub(crate) fn check_value(
         Takes::Number { low, high } => {
             check_number(walk, faults, low, high, expected, at, value)
         }
-        Takes::Word(words) => check_word(walk, faults, words, expected, at, value),
+        Takes::Word(words) => {
+            check_word(walk, faults, spot, field.key, words, expected, at, value)
+        }
         Takes::Flag => check_flag(walk, faults, at, value),
         Takes::Duration => {
             check_number_or(walk, faults, "infinite", 0, i64::MAX, expected, at, value)
+        }
+        Takes::Nanoseconds { low } => {
+            check_number(walk, faults, low, i64::MAX, expected, at, value)
+        }
+        Takes::AvailableWithin => {
+            let most = taken_within(spot.table);
+            check_number(walk, faults, 0, most, expected, at, value)
         }
         Takes::Limit => {
             check_number_or(

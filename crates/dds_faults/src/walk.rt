@@ -45,11 +45,12 @@ pub(crate) fn tell_range(
     expected: &str,
     at: &Place,
     shown: &str,
+    help: Option<String>,
 ) -> Result<(), NoMemory> {
     let alloc = walk.alloc;
     let subject = subject(alloc, at)?;
     let message = format!(in alloc; "`{subject}` is {shown}, and has to be {expected}")?;
-    faults.add(alloc, FaultKind::OutOfRange, at, message, None)
+    faults.add(alloc, FaultKind::OutOfRange, at, message, help)
 }
 
 /// The fault of a list that is longer than it may be, where it is.

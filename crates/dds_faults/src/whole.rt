@@ -31,26 +31,78 @@ fn depth_in(table: &Table) -> Option<i64> {
 }
 
 // What contradicts itself in the limits of an endpoint.
-fn contradiction(alloc: Global, table: &Table) -> Result<Option<String>, NoMemory> {
-    let Some(limit) = number_in(table, "max_samples_per_instance") else {
-        return Ok(None);
-    };
-    if let Some(depth) = depth_in(table) {
-        if keeps_last(table) && depth > limit {
-            let message = format!(in alloc;
-                "depth {depth} is above max_samples_per_instance {limit}"
-            )?;
-            return Ok(Some(message));
+#[derive(Clone, Copy)]
+enum Contradiction {
+    // the depth is above the limit of an instance
+    Depth {
+        depth: i64,
+        limit: i64,
+    },
+    // the limit of all samples is below that of an instance, which the depth may ask for
+    Samples {
+        samples: i64,
+        limit: i64,
+        depth: i64,
+    },
+}
+
+// The depth that counts: KEEP_ALL has none. `None` where it isn't clear.
+fn kept_depth(table: &Table) -> Option<i64> {
+    if keeps_last(table) {
+        depth_in(table)
+    } else {
+        Some(0)
+    }
+}
+
+fn find_contradiction(table: &Table) -> Option<Contradiction> {
+    let limit = number_in(table, "max_samples_per_instance")?;
+    let depth = kept_depth(table).unwrap_or(0);
+    if limit < depth {
+        return Some(Contradiction::Depth { depth, limit });
+    }
+    let samples = number_in(table, "max_samples")?;
+    if samples < limit {
+        return Some(Contradiction::Samples {
+            samples,
+            limit,
+            depth,
+        });
+    }
+    None
+}
+
+fn words_of(alloc: Global, found: Contradiction) -> Result<String, NoMemory> {
+    match found {
+        Contradiction::Depth { depth, limit } => {
+            format!(in alloc; "depth {depth} is above max_samples_per_instance {limit}")
+        }
+        Contradiction::Samples { samples, limit, .. } => {
+            format!(in alloc; "max_samples {samples} is below max_samples_per_instance {limit}")
         }
     }
-    match number_in(table, "max_samples") {
-        Some(samples) if samples < limit => {
-            let message = format!(in alloc;
-                "max_samples {samples} is below max_samples_per_instance {limit}"
-            )?;
-            Ok(Some(message))
+}
+
+// Which of the two to change, and to what.
+fn cure_of(alloc: Global, found: Contradiction) -> Result<String, NoMemory> {
+    match found {
+        Contradiction::Depth { depth, limit } => {
+            format!(in alloc;
+                "lower `depth` to {limit}, or raise `max_samples_per_instance` to {depth}"
+            )
         }
-        _ => Ok(None),
+        Contradiction::Samples {
+            samples,
+            limit,
+            depth,
+        } if depth <= samples => {
+            format!(in alloc;
+                "raise `max_samples` to {limit}, or lower `max_samples_per_instance` to {samples}"
+            )
+        }
+        Contradiction::Samples { limit, .. } => {
+            format!(in alloc; "raise `max_samples` to {limit}")
+        }
     }
 }
 
@@ -60,10 +112,12 @@ fn check_limits(
     at: &Place,
     table: &Table,
 ) -> Result<(), NoMemory> {
-    match contradiction(walk.alloc, table)? {
-        Some(message) => faults.add(walk.alloc, FaultKind::Qos, at, message, None),
-        None => Ok(()),
-    }
+    let Some(found) = find_contradiction(table) else {
+        return Ok(());
+    };
+    let message = words_of(walk.alloc, found)?;
+    let help = cure_of(walk.alloc, found)?;
+    faults.add(walk.alloc, FaultKind::Qos, at, message, Some(help))
 }
 
 // Which pairs of numbers an entry stands for.

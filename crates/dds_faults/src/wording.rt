@@ -1,24 +1,30 @@
 //! Words for values, places and choices.
 
 use crate::fields::Takes;
+use crate::plain::is_plain;
 use dds_base::NoMemory;
 use dds_fields::place::Place;
 use std::alloc::Global;
 use toml::Value;
 
-fn shown_char(c: char) -> char {
-    match c {
-        '\u{0}'..='\u{1f}' | '\u{7f}'..='\u{9f}' => '?',
-        '\u{200b}'..='\u{200f}' | '\u{2028}'..='\u{202e}' | '\u{2066}'..='\u{2069}' => '?',
-        _ => c,
-    }
+fn plain_char(c: char) -> char {
+    if is_plain(c) { c } else { '?' }
 }
 
-/// A text of the file as messages show it: at most 64 characters of it, `?` for each that controls something.
+/// A text of the file as messages show it: at most 64 characters of it, `?` for each that doesn't stand for itself.
 pub(crate) fn shown(alloc: Global, text: &str) -> Result<String, NoMemory> {
     let mut shown = String::new(alloc);
     for c in text.chars().take(64) {
-        shown.push(shown_char(c))?;
+        shown.push(plain_char(c))?;
+    }
+    Ok(shown)
+}
+
+/// The whole of a text of the file, `?` for each character that doesn't stand for itself.
+pub(crate) fn shown_whole(alloc: Global, text: &str) -> Result<String, NoMemory> {
+    let mut shown = String::new(alloc);
+    for c in text.chars() {
+        shown.push(plain_char(c))?;
     }
     Ok(shown)
 }
@@ -107,6 +113,10 @@ pub(crate) fn expected(alloc: Global, takes: Takes, version: i64) -> Result<Stri
         Takes::TypeName => "the name of a type in quotes",
         Takes::Flag => "true or false",
         Takes::Duration => "nanoseconds from 0 to 9223372036854775807, or \"infinite\"",
+        Takes::Nanoseconds { low } => {
+            return format!(in alloc; "nanoseconds from {low} to 9223372036854775807");
+        }
+        Takes::AvailableWithin => "nanoseconds from 0 to those of `taken_within`",
         Takes::Limit => "a whole number from 1 to 2147483647, or \"unlimited\"",
         Takes::Start => expected_start(version),
         Takes::TopicKeys | Takes::Filter => "a list of names in quotes",

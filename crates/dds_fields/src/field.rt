@@ -382,3 +382,23 @@ pub fn short_number_field(
     let value = require(alloc, &at, table, key)?;
     short_number_of(alloc, low, high, &at, value)
 }
+
+/// A whole number from `low` to `high`: WrongKind where it is none, OutOfRange where it lies outside.
+#[tactic(auto, unfolding(crate::specs::Reading::a_number))]
+pub fn long_number_of(
+    alloc: Global,
+    low: u64,
+    high: u64,
+    path: &Place,
+    value: &Value,
+) -> Result<u64, ReadFault>
+    ensures { Gives (λ n. n) result (a_number low high (place_text path.now) (view value.now)) }
+{
+    match value.as_integer() {
+        None => Err(refuse(alloc, FaultKind::WrongKind, path)),
+        Some(integer) => match u64::try_from(integer) {
+            Ok(long) if low <= long && long <= high => Ok(long),
+            _ => Err(refuse(alloc, FaultKind::OutOfRange, path)),
+        },
+    }
+}

@@ -1,6 +1,7 @@
 -- Errors are found exactly where the check doesn't say yes.
-use Rattle.std.proofs.Common.{ℕ, ◌≡◌, ◌∙◌, ◌||◌, Bool, true, false, not, List, [], ◌∷◌, ◌++◌, map, slice_get, string_bytes, Option, Some, None, is_some, Result, Ok, Err, IfOk, refl, sym, ap, ap₂, arith}
+use Rattle.std.proofs.Common.{ℕ, ◌≡◌, ◌∙◌, ◌||◌, Bool, true, false, not, List, [], ◌∷◌, ◌++◌, map, slice_get, string_bytes, Option, Some, None, is_some, Result, Ok, Err, IfOk, refl, sym, ap, ap₂, arith, inl, inr}
 use Rattle.std.specs.List.{list_any}
+use Rattle.std.proofs.lemmas.Bool.{false≢true, or_cases}
 use Rattle.std.proofs.lemmas.List.Folds.{list_any-append}
 use Rattle.dds_fields.specs.Reading.{Read}
 use Rattle.dds_lists.specs.Lists.{Lists}
@@ -11,16 +12,19 @@ use Rattle.dds_cert.specs.Document as certificate
 use Rattle.dds_check.specs.declared.verdict.No.{No}
 use Rattle.dds_check.specs.Accepts.{first_no}
 use Rattle.dds_lint.specs.Conditions.{all_nos, bare_nos, bounds_nos, depths_nos, instances_nos, pairs_nos, profile_nos, rows_nos, shown_nos, written_nos}
+use Rattle.dds_lint.specs.Endless.{AreRefused, endless_rules}
+use Rattle.dds_lint.specs.declared.endless.EndlessRule.{EndlessRule}
 use Rattle.dds_lint.specs.declared.notes.Note.{Note}
 use Rattle.dds_lint.proofs.FirstOfAll.{first_of_all}
 use Rattle.dds_answers.specs.Outcome.{judged, outcome, planned, verdict}
 use Rattle.dds_answers.specs.declared.answer.Answer.{Answer}
 use Rattle.dds_findings.specs.Agreement.{AgreesWithCheck, AnswersAsCheck, has_error, says_yes}
 use Rattle.dds_findings.specs.Answers.{is_clean}
-use Rattle.dds_findings.specs.Findings.{AreFaults, IsBare, IsFound, IsJudged, IsLint, Matter, condition_matter, fault_matter, is_denied, is_denied_about, is_denied_note, is_error, matters, no_certificate, note_matter, of_lists}
+use Rattle.dds_findings.specs.Findings.{AreFaults, IsBare, IsFound, IsJudged, IsLint, Matter, condition_matter, endless_matter, fault_matter, is_denied, is_denied_about, is_error, matters, no_certificate, note_matter, of_lists}
 use Rattle.dds_findings.specs.Kinds.{kind_of}
-use Rattle.dds_findings.specs.declared.answer.Deny.{Deny}
-use Rattle.dds_findings.specs.declared.answer.Deny.TheVariants as deny
+use Rattle.dds_options.specs.Deny.{is_denied_note}
+use Rattle.dds_options.specs.declared.deny.Deny.{Deny}
+use Rattle.dds_options.specs.declared.deny.Deny.TheVariants as deny
 use Rattle.dds_findings.specs.declared.finding.About.{About}
 use Rattle.dds_findings.specs.declared.finding.About.TheVariants as about
 use Rattle.dds_findings.specs.declared.finding.Finding.{Finding}
@@ -41,10 +45,42 @@ or_false : (b : Bool) → (b || false) ≡ b
 or_false true = refl
 or_false false = refl
 
-lists_errors : (d : Lists) (cert : Certificate) (nos : List No) (notes : List Note) → has_error (of_lists d cert nos notes) ≡ is_some (slice_get nos 0)
+endless_errors : (rules : List EndlessRule) → has_error (map endless_matter rules) ≡ is_some (slice_get rules 0)
+endless_errors [] = refl
+endless_errors (rule ∷ rules) = refl
+
+-- there's a rule for which no certificate is accepted
+has_endless : Lists → Bool
+has_endless d = is_some (slice_get (endless_rules (network_of d)) 0)
+
+later_errors : (d : Lists) (cert : Certificate) (notes : List Note) → has_error (map endless_matter (endless_rules (network_of d)) ++ map (note_matter d cert) notes) ≡ has_endless d
+unfolding has_endless
+later_errors d cert notes =
+    list_any-append (λ (m : Matter). is_error m.0) (map endless_matter (endless_rules (network_of d))) (map (note_matter d cert) notes)
+    ∙ (ap₂ (λ a b. a || b) (endless_errors (endless_rules (network_of d))) (notes_errors d cert notes) ∙ or_false (is_some (slice_get (endless_rules (network_of d)) 0)))
+
+lists_errors : (d : Lists) (cert : Certificate) (nos : List No) (notes : List Note) → has_error (of_lists d cert nos notes) ≡ (is_some (slice_get nos 0) || has_endless d)
 lists_errors d cert nos notes =
-    list_any-append (λ (m : Matter). is_error m.0) (map condition_matter nos) (map (note_matter d cert) notes)
-    ∙ (ap₂ (λ a b. a || b) (conditions_errors nos) (notes_errors d cert notes) ∙ or_false (is_some (slice_get nos 0)))
+    list_any-append (λ (m : Matter). is_error m.0) (map condition_matter nos) (map endless_matter (endless_rules (network_of d)) ++ map (note_matter d cert) notes)
+    ∙ ap₂ (λ a b. a || b) (conditions_errors nos) (later_errors d cert notes)
+
+-- where there's one, the check says no
+endless_fails : (d : Lists) (cert : Certificate) → AreRefused d → has_endless d ≡ true → is_some (first_no d cert) ≡ true
+unfolding has_endless
+endless_fails d cert refused has = go (first_no d cert) refl
+  where
+    go : (o : Option No) → first_no d cert ≡ o → is_some o ≡ true
+    go None none = absurd (false≢true (sym (ap (λ (rules : List EndlessRule). is_some (slice_get rules 0)) (refused cert none)) ∙ has))
+    go (Some failing) is = refl
+
+-- so it adds nothing to the conditions that fail
+none_added : (d : Lists) (cert : Certificate) → AreRefused d → (is_some (first_no d cert) || has_endless d) ≡ is_some (first_no d cert)
+none_added d cert refused = go (is_some (first_no d cert)) (has_endless d) (endless_fails d cert refused)
+  where
+    go : (a b : Bool) → (b ≡ true → a ≡ true) → (a || b) ≡ a
+    go true b more = refl
+    go false true more = sym (more refl)
+    go false false more = refl
 
 faults_errors : (found : List Matter) → AreFaults found → has_error found ≡ true
 faults_errors [] (some, all) = absurd (omega (arith, some))
@@ -57,10 +93,12 @@ verdict_says : (o : Option No) (d : Lists) (cert : Certificate) → is_some o �
 verdict_says None d cert = refl
 verdict_says (Some refused) d cert = refl
 
-judged_agrees : (d : Lists) (read : Read Certificate) (found : List Matter) → IsJudged d read found → has_error found ≡ not (says_yes (judged d read))
-judged_agrees d (Ok cert) found (notes, are, same) =
-    ap has_error same ∙ (lists_errors d cert (all_nos d cert) notes ∙ (ap is_some (first_of_all d cert) ∙ verdict_says (first_no d cert) d cert))
-judged_agrees d (Err flaw) found (faults, rest, are, bare, same) =
+judged_agrees : (d : Lists) (read : Read Certificate) (found : List Matter) → AreRefused d → IsJudged d read found → has_error found ≡ not (says_yes (judged d read))
+judged_agrees d (Ok cert) found refused (notes, are, same) =
+    ap has_error same
+    ∙ (lists_errors d cert (all_nos d cert) notes
+    ∙ (ap (λ o. is_some o || has_endless d) (first_of_all d cert) ∙ (none_added d cert refused ∙ verdict_says (first_no d cert) d cert)))
+judged_agrees d (Err flaw) found refused (faults, rest, are, bare, same) =
     ap has_error same ∙ (list_any-append (λ (m : Matter). is_error m.0) faults rest ∙ ap (λ b. b || has_error rest) (faults_errors faults are))
 
 -- ── what asks no certificate fails with each
@@ -103,38 +141,43 @@ verdict_refuses : (o : Option No) (d : Lists) (cert : Certificate) → is_some o
 verdict_refuses None d cert some = cc
 verdict_refuses (Some refused) d cert some = refl
 
-bare_refuses : (d : Lists) (read : Read Certificate) → is_some (slice_get (bare_nos d) 0) ≡ true → says_yes (judged d read) ≡ false
+bare_refuses : (d : Lists) (read : Read Certificate) → AreRefused d → (is_some (slice_get (bare_nos d) 0) || has_endless d) ≡ true → says_yes (judged d read) ≡ false
 unfolding has_one
-bare_refuses d (Ok cert) some = verdict_refuses (first_no d cert) d cert (bare_fails d cert some)
-bare_refuses d (Err flaw) some = refl
+bare_refuses d (Ok cert) refused some =
+    verdict_refuses (first_no d cert) d cert (elim (or_cases (is_some (slice_get (bare_nos d) 0)) (has_endless d) some) [
+      | inl bare ↦ bare_fails d cert bare
+      | inr endless ↦ endless_fails d cert refused endless
+    ])
+bare_refuses d (Err flaw) refused some = refl
 
-bare_agrees : (d : Lists) (found : List Matter) → IsBare d found → has_error found ≡ true → (c : List ℕ) → says_yes (planned (Ok d) c) ≡ false
-bare_agrees d found (notes, are, same) has c =
-    bare_refuses d (certificate.read d c) (sym (ap has_error same ∙ lists_errors d no_certificate (bare_nos d) notes) ∙ has)
+bare_agrees : (d : Lists) (found : List Matter) → AreRefused d → IsBare d found → has_error found ≡ true → (c : List ℕ) → says_yes (planned (Ok d) c) ≡ false
+bare_agrees d found refused (notes, are, same) has c =
+    bare_refuses d (certificate.read d c) refused (sym (ap has_error same ∙ lists_errors d no_certificate (bare_nos d) notes) ∙ has)
 
 -- ── lint and the check read the same files
-found_agrees : (read : Read Lists) (d : List ℕ) (c : Option (List ℕ)) (found : List Matter) → read ≡ deployment.read d → IsFound read c found → AgreesWithCheck d c found
+found_agrees : (read : Read Lists) (d : List ℕ) (c : Option (List ℕ)) (found : List Matter) → read ≡ deployment.read d → IfOk read AreRefused → IsFound read c found → AgreesWithCheck d c found
 unfolding outcome
-found_agrees (Err flaw) d None found is faults = λ has c. ap (λ r. says_yes (planned r c)) (sym is)
-found_agrees (Err flaw) d (Some c) found is faults = faults_errors found faults ∙ ap (λ r. not (says_yes (planned r c))) is
-found_agrees (Ok lists) d None found is bare = λ has c. ap (λ r. says_yes (planned r c)) (sym is) ∙ bare_agrees lists found bare has c
-found_agrees (Ok lists) d (Some c) found is judged = judged_agrees lists (certificate.read lists c) found judged ∙ ap (λ r. not (says_yes (planned r c))) is
+found_agrees (Err flaw) d None found is refused faults = λ has c. ap (λ r. says_yes (planned r c)) (sym is)
+found_agrees (Err flaw) d (Some c) found is refused faults = faults_errors found faults ∙ ap (λ r. not (says_yes (planned r c))) is
+found_agrees (Ok lists) d None found is refused bare = λ has c. ap (λ r. says_yes (planned r c)) (sym is) ∙ bare_agrees lists found refused bare has c
+found_agrees (Ok lists) d (Some c) found is refused judged = judged_agrees lists (certificate.read lists c) found refused judged ∙ ap (λ r. not (says_yes (planned r c))) is
 
-lint_agrees : (d : List ℕ) (c : Option (List ℕ)) (found : List Matter) → IsLint d c found → AgreesWithCheck d c found
+lint_agrees : (d : List ℕ) (c : Option (List ℕ)) (found : List Matter) → IfOk (deployment.read d) AreRefused → IsLint d c found → AgreesWithCheck d c found
 unfolding IsLint
-lint_agrees d c found lint = found_agrees (deployment.read d) d c found refl lint
+lint_agrees d c found refused lint = found_agrees (deployment.read d) d c found refl refused lint
 
 -- what lint finds agrees with the check
 pub found_as_check : {V E : Type 0} (items : V → List Finding) (d : List ℕ) (c : Option (List ℕ)) (r : Result V E) → IfOk r (λ v. IsLint d c (matters (items v)))
-    → IfOk r (λ v. AgreesWithCheck d c (matters (items v)))
-found_as_check items d c (Ok v) lint = lint_agrees d c (matters (items v)) lint
-found_as_check items d c (Err e) lint = tt
+    → IfOk r (λ v. IfOk (deployment.read d) AreRefused) → IfOk r (λ v. AgreesWithCheck d c (matters (items v)))
+found_as_check items d c (Ok v) lint refused = lint_agrees d c (matters (items v)) refused lint
+found_as_check items d c (Err e) lint refused = tt
 
 -- ── the answer of lint
 -- where errors alone are denied, none is denied exactly where there's no error
 one_denied : (subject : List ℕ) (a : About) → is_denied_about deny.Errors subject a ≡ is_error a
 one_denied subject about.Fault = refl
 one_denied subject (about.Condition refused) = refl
+one_denied subject (about.Endless rule) = refl
 one_denied subject (about.Note note) = refl
 
 errors_denied : (findings : List Finding) → list_any (is_denied deny.Errors) findings ≡ has_error (matters findings)
@@ -150,6 +193,7 @@ none_step : (denied : Deny) (subject : List ℕ) (one : About) (rest any : Bool)
     → (is_error one || rest) ≡ false
 none_step denied subject about.Fault rest any step h = h
 none_step denied subject (about.Condition refused) rest any step h = h
+none_step denied subject (about.Endless rule) rest any step h = h
 none_step denied subject (about.Note note) rest any step h = step (or_right (is_denied_note denied (kind_of note) subject) any h)
 
 none_denied : (denied : Deny) (findings : List Finding) → list_any (is_denied denied) findings ≡ false → has_error (matters findings) ≡ false

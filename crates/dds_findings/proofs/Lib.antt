@@ -2,4 +2,3 @@ mod Agreement
 mod FaultLists
 mod Joined
 mod Plain
-mod WordLaws

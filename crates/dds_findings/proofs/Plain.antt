@@ -6,7 +6,7 @@ use Rattle.serde_json.specs.Written.{has_float}
 use Rattle.dds_json.proofs.Documents.{no_fractions}
 use Rattle.dds_findings.specs.Blocks.{FileNames}
 use Rattle.dds_findings.specs.Documents.{finding_document, findings_document, result_document, sarif_document}
-use Rattle.dds_findings.specs.declared.answer.Deny.{Deny}
+use Rattle.dds_options.specs.declared.deny.Deny.{Deny}
 use Rattle.dds_findings.specs.declared.finding.Finding.{Finding}
 
 text_plain : (s : String Global) → has_float (string (string_bytes s)) ≡ false

@@ -4,8 +4,8 @@ use Rattle.std.specs.List.{list_any}
 use Rattle.dds_answers.specs.Outcome.{Outcome, accepted, outcome}
 use Rattle.dds_answers.specs.declared.answer.Answer.{Answer}
 use Rattle.dds_findings.specs.Findings.{Matter, is_error}
-use Rattle.dds_findings.specs.declared.answer.Deny.{Deny}
-use Rattle.dds_findings.specs.declared.answer.Deny.TheVariants as deny
+use Rattle.dds_options.specs.declared.deny.Deny.{Deny}
+use Rattle.dds_options.specs.declared.deny.Deny.TheVariants as deny
 
 -- one finding at least is an error
 abbrev pub has_error : List Matter → Bool

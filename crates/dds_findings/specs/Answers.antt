@@ -5,9 +5,9 @@ use Rattle.dds_json.specs.Line.{line_of}
 use Rattle.dds_findings.specs.Blocks.{FileNames, blocks}
 use Rattle.dds_findings.specs.Documents.{findings_document, sarif_document}
 use Rattle.dds_findings.specs.Findings.{is_denied}
-use Rattle.dds_findings.specs.declared.answer.Deny.{Deny}
-use Rattle.dds_findings.specs.declared.answer.LintStyle.{LintStyle}
-use Rattle.dds_findings.specs.declared.answer.LintStyle.TheVariants as style
+use Rattle.dds_options.specs.declared.deny.Deny.{Deny}
+use Rattle.dds_options.specs.declared.style.LintStyle.{LintStyle}
+use Rattle.dds_options.specs.declared.style.LintStyle.TheVariants as style
 use Rattle.dds_findings.specs.declared.finding.Finding.{Finding}
 
 -- one of the findings makes the answer no

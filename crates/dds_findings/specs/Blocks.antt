@@ -5,10 +5,11 @@ use Rattle.std.specs.List.{list_any}
 use Rattle.std.specs.Option.{option_map_or}
 use Rattle.std.specs.Str.{bytes_eq}
 use Rattle.dds_text.specs.Texts.{each_below}
-use Rattle.dds_findings.specs.Allowed.{note_word}
-use Rattle.dds_findings.specs.Findings.{is_denied_note, is_error, is_fault, level_of, level_word}
+use Rattle.dds_options.specs.Allowed.{note_word}
+use Rattle.dds_options.specs.Deny.{is_denied_note}
+use Rattle.dds_findings.specs.Findings.{is_error, is_fault, level_of, level_word}
 use Rattle.dds_findings.specs.Kinds.{kind_of}
-use Rattle.dds_findings.specs.declared.answer.Deny.{Deny}
+use Rattle.dds_options.specs.declared.deny.Deny.{Deny}
 use Rattle.dds_findings.specs.declared.finding.About.{About}
 use Rattle.dds_findings.specs.declared.finding.About.TheVariants as about
 use Rattle.dds_findings.specs.declared.finding.Finding.{Finding}
@@ -56,9 +57,10 @@ block names f =
     ++ flat_map (λ detail. detail_line (string_bytes f.spot.margin) (string_bytes detail)) f.details.items))
 
 -- ── rows of findings
--- the two are of one kind, at one place of the document
+-- the two are of one kind, at one place of the document and about the same
 abbrev pub is_alike : Finding → Finding → Bool
-is_alike f g = bytes_eq f.name.now g.name.now && bytes_eq (string_bytes f.path) (string_bytes g.path)
+is_alike f g =
+    bytes_eq f.name.now g.name.now && (bytes_eq (string_bytes f.path) (string_bytes g.path) && bytes_eq (string_bytes f.subject) (string_bytes g.subject))
 
 -- the one behind the finding with this place is there, and alike
 abbrev pub goes_on : List Finding → ℕ → Bool
@@ -106,6 +108,7 @@ denied_line word = codes "denied: " ++ (word ++ (codes " (if that's meant, `--al
 abbrev pub denied_text : Deny → (subject : List ℕ) → About → List ℕ
 denied_text denied subject about.Fault = []
 denied_text denied subject (about.Condition refused) = []
+denied_text denied subject (about.Endless rule) = []
 denied_text denied subject (about.Note note) = if is_denied_note denied (kind_of note) subject then denied_line (note_word (kind_of note) subject) else []
 
 -- the line of the finding with this place, where it's the first of a row

@@ -6,7 +6,7 @@ use Rattle.percent_encoding.specs.Percent.{percent_encode}
 use Rattle.dds_json.specs.Matching.{answer_word}
 use Rattle.dds_findings.specs.Blocks.{FileNames, errors_of, file_name, notes_of}
 use Rattle.dds_findings.specs.Findings.{is_denied, level_of, level_word}
-use Rattle.dds_findings.specs.declared.answer.Deny.{Deny}
+use Rattle.dds_options.specs.declared.deny.Deny.{Deny}
 use Rattle.dds_findings.specs.declared.finding.Finding.{Finding}
 use Rattle.dds_findings.specs.declared.sarif.TheConstants.{ESCAPED}
 

@@ -1,5 +1,4 @@
 pub mod Kinds
-pub mod Allowed
 pub mod Findings
 pub mod Blocks
 pub mod Documents

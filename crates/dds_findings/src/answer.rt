@@ -2,53 +2,16 @@
 ghost use Rattle.std.specs.Prelude.{◌≡◌, ℕ, List, Option, IfErr, IfOk, option_map, string_bytes};
 ghost use Rattle.dds_findings.specs.Agreement.{AgreesWithCheck, AnswersAsCheck};
 ghost use Rattle.dds_findings.specs.Answers.{findings_text, has_denied, is_clean, names_of};
-ghost use Rattle.dds_findings.specs.Findings.{is_denied_note, matters};
+ghost use Rattle.dds_findings.specs.Findings.{matters};
 
-use crate::allowed::Allowed;
 use crate::block::{FileNames, blocks_text};
 use crate::document::findings_line;
 use crate::finding::Finding;
-use crate::kinds::NoteKind;
 use crate::sarif::sarif_line;
 use dds_answers::{Answer, ToolFault, answer_with};
 use dds_base::NoMemory;
+use dds_options::{Deny, LintStyle};
 use std::alloc::Global;
-
-/// The forms in which findings are printed.
-#[derive(Clone, Copy, Debug, PartialEq, Eq)]
-pub enum LintStyle {
-    /// Blocks with the lines of the file.
-    Text,
-    /// One JSON document.
-    Json,
-    /// One document of SARIF 2.1.0, which code hosts show.
-    Sarif,
-}
-
-/// With which findings the answer is no.
-#[derive(Drop)]
-pub enum Deny<'a> {
-    /// With errors alone.
-    Errors,
-    /// With errors and with notes, but for those that are let pass and for MayLose, by which the deployment itself says
-    /// that a reader may lose samples.
-    Notes(Allowed<'a>),
-    /// With errors and with notes, but for those that are let pass.
-    All(Allowed<'a>),
-}
-
-impl<'a> Deny<'a> {
-    /// Whether a note of a kind, about what has this name, makes the answer no.
-    pub(crate) fn denies(&self, kind: NoteKind, subject: &str) -> bool
-        ensures { result ≡ is_denied_note self.now kind subject.now }
-    {
-        match self {
-            Deny::Errors => false,
-            Deny::Notes(allowed) => !(kind.is_declared() || allowed.has(kind, subject)),
-            Deny::All(allowed) => !allowed.has(kind, subject),
-        }
-    }
-}
 
 /// A file: what it is called, and what it holds.
 #[derive(Clone, Copy)]

@@ -1,18 +1,17 @@
 //! Findings as people read them: a block each, with the line of the file.
 ghost use Rattle.std.specs.Prelude.{◌≡◌, ◌<◌, [], IfOk, flat_map, if◌then◌else◌, length, string_bytes};
 ghost use Rattle.dds_text.specs.Texts.{each_below};
-ghost use Rattle.dds_findings.specs.Allowed.{note_word};
+ghost use Rattle.dds_options.specs.Allowed.{note_word};
+ghost use Rattle.dds_options.specs.Deny.{is_denied_note};
 ghost use Rattle.dds_findings.specs.Blocks.{bare_line, begins, block, blocks, denied_line, denied_lines, denied_part};
 ghost use Rattle.dds_findings.specs.Blocks.{denied_text, detail_line, errors_of, file_name, goes_on, has_fault};
 ghost use Rattle.dds_findings.specs.Blocks.{head_line, help_words, is_alike, last_line, last_lines, notes_of, part};
 ghost use Rattle.dds_findings.specs.Blocks.{part_lines, place_lines, plural, row_end, source_lines, sum_line};
-ghost use Rattle.dds_findings.specs.Findings.{is_denied_note};
 
-use crate::allowed::note_word;
-use crate::answer::Deny;
 use crate::finding::{About, Finding, Level, Role};
-use crate::kinds::NoteKind;
+use crate::kinds::kind_of;
 use dds_base::NoMemory;
+use dds_options::{Deny, NoteKind, note_word};
 use dds_text::texts::text_below;
 use std::alloc::Global;
 use std::marker::Model;
@@ -119,11 +118,13 @@ fn block(alloc: Global, names: &FileNames, finding: &Finding) -> Result<String, 
     format!(in alloc; "{head}{place}{source}{details}")
 }
 
-/// Whether two findings are of one kind, at one place of the document.
+/// Whether two findings are of one kind, at one place of the document and about the same.
 fn is_alike(one: &Finding, other: &Finding) -> bool
     ensures { result ≡ is_alike one.now other.now }
 {
-    one.name == other.name && one.path.as_str() == other.path.as_str()
+    one.name == other.name
+        && one.path.as_str() == other.path.as_str()
+        && one.subject.as_str() == other.subject.as_str()
 }
 
 /// Whether the finding behind the one with this place is alike.
@@ -286,8 +287,8 @@ fn denied_text(alloc: Global, deny: &Deny, finding: &Finding) -> Result<String, 
         ≡ denied_text deny.now (string_bytes finding.now.subject) finding.now.about) }
 {
     match finding.about {
-        About::Fault | About::Condition(_) => Ok(String::new(alloc)),
-        About::Note(note) => note_line(alloc, deny, NoteKind::of(note), finding.subject.as_str()),
+        About::Fault | About::Condition(_) | About::Endless(_) => Ok(String::new(alloc)),
+        About::Note(note) => note_line(alloc, deny, kind_of(note), finding.subject.as_str()),
     }
 }
 

@@ -59,11 +59,10 @@ fn pair_cure(plan: &Plan, writer: WriterNo, reader: ReaderNo) -> &'static str {
     }
 }
 
-/// Whether a key that comes to a reader may be written at any time, whatever is taken.
+/// Whether a key that comes to a reader may be written at any time, whatever is taken, and no cap bounds it.
 fn is_clocked(plan: &Plan, reader: ReaderNo, key: KeyNo) -> bool {
-    plan.writers_of(reader)
-        .iter()
-        .any(|writer| plan.is_free(*writer, key))
+    plan.writers_of(reader).iter().any(|writer| plan.is_free(*writer, key)
+        && plan.cap(*writer, reader, key).is_none())
 }
 
 /// What would be right where a clock writes a key of which no sample may be lost.

@@ -7,11 +7,12 @@ ghost use Rattle.dds_findings.specs.Documents.{explanation_document, finding_doc
 ghost use Rattle.dds_findings.specs.Documents.{place_document};
 ghost use Rattle.dds_findings.specs.Answers.{is_clean};
 
-use crate::answer::{Deny, is_clean};
+use crate::answer::is_clean;
 use crate::block::{FileNames, errors_of, file_name, notes_of};
 use crate::finding::Finding;
 use dds_base::NoMemory;
 use dds_json::{answer_word, line_of};
+use dds_options::Deny;
 use serde_json::{Value, json};
 use std::alloc::Global;
 

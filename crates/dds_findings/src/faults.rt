@@ -7,7 +7,8 @@ use crate::finding::{About, Finding, Role};
 use crate::located::Located;
 use crate::spot::Spot;
 use dds_base::NoMemory;
-use dds_faults::FileFault;
+use dds_faults::{FileFault, syntax_help};
+use dds_locate::Span;
 use std::alloc::Global;
 
 /// Where a fault is: the name of what is too much or lacks something, else the value that is wrong.
@@ -58,17 +59,13 @@ fn holds_none(file: &Located) -> bool {
     file.is_text("none\n") || file.is_text("none") || file.is_text("none\r\n")
 }
 
-/// What a text that is no TOML would be right with, by what the parser says; nothing where that isn't known.
-fn syntax_help(file: &Located, message: &str) -> &'static str {
+/// What a text that is no TOML would be right with, by where the parser stopped and what it says; nothing where that
+/// isn't known.
+fn help_with_syntax(file: &Located, at: Span, message: &str) -> &'static str {
     if holds_none(file) {
-        "this is what `propose` prints where it finds no certificate; `propose --thorough` says why"
-    } else if message.starts_with("duplicate key") {
-        "it stands above already: a list is written once, as `name = [..]` or by `[[name]]`"
-    } else if message.starts_with("invalid value") || message.ends_with("between digits") {
-        "a text stands in quotes, as \"KEEP_ALL\"; a boolean is `true` or `false`"
-    } else {
-        ""
+        return "this is what `propose` prints where it finds no certificate; `propose --thorough` says why";
     }
+    syntax_help(file.cut(at.start, usize::MAX), message).unwrap_or("")
 }
 
 /// The finding of a text that is no TOML: where the parser stopped, and what it says.
@@ -76,7 +73,7 @@ fn syntax_fault(alloc: Global, file: &Located, role: Role) -> Result<Finding, No
     ensures { IfOk result (λ finding. matter_of finding ≡ fault_matter) }
 {
     let (at, message) = file.syntax(alloc)?;
-    let help = String::from_str(alloc, syntax_help(file, message.as_str()))?;
+    let help = String::from_str(alloc, help_with_syntax(file, at, message.as_str()))?;
     Ok(Finding {
         about: About::Fault,
         name: "NotToml",

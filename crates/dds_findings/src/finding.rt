@@ -2,11 +2,11 @@
 ghost use Rattle.std.specs.Prelude.{◌≡◌};
 ghost use Rattle.dds_findings.specs.Findings.{is_denied, level_of, level_word};
 
-use crate::answer::Deny;
-use crate::kinds::NoteKind;
+use crate::kinds::kind_of;
 use crate::spot::Spot;
 use dds_check::No;
-use dds_lint::Note;
+use dds_lint::{EndlessRule, Note};
+use dds_options::Deny;
 
 /// Which of the two files a finding is in.
 #[derive(Clone, Copy, Debug, PartialEq, Eq)]
@@ -22,6 +22,8 @@ pub enum About {
     Fault,
     /// A condition of the checker that fails.
     Condition(No),
+    /// A rule for which no certificate is accepted.
+    Endless(EndlessRule),
     /// What a yes doesn't say.
     Note(Note),
 }
@@ -62,7 +64,7 @@ impl About {
         ensures { result ≡ level_of self }
     {
         match self {
-            About::Fault | About::Condition(_) => Level::Error,
+            About::Fault | About::Condition(_) | About::Endless(_) => Level::Error,
             About::Note(_) => Level::Note,
         }
     }
@@ -74,8 +76,8 @@ impl Finding {
         ensures { result ≡ is_denied deny.now self.now }
     {
         match self.about {
-            About::Fault | About::Condition(_) => true,
-            About::Note(note) => deny.denies(NoteKind::of(note), self.subject.as_str()),
+            About::Fault | About::Condition(_) | About::Endless(_) => true,
+            About::Note(note) => deny.denies(kind_of(note), self.subject.as_str()),
         }
     }
 }

@@ -1,118 +1,38 @@
-//! The kinds of notes, by name.
-ghost use Rattle.std.specs.Prelude.{◌≡◌, ◌≢◌, IfNone, IfSome};
-ghost use Rattle.dds_findings.specs.Findings.{is_declared};
-ghost use Rattle.dds_findings.specs.Kinds.{kind_of, kind_word};
+//! Of which kind a note is.
+ghost use Rattle.std.specs.Prelude.{◌≡◌};
+ghost use Rattle.dds_findings.specs.Kinds.{kind_of};
 
 use dds_lint::Note;
+use dds_options::NoteKind;
 
-/// The kinds of notes.
-#[derive(Clone, Copy, Debug, PartialEq, Eq)]
-pub enum NoteKind {
-    Watcher,
-    MayLose,
-    Unlimited,
-    IdleLimit,
-    IdleReader,
-    UnwrittenKey,
-    IdleWriter,
-    NoRules,
-    NoStart,
-    NoStrictReader,
-    StuckRule,
-    Finite,
-    Endless,
-    LossyTake,
-    UnusedRow,
-    NeedlessBound,
-    NeedlessTotal,
-    HeldUp,
-}
-
-impl NoteKind {
-    /// The kind of a note.
-    pub fn of(note: Note) -> NoteKind
-        ensures { result ≡ kind_of note }
-    {
-        match note {
-            Note::Watcher(_) => NoteKind::Watcher,
-            Note::MayLose(_) => NoteKind::MayLose,
-            Note::Unlimited(_) => NoteKind::Unlimited,
-            Note::IdleLimit(_) => NoteKind::IdleLimit,
-            Note::IdleReader(_) => NoteKind::IdleReader,
-            Note::UnwrittenKey { .. } => NoteKind::UnwrittenKey,
-            Note::IdleWriter(_) => NoteKind::IdleWriter,
-            Note::NoRules => NoteKind::NoRules,
-            Note::NoStart => NoteKind::NoStart,
-            Note::NoStrictReader => NoteKind::NoStrictReader,
-            Note::StuckRule(_) => NoteKind::StuckRule,
-            Note::Finite(_) => NoteKind::Finite,
-            Note::Endless { .. } => NoteKind::Endless,
-            Note::LossyTake(_) => NoteKind::LossyTake,
-            Note::UnusedRow(_) => NoteKind::UnusedRow,
-            Note::NeedlessBound(_) => NoteKind::NeedlessBound,
-            Note::NeedlessTotal(_) => NoteKind::NeedlessTotal,
-            Note::HeldUp { .. } => NoteKind::HeldUp,
+/// The kind of a note.
+pub(crate) fn kind_of(note: Note) -> NoteKind
+    ensures { result ≡ kind_of note }
+{
+    match note {
+        Note::Watcher(_) => NoteKind::Watcher,
+        Note::MayLose(_) => NoteKind::MayLose,
+        Note::Unlimited(_) => NoteKind::Unlimited,
+        Note::IdleLimit(_) => NoteKind::IdleLimit,
+        Note::IdleReader(_) => NoteKind::IdleReader,
+        Note::Stalls(_) => NoteKind::Stalls,
+        Note::SpanUnused { .. } | Note::WatcherSpan(_) | Note::PaceUnused(_) => {
+            NoteKind::PaceUnused
         }
-    }
-
-    /// Its name, which findings have and `--allow` takes.
-    pub fn name(self) -> &'static str
-        ensures { result.now ≡ kind_word self }
-    {
-        match self {
-            NoteKind::Watcher => "Watcher",
-            NoteKind::MayLose => "MayLose",
-            NoteKind::Unlimited => "Unlimited",
-            NoteKind::IdleLimit => "IdleLimit",
-            NoteKind::IdleReader => "IdleReader",
-            NoteKind::UnwrittenKey => "UnwrittenKey",
-            NoteKind::IdleWriter => "IdleWriter",
-            NoteKind::NoRules => "NoRules",
-            NoteKind::NoStart => "NoStart",
-            NoteKind::NoStrictReader => "NoStrictReader",
-            NoteKind::StuckRule => "StuckRule",
-            NoteKind::Finite => "Finite",
-            NoteKind::Endless => "Endless",
-            NoteKind::LossyTake => "LossyTake",
-            NoteKind::UnusedRow => "UnusedRow",
-            NoteKind::NeedlessBound => "NeedlessBound",
-            NoteKind::NeedlessTotal => "NeedlessTotal",
-            NoteKind::HeldUp => "HeldUp",
-        }
-    }
-
-    /// The kind with this name, or `None` where there is none.
-    pub fn named(name: &str) -> Option<NoteKind>
-        ensures some { IfSome result (λ kind. name.now ≡ kind_word kind) }
-        ensures none { IfNone result ((kind : NoteKind) → name.now ≢ kind_word kind) }
-    {
-        match name {
-            "Watcher" => Some(NoteKind::Watcher),
-            "MayLose" => Some(NoteKind::MayLose),
-            "Unlimited" => Some(NoteKind::Unlimited),
-            "IdleLimit" => Some(NoteKind::IdleLimit),
-            "IdleReader" => Some(NoteKind::IdleReader),
-            "UnwrittenKey" => Some(NoteKind::UnwrittenKey),
-            "IdleWriter" => Some(NoteKind::IdleWriter),
-            "NoRules" => Some(NoteKind::NoRules),
-            "NoStart" => Some(NoteKind::NoStart),
-            "NoStrictReader" => Some(NoteKind::NoStrictReader),
-            "StuckRule" => Some(NoteKind::StuckRule),
-            "Finite" => Some(NoteKind::Finite),
-            "Endless" => Some(NoteKind::Endless),
-            "LossyTake" => Some(NoteKind::LossyTake),
-            "UnusedRow" => Some(NoteKind::UnusedRow),
-            "NeedlessBound" => Some(NoteKind::NeedlessBound),
-            "NeedlessTotal" => Some(NoteKind::NeedlessTotal),
-            "HeldUp" => Some(NoteKind::HeldUp),
-            _ => None,
-        }
-    }
-
-    /// Whether a note of this kind says of a reader what its deployment says itself.
-    pub(crate) fn is_declared(self) -> bool
-        ensures { result ≡ is_declared self }
-    {
-        matches!(self, NoteKind::MayLose)
+        Note::UnwrittenKey { .. } => NoteKind::UnwrittenKey,
+        Note::IdleWriter(_) => NoteKind::IdleWriter,
+        Note::UnheardWriter(_) => NoteKind::UnheardWriter,
+        Note::NoRules => NoteKind::NoRules,
+        Note::NoStart => NoteKind::NoStart,
+        Note::NoStrictReader => NoteKind::NoStrictReader,
+        Note::StuckRule(_) => NoteKind::StuckRule,
+        Note::Finite(_) => NoteKind::Finite,
+        Note::LossyTake(_) => NoteKind::LossyTake,
+        Note::UnusedRow(_) => NoteKind::UnusedRow,
+        Note::NeedlessBound(_) => NoteKind::NeedlessBound,
+        Note::NeedlessTotal(_) => NoteKind::NeedlessTotal,
+        Note::Incompatible { .. } => NoteKind::Incompatible,
+        Note::HeldUp { .. } => NoteKind::HeldUp,
+        Note::LateReader { .. } => NoteKind::LateReader,
     }
 }

@@ -4,12 +4,15 @@ ghost use Rattle.dds_match.specs.Plan.{network_of};
 ghost use Rattle.dds_weights.specs.Fits.{fits};
 ghost use Rattle.dds_weights.specs.Views.{certificate_view};
 ghost use Rattle.dds_cert.specs.Document.{read as certificate_read};
+ghost use Rattle.dds_deploy.specs.Document.{read as deployment_read};
 ghost use Rattle.dds_findings.specs.Agreement.{AgreesWithCheck};
 ghost use Rattle.dds_findings.specs.Findings.{AreFaults, IsBare, IsFound, IsJudged, IsLint, condition_matter};
-ghost use Rattle.dds_findings.specs.Findings.{matters, no_certificate, note_matter, of_lists};
+ghost use Rattle.dds_findings.specs.Findings.{endless_matter, matters, no_certificate, note_matter, of_lists};
+ghost use Rattle.dds_lint.specs.Endless.{AreRefused, endless_rules};
 
 use crate::bounds::bound_entries;
 use crate::conditions::condition;
+use crate::endless::endless;
 use crate::faults::fault_findings;
 use crate::finding::{Finding, Role};
 use crate::located::Located;
@@ -19,7 +22,7 @@ use dds_cert::{CertFault, CertFlaw, read_certificate};
 use dds_check::No;
 use dds_deploy::{DeployFault, Fault, read_deployment};
 use dds_faults::{Known, certificate_faults, deployment_faults};
-use dds_lint::{Note, all_nos, all_notes, bare_nos};
+use dds_lint::{EndlessRule, Note, all_nos, all_notes, bare_nos, endless_rules};
 use dds_lists::Deployment;
 use dds_match::Plan;
 use dds_match::planning::plan;
@@ -85,6 +88,22 @@ fn push_conditions(
     Ok(())
 }
 
+/// Adds the findings of endless rules.
+fn push_endless(
+    alloc: Global,
+    files: &Files,
+    judged: &Judged,
+    rules: &[EndlessRule],
+    found: &mut Vec<Finding>,
+) -> Result<(), NoMemory>
+    ensures { OnOk result (matters found.new.items ≡ matters found.old.items ++ map endless_matter rules.now) }
+{
+    for rule in rules {
+        found.push(endless(alloc, files, judged, rule)?)?;
+    }
+    Ok(())
+}
+
 /// Adds the findings of notes.
 fn push_notes(
     alloc: Global,
@@ -103,20 +122,23 @@ fn push_notes(
     Ok(())
 }
 
-/// The findings of conditions that fail, and then of notes.
+/// The findings of conditions that fail, then of endless rules, and then of notes.
 fn findings_of(
     alloc: Global,
     files: &Files,
     judged: &Judged,
     nos: &[No],
+    rules: &[EndlessRule],
     notes: &[Note],
 ) -> Result<Vec<Finding>, NoMemory>
+    requires { rules.now ≡ endless_rules (network_of judged.now.plan.now) }
     ensures { IfOk result
         (λ found. matters found.items
         ≡ of_lists judged.entry.now.plan.now (certificate_view judged.entry.now.certificate.now) nos.now notes.now) }
 {
     let mut found = Vec::new(alloc);
     push_conditions(alloc, files, judged, nos, &mut found)?;
+    push_endless(alloc, files, judged, rules, &mut found)?;
     push_notes(alloc, files, judged, notes, &mut found)?;
     Ok(found)
 }
@@ -140,21 +162,24 @@ fn findings_by_none(
     certificate: &Certificate,
 ) -> Result<Vec<Finding>, NoMemory>
     requires { certificate_view certificate.now ≡ no_certificate }
-    ensures { IfOk result (λ found. IsBare plan.now (matters found.items)) }
+    ensures found { IfOk result (λ found. IsBare plan.now (matters found.items)) }
+    ensures refused { IfOk result (λ found. AreRefused plan.now) }
 {
     let nos = bare_nos(alloc, plan)?;
+    let rules = endless_rules(alloc, plan)?;
     let notes = all_notes(alloc, plan, certificate)?;
     let judged = Judged {
         plan,
         certificate,
         entries: &[],
     };
-    findings_of(alloc, files, &judged, &nos, &notes)
+    findings_of(alloc, files, &judged, &nos, &rules, &notes)
 }
 
 /// What is found of a plan without a certificate.
 fn bare_findings(alloc: Global, files: &Files, plan: &Plan) -> Result<Vec<Finding>, NoMemory>
-    ensures { IfOk result (λ found. IsBare plan.now (matters found.items)) }
+    ensures found { IfOk result (λ found. IsBare plan.now (matters found.items)) }
+    ensures refused { IfOk result (λ found. AreRefused plan.now) }
 {
     let certificate = no_certificate(alloc);
     let found = findings_by_none(alloc, files, plan, &certificate);
@@ -170,9 +195,12 @@ fn judged_findings(
     certificate: &Certificate,
 ) -> Result<Vec<Finding>, NoMemory>
     requires { fits (network_of plan.now) (certificate_view certificate.now) ≡ true }
-    ensures { IfOk result (λ found. IsJudged plan.now (Ok (certificate_view certificate.now)) (matters found.items)) }
+    ensures found { IfOk result
+        (λ found. IsJudged plan.now (Ok (certificate_view certificate.now)) (matters found.items)) }
+    ensures refused { IfOk result (λ found. AreRefused plan.now) }
 {
     let nos = all_nos(alloc, plan, certificate)?;
+    let rules = endless_rules(alloc, plan)?;
     let notes = all_notes(alloc, plan, certificate)?;
     let file = files.file(Role::Certificate);
     let entries = bound_entries(alloc, plan.lists(), certificate, file)?;
@@ -181,7 +209,7 @@ fn judged_findings(
         certificate,
         entries: &entries,
     };
-    findings_of(alloc, files, &judged, &nos, &notes)
+    findings_of(alloc, files, &judged, &nos, &rules, &notes)
 }
 
 /// The findings of the faults of a certificate.
@@ -217,7 +245,8 @@ fn flawed_findings(
     bytes: &[u8],
     first: &CertFlaw,
 ) -> Result<Vec<Finding>, NoMemory>
-    ensures { (flaw : _) → IfOk result (λ found. IsJudged plan.now (Err flaw) (matters found.items)) }
+    ensures found { (flaw : _) → IfOk result (λ found. IsJudged plan.now (Err flaw) (matters found.items)) }
+    ensures refused { IfOk result (λ found. AreRefused plan.now) }
 {
     let mut found = certificate_findings(alloc, files, plan, bytes, first)?;
     let mut rest = bare_findings(alloc, files, plan)?;
@@ -232,7 +261,9 @@ fn certified_findings(
     plan: &Plan,
     bytes: &[u8],
 ) -> Result<Vec<Finding>, NoMemory>
-    ensures { IfOk result (λ found. IsJudged plan.now (certificate_read plan.now bytes.now) (matters found.items)) }
+    ensures found { IfOk result
+        (λ found. IsJudged plan.now (certificate_read plan.now bytes.now) (matters found.items)) }
+    ensures refused { IfOk result (λ found. AreRefused plan.now) }
 {
     match read_certificate(alloc, plan, bytes) {
         Ok(certificate) => {
@@ -256,8 +287,9 @@ fn plan_findings(
     plan: &Plan,
     certificate: Option<&[u8]>,
 ) -> Result<Vec<Finding>, NoMemory>
-    ensures { IfOk result
+    ensures found { IfOk result
         (λ found. IsFound (Ok plan.now) (option_map (λ c. c.now) certificate.entry) (matters found.items)) }
+    ensures refused { IfOk result (λ found. AreRefused plan.now) }
 {
     match certificate {
         None => bare_findings(alloc, files, plan),
@@ -272,8 +304,9 @@ fn lists_findings(
     lists: Deployment,
     certificate: Option<&[u8]>,
 ) -> Result<Vec<Finding>, NoMemory>
-    ensures { IfOk result
+    ensures found { IfOk result
         (λ found. IsFound (Ok lists) (option_map (λ c. c.now) certificate.entry) (matters found.items)) }
+    ensures refused { IfOk result (λ found. AreRefused lists) }
 {
     match plan(alloc, lists) {
         Ok(plan) => {
@@ -315,8 +348,9 @@ fn file_findings(
     deployment: &[u8],
     certificate: Option<&[u8]>,
 ) -> Result<Vec<Finding>, NoMemory>
-    ensures { IfOk result
+    ensures found { IfOk result
         (λ found. IsLint deployment.now (option_map (λ c. c.now) certificate.entry) (matters found.items)) }
+    ensures refused { IfOk result (λ found. IfOk (deployment_read deployment.now) AreRefused) }
 {
     match read_deployment(alloc, deployment) {
         Ok(lists) => lists_findings(alloc, files, lists, certificate),
@@ -332,10 +366,11 @@ fn file_findings(
 /// Everything that is found in the bytes of a deployment and of a certificate, if there is one.
 ///
 /// Of a deployment that has a fault, its faults: the first that `read_deployment` gives is among them. Of another one
-/// the faults of the certificate, the same way, then each condition of the checker that fails and at last the notes,
-/// each with the name of what it's about; without a certificate, or where it has a fault, the conditions that ask for
-/// none. So an error is found of two files exactly where the check of them doesn't say yes, and of a deployment alone
-/// only where the check says yes to no certificate of it. `NoMemory` is the only error.
+/// the faults of the certificate, the same way, then each condition of the checker that fails, the rules for which no
+/// certificate is accepted, and at last the notes, each with the name of what it's about; without a certificate, or
+/// where it has a fault, the conditions that ask for none. So an error is found of two files exactly where the check of
+/// them doesn't say yes, and of a deployment alone only where the check says yes to no certificate of it. `NoMemory` is
+/// the only error.
 pub fn lint(
     alloc: Global,
     deployment: &[u8],

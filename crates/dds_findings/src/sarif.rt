@@ -9,9 +9,9 @@ ghost use Rattle.dds_findings.specs.Documents.{result_words, run_document, sarif
 
 use crate::block::{FileNames, file_name};
 use crate::finding::Finding;
-use dds_answers::VERSION;
 use dds_base::NoMemory;
 use dds_json::line_of;
+use dds_options::VERSION;
 use percent_encoding::{AsciiSet, NON_ALPHANUMERIC, ascii_set, utf8_percent_encode};
 use serde_json::{Value, json};
 use std::alloc::Global;

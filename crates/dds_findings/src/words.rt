@@ -14,6 +14,15 @@ pub(crate) fn later_lines(alloc: Global, reason: &str) -> Result<Vec<String>, No
     Ok(later)
 }
 
+/// The lines of a text, without the blanks before them.
+pub(crate) fn every_line(alloc: Global, text: &str) -> Result<Vec<String>, NoMemory> {
+    let mut lines = Vec::new(alloc);
+    for line in text.lines() {
+        lines.push(String::from_str(alloc, without_blanks(line))?)?;
+    }
+    Ok(lines)
+}
+
 /// A line without the two blanks that it begins with.
 fn without_blanks(line: &str) -> &str {
     match line.strip_prefix("  ") {

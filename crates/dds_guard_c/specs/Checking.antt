@@ -6,7 +6,7 @@ use Rattle.dds_answers.specs.Fault.{IsAnswerFault, exit_of, fault_line}
 use Rattle.dds_answers.specs.declared.exit.Exit.TheVariants as exit
 use Rattle.dds_answers.specs.declared.fault.ToolFault.{ToolFault}
 use Rattle.dds_answers.specs.declared.fault.ToolFault.TheVariants.{TooLarge}
-use Rattle.dds_answers.specs.declared.report.Detail.TheVariants.{Plain}
+use Rattle.dds_options.specs.declared.detail.Detail.TheVariants.{Plain}
 
 -- the faults that a check of two texts can end in
 abbrev pub IsCheckFault : ToolFault → Type 0

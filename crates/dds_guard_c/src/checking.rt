@@ -3,12 +3,13 @@ ghost use Rattle.std.specs.Prelude.{◌≡◌, ◌<◌, ◌≤◌, IfErr, IfOk, 
 ghost use Rattle.dds_answers.specs.Answers.{Gives, answer_status};
 ghost use Rattle.dds_answers.specs.Fault.{fault_line};
 ghost use Rattle.dds_answers.specs.Outcome.{check_file_outcome};
-ghost use Rattle.dds_answers.specs.declared.report.Detail.TheVariants.{Plain};
+ghost use Rattle.dds_options.specs.declared.detail.Detail.TheVariants.{Plain};
 ghost use Rattle.dds_guard_c.specs.Checking.{IsCheckFault, IsChecked, Says, put_over};
 
 use crate::status::{NO_MEMORY, OK};
-use dds_answers::{Answer, Detail, MAX_FILE, ToolFault, check_answer, fault_text};
+use dds_answers::{Answer, MAX_FILE, ToolFault, check_answer, fault_text};
 use dds_base::NoMemory;
+use dds_options::Detail;
 use std::alloc::Global;
 
 const YES: u32 = 0;

@@ -6,8 +6,8 @@ use Rattle.dds_weights.specs.Text.{certificate_text}
 use Rattle.dds_answers.specs.declared.answer.Answer.{Answer}
 use Rattle.dds_answers.specs.declared.fault.ToolFault.{ToolFault}
 use Rattle.dds_answers.specs.declared.fault.ToolFault.TheVariants as fault
-use Rattle.dds_answers.specs.declared.report.Detail.{Detail}
-use Rattle.dds_answers.specs.declared.report.Detail.TheVariants.{Plain, Explained}
+use Rattle.dds_options.specs.declared.detail.Detail.{Detail}
+use Rattle.dds_options.specs.declared.detail.Detail.TheVariants.{Plain, Explained}
 use Rattle.dds_answers.specs.declared.report.Report.{Report}
 use Rattle.dds_answers.specs.declared.report.Report.TheVariants as answer
 use Rattle.dds_answers.specs.Answers.{Gives, IsAnswer, answer_status}
@@ -18,8 +18,8 @@ use Rattle.dds_answers.specs.Report.{Ends, outcome_of, output_of, status_of}
 use Rattle.dds_json.specs.Checking.{is_accepted, reason_of, report_document}
 use Rattle.dds_json.specs.Matching.{match_document}
 use Rattle.dds_json.specs.Ends.{EndsProposal, in_json, in_style}
-use Rattle.dds_json.specs.declared.style.Style.{Style}
-use Rattle.dds_json.specs.declared.style.Style.TheVariants.{Text, Json}
+use Rattle.dds_options.specs.declared.style.Style.{Style}
+use Rattle.dds_options.specs.declared.style.Style.TheVariants.{Text, Json}
 use Rattle.dds_json.specs.Line.{line_of}
 use Rattle.dds_json.specs.Proposing.{none_document, proposal_document, proposed_document}
 

@@ -15,10 +15,11 @@ ghost use Rattle.dds_json.specs.Ends.{in_json};
 ghost use Rattle.dds_json.specs.Line.{line_of};
 
 use crate::line::line_of;
-use dds_answers::{Answer, Detail, Report, ToolFault, answer_with, because_text};
+use dds_answers::{Answer, Report, ToolFault, answer_with, because_text};
 use dds_base::{KeyNo, NoMemory, ReaderNo, WriterNo};
 use dds_check::{No, Subject};
 use dds_lists::Deployment;
+use dds_options::Detail;
 use dds_text::names::{reader_key, reader_name, rule_text, writer_key, writer_name};
 use dds_weights::naming::row_name;
 use dds_weights::{Bound, Certificate, Total};

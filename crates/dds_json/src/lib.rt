@@ -9,12 +9,10 @@ mod line;
 mod matching;
 mod proposing;
 mod structure;
-mod style;
 mod styled;
 
 pub use fault::fault_line;
 pub use line::line_of;
 pub use matching::answer_word;
 pub use structure::structure_document;
-pub use style::Style;
 pub use styled::{pairs_in_style, proposal_in_style, report_in_style};

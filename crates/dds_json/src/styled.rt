@@ -9,9 +9,9 @@ ghost use Rattle.dds_json.specs.Ends.{EndsProposal, in_style};
 use crate::checking::answer_report_in_json;
 use crate::matching::answer_pairs_in_json;
 use crate::proposing::answer_proposal_in_json;
-use crate::style::Style;
-use dds_answers::{Answer, Detail, Report, ToolFault, answer_pairs, answer_report};
+use dds_answers::{Answer, Report, ToolFault, answer_pairs, answer_report};
 use dds_match::Plan;
+use dds_options::{Detail, Style};
 use std::alloc::Global;
 
 /// The answer for a report, which is needed no longer, in this style: yes where the certificate is accepted. Its reason

@@ -4,3 +4,4 @@ pub mod FirstOfAll
 mod LiveLaws
 mod LiveRounds
 pub mod LoopLaws
+mod SpreadLaws

@@ -1,4 +1,9 @@
 pub mod Every
 pub mod Conditions
 pub mod Live
+pub mod Renewal
+pub mod Endless
+pub mod Delivery
+pub mod Pacing
 pub mod Notes
+pub mod Spreads

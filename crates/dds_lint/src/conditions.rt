@@ -30,14 +30,19 @@ fn push_limits(nos: &mut Vec<No>, plan: &Plan, certificate: &Certificate) -> Res
 }
 
 #[tactic(auto, unfolding(crate::specs::Conditions::all_nos))]
-fn push_all(nos: &mut Vec<No>, plan: &Plan, certificate: &Certificate) -> Result<(), NoMemory>
+fn push_all(
+    nos: &mut Vec<No>,
+    alloc: Global,
+    plan: &Plan,
+    certificate: &Certificate,
+) -> Result<(), NoMemory>
     requires { HasFewRows (certificate_view certificate.now) }
     ensures { OnOk result (nos.new.items ≡ nos.old.items ++ all_nos plan.now (certificate_view certificate.now)) }
 {
     push_pairs(nos, plan)?;
     push_profile(nos, plan)?;
     push_limits(nos, plan, certificate)?;
-    push_rows(nos, plan, certificate)?;
+    push_rows(nos, alloc, plan, certificate)?;
     push_shown(nos, plan, certificate)
 }
 
@@ -53,7 +58,7 @@ pub fn all_nos(alloc: Global, plan: &Plan, certificate: &Certificate) -> Result<
         (λ nos. slice_get nos.items 0 ≡ first_no plan.now (certificate_view certificate.now)) }
 {
     let mut nos = Vec::new(alloc);
-    push_all(&mut nos, plan, certificate)?;
+    push_all(&mut nos, alloc, plan, certificate)?;
     Ok(nos)
 }
 

@@ -16,6 +16,7 @@ use dds_check::limits::{
     bound_over, keep_last_filter, no_bound, no_total, reader_instances, samples_over, writer_depth,
     writer_instances,
 };
+use dds_check::permits::permits_of;
 use dds_check::{Bounds, No, Totals};
 use dds_conditions::{readers_of, writers_of};
 use dds_match::Plan;
@@ -60,8 +61,13 @@ fn push_lacking(
     ensures { OnOk result (nos.new.items ≡ nos.old.items
         ++ no_bounds_nos (network_of plan.now) bounds.now totals.now reader) }
 {
-    push_below(nos, KEYS, |k| no_bound(plan, bounds, reader, KeyNo::new(k)))?;
-    push_no_total(nos, plan, bounds, totals, reader)
+    let bounds = bounds.near(reader);
+    push_below(
+        nos,
+        KEYS,
+        |k| no_bound(plan, &bounds, reader, KeyNo::new(k)),
+    )?;
+    push_no_total(nos, plan, &bounds, totals, reader)
 }
 
 /// Adds the keys of a strict reader without a bound, then the reader where it has no total: number 21.
@@ -111,10 +117,11 @@ fn push_bounds_over_of(
     if plan.watcher(reader) {
         return Ok(());
     }
+    let bounds = bounds.near(reader);
     push_below(
         nos,
         KEYS,
-        |k| bound_over(plan, bounds, reader, KeyNo::new(k)),
+        |k| bound_over(plan, &bounds, reader, KeyNo::new(k)),
     )
 }
 
@@ -225,12 +232,22 @@ fn push_depths_of(
     ensures { OnOk result (nos.new.items ≡ nos.old.items
         ++ depth_nos (network_of plan.now) bounds.now totals.now writer) }
 {
+    let permits = permits_of(plan, writer);
     for r in 0..readers_of(plan) {
         let reader = ReaderNo::new(r);
+        let bounds = bounds.near(reader);
         push_below(
             nos,
             KEYS,
-            |k| writer_depth(plan, bounds, totals, writer, reader, KeyNo::new(k)),
+            |k| writer_depth(
+                plan,
+                &bounds,
+                totals,
+                &permits,
+                writer,
+                reader,
+                KeyNo::new(k),
+            ),
         )?;
     }
     Ok(())

@@ -1,27 +1,32 @@
 //! What a yes doesn't say: who may miss samples, what can grow, and what never happens.
-ghost use Rattle.std.specs.Prelude.{◌≡◌, ◌++◌, ◌<◌, ◌==◌, ◌&&◌, ◌||◌, false, length, not, slice_index_or};
+ghost use Rattle.std.specs.Prelude.{◌≡◌, ◌++◌, ◌<◌, ◌==◌, ◌&&◌, false, length, not, slice_index_or};
 ghost use Rattle.std.specs.Prelude.{IfOk, OnOk};
 ghost use Rattle.std.specs.List.{list_any};
 ghost use Rattle.dds_base.specs.Sums.{any_below};
-ghost use Rattle.dds_match.specs.Network.{is_named, is_written};
+ghost use Rattle.dds_match.specs.Network.{is_written};
 ghost use Rattle.dds_match.specs.Plan.{network_of};
 ghost use Rattle.dds_lists.specs.Lists.{writer_topic};
 ghost use Rattle.dds_weights.specs.Views.{certificate_view};
 ghost use Rattle.dds_check.specs.Limits.{all_bounded};
+ghost use Rattle.dds_lint.specs.Delivery.{is_latched};
 ghost use Rattle.dds_lint.specs.Every.{every_below, those_below, those_in};
 ghost use Rattle.dds_lint.specs.Live.{IsLive, live_of, opens};
-ghost use Rattle.dds_lint.specs.Notes.{AreRefused, absent_notes, all_notes, certificate_notes, comes_limited};
-ghost use Rattle.dds_lint.specs.Notes.{endless, endless_at, finite, goes_on, grows, has_limit, held_up, idle_limit};
-ghost use Rattle.dds_lint.specs.Notes.{idle_reader, idle_writer, is_endless, is_finite, is_key_written, is_lossy};
-ghost use Rattle.dds_lint.specs.Notes.{is_renewed, is_stuck, lossy_take, may_lose, needless_bound, needless_total};
-ghost use Rattle.dds_lint.specs.Notes.{no_rules, no_start, no_strict_reader, noted, pair_notes, reader_notes};
-ghost use Rattle.dds_lint.specs.Notes.{renews, rule_notes, stuck_rule, unused_row, unwritten_key, unwritten_keys};
-ghost use Rattle.dds_lint.specs.Notes.{watcher, writer_notes, writes_finitely, writes_limited};
+ghost use Rattle.dds_lint.specs.Notes.{absent_notes, all_notes, certificate_notes, finite, grows, held_up, idle_limit};
+ghost use Rattle.dds_lint.specs.Notes.{idle_reader, idle_writer, incompatible, is_key_written, is_lossy, is_stuck};
+ghost use Rattle.dds_lint.specs.Notes.{late_reader, lossy_take, needless_bound, needless_total, no_rules, no_start};
+ghost use Rattle.dds_lint.specs.Notes.{no_strict_reader, noted, notes_of_pairs, pace_unused, pair_notes, reader_notes};
+ghost use Rattle.dds_lint.specs.Notes.{rule_notes, span_unused, span_unused_by, stalled, stuck_rule, unheard_writer};
+ghost use Rattle.dds_lint.specs.Notes.{unused_row, unwritten_key, unwritten_keys, watcher, watcher_span, writer_notes};
 
+use crate::delivery::{
+    are_incompatible, is_held_up, is_latched, is_unheard, may_lose, misses_history, stalls,
+};
 use crate::every::{push_below, push_some};
 use crate::live::{can_take_all, has_takes, live_rules, opens};
+use crate::pacing::{is_pace_unused, is_span_of_watcher, is_span_unused};
+use crate::renewal::is_finite;
 use dds_base::limits::RULES;
-use dds_base::{KeyNo, NoMemory, Portion, ReaderNo, RuleNo, TopicNo, WriterNo};
+use dds_base::{KeyNo, NoMemory, ReaderNo, RuleNo, TopicNo, WriterNo};
 use dds_check::below::first_below;
 use dds_check::limits::{all_bounded, is_over};
 use dds_check::shown::{bound_at, total_at};
@@ -44,10 +49,19 @@ pub enum Note {
     IdleLimit(ReaderNo),
     /// No sample can come to the reader: no rule writes a key that it takes at a writer that matches it.
     IdleReader(ReaderNo),
+    /// The reader may lose samples, and yet its writers repeat to it what it refuses when it's full.
+    Stalls(ReaderNo),
+    /// The deployment says how soon the reader takes each sample, but that bounds nothing that the rule writes, which
+    /// has no pace.
+    SpanUnused { reader: ReaderNo, rule: RuleNo },
+    /// The deployment says how soon the reader takes each sample, but that's a watcher, of which nothing is bounded.
+    WatcherSpan(ReaderNo),
     /// No rule writes the key at a writer of its topic.
     UnwrittenKey { topic: TopicNo, key: KeyNo },
     /// No rule writes at the writer.
     IdleWriter(WriterNo),
+    /// Rules write at the writer, and no reader matches it.
+    UnheardWriter(WriterNo),
     /// There is no rule, so that nothing is written.
     NoRules,
     /// No rule starts and none is free, so that nothing is ever written.
@@ -59,11 +73,10 @@ pub enum Note {
     /// The rule takes nothing and isn't free, so that it lets nothing be written once its start is used up, and there's
     /// something of that which no other rule lets be written again.
     Finite(RuleNo),
-    /// The reader must lose nothing, and the rule lets writes come to it at any time, whatever is taken, though the
-    /// reader or the writer has a limit of samples: no bound holds there, and no certificate is accepted.
-    Endless { reader: ReaderNo, rule: RuleNo },
     /// The rule takes at a watcher: if that misses a sample, the rule may wait for it for ever.
     LossyTake(RuleNo),
+    /// The rule has a pace, but feeds no strict reader of which the deployment says how soon it takes each sample.
+    PaceUnused(RuleNo),
     /// No bound and no total is shown by the row with this place in the certificate, from 0.
     UnusedRow(usize),
     /// No condition asks for the bound with this place, from 0: its reader is a watcher, or no sample of its key can
@@ -71,8 +84,13 @@ pub enum Note {
     NeedlessBound(usize),
     /// No condition asks for the total with this place, from 0: its reader is a watcher, or no sample can come.
     NeedlessTotal(usize),
+    /// Nothing but their policies keeps the writer and the reader apart, and no connection names them.
+    Incompatible { writer: WriterNo, reader: ReaderNo },
     /// The writer keeps all within a limit, and waits for the reader where that is slow.
     HeldUp { writer: WriterNo, reader: ReaderNo },
+    /// The writer keeps what it wrote for readers to come, and its rules end; but the reader asks for nothing that was
+    /// written before it came.
+    LateReader { reader: ReaderNo, writer: WriterNo },
 }
 
 /// The note where the test is true.
@@ -80,14 +98,6 @@ fn note_if(test: bool, note: Note) -> Option<Note>
     ensures { result ≡ noted test note }
 {
     if test { Some(note) } else { None }
-}
-
-/// Whether the deployment says of a reader that it may lose samples.
-fn may_lose(plan: &Plan, reader: ReaderNo) -> bool
-    ensures { result ≡ may_lose plan.now reader }
-{
-    let lists = plan.lists();
-    reader.number() < lists.readers() && lists.reader(reader).may_lose
 }
 
 fn watcher(plan: &Plan, reader: ReaderNo) -> Option<Note>
@@ -128,69 +138,39 @@ fn idle_reader(plan: &Plan, reader: ReaderNo) -> Option<Note>
     note_if(reached(plan, reader) == 0, Note::IdleReader(reader))
 }
 
-/// Whether the samples of a writer that a reader hasn't taken are limited: by the reader, or by the writer's depth.
-fn has_limit(plan: &Plan, writer: WriterNo, reader: ReaderNo) -> bool
-    requires writer { writer < (network_of plan.now).writers }
-    requires reader { reader < (network_of plan.now).readers }
-    ensures { result ≡ has_limit (network_of plan.now) writer reader }
-{
-    let limits = plan.reader_limits(reader);
-    limits.max_samples.is_some()
-        || instance_limit(&limits).is_some()
-        || plan.writer_limits(writer).keep_last.is_some()
-}
-
-/// Whether what is written there comes to a reader, and is limited.
-fn comes_limited(plan: &Plan, reader: ReaderNo, write: &Portion<WriterNo>) -> bool
+fn stalled(plan: &Plan, reader: ReaderNo) -> Option<Note>
     requires { reader < (network_of plan.now).readers }
-    ensures { result ≡ comes_limited (network_of plan.now) reader write.now }
+    ensures { result ≡ stalled plan.now reader }
 {
-    plan.matched(write.endpoint, reader)
-        && plan.reaches(reader, write.key)
-        && has_limit(plan, write.endpoint, reader)
+    note_if(stalls(plan, reader), Note::Stalls(reader))
 }
 
-/// Whether one of a rule's writes comes to a reader, and is limited.
-fn writes_limited(plan: &Plan, reader: ReaderNo, rule: RuleNo) -> bool
-    requires reader { reader < (network_of plan.now).readers }
-    requires rule { rule < (network_of plan.now).rules }
-    ensures { result ≡ writes_limited (network_of plan.now) reader rule }
-{
-    plan.rule(rule)
-        .writes
-        .iter()
-        .any(|e| comes_limited(plan, reader, e))
-}
-
-/// Whether a rule lets its writes be made at any time, whatever is taken, and one of them comes to a reader and is
-/// limited.
-fn is_endless(plan: &Plan, reader: ReaderNo, rule: RuleNo) -> bool
-    requires reader { reader < (network_of plan.now).readers }
-    requires rule { rule < (network_of plan.now).rules }
-    ensures { result ≡ is_endless (network_of plan.now) reader rule }
-{
-    plan.rule(rule).free && writes_limited(plan, reader, rule)
-}
-
-fn endless_at(plan: &Plan, reader: ReaderNo, rule: RuleNo) -> Option<Note>
-    requires reader { reader < (network_of plan.now).readers }
-    requires rule { rule < (network_of plan.now).rules }
-    ensures { result ≡ endless_at (network_of plan.now) reader rule }
+fn span_unused_by(plan: &Plan, reader: ReaderNo, rule: RuleNo) -> Option<Note>
+    requires { rule < (network_of plan.now).rules }
+    ensures { result ≡ span_unused_by plan.now reader rule }
 {
     note_if(
-        is_endless(plan, reader, rule),
-        Note::Endless { reader, rule },
+        is_span_unused(plan, reader, rule),
+        Note::SpanUnused { reader, rule },
     )
 }
 
-fn endless(plan: &Plan, reader: ReaderNo) -> Option<Note>
-    requires { reader < (network_of plan.now).readers }
-    ensures { result ≡ endless (network_of plan.now) reader }
+fn span_unused(plan: &Plan, reader: ReaderNo) -> Option<Note>
+    ensures { result ≡ span_unused plan.now reader }
 {
-    if plan.watcher(reader) {
+    if plan.taken_within(reader).is_none() {
         return None;
     }
-    first_below(rules_of(plan), |u| endless_at(plan, reader, RuleNo::new(u)))
+    first_below(
+        rules_of(plan),
+        |u| span_unused_by(plan, reader, RuleNo::new(u)),
+    )
+}
+
+fn watcher_span(plan: &Plan, reader: ReaderNo) -> Option<Note>
+    ensures { result ≡ watcher_span plan.now reader }
+{
+    note_if(is_span_of_watcher(plan, reader), Note::WatcherSpan(reader))
 }
 
 /// Whether a writer is one of the topic, and a rule writes the key there.
@@ -226,6 +206,12 @@ fn idle_writer(plan: &Plan, writer: WriterNo) -> Option<Note>
     ensures { result ≡ idle_writer (network_of plan.now) writer }
 {
     note_if(written(plan, writer) == 0, Note::IdleWriter(writer))
+}
+
+fn unheard_writer(plan: &Plan, writer: WriterNo) -> Option<Note>
+    ensures { result ≡ unheard_writer (network_of plan.now) writer }
+{
+    note_if(is_unheard(plan, writer), Note::UnheardWriter(writer))
 }
 
 fn no_rules(plan: &Plan) -> Option<Note>
@@ -289,64 +275,6 @@ fn stuck_rule(plan: &Plan, live: &[bool; RULES], rule: RuleNo) -> Option<Note>
     note_if(is_stuck(plan, live, rule), Note::StuckRule(rule))
 }
 
-/// Whether a rule can let its writes be made again and again: it takes something, or is free.
-fn goes_on(plan: &Plan, rule: RuleNo) -> bool
-    requires { rule < (network_of plan.now).rules }
-    ensures { result ≡ goes_on (network_of plan.now) rule }
-{
-    has_takes(plan, rule) || plan.rule(rule).free
-}
-
-/// Whether this is one of the writes of a rule.
-fn is_one_of_writes(plan: &Plan, writer: WriterNo, key: KeyNo, rule: RuleNo) -> bool
-    requires { rule < (network_of plan.now).rules }
-    ensures { result ≡ is_named ((network_of plan.now).rule rule).writes writer key }
-{
-    plan.rule(rule)
-        .writes
-        .iter()
-        .any(|e| e.endpoint == writer && e.key == key)
-}
-
-/// Whether a rule can let this write be made again and again.
-fn renews(plan: &Plan, writer: WriterNo, key: KeyNo, rule: RuleNo) -> bool
-    requires { rule < (network_of plan.now).rules }
-    ensures { result ≡ renews (network_of plan.now) writer key rule }
-{
-    goes_on(plan, rule) && is_one_of_writes(plan, writer, key, rule)
-}
-
-/// Whether some rule can.
-fn is_renewed(plan: &Plan, writer: WriterNo, key: KeyNo) -> bool
-    ensures { result ≡ is_renewed (network_of plan.now) writer key }
-{
-    let mut any = false;
-    for u in 0..rules_of(plan) {
-        let here = renews(plan, writer, key, RuleNo::new(u));
-        any = here || any;
-    }
-    any
-}
-
-/// Whether a rule writes something that no rule lets be written again.
-fn writes_finitely(plan: &Plan, rule: RuleNo) -> bool
-    requires { rule < (network_of plan.now).rules }
-    ensures { result ≡ writes_finitely (network_of plan.now) rule }
-{
-    plan.rule(rule)
-        .writes
-        .iter()
-        .any(|e| !is_renewed(plan, e.endpoint, e.key))
-}
-
-/// Whether a rule has a start alone, and writes something that no rule lets be written again.
-fn is_finite(plan: &Plan, rule: RuleNo) -> bool
-    requires { rule < (network_of plan.now).rules }
-    ensures { result ≡ is_finite (network_of plan.now) rule }
-{
-    !goes_on(plan, rule) && 0 < plan.rule(rule).start && writes_finitely(plan, rule)
-}
-
 fn finite(plan: &Plan, rule: RuleNo) -> Option<Note>
     requires { rule < (network_of plan.now).rules }
     ensures { result ≡ finite (network_of plan.now) rule }
@@ -370,6 +298,13 @@ fn lossy_take(plan: &Plan, rule: RuleNo) -> Option<Note>
     ensures { result ≡ lossy_take (network_of plan.now) rule }
 {
     note_if(is_lossy(plan, rule), Note::LossyTake(rule))
+}
+
+fn pace_unused(plan: &Plan, rule: RuleNo) -> Option<Note>
+    requires { rule < (network_of plan.now).rules }
+    ensures { result ≡ pace_unused plan.now rule }
+{
+    note_if(is_pace_unused(plan, rule), Note::PaceUnused(rule))
 }
 
 /// Whether a bound names the row.
@@ -407,16 +342,34 @@ fn needless_total(plan: &Plan, total: &Total, place: usize) -> Option<Note>
     note_if(is_needless, Note::NeedlessTotal(place))
 }
 
+fn incompatible(plan: &Plan, writer: WriterNo, reader: ReaderNo) -> Option<Note>
+    ensures { result ≡ incompatible plan.now writer reader }
+{
+    note_if(
+        are_incompatible(plan, writer, reader),
+        Note::Incompatible { writer, reader },
+    )
+}
+
 fn held_up(plan: &Plan, writer: WriterNo, reader: ReaderNo) -> Option<Note>
     requires { writer < (network_of plan.now).writers }
-    ensures { result ≡ held_up (network_of plan.now) writer reader }
+    ensures { result ≡ held_up plan.now writer reader }
 {
-    let limits = plan.writer_limits(writer);
-    let is_held_up = plan.matched(writer, reader)
-        && !plan.watcher(reader)
-        && limits.keep_last.is_none()
-        && (limits.max_samples.is_some() || limits.max_samples_per_instance.is_some());
-    note_if(is_held_up, Note::HeldUp { writer, reader })
+    note_if(
+        is_held_up(plan, writer, reader),
+        Note::HeldUp { writer, reader },
+    )
+}
+
+/// The note of a reader that comes late, where it's known whether the writer is latched.
+fn late_reader(plan: &Plan, latched: bool, writer: WriterNo, reader: ReaderNo) -> Option<Note>
+    requires { latched ≡ is_latched plan.now writer }
+    ensures { result ≡ late_reader plan.now writer reader }
+{
+    note_if(
+        latched && misses_history(plan, writer, reader),
+        Note::LateReader { reader, writer },
+    )
 }
 
 fn push_watchers(notes: &mut Vec<Note>, plan: &Plan) -> Result<(), NoMemory>
@@ -464,11 +417,33 @@ fn push_idle_readers(notes: &mut Vec<Note>, plan: &Plan) -> Result<(), NoMemory>
     )
 }
 
-fn push_endless(notes: &mut Vec<Note>, plan: &Plan) -> Result<(), NoMemory>
+fn push_stalled(notes: &mut Vec<Note>, plan: &Plan) -> Result<(), NoMemory>
     ensures { OnOk result (notes.new.items ≡ notes.old.items
-        ++ those_below (network_of plan.now).readers (endless (network_of plan.now))) }
+        ++ those_below (network_of plan.now).readers (stalled plan.now)) }
 {
-    push_below(notes, readers_of(plan), |r| endless(plan, ReaderNo::new(r)))
+    push_below(notes, readers_of(plan), |r| stalled(plan, ReaderNo::new(r)))
+}
+
+fn push_unused_spans(notes: &mut Vec<Note>, plan: &Plan) -> Result<(), NoMemory>
+    ensures { OnOk result (notes.new.items ≡ notes.old.items
+        ++ those_below (network_of plan.now).readers (span_unused plan.now)) }
+{
+    push_below(
+        notes,
+        readers_of(plan),
+        |r| span_unused(plan, ReaderNo::new(r)),
+    )
+}
+
+fn push_watcher_spans(notes: &mut Vec<Note>, plan: &Plan) -> Result<(), NoMemory>
+    ensures { OnOk result (notes.new.items ≡ notes.old.items
+        ++ those_below (network_of plan.now).readers (watcher_span plan.now)) }
+{
+    push_below(
+        notes,
+        readers_of(plan),
+        |r| watcher_span(plan, ReaderNo::new(r)),
+    )
 }
 
 fn push_readers(
@@ -483,7 +458,9 @@ fn push_readers(
     push_growing(notes, plan, certificate)?;
     push_idle_limits(notes, plan)?;
     push_idle_readers(notes, plan)?;
-    push_endless(notes, plan)
+    push_stalled(notes, plan)?;
+    push_unused_spans(notes, plan)?;
+    push_watcher_spans(notes, plan)
 }
 
 fn push_keys(notes: &mut Vec<Note>, plan: &Plan) -> Result<(), NoMemory>
@@ -509,11 +486,23 @@ fn push_idle(notes: &mut Vec<Note>, plan: &Plan) -> Result<(), NoMemory>
     )
 }
 
+fn push_unheard(notes: &mut Vec<Note>, plan: &Plan) -> Result<(), NoMemory>
+    ensures { OnOk result (notes.new.items ≡ notes.old.items
+        ++ those_below (network_of plan.now).writers (unheard_writer (network_of plan.now))) }
+{
+    push_below(
+        notes,
+        writers_of(plan),
+        |w| unheard_writer(plan, WriterNo::new(w)),
+    )
+}
+
 fn push_writers(notes: &mut Vec<Note>, plan: &Plan) -> Result<(), NoMemory>
     ensures { OnOk result (notes.new.items ≡ notes.old.items ++ writer_notes plan.now) }
 {
     push_keys(notes, plan)?;
-    push_idle(notes, plan)
+    push_idle(notes, plan)?;
+    push_unheard(notes, plan)
 }
 
 fn push_absent(notes: &mut Vec<Note>, plan: &Plan) -> Result<(), NoMemory>
@@ -549,14 +538,22 @@ fn push_lossy(notes: &mut Vec<Note>, plan: &Plan) -> Result<(), NoMemory>
     push_below(notes, rules_of(plan), |u| lossy_take(plan, RuleNo::new(u)))
 }
 
+fn push_unused_paces(notes: &mut Vec<Note>, plan: &Plan) -> Result<(), NoMemory>
+    ensures { OnOk result (notes.new.items ≡ notes.old.items
+        ++ those_below (network_of plan.now).rules (pace_unused plan.now)) }
+{
+    push_below(notes, rules_of(plan), |u| pace_unused(plan, RuleNo::new(u)))
+}
+
 fn push_rules(notes: &mut Vec<Note>, plan: &Plan, live: &[bool; RULES]) -> Result<(), NoMemory>
     ensures { OnOk result (notes.new.items ≡ notes.old.items
-        ++ rule_notes (network_of plan.now) (λ u. slice_index_or live.now u false)) }
+        ++ rule_notes plan.now (λ u. slice_index_or live.now u false)) }
 {
     push_absent(notes, plan)?;
     push_stuck(notes, plan, live)?;
     push_finite(notes, plan)?;
-    push_lossy(notes, plan)
+    push_lossy(notes, plan)?;
+    push_unused_paces(notes, plan)
 }
 
 fn push_unused_rows(notes: &mut Vec<Note>, certificate: &Certificate) -> Result<(), NoMemory>
@@ -614,8 +611,24 @@ fn push_certificate(
     push_needless_totals(notes, plan, certificate)
 }
 
-fn push_pairs(notes: &mut Vec<Note>, plan: &Plan) -> Result<(), NoMemory>
-    ensures { OnOk result (notes.new.items ≡ notes.old.items ++ pair_notes (network_of plan.now)) }
+fn push_incompatible(notes: &mut Vec<Note>, plan: &Plan) -> Result<(), NoMemory>
+    ensures { OnOk result (notes.new.items ≡ notes.old.items
+        ++ notes_of_pairs (network_of plan.now) (incompatible plan.now)) }
+{
+    for w in 0..writers_of(plan) {
+        let writer = WriterNo::new(w);
+        push_below(
+            notes,
+            readers_of(plan),
+            |r| incompatible(plan, writer, ReaderNo::new(r)),
+        )?;
+    }
+    Ok(())
+}
+
+fn push_held_up(notes: &mut Vec<Note>, plan: &Plan) -> Result<(), NoMemory>
+    ensures { OnOk result (notes.new.items ≡ notes.old.items
+        ++ notes_of_pairs (network_of plan.now) (held_up plan.now)) }
 {
     for w in 0..writers_of(plan) {
         let writer = WriterNo::new(w);
@@ -626,6 +639,30 @@ fn push_pairs(notes: &mut Vec<Note>, plan: &Plan) -> Result<(), NoMemory>
         )?;
     }
     Ok(())
+}
+
+fn push_late(notes: &mut Vec<Note>, plan: &Plan) -> Result<(), NoMemory>
+    ensures { OnOk result (notes.new.items ≡ notes.old.items
+        ++ notes_of_pairs (network_of plan.now) (late_reader plan.now)) }
+{
+    for w in 0..writers_of(plan) {
+        let writer = WriterNo::new(w);
+        let latched = is_latched(plan, writer);
+        push_below(
+            notes,
+            readers_of(plan),
+            |r| late_reader(plan, latched, writer, ReaderNo::new(r)),
+        )?;
+    }
+    Ok(())
+}
+
+fn push_pairs(notes: &mut Vec<Note>, plan: &Plan) -> Result<(), NoMemory>
+    ensures { OnOk result (notes.new.items ≡ notes.old.items ++ pair_notes plan.now) }
+{
+    push_incompatible(notes, plan)?;
+    push_held_up(notes, plan)?;
+    push_late(notes, plan)
 }
 
 #[tactic(auto, unfolding(crate::specs::Notes::all_notes))]
@@ -646,17 +683,17 @@ fn push_all(
 }
 
 /// What a yes doesn't say of a plan and a certificate, which may be empty: readers that may miss samples, and whether
-/// all may, or that grow without end or get nothing, limits that do nothing or that no certificate keeps, keys and
-/// writers that no rule writes, rules that never fire or that end, what of the certificate nothing needs, and readers
-/// for which a writer waits. Which rules can fire goes by counts without amounts: what can come once is taken to come
-/// as often as a rule needs it. `NoMemory` is the only error.
+/// all may, or that grow without end or get nothing, limits and spans that do nothing, keys and writers that no rule
+/// writes or that nobody hears, rules that never fire or that end, what of the certificate nothing needs, and pairs
+/// whose policies don't agree, make one wait for the other or keep it from what was written. Which rules can fire goes
+/// by counts without amounts: what can come once is taken to come as often as a rule needs it. `NoMemory` is the only
+/// error.
 pub fn all_notes(
     alloc: Global,
     plan: &Plan,
     certificate: &Certificate,
 ) -> Result<Vec<Note>, NoMemory>
     ensures rules { IsLive (network_of plan.now) (live_of (network_of plan.now)) }
-    ensures refused { AreRefused plan.now }
     ensures all { IfOk result
         (λ notes. notes.items
         ≡ all_notes plan.now (live_of (network_of plan.now)) (certificate_view certificate.now)) }

@@ -1,5 +1,5 @@
 -- The lists of a deployment, as contracts see them.
-use Rattle.std.specs.Prelude.{ℕ, Bool, List, [], ◌∷◌, ◌++◌, ◌==◌, nat_le, length, unwrap_or, option_map, slice_get, if◌then◌else◌}
+use Rattle.std.specs.Prelude.{ℕ, Bool, Option, List, [], ◌∷◌, ◌++◌, ◌==◌, nat_le, length, unwrap_or, option_map, slice_get, if◌then◌else◌}
 use Rattle.std.specs.List.{list_any, range_with_len}
 use Rattle.dds_base.specs.declared.portion.Portion.{Portion}
 use Rattle.dds_qos.specs.declared.policies.WriterQos.{WriterQos}
@@ -8,6 +8,7 @@ use Rattle.dds_base.specs.Section.{Listed}
 use Rattle.dds_qos.specs.declared.profile.Profile.{Profile}
 use Rattle.dds_qos.specs.declared.profile.Profile.TheVariants.{ReliableKeepAll, AnyWriter}
 use Rattle.dds_lists.specs.declared.lists.Origin.{Origin}
+use Rattle.dds_lists.specs.declared.lists.Pace.{Pace}
 
 pub record Participant : Type 0 where
   pub domain : ℕ
@@ -31,6 +32,9 @@ pub record Reader : Type 0 where
   pub partitions : List (List ℕ)
   -- it wants the newest and may miss samples: it is a watcher, whatever its reliability
   pub may_lose : Bool
+  -- each sample that it hears is taken, and can be taken, at most so many nanoseconds after its write; none where nothing is known
+  pub taken_within : Option ℕ
+  pub available_within : Option ℕ
 
 pub record Application : Type 0 where
   pub participant : ℕ
@@ -38,13 +42,14 @@ pub record Application : Type 0 where
   pub readers : List ℕ
 
 -- after taking all of `takes`, the application may write all of `writes`; at the opening it may do so `start` times. What a free rule names may be
--- written at any time
+-- written at any time. A rule with a pace writes no more often than that, by the clock
 pub record Rule : Type 0 where
   pub application : ℕ
   pub takes : List (Portion ℕ)
   pub writes : List (Portion ℕ)
   pub start : ℕ
   pub free : Bool
+  pub pace : Option Pace
 
 -- the names that stand in the file; the rules that result; and of each rule the number of its name and, where it stands for one key
 -- of an entry with `each`, a topic and that key of it

@@ -21,13 +21,13 @@ abbrev pub writer_view : CodeWriter → Writer
 writer_view w = record { participant = w.participant; topic = w.topic; qos = w.qos; partitions = map string_bytes w.partitions.items }
 
 abbrev pub reader_view : CodeReader → Reader
-reader_view r = record { participant = r.participant; topic = r.topic; filter = r.filter.items; qos = r.qos; partitions = map string_bytes r.partitions.items; may_lose = r.may_lose }
+reader_view r = record { participant = r.participant; topic = r.topic; filter = r.filter.items; qos = r.qos; partitions = map string_bytes r.partitions.items; may_lose = r.may_lose; taken_within = r.taken_within; available_within = r.available_within }
 
 abbrev pub application_view : CodeApplication → Application
 application_view a = record { participant = a.participant; writers = a.writers.items; readers = a.readers.items }
 
 abbrev pub rule_view : CodeRule → Rule
-rule_view u = record { application = u.application; takes = u.takes.items; writes = u.writes.items; start = u.start; free = u.free }
+rule_view u = record { application = u.application; takes = u.takes.items; writes = u.writes.items; start = u.start; free = u.free; pace = u.pace }
 
 abbrev pub rules_view : CodeRules → Rules
 rules_view all = record { names = all.names; origins = all.origins.items; entries = map rule_view all.entries.items }

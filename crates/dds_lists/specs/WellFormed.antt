@@ -1,5 +1,5 @@
 -- What every deployment keeps: the limits of its lists, that its numbers name what is there, that nothing is named twice, and who owns what.
-use Rattle.std.specs.Prelude.{ℕ, true, ◌≡◌, ◌<◌, ◌≤◌, List, All, Contains, length, slice_get, slice_index_or, Some, None, unwrap_or, option_map, []}
+use Rattle.std.specs.Prelude.{ℕ, true, ◌≡◌, ◌<◌, ◌≤◌, ◌-◌, ◌^◌, List, All, Contains, length, slice_get, slice_index_or, Some, None, unwrap_or, option_map, []}
 use Rattle.dds_base.specs.Limits.{most_participants, most_topics, most_applications, most_rules}
 use Rattle.dds_base.specs.Grid.{most_endpoints, most_keys}
 use Rattle.dds_base.specs.Names.{number_of}
@@ -9,6 +9,7 @@ use Rattle.dds_qos.specs.declared.policies.Policies.{Policies}
 use Rattle.dds_qos.specs.Consistency.{consistency_fault}
 use Rattle.dds_base.specs.Section.{Listed}
 use Rattle.dds_lists.specs.declared.lists.Origin.{Origin}
+use Rattle.dds_lists.specs.declared.lists.Pace.{Pace}
 use Rattle.dds_lists.specs.Lists.{Participant, Topic, Writer, Reader, Application, Rule, Rules, Lists, keys_at}
 
 -- the keys of the filter of the reader with this number
@@ -110,7 +111,23 @@ pub record NamesOnce (d : Lists) : Type 0 where
 abbrev pub IsCounted : Portion ℕ → Type 0
 IsCounted x = (1 ≤ x.count) × (x.count ≤ 65535)
 
--- each endpoint's history and limits agree, each topic has a key, and domains, counts and starts are in their ranges
+-- the most nanoseconds that a file may give
+abbrev pub most_nanoseconds : ℕ
+most_nanoseconds = 2 ^ 63 - 1
+
+-- a pace, which has a period
+pub record IsPace (p : Pace) : Type 0 where
+  pub some_period : 1 ≤ p.period
+  pub period : p.period ≤ most_nanoseconds
+  pub jitter : p.jitter ≤ most_nanoseconds
+
+-- how soon a reader takes, and how soon it can
+pub record AreSpans (r : Reader) : Type 0 where
+  pub taken : (n : ℕ) → r.taken_within ≡ Some n → n ≤ most_nanoseconds
+  pub available : (n : ℕ) → r.available_within ≡ Some n → n ≤ most_nanoseconds
+  pub no_later : (n m : ℕ) → r.available_within ≡ Some n → r.taken_within ≡ Some m → n ≤ m
+
+-- each endpoint's history and limits agree, each topic has a key, and domains, counts, starts, paces and spans are in their ranges
 pub record IsConsistent (d : Lists) : Type 0 where
   pub domains : All (λ (p : Participant). p.domain ≤ 2147483647) d.participants.entries
   pub some_keys : All (λ (t : Topic). 1 ≤ length t.keys) d.topics.entries
@@ -119,6 +136,8 @@ pub record IsConsistent (d : Lists) : Type 0 where
   pub takes : All (λ (u : Rule). All IsCounted u.takes) d.rules.entries
   pub writes : All (λ (u : Rule). All IsCounted u.writes) d.rules.entries
   pub starts : All (λ (u : Rule). u.start ≤ 65535) d.rules.entries
+  pub paces : All (λ (u : Rule). (p : Pace) → u.pace ≡ Some p → IsPace p) d.rules.entries
+  pub spans : All AreSpans d.readers.entries
 
 -- exactly one application has the endpoint with this number, and it is at this participant
 pub record IsOwnedOnce (endpoints_of : Application → List ℕ) (all : Listed Application) (participant n : ℕ) : Type 0 where

@@ -6,4 +6,4 @@ pub mod deployment;
 pub mod lists;
 
 pub use deployment::Deployment;
-pub use lists::{Application, Origin, Participant, Reader, Rule, Rules, Topic, Writer};
+pub use lists::{Application, Origin, Pace, Participant, Reader, Rule, Rules, Topic, Writer};

@@ -47,6 +47,12 @@ pub struct Reader {
     pub partitions: Vec<String>,
     /// Whether it wants the newest and may miss samples: then it is a watcher, whatever its reliability.
     pub may_lose: bool,
+    /// The application takes each sample at most so many nanoseconds after it was written: 0 to 2^63 - 1. `None` where
+    /// nothing is known.
+    pub taken_within: Option<u64>,
+    /// Each sample can be taken at most so many nanoseconds after it was written: 0 to 2^63 - 1, and at most
+    /// `taken_within` where both are there. `None` where no more is known than by `taken_within`.
+    pub available_within: Option<u64>,
 }
 
 /// An application at a participant, with the endpoints that it owns.
@@ -55,6 +61,16 @@ pub struct Application {
     pub participant: ParticipantNo,
     pub writers: Vec<WriterNo>,
     pub readers: Vec<ReaderNo>,
+}
+
+/// How often a rule writes at most: in any closed span of x nanoseconds each of its `writes` comes at most `count`
+/// times 1 + (x + jitter) / period.
+#[derive(Clone, Copy, Debug, PartialEq, Eq)]
+pub struct Pace {
+    /// Nanoseconds from one turn to the next, 1 to 2^63 - 1.
+    pub period: u64,
+    /// By how many nanoseconds turns may be nearer than that, 0 to 2^63 - 1.
+    pub jitter: u64,
 }
 
 /// After taking all of `takes`, the application may write all of `writes`. At the opening it may write `start` times
@@ -68,6 +84,8 @@ pub struct Rule {
     pub start: u16,
     /// A free rule takes nothing, and its `start` is 0.
     pub free: bool,
+    /// How often it writes at most, by the clock. `None` where nothing bounds that.
+    pub pace: Option<Pace>,
 }
 
 /// Where a rule comes from: an entry of the file, and the key that the rule stands for where the entry has `each`.

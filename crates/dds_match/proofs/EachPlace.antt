@@ -18,11 +18,11 @@ none_left test [] fails = refl
 none_left test (x ∷ xs) fails = rw (fails x) (none_left test xs fails)
 
 -- the lists of all that is there are the lists at all places
-pub at_each_place : {Z : Type 0} (list_of : ℕ → List ℕ) (lists : List (Vec ℕ Z)) (n : ℕ) → length lists ≡ n
+pub at_each_place : {A Z : Type 0} (list_of : ℕ → List A) (lists : List (Vec A Z)) (n : ℕ) → length lists ≡ n
     → ((i : ℕ) → i < n → list_at lists i ≡ list_of i) → ((i : ℕ) → n ≤ i → list_of i ≡ []) → ShowsEach list_of lists
-at_each_place {Z} list_of lists n size there past i = elim (cases_lt i n) [
+at_each_place {A} {Z} list_of lists n size there past i = elim (cases_lt i n) [
   | inl below ↦ there i below
-  | inr above ↦ ap (λ (o : Option (Vec ℕ Z)). option_map_or (λ v. v.items) o []) (slice_get_past lists i (omega arith)) ∙ sym (past i above)
+  | inr above ↦ ap (λ (o : Option (Vec A Z)). option_map_or (λ v. v.items) o []) (slice_get_past lists i (omega arith)) ∙ sym (past i above)
 ]
 
 pub no_writer : (d : Lists) (w : ℕ) → length d.writers.entries ≤ w → matched_readers (network_of d) w ≡ []

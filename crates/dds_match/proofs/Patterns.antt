@@ -6,8 +6,8 @@ use Rattle.std.specs.Prelude.{◌==◌}
 use Rattle.std.specs.List.{list_all, list_any}
 use Rattle.std.proofs.lemmas.Bool.{and_parts, or_cases, or_left, or_right, both_ways, eq-eqb, ne_eqb, cases_eq, cases_Bool, or_parts, eqb-false, eqb-true}
 use Rattle.std.specs.Str.{bytes_eq}
-use Rattle.dds_base.proofs.Bools.{or_false}
-use Rattle.dds_match.specs.Partitions.{is_pattern, name_matches, names_match, partition_names}
+use Rattle.dds_base.proofs.Bools.{and_false, or_false}
+use Rattle.dds_match.specs.Partitions.{is_pattern, lists_match, name_matches, names_match, partition_names}
 use Rattle.dds_match.specs.declared.partitions.Star.{Star}
 
 -- ── lists of bytes
@@ -17,7 +17,7 @@ and_comm true false = refl
 and_comm false true = refl
 and_comm false false = refl
 
-any_of_map : {T : Type 0} (f : List ℕ → Bool) (bytes : T → List ℕ) (xs : List T) → list_any f (map bytes xs) ≡ list_any (λ x. f (bytes x)) xs
+pub any_of_map : {T : Type 0} (f : List ℕ → Bool) (bytes : T → List ℕ) (xs : List T) → list_any f (map bytes xs) ≡ list_any (λ x. f (bytes x)) xs
 any_of_map f bytes [] = refl
 any_of_map f bytes (x ∷ xs) = ap (λ b. f (bytes x) || b) (any_of_map f bytes xs)
 
@@ -94,7 +94,7 @@ nil_cons b bs = refl
 pub stuck_past : (pattern name : List ℕ) (at place : ℕ) → length pattern ≤ at → place < length name → name_matches (drop at pattern) (drop place name) ≡ false
 stuck_past pattern name at place past inside = ap (λ q. name_matches q (drop place name)) (drop_all at pattern past) ∙ ap (name_matches []) (drop_more name place 0 inside) ∙ nil_cons _ _
 
-empty_nil : true ≡ name_matches [] []
+pub empty_nil : true ≡ name_matches [] []
 unfolding name_matches
 empty_nil = refl
 
@@ -259,3 +259,80 @@ names_of_some f bytes (x ∷ xs) e = ap (λ b. f (bytes x) || b) (any_of_map f b
 pub one_empty_name : {T : Type 0} (f : List ℕ → Bool) (bytes : T → List ℕ) (xs : List T) → (length xs == 0) ≡ true → list_any f (partition_names (map bytes xs)) ≡ f []
 one_empty_name f bytes [] e = or_false (f [])
 one_empty_name f bytes (x ∷ xs) e = let none : length (x ∷ xs) ≡ 0 = eqb-true _ _ e in absurd (omega arith)
+
+-- ── lists by the side that has no wildcards
+-- one name is plain, and is the other or has its pattern; or the other is plain, and has the pattern of the one
+names_split : (x y : List ℕ) → names_match x y ≡ ((not (is_pattern x) && name_matches y x) || (not (is_pattern y) && (is_pattern x && name_matches x y)))
+names_split x y = elim (cases_Bool (is_pattern x)) [
+  | inl wild ↦ names_match_pattern x y wild ∙ and_comm (name_matches x y) (not (is_pattern y)) ∙ sym (rw wild refl)
+  | inr plain ↦ names_match_plain x y plain ∙ sym (rw plain (ap (λ b. name_matches y x || b) (and_false (not (is_pattern y))) ∙ or_false (name_matches y x)))
+]
+
+or_shuffle : (a b c d : Bool) → ((a || b) || (c || d)) ≡ ((a || c) || (b || d))
+or_shuffle true b c d = refl
+or_shuffle false true true d = refl
+or_shuffle false true false d = refl
+or_shuffle false false c d = refl
+
+any_or : {T : Type 0} (f g : T → Bool) (xs : List T) → list_any (λ x. f x || g x) xs ≡ (list_any f xs || list_any g xs)
+any_or f g [] = refl
+any_or f g (x ∷ xs) = ap (λ b. (f x || g x) || b) (any_or f g xs) ∙ or_shuffle (f x) (g x) (list_any f xs) (list_any g xs)
+
+any_and : {T : Type 0} (b : Bool) (f : T → Bool) (xs : List T) → list_any (λ x. b && f x) xs ≡ (b && list_any f xs)
+any_and true f xs = refl
+any_and false f [] = refl
+any_and false f (x ∷ xs) = any_and false f xs
+
+any_false : {T : Type 0} (xs : List T) → list_any (λ x. false) xs ≡ false
+any_false [] = refl
+any_false (x ∷ xs) = any_false xs
+
+any_swap : {T U : Type 0} (f : T → U → Bool) (xs : List T) (ys : List U) → list_any (λ x. list_any (f x) ys) xs ≡ list_any (λ y. list_any (λ x. f x y) xs) ys
+any_swap f [] ys = sym (any_false ys)
+any_swap f (x ∷ xs) ys = ap (λ b. list_any (f x) ys || b) (any_swap f xs ys) ∙ sym (any_or (f x) (λ y. list_any (λ z. f z y) xs) ys)
+
+-- the empty name is no pattern
+patterns_of_names : (f : List ℕ → Bool) (xs : List (List ℕ)) → list_any (λ x. is_pattern x && f x) (partition_names xs) ≡ list_any (λ x. is_pattern x && f x) xs
+patterns_of_names f [] = refl
+patterns_of_names f (x ∷ xs) = refl
+
+no_patterns : (f : List ℕ → Bool) (xs : List (List ℕ)) → list_any is_pattern xs ≡ false → list_any (λ x. is_pattern x && f x) xs ≡ false
+no_patterns f [] none = refl
+no_patterns f (x ∷ xs) none =
+    let first : is_pattern x ≡ false = (or_parts (is_pattern x) (list_any is_pattern xs) none).0 in
+    let others : list_any is_pattern xs ≡ false = (or_parts (is_pattern x) (list_any is_pattern xs) none).1 in
+    ap (λ b. (b && f x) || list_any (λ y. is_pattern y && f y) xs) first ∙ no_patterns f xs others
+
+abbrev pub some_meets : List (List ℕ) → List (List ℕ) → Bool
+some_meets xs ys = list_any (λ x. not (is_pattern x) && list_any (λ y. name_matches y x) (partition_names ys)) (partition_names xs)
+
+abbrev pub some_has_pattern : List (List ℕ) → List (List ℕ) → Bool
+some_has_pattern ys xs = list_any (λ y. not (is_pattern y) && list_any (λ x. is_pattern x && name_matches x y) xs) (partition_names ys)
+
+none_has_pattern : (ys xs : List (List ℕ)) → list_any is_pattern xs ≡ false → some_has_pattern ys xs ≡ false
+none_has_pattern ys xs none = any_same _ (λ y. false) (partition_names ys) (λ y. ap (λ b. not (is_pattern y) && b) (no_patterns (λ x. name_matches x y) xs none) ∙ and_false (not (is_pattern y))) ∙ any_false (partition_names ys)
+
+where_some : (b c : Bool) → (b ≡ false → c ≡ false) → c ≡ (b && c)
+where_some true c none = refl
+where_some false c none = none refl
+
+lists_split : (xs ys : List (List ℕ)) → lists_match xs ys ≡ (some_meets xs ys || (list_any is_pattern xs && some_has_pattern ys xs))
+unfolding lists_match
+lists_split xs ys =
+    any_same _ (λ x. (not (is_pattern x) && list_any (λ y. name_matches y x) (partition_names ys)) || list_any (λ y. not (is_pattern y) && (is_pattern x && name_matches x y)) (partition_names ys)) (partition_names xs)
+    (λ x. any_same (names_match x) _ (partition_names ys) (names_split x)
+    ∙ any_or (λ y. not (is_pattern x) && name_matches y x) (λ y. not (is_pattern y) && (is_pattern x && name_matches x y)) (partition_names ys)
+    ∙ ap (λ b. b || list_any (λ y. not (is_pattern y) && (is_pattern x && name_matches x y)) (partition_names ys)) (any_and (not (is_pattern x)) (λ y. name_matches y x) (partition_names ys)))
+    ∙ any_or (λ x. not (is_pattern x) && list_any (λ y. name_matches y x) (partition_names ys)) (λ x. list_any (λ y. not (is_pattern y) && (is_pattern x && name_matches x y)) (partition_names ys)) (partition_names xs)
+    ∙ ap (λ b. some_meets xs ys || b) (any_swap (λ x y. not (is_pattern y) && (is_pattern x && name_matches x y)) (partition_names xs) (partition_names ys)
+    ∙ any_same _ _ (partition_names ys) (λ y. any_and (not (is_pattern y)) (λ x. is_pattern x && name_matches x y) (partition_names xs) ∙ ap (λ b. not (is_pattern y) && b) (patterns_of_names (λ x. name_matches x y) xs))
+    ∙ where_some (list_any is_pattern xs) (some_has_pattern ys xs) (none_has_pattern ys xs))
+
+pub split_found : (xs ys : List (List ℕ)) → some_meets xs ys ≡ true → true ≡ lists_match xs ys
+split_found xs ys found = sym (lists_split xs ys ∙ ap (λ b. b || (list_any is_pattern xs && some_has_pattern ys xs)) found)
+
+pub split_patterns : (xs ys : List (List ℕ)) → some_meets xs ys ≡ false → list_any is_pattern xs ≡ true → some_has_pattern ys xs ≡ lists_match xs ys
+split_patterns xs ys none wild = sym (lists_split xs ys ∙ ap (λ b. b || (list_any is_pattern xs && some_has_pattern ys xs)) none ∙ ap (λ b. b && some_has_pattern ys xs) wild)
+
+pub split_plain : (xs ys : List (List ℕ)) → some_meets xs ys ≡ false → list_any is_pattern xs ≡ false → false ≡ lists_match xs ys
+split_plain xs ys none plain = sym (lists_split xs ys ∙ ap (λ b. b || (list_any is_pattern xs && some_has_pattern ys xs)) none ∙ ap (λ b. b && some_has_pattern ys xs) plain)

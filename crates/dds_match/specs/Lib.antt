@@ -2,6 +2,11 @@ pub mod Marks
 pub mod Matching
 pub mod Neighbours
 pub mod Network
+pub mod Paces
 pub mod Partitions
 pub mod Plan
+pub mod RightParts
+pub mod Sums
 pub mod Tables
+pub mod Words
+pub mod Writes

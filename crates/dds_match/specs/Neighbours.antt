@@ -12,7 +12,7 @@ abbrev pub list_at : {X Z : Type 0} → List (Vec X Z) → ℕ → List X
 list_at lists i = option_map_or (λ v. v.items) (slice_get lists i) []
 
 -- at each place stands the list of its number, and the list of a number without a place is empty
-abbrev pub ShowsEach : {Z : Type 0} → (ℕ → List ℕ) → List (Vec ℕ Z) → Type 0
+abbrev pub ShowsEach : {A Z : Type 0} → (ℕ → List A) → List (Vec A Z) → Type 0
 ShowsEach list_of lists = (i : ℕ) → list_at lists i ≡ list_of i
 
 -- each list shows its word

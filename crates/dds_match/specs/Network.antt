@@ -1,7 +1,8 @@
 -- All that runs see of a plan: which endpoints match, filters, limits, rules, as functions of their numbers.
-use Rattle.std.specs.Prelude.{◌≡◌, ℕ, ◌+◌, ◌*◌, ◌<◌, ◌≤◌, Bool, true, not, ◌&&◌, ◌==◌, List, Some, [], ◌∷◌, if◌then◌else◌, filter}
+use Rattle.std.specs.Prelude.{◌≡◌, ℕ, ◌+◌, ◌*◌, ◌<◌, ◌≤◌, Bool, true, false, not, ◌&&◌, ◌==◌, List, Option, Some, None, is_none, [], ◌∷◌, if◌then◌else◌, filter}
 use Rattle.std.specs.List.{list_any, range_with_len}
-use Rattle.dds_base.specs.Sums.{In, any_below}
+use Rattle.std.specs.Option.{option_map_or}
+use Rattle.dds_base.specs.Sums.{total, In, any_below}
 use Rattle.dds_base.specs.declared.portion.Portion.{Portion}
 use Rattle.dds_qos.specs.declared.limits.ReaderLimits.{ReaderLimits}
 use Rattle.dds_qos.specs.declared.limits.WriterLimits.{WriterLimits}
@@ -27,6 +28,12 @@ pub record Network : Type 0 where
   pub rule : ℕ → Rule
   -- the key may be written at the writer without a permit, at any time
   pub free : ℕ → ℕ → Bool
+  -- by writer, reader and key: at most how many samples of the key, written there, the reader may have yet to take: a write that would make it more
+  -- has to wait. None where nothing bounds them
+  pub cap : ℕ → ℕ → ℕ → Option ℕ
+  -- by writer, reader and key: at most how many samples of the key, written there, may not be available at the reader yet: a write that would make it
+  -- more has to wait. None where nothing bounds them
+  pub lag : ℕ → ℕ → ℕ → Option ℕ
 
 -- the list names the endpoint and key
 abbrev pub is_named : List (Portion ℕ) → ℕ → ℕ → Bool
@@ -52,6 +59,12 @@ pub record IsNetwork (net : Network) : Type 0 where
   pub some_depth : (r d : ℕ) → (net.reader_limits r).keep_last ≡ Some d → 1 ≤ d
   pub consistent : (r d m : ℕ) → (net.reader_limits r).keep_last ≡ Some d → (net.reader_limits r).max_samples_per_instance ≡ Some m → d ≤ m
   pub free_written : (w k : ℕ) → net.free w k ≡ true → is_written net w k ≡ true
+  pub cap_matched : (w r k n : ℕ) → net.cap w r k ≡ Some n → net.matched w r ≡ true
+  pub cap_strict : (w r k n : ℕ) → net.cap w r k ≡ Some n → net.watcher r ≡ false
+  pub cap_heard : (w r k n : ℕ) → net.cap w r k ≡ Some n → net.hears r k ≡ true
+  pub lag_matched : (w r k n : ℕ) → net.lag w r k ≡ Some n → net.matched w r ≡ true
+  pub lag_strict : (w r k n : ℕ) → net.lag w r k ≡ Some n → net.watcher r ≡ false
+  pub lag_heard : (w r k n : ℕ) → net.lag w r k ≡ Some n → net.hears r k ≡ true
 
 -- the readers that match a writer, in the order of their numbers
 abbrev pub matched_readers : Network → ℕ → List ℕ
@@ -78,3 +91,8 @@ weighed (e ∷ es) f = e.count * f e.endpoint e.key + weighed es f
 -- some rule writes the key at a writer that matches the reader, and the reader hears it
 abbrev pub reach : Network → ℕ → ℕ → Bool
 reach net r k = net.hears r k && any_below net.rules (λ u. list_any (λ e. (e.key == k) && net.matched e.endpoint r) (net.rule u).writes)
+
+-- at most how many samples of the key are in flight to the reader, by the caps of the writers that match it; none where one of them has no cap
+abbrev pub capped : Network → ℕ → ℕ → Option ℕ
+capped net r k = if any_below net.writers (λ w. net.matched w r && is_none (net.cap w r k)) then None
+    else Some (total net.writers (λ w. if net.matched w r then option_map_or (λ n. n) (net.cap w r k) 0 else 0))

@@ -1,15 +1,16 @@
 -- What the tables of a plan hold.
 use Rattle.std.specs.Prelude.{◌≡◌, ℕ, ◌+◌, ◌*◌, ◌<◌, Bool, List, Option, None, length}
 use Rattle.std.specs.List.{slice_index_or}
-use Rattle.dds_base.specs.Grid.{most_endpoints}
+use Rattle.dds_base.specs.Grid.{most_endpoints, most_keys}
 use Rattle.dds_lists.specs.Lists.{Lists}
 use Rattle.dds_match.specs.declared.matching.WhyNot.{WhyNot}
 use Rattle.dds_match.specs.declared.tables.Tables.{Tables}
 use Rattle.dds_match.specs.Marks.{is_marked}
 use Rattle.dds_match.specs.Matching.{why_not}
-use Rattle.dds_match.specs.Neighbours.{ShowsNeighbours}
-use Rattle.dds_match.specs.Network.{reach, is_written}
+use Rattle.dds_match.specs.Neighbours.{ShowsEach, ShowsNeighbours}
+use Rattle.dds_match.specs.Network.{capped, reach, is_written}
 use Rattle.dds_match.specs.Plan.{hears, is_free, network_of}
+use Rattle.dds_match.specs.Writes.{writes_at}
 
 -- the reason at a writer and a reader: each writer has a row of 256 places
 abbrev pub reason_at : List (Option WhyNot) → ℕ → ℕ → Option WhyNot
@@ -24,6 +25,11 @@ pub record ShowsReasons (d : Lists) (reasons : List (Option WhyNot)) : Type 0 wh
 pub record ShowsHearing (d : Lists) (marks : List Bool) : Type 0 where
   pub each : (r k : ℕ) → is_marked marks r k ≡ hears d r k
 
+-- a row for each reader, with the sum of the caps of each key below 64
+pub record ShowsCapped (d : Lists) (cells : List (Option ℕ)) : Type 0 where
+  pub rows : length cells ≡ length d.readers.entries * most_keys
+  pub each : (r k : ℕ) → r < length d.readers.entries → k < most_keys → slice_index_or cells (r * most_keys + k) None ≡ capped (network_of d) r k
+
 -- each table shows its word
 pub record ShowsPlan (d : Lists) (t : Tables) : Type 0 where
   pub reasons : ShowsReasons d t.reasons.items
@@ -32,3 +38,5 @@ pub record ShowsPlan (d : Lists) (t : Tables) : Type 0 where
   pub written : (w k : ℕ) → is_marked t.written w k ≡ is_written (network_of d) w k
   pub free : (w k : ℕ) → is_marked t.free w k ≡ is_free d w k
   pub neighbours : ShowsNeighbours d t.neighbours
+  pub writes : ShowsEach (writes_at d) t.writes.items
+  pub capped : ShowsCapped d t.capped.items

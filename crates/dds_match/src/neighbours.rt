@@ -35,12 +35,12 @@ pub(crate) fn list_at<T>(lists: &[Vec<T>], place: usize) -> &[T]
     }
 }
 
-/// Adds a number, where it belongs there.
-fn add_if<T: Copy>(list: &mut Vec<T>, belongs: bool, number: T) -> Result<(), NoMemory>
-    ensures { IfOk result (λ _. list.new.items ≡ list.old.items ++ (if belongs then number ∷ [] else [])) }
+/// Adds an element, where it belongs there.
+pub(crate) fn add_if<T: Copy>(list: &mut Vec<T>, belongs: bool, element: T) -> Result<(), NoMemory>
+    ensures { IfOk result (λ _. list.new.items ≡ list.old.items ++ (if belongs then element ∷ [] else [])) }
 {
     if belongs {
-        list.push(number)?;
+        list.push(element)?;
     }
     Ok(())
 }

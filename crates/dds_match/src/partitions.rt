@@ -1,7 +1,9 @@
 //! When the partitions of a writer and a reader match (OMG DDS 1.4, clause 2.2.3.13).
-ghost use Rattle.std.specs.Prelude.{◌≡◌, ◌==◌, ◌||◌, map, string_bytes};
+ghost use Rattle.std.specs.Prelude.{◌≡◌, ◌==◌, ◌&&◌, ◌||◌, not, map, string_bytes};
 ghost use Rattle.std.specs.List.{list_all, list_any};
-ghost use Rattle.dds_match.specs.Partitions.{is_pattern, lists_match, name_matches, names_match, partition_names};
+ghost use Rattle.dds_match.specs.Partitions.{is_pattern, lists_match, name_matches, partition_names};
+
+use crate::right_parts::{MOST_BYTES, RightParts};
 
 /// The `*` that was passed last, for another try.
 #[derive(Clone, Copy)]
@@ -65,37 +67,65 @@ fn has_only_stars(pattern: &[u8]) -> bool
 pub fn lists_match(writer: &[String], reader: &[String]) -> bool
     ensures { result ≡ lists_match (map string_bytes writer.now) (map string_bytes reader.now) }
 {
-    if writer.is_empty() {
-        return meets_some("", reader);
-    }
-    writer.iter().any(|name| meets_some(name.as_str(), reader))
+    some_meets(writer, reader) || has_patterns(writer) && some_has_pattern(reader, writer)
 }
 
-// Whether the name matches some name of the list.
+// Whether some name without wildcards is another name, or has it as its pattern.
+fn some_meets(names: &[String], others: &[String]) -> bool
+    ensures { result ≡ list_any
+        (λ x. not (is_pattern x) && list_any (λ y. name_matches y x) (partition_names (map string_bytes others.now)))
+        (partition_names (map string_bytes names.now)) }
+{
+    if names.is_empty() {
+        return meets_some("", others);
+    }
+    names.iter().any(|name| !is_pattern(name.as_str()) && meets_some(name.as_str(), others))
+}
+
+// Whether a name is some name of a list, or has it as its pattern.
 fn meets_some(name: &str, others: &[String]) -> bool
-    ensures { result ≡ list_any (names_match name.now) (partition_names (map string_bytes others.now)) }
+    ensures { result ≡ list_any (λ y. name_matches y name.now) (partition_names (map string_bytes others.now)) }
 {
     if others.is_empty() {
-        return names_match(name, "");
+        return name_matches("", name);
     }
-    if is_pattern(name) {
-        others.iter().any(|other| name_matches(name, other.as_str()) && !is_pattern(other.as_str()))
-    } else {
-        others
+    if name.len() > MOST_BYTES || !has_patterns(others) {
+        return others
             .iter()
-            .any(|other| name_matches(other.as_str(), name))
+            .any(|other| name_matches(other.as_str(), name));
     }
+    let parts = RightParts::of(name.as_bytes());
+    others.iter().any(|other| parts.have(other.as_bytes()))
 }
 
-#[tactic(auto, using(crate::proofs::Patterns::names_match_pattern, crate::proofs::Patterns::names_match_plain))]
-fn names_match(one: &str, other: &str) -> bool
-    ensures { result ≡ names_match one.now other.now }
+// Whether some name without wildcards has a pattern of the list.
+fn some_has_pattern(names: &[String], patterns: &[String]) -> bool
+    ensures { result ≡ list_any
+        (λ y. not (is_pattern y) && list_any (λ x. is_pattern x && name_matches x y) (map string_bytes patterns.now))
+        (partition_names (map string_bytes names.now)) }
 {
-    if is_pattern(one) {
-        name_matches(one, other) && !is_pattern(other)
-    } else {
-        name_matches(other, one)
+    if names.is_empty() {
+        return has_some_pattern("", patterns);
     }
+    names.iter().any(|name| !is_pattern(name.as_str()) && has_some_pattern(name.as_str(), patterns))
+}
+
+// Whether a name has a pattern of the list.
+fn has_some_pattern(name: &str, patterns: &[String]) -> bool
+    ensures { result ≡ list_any (λ x. is_pattern x && name_matches x name.now) (map string_bytes patterns.now) }
+{
+    if name.len() > MOST_BYTES {
+        return patterns.iter().any(|other| is_pattern(other.as_str())
+            && name_matches(other.as_str(), name));
+    }
+    let parts = RightParts::of(name.as_bytes());
+    patterns.iter().any(|other| is_pattern(other.as_str()) && parts.have(other.as_bytes()))
+}
+
+fn has_patterns(names: &[String]) -> bool
+    ensures { result ≡ list_any is_pattern (map string_bytes names.now) }
+{
+    names.iter().any(|name| is_pattern(name.as_str()))
 }
 
 fn is_pattern(name: &str) -> bool

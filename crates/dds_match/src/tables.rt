@@ -10,9 +10,11 @@ ghost use Rattle.dds_match.specs.Network.{is_named, is_written, reach};
 ghost use Rattle.dds_match.specs.Plan.{frees, hears, is_free, matched, network_of};
 ghost use Rattle.dds_match.specs.Tables.{ShowsPlan, ShowsHearing, ShowsReasons};
 
+use crate::caps::capped_of;
 use crate::key_table::KeyTable;
 use crate::matching::{WhyNot, why_not_by_lists};
 use crate::neighbours::Neighbours;
+use crate::writes::{PacedWrite, writes_at_each};
 use dds_base::grid::ENDPOINTS;
 use dds_base::{KeyNo, NoMemory, Portion, ReaderNo, RuleNo, WriterNo};
 use dds_lists::{Deployment, Rule};
@@ -33,6 +35,10 @@ pub(crate) struct Tables {
     pub(crate) free: KeyTable,
     /// Which endpoints match each endpoint, and which are each participant's.
     pub(crate) neighbours: Neighbours,
+    /// For each writer what rules write there, in their order.
+    pub(crate) writes: Vec<Vec<PacedWrite>>,
+    /// At most how many samples of each key are in flight to each reader, by caps: in rows of 64 keys.
+    pub(crate) capped: Vec<Option<u64>>,
 }
 
 /// The reasons of all pairs.
@@ -244,6 +250,8 @@ impl Tables {
         mark_written(&mut written, lists);
         mark_free(&mut free, lists);
         let neighbours = Neighbours::of(alloc, lists, &reasons)?;
+        let writes = writes_at_each(alloc, lists)?;
+        let capped = capped_of(alloc, lists, &reasons, &hearing, &writes, &neighbours)?;
         Ok(Tables {
             reasons,
             hearing,
@@ -251,6 +259,8 @@ impl Tables {
             written,
             free,
             neighbours,
+            writes,
+            capped,
         })
     }
 }

@@ -1,3 +1,2 @@
-pub mod Fates
 pub mod RunFault
 pub mod Steady

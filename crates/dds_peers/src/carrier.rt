@@ -2,9 +2,9 @@
 ghost use Rattle.std.specs.Prelude.{◌≡◌, true};
 ghost use Rattle.dds_book.specs.Owning.{is_participant};
 
-use crate::fates::Fates;
 use dds_base::Fate;
 use dds_book::{Book, BookFault, Name, Pace, RoundEnd, Seat};
+use dds_options::Fates;
 use rand_core::utils::NextWord;
 use rand_pcg::Pcg32;
 use std::sync::Wait;

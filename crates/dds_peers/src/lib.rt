@@ -9,7 +9,6 @@
 
 mod carrier;
 mod circle;
-mod fates;
 mod gauges;
 mod run;
 mod settling;
@@ -17,7 +16,7 @@ mod steady;
 mod threads;
 
 pub use dds_apps::{Act, App, AppEnd, Diary, Gate, Limits};
-pub use fates::Fates;
+pub use dds_options::Fates;
 pub use gauges::gauge_of;
 pub use run::{Outcome, RunFault, run_peers};
 pub use steady::Steady;

@@ -15,13 +15,13 @@ ghost use Rattle.dds_peers.specs.declared.run.RunFault.TheVariants.{AppCount, Di
 ghost use Rattle.dds_peers.specs.RunFault.{number_of};
 
 use crate::carrier::Carrier;
-use crate::fates::Fates;
 use crate::settling::{Settled, are_fresh, settle, sit};
 use crate::threads::{Room, Shared, together};
 use dds_apps::{App, AppEnd, Gate, Limits, Player};
 use dds_base::NoMemory;
 use dds_book::{Book, Gauge, GaugeSeat, Journal, Kit, Name, Seat};
 use dds_check::Checked;
+use dds_options::Fates;
 use std::alloc::Global;
 use std::marker::Brand;
 use std::sync::Wait;

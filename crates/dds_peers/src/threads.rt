@@ -5,9 +5,9 @@ ghost use Rattle.std.specs.Vec.{vec_len, vec_capacity};
 ghost use Rattle.dds_apps.specs.Kept.{IsKept};
 
 use crate::carrier::Carrier;
-use crate::fates::Fates;
 use dds_apps::{App, Gate, Limits, Player};
 use dds_book::{Book, Gauge, Name};
+use dds_options::Fates;
 use std::snapshot::Snapshot;
 use std::sync::Wait;
 use std::thread;

@@ -1,5 +1,7 @@
 mod Entries
 mod Tables
+mod Seeing
+mod NeedByNeed
 mod KeyTargets
 mod Flags
 mod Weighed
@@ -12,4 +14,5 @@ mod Takes
 mod Samples
 mod OneRound
 mod Reached
+mod Lesser
 mod Proposals

@@ -7,12 +7,12 @@ use Rattle.dds_match.specs.Network.{Network, IsNetwork}
 use Rattle.dds_runs.specs.Accepted.{Row}
 use Rattle.dds_propose.specs.declared.targets.Target.{Target}
 use Rattle.dds_propose.specs.declared.weights.Weights.{Weights}
-use Rattle.dds_propose.specs.Following.{Follows, IsMade, IsNeed, IsRound, RaisesSamples, RaisesTakes, spread_by}
-use Rattle.dds_propose.specs.Relaxation.{IsSame, permits_risen, round, rounds, takes_risen}
+use Rattle.dds_propose.specs.Following.{Follows, IsMade, IsNeed, IsRound, RaisesSamples, RaisesTakes}
+use Rattle.dds_propose.specs.Relaxation.{IsSame, by_permits, spread_by, permits_risen, round, rounds, takes_risen}
 use Rattle.dds_propose.specs.Tables.{cell, row_of}
 use Rattle.dds_propose.specs.Targets.{counts, reader_of}
 use Rattle.dds_propose.proofs.Spreads.{spread_same, spread_none, spread_sum}
-use Rattle.dds_propose.proofs.Takes.{takes_same, takes_needs}
+use Rattle.dds_propose.proofs.Takes.{takes_same, takes_needs, kept_in}
 
 -- the permits have followed all that had risen
 pub all_followed : (net : Network) (target : Target) (w0 w1 w2 : Weights) (x1 x2 : Bool) → IsMade net target w0 → Follows net w0 w1 x1
@@ -32,7 +32,7 @@ all_followed net target w0 w1 w2 x1 x2 made f1 d1 f2 d2 r k =
 -- a first need is heard
 need_heard : (net : Network) → IsNetwork net → (r k : ℕ) → IsNeed net r k → net.hears r k ≡ true
 need_heard net known r k need =
-    let at = known.takes_known need.rule need.need need.there (subst (In need.need) (sym need.takes) (inl refl)) in
+    let at = known.takes_known need.rule need.need need.there (kept_in (λ x. by_permits net x.endpoint x.key) (net.rule need.rule).takes need.need (subst (In need.need) (sym need.takes) (inl refl))) in
     ap (λ i. net.hears i k) (sym need.reader) ∙ (ap (net.hears need.need.endpoint) (sym need.key) ∙ at)
 
 pub one_round : (net : Network) → IsNetwork net → (target : Target) (w0 w1 w2 w3 w4 : Weights) (x1 x2 x3 x4 z : Bool) → z ≡ (((x1 || x2) || x3) || x4) → IsMade net target w0 → Follows net w0 w1 x1

@@ -5,6 +5,7 @@ use Rattle.dds_base.specs.declared.portion.Portion.{Portion}
 use Rattle.dds_match.specs.Network.{Network}
 use Rattle.dds_propose.specs.declared.weights.Weights.{Weights}
 use Rattle.dds_propose.specs.Following.{RaisesSamples}
+use Rattle.dds_propose.specs.Relaxation.{needs_of}
 use Rattle.dds_propose.specs.Tables.{cell}
 
 -- one after the other
@@ -21,10 +22,10 @@ samples_then a b c x y z both f g = record {
 
 -- the first needs of one more rule have risen
 pub done_next : (net : Network) (u : ℕ) (b c : Weights) (y : Bool) → RaisesSamples b c y
-    → ((v : ℕ) (e : Portion ℕ) (es : List (Portion ℕ)) → v < u → (net.rule v).takes ≡ e ∷ es → cell b.takes e.endpoint e.key ≤ cell b.samples e.endpoint e.key)
-    → ((e : Portion ℕ) (es : List (Portion ℕ)) → (net.rule u).takes ≡ e ∷ es → cell c.takes e.endpoint e.key ≤ cell c.samples e.endpoint e.key)
-    → (v : ℕ) (e : Portion ℕ) (es : List (Portion ℕ)) → v < u + 1 → (net.rule v).takes ≡ e ∷ es → cell c.takes e.endpoint e.key ≤ cell c.samples e.endpoint e.key
+    → ((v : ℕ) (e : Portion ℕ) (es : List (Portion ℕ)) → v < u → needs_of net (net.rule v).takes ≡ e ∷ es → cell b.takes e.endpoint e.key ≤ cell b.samples e.endpoint e.key)
+    → ((e : Portion ℕ) (es : List (Portion ℕ)) → needs_of net (net.rule u).takes ≡ e ∷ es → cell c.takes e.endpoint e.key ≤ cell c.samples e.endpoint e.key)
+    → (v : ℕ) (e : Portion ℕ) (es : List (Portion ℕ)) → v < u + 1 → needs_of net (net.rule v).takes ≡ e ∷ es → cell c.takes e.endpoint e.key ≤ cell c.samples e.endpoint e.key
 done_next net u b c y g before here v e es within first = elim (cases_lt v u) [
   | inl below ↦ (let old = before v e es below first in let same : cell c.takes e.endpoint e.key ≡ cell b.takes e.endpoint e.key = ap (λ t. cell t e.endpoint e.key) g.takes in let l = g.least e.endpoint e.key in omega arith)
-  | inr past ↦ (let own : v ≡ u = omega arith in here e es (ap (λ n. (net.rule n).takes) (sym own) ∙ first))
+  | inr past ↦ (let own : v ≡ u = omega arith in here e es (ap (λ n. needs_of net (net.rule n).takes) (sym own) ∙ first))
 ]

@@ -1,36 +1,55 @@
 -- How takes rise, rule by rule.
-use Rattle.std.proofs.Common.{ℕ, zero, suc, ◌≡◌, ◌+◌, ◌-◌, ◌<◌, ◌≤◌, ◌==◌, ◌&&◌, ◌||◌, nat_lt, Bool, true, false, if◌then◌else◌, List, [], ◌∷◌, slice_get, Some, inl, inr, refl, sym, ap, ◌∙◌, subst, arith}
+use Rattle.std.proofs.Common.{ℕ, zero, suc, ◌≡◌, ◌+◌, ◌-◌, ◌<◌, ◌≤◌, ◌==◌, ◌&&◌, ◌||◌, nat_lt, filter, Bool, true, false, if◌then◌else◌, List, [], ◌∷◌, length, get_or, slice_get, Some, inl, inr, refl, sym, ap, ◌∙◌, subst, arith}
 use Rattle.std.specs.Int.{div_ceil}
 use Rattle.std.proofs.Math.Numerals.{add-one}
 use Rattle.std.proofs.lemmas.Bool.{lt-ltb, le-ltb, or_parts}
 use Rattle.std.proofs.lemmas.Option.{none-some, same_Some}
 use Rattle.dds_base.specs.Sums.{In}
 use Rattle.dds_base.specs.declared.portion.Portion.{Portion}
-use Rattle.dds_lists.specs.Lists.{Lists}
-use Rattle.dds_lists.specs.WellFormed.{IsWellFormed}
 use Rattle.dds_match.specs.Network.{Network, IsNetwork, weighed}
-use Rattle.dds_match.specs.Plan.{network_of}
+use Rattle.dds_match.proofs.Known.{all_in}
 use Rattle.dds_propose.specs.declared.weights.Weights.{Weights}
-use Rattle.dds_propose.specs.Following.{IsNeed, RaisesTakes}
-use Rattle.dds_propose.specs.Relaxation.{with_number, first_risen, takes_risen}
+use Rattle.dds_propose.specs.Following.{AreHeard, IsNeed, RaisesTakes}
+use Rattle.dds_propose.specs.Relaxation.{with_number, by_permits, needs_of, first_risen, takes_risen}
 use Rattle.dds_propose.specs.Tables.{cell, is_place}
 use Rattle.dds_propose.proofs.Tables.{is_there, same_pair, other_pair, cases_pair, put_there, put_elsewhere}
 use Rattle.dds_propose.proofs.Weighed.{weighed_same}
 
--- what a rule needs first has a place
-pub known_need : (d : Lists) → IsWellFormed d → IsNetwork (network_of d) → (u : ℕ) (takes : List (Portion ℕ)) → u < (network_of d).rules → takes ≡ ((network_of d).rule u).takes
-    → (e : Portion ℕ) (es : List (Portion ℕ)) → takes ≡ e ∷ es → is_place e.endpoint e.key ≡ true
-known_need d well known u takes there same e es first =
-    let heard = known.takes_known u e there (subst (In e) (sym (sym same ∙ first)) (inl refl)) in
-    let reader = known.heard_reader e.endpoint e.key heard in
-    let key = known.heard_key e.endpoint e.key heard in
-    let few = well.readers.few in
-    is_there e.endpoint e.key (omega arith) (omega arith)
+-- what stays of a list was in it
+pub kept_in : {X : Type 0} (test : X → Bool) (xs : List X) (x : X) → In x (filter test xs) → In x xs
+kept_in test [] x found = found
+kept_in {X} test (y ∷ ys) x found = go (kept_in test ys x) (test y) found
+  where
+    go : (In x (filter test ys) → In x ys) → (b : Bool) → In x (if b then y ∷ filter test ys else filter test ys) → In x (y ∷ ys)
+    go rest true (inl same) = inl same
+    go rest true (inr later) = inr (rest later)
+    go rest false later = inr (rest later)
+
+at_place : {X : Type 0} (xs : List X) (i : ℕ) (x : X) → i < length xs → In (get_or xs i x) xs
+at_place [] i x within = absurd (omega arith)
+at_place (y ∷ ys) zero x within = inl refl
+at_place (y ∷ ys) (suc i) x within = inr (at_place ys i x (omega arith))
+
+-- what a rule takes is heard
+pub needs_heard : (net : Network) → IsNetwork net → (u : ℕ) → u < net.rules → (takes : List (Portion ℕ)) → takes ≡ (net.rule u).takes → AreHeard net takes
+needs_heard net known u there takes same i d within = known.takes_known u (get_or takes i d) there (subst (In (get_or takes i d)) same (at_place takes i d within))
 
 -- the first of a list
 pub first_rest : {X : Type 0} (xs : List X) (x : X) → slice_get xs 0 ≡ Some x → (rest : List X) × (xs ≡ x ∷ rest)
 first_rest [] x first = absurd (none-some x first)
 first_rest (y ∷ ys) x first = (ys, ap (λ z. z ∷ ys) (same_Some y x first))
+
+-- the first of the needs is one of what the rule takes
+pub need_in : (net : Network) (ts : List (Portion ℕ)) (e : Portion ℕ) → slice_get (needs_of net ts) 0 ≡ Some e → In e ts
+need_in net ts e first = kept_in (λ x. by_permits net x.endpoint x.key) ts e (let rest = first_rest (needs_of net ts) e first in subst (In e) (sym rest.1) (inl refl))
+
+-- and heard, so that it has a place
+pub need_placed : (net : Network) → IsNetwork net → net.keys ≡ 64 → net.readers ≤ 256 → (ts : List (Portion ℕ)) (e : Portion ℕ) → AreHeard net ts → slice_get (needs_of net ts) 0 ≡ Some e → is_place e.endpoint e.key ≡ true
+need_placed net known keys few ts e heard first =
+    let hears = all_in (λ x. net.hears x.endpoint x.key ≡ true) ts e heard (need_in net ts e first) in
+    let reader = known.heard_reader e.endpoint e.key hears in
+    let key = known.heard_key e.endpoint e.key hears in
+    is_there e.endpoint e.key (omega arith) (omega arith)
 
 -- nothing rises
 pub first_still : (ts : List (Portion ℕ)) (e : Portion ℕ) (rest : List (Portion ℕ)) (written : ℕ) (f : ℕ → ℕ → ℕ) → ts ≡ e ∷ rest → written ≤ weighed ts f → (r k : ℕ) → f r k ≡ first_risen ts written f r k
@@ -72,7 +91,7 @@ pub takes_none : (net : Network) (p f : ℕ → ℕ → ℕ) (r k : ℕ) → f r
 unfolding takes_risen
 takes_none net p f r k = refl
 
-takes_more : (net : Network) (p f : ℕ → ℕ → ℕ) (u r k : ℕ) → takes_risen net p f (u + 1) r k ≡ first_risen (net.rule u).takes (weighed (net.rule u).writes p) (takes_risen net p f u) r k
+takes_more : (net : Network) (p f : ℕ → ℕ → ℕ) (u r k : ℕ) → takes_risen net p f (u + 1) r k ≡ first_risen (needs_of net (net.rule u).takes) (weighed (net.rule u).writes p) (takes_risen net p f u) r k
 unfolding takes_risen
 takes_more net p f u r k = rw (add-one u) refl
 
@@ -81,23 +100,23 @@ pub takes_same : (net : Network) (p q f g : ℕ → ℕ → ℕ) → ((w k : ℕ
 unfolding takes_risen
 takes_same net p q f g permits takes zero r k = takes r k
 takes_same net p q f g permits takes (suc u) r k =
-    first_same (net.rule u).takes _ _ (takes_risen net p f u) (takes_risen net q g u) (weighed_same (net.rule u).writes p q permits) (takes_same net p q f g permits takes u) r k
+    first_same (needs_of net (net.rule u).takes) _ _ (takes_risen net p f u) (takes_risen net q g u) (weighed_same (net.rule u).writes p q permits) (takes_same net p q f g permits takes u) r k
 
 -- the takes of one more rule
 pub takes_next : (net : Network) (u : ℕ) (takes writes : List (Portion ℕ)) (a b c : Weights) (x y z : Bool) → z ≡ (x || y) → takes ≡ (net.rule u).takes → writes ≡ (net.rule u).writes
     → RaisesTakes (takes_risen net (cell a.permits) (cell a.takes) u) a b x
-    → RaisesTakes (first_risen takes (weighed writes (cell b.permits)) (cell b.takes)) b c y
+    → RaisesTakes (first_risen (needs_of net takes) (weighed writes (cell b.permits)) (cell b.takes)) b c y
     → RaisesTakes (takes_risen net (cell a.permits) (cell a.takes) (u + 1)) a c z
 takes_next net u takes writes a b c x y z both ts ws f g = record {
   samples = g.samples ∙ f.samples;
   risen = g.risen ∙ f.risen;
   permits = g.permits ∙ f.permits;
-  raised = λ r k. g.raised r k ∙ (ap (λ xs. first_risen xs (weighed writes (cell b.permits)) (cell b.takes) r k) ts ∙ (first_same (net.rule u).takes _ _ (cell b.takes) (takes_risen net (cell a.permits) (cell a.takes) u) (ap (λ xs. weighed xs (cell b.permits)) ws ∙ ap (λ t. weighed (net.rule u).writes (cell t)) f.permits) f.raised r k ∙ sym (takes_more net (cell a.permits) (cell a.takes) u r k)));
+  raised = λ r k. g.raised r k ∙ (ap (λ xs. first_risen (needs_of net xs) (weighed writes (cell b.permits)) (cell b.takes) r k) ts ∙ (first_same (needs_of net (net.rule u).takes) _ _ (cell b.takes) (takes_risen net (cell a.permits) (cell a.takes) u) (ap (λ xs. weighed xs (cell b.permits)) ws ∙ ap (λ t. weighed (net.rule u).writes (cell t)) f.permits) f.raised r k ∙ sym (takes_more net (cell a.permits) (cell a.takes) u r k)));
   still = λ e r k. (let parts = or_parts x y (sym both ∙ e) in g.still parts.1 r k ∙ f.still parts.0 r k);
 }
 
 -- one rule more
-needs_next : (net : Network) (p g : ℕ → ℕ → ℕ) (u r k : ℕ) (ts : List (Portion ℕ)) → u < net.rules → (1 ≤ g r k → IsNeed net r k) → (net.rule u).takes ≡ ts → 1 ≤ first_risen ts (weighed (net.rule u).writes p) g r k → IsNeed net r k
+needs_next : (net : Network) (p g : ℕ → ℕ → ℕ) (u r k : ℕ) (ts : List (Portion ℕ)) → u < net.rules → (1 ≤ g r k → IsNeed net r k) → needs_of net (net.rule u).takes ≡ ts → 1 ≤ first_risen ts (weighed (net.rule u).writes p) g r k → IsNeed net r k
 needs_next net p g u r k [] there before same some = before some
 needs_next net p g u r k (e ∷ es) there before same some = step (nat_lt (weighed (e ∷ es) g) (weighed (net.rule u).writes p)) some
   where
@@ -116,4 +135,4 @@ pub takes_needs : (net : Network) (p f : ℕ → ℕ → ℕ) (u : ℕ) → u �
 unfolding takes_risen
 takes_needs net p f zero few needs r k some = needs r k some
 takes_needs net p f (suc u) few needs r k some =
-    needs_next net p (takes_risen net p f u) u r k (net.rule u).takes (omega arith) (takes_needs net p f u (omega arith) needs r k) refl some
+    needs_next net p (takes_risen net p f u) u r k (needs_of net (net.rule u).takes) (omega arith) (takes_needs net p f u (omega arith) needs r k) refl some

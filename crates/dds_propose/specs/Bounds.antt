@@ -20,6 +20,6 @@ least_sample net target row = unwrap_or (least_counted (counts net target) (row.
 abbrev pub quotient : ℕ → ℕ → Option ℕ
 quotient n d = if d == 0 then None else if nat_le (n / d) 4294967295 then Some (n / d) else None
 
--- at most so many samples count for the target at once: what the opening permits weigh, divided by the least weight of a sample that counts
+-- at most so many samples count for the target at once: the budget of the row, divided by the least weight of a sample that counts
 abbrev pub bound : Network → Target → Row → Option ℕ
 bound net target row = quotient (budget net row) (least_sample net target row)

@@ -1,32 +1,31 @@
 -- How the tables of a row change within a round, and what holds of them between rounds.
-use Rattle.std.specs.Prelude.{ℕ, ◌≡◌, ◌⊎◌, ◌+◌, ◌<◌, ◌≤◌, ◌==◌, ◌&&◌, Bool, true, false, max, List, [], ◌∷◌, if◌then◌else◌}
-use Rattle.dds_base.specs.Sums.{total}
+use Rattle.std.specs.Prelude.{ℕ, ◌≡◌, ◌⊎◌, ◌+◌, ◌<◌, ◌≤◌, ◌==◌, ◌&&◌, Bool, true, false, max, All, List, [], ◌∷◌, if◌then◌else◌}
 use Rattle.dds_base.specs.declared.portion.Portion.{Portion}
 use Rattle.dds_match.specs.Network.{Network}
 use Rattle.dds_propose.specs.declared.targets.Target.{Target}
 use Rattle.dds_propose.specs.declared.weights.Weights.{Weights}
 use Rattle.dds_propose.specs.Tables.{cell, is_place, row_of}
 use Rattle.dds_propose.specs.Targets.{counts, reader_of}
-use Rattle.dds_propose.specs.Relaxation.{IsSame, round}
-
--- what a write of the key at the writer puts in flight, by the weights of samples
-abbrev pub spread_by : Network → (ℕ → ℕ → ℕ) → ℕ → ℕ → ℕ
-spread_by net f w k = total net.readers (λ r. if net.matched w r && net.hears r k then f r k else 0)
+use Rattle.dds_propose.specs.Relaxation.{IsSame, needs_of, round, spread_by}
 
 -- n for each time that a number stands in a list
 abbrev pub risen_by : ℕ → ℕ → List ℕ → ℕ
 risen_by w n [] = 0
 risen_by w n (x ∷ xs) = (if x == w then n else 0) + risen_by w n xs
 
--- the key of the reader is the first need of a rule
+-- the key of the reader is the first need of a rule that the row carries by permits
 pub record IsNeed (net : Network) (r k : ℕ) : Type 0 where
   pub rule : ℕ
   pub need : Portion ℕ
   pub rest : List (Portion ℕ)
   pub there : rule < net.rules
-  pub takes : (net.rule rule).takes ≡ need ∷ rest
+  pub takes : needs_of net (net.rule rule).takes ≡ need ∷ rest
   pub reader : need.endpoint ≡ r
   pub key : need.key ≡ k
+
+-- each reader of a list hears its key
+abbrev pub AreHeard : Network → List (Portion ℕ) → Type 0
+AreHeard net es = All (λ e. net.hears e.endpoint e.key ≡ true) es
 
 -- samples of the key count for the target
 abbrev pub IsCountedBy : Network → Target → ℕ → ℕ → Type 0

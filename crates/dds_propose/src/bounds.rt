@@ -1,17 +1,20 @@
 //! The bound that a row shows.
-ghost use Rattle.std.specs.Prelude.{◌≡◌, ◌<◌, ◌≤◌, ◌*◌, ◌^◌, length, min};
+ghost use Rattle.std.specs.Prelude.{◌≡◌, ◌<◌, ◌≤◌, ◌*◌, ◌^◌, ◌==◌, ◌&&◌, not, length, min};
+ghost use Rattle.std.specs.List.{list_any};
 ghost use Rattle.std.specs.Option.{option_map_or};
+ghost use Rattle.dds_base.specs.Sums.{any_below, total, total_pairs};
 ghost use Rattle.dds_lists.specs.Views.{rule_view};
 ghost use Rattle.dds_match.specs.Network.{weighed};
 ghost use Rattle.dds_match.specs.Plan.{network_of};
-ghost use Rattle.dds_runs.specs.Accepted.{budget};
+ghost use Rattle.dds_runs.specs.Accepted.{budget, leaves_to_caps, opening_weight};
+ghost use Rattle.dds_check.specs.Shown.{carried_weight};
 ghost use Rattle.dds_propose.specs.Bounds.{bound, least_sample};
 ghost use Rattle.dds_propose.specs.Tables.{cell, row_of};
 
 use crate::targets::Target;
 use crate::weights::Weights;
 use dds_base::grid::KEYS;
-use dds_base::{KeyNo, RuleNo};
+use dds_base::{KeyNo, ReaderNo, RuleNo, WriterNo};
 use dds_lists::Rule;
 use dds_match::Plan;
 
@@ -37,14 +40,93 @@ fn opened_by(weights: &Weights, rule: &Rule) -> u128
 
 /// What all permits at the opening weigh.
 #[tactic(auto, using(dds_runs::proofs::Sums::total_start, dds_runs::proofs::Sums::total_more))]
-fn budget(plan: &Plan, weights: &Weights) -> u128
-    ensures { result ≡ budget (network_of plan.now) (row_of weights.now) }
+fn opening_weight(plan: &Plan, weights: &Weights) -> u128
+    ensures value { result ≡ opening_weight (network_of plan.now) (row_of weights.now) }
+    ensures small { result ≤ 2 ^ 76 }
 {
     let mut total: u128 = 0;
     for u in 0..plan.lists().rules() {
         total += opened_by(weights, short_rule(plan, RuleNo::new(u)));
     }
     total
+}
+
+/// Whether permits of the key at one of some writers have weight.
+fn weighs_one(weights: &Weights, writers: &[WriterNo], key: KeyNo) -> bool
+    ensures { result ≡ list_any (λ w. not ((row_of weights.now).permits w key == 0)) writers.now }
+{
+    writers.iter().any(|w| weights.permits.at(*w, key) != 0)
+}
+
+/// Whether permits of the key at a writer that matches the reader have weight.
+fn weighs_permits(plan: &Plan, weights: &Weights, reader: ReaderNo, key: KeyNo) -> bool
+    ensures { result ≡ any_below (network_of plan.now).writers
+        (λ w. (network_of plan.now).matched w reader && not ((row_of weights.now).permits w key == 0)) }
+{
+    weighs_one(weights, plan.writers_of(reader), key)
+}
+
+/// Whether neither takes of the key at the reader nor permits of it at a writer that matches have weight.
+fn leaves_to_caps(plan: &Plan, weights: &Weights, reader: ReaderNo, key: KeyNo) -> bool
+    ensures { result ≡ leaves_to_caps (network_of plan.now) (row_of weights.now) reader key }
+{
+    weights.takes.at(reader, key) == 0 && !weighs_permits(plan, weights, reader, key)
+}
+
+/// What the samples of a key weigh that are in flight to a reader, at most, where the row carries them by caps: 0 where
+/// it doesn't.
+fn carried_weight(plan: &Plan, weights: &Weights, reader: ReaderNo, key: KeyNo) -> u128
+    requires reader { reader < (network_of plan.now).readers }
+    requires key { key < (network_of plan.now).keys }
+    ensures value { result ≡ carried_weight (network_of plan.now) (row_of weights.now) reader key }
+    ensures small { result ≤ 2 ^ 96 }
+{
+    // Most often there are no caps, and this is one look.
+    let Some(most) = plan.capped(reader, key) else {
+        return 0;
+    };
+    if leaves_to_caps(plan, weights, reader, key) {
+        u128::from(weights.samples.at(reader, key)) * u128::from(most)
+    } else {
+        0
+    }
+}
+
+/// That of all keys of a reader.
+#[tactic(auto, using(dds_runs::proofs::Sums::total_start, dds_runs::proofs::Sums::total_more))]
+fn reader_carried(plan: &Plan, weights: &Weights, reader: ReaderNo) -> u128
+    requires { reader < (network_of plan.now).readers }
+    ensures value { result ≡ total (network_of plan.now).keys
+        (carried_weight (network_of plan.now) (row_of weights.now) reader) }
+    ensures small { result ≤ 2 ^ 102 }
+{
+    let mut total: u128 = 0;
+    for k in 0..KEYS {
+        total += carried_weight(plan, weights, reader, KeyNo::new(k));
+    }
+    total
+}
+
+/// That of all keys of all readers.
+#[tactic(auto, using(dds_runs::proofs::Sums::total_start, dds_runs::proofs::Sums::total_more))]
+fn all_carried(plan: &Plan, weights: &Weights) -> u128
+    ensures value { result ≡ total_pairs (network_of plan.now).readers (network_of plan.now).keys
+        (carried_weight (network_of plan.now) (row_of weights.now)) }
+    ensures small { result ≤ 2 ^ 110 }
+{
+    let mut total: u128 = 0;
+    for r in 0..plan.lists().readers() {
+        total += reader_carried(plan, weights, ReaderNo::new(r));
+    }
+    total
+}
+
+/// What the weighted sum of the row never rises above: what the permits at the opening weigh, and as many samples as
+/// each cap that carries them allows.
+fn budget(plan: &Plan, weights: &Weights) -> u128
+    ensures { result ≡ budget (network_of plan.now) (row_of weights.now) }
+{
+    opening_weight(plan, weights) + all_carried(plan, weights)
 }
 
 /// The lesser of a number and one that may be there.
@@ -71,8 +153,8 @@ fn least_sample(plan: &Plan, target: &Target, weights: &Weights) -> u32
     least.unwrap_or(0)
 }
 
-/// At most so many samples count for the target at once: what the opening permits weigh, divided by the least weight of
-/// a sample, rounded down. `None` where that is above 4,294,967,295, or where no sample has a weight.
+/// At most so many samples count for the target at once: the budget of the row, divided by the least weight of a
+/// sample, rounded down. `None` where that is above 4,294,967,295, or where no sample has a weight.
 pub(crate) fn bound_of(plan: &Plan, target: &Target, weights: &Weights) -> Option<u32>
     ensures { result ≡ bound (network_of plan.now) target.now (row_of weights.now) }
 {

@@ -1,16 +1,16 @@
 //! The rounds that raise the weights of a row until no event can raise its sum.
 ghost use Rattle.std.specs.Prelude.{◌≡◌, ◌<◌, ◌≤◌, ℕ, true, false, All, List, [], ◌∷◌, IfOk, IfSome};
 ghost use Rattle.dds_base.specs.declared.portion.Portion.{Portion};
-ghost use Rattle.dds_lists.specs.Views.{rule_view};
 ghost use Rattle.dds_lists.specs.WellFormed.{IsCounted};
 ghost use Rattle.dds_match.specs.Network.{weighed};
 ghost use Rattle.dds_match.specs.Plan.{network_of};
-ghost use Rattle.dds_propose.specs.Following.{IsMade, IsNeed, IsRisenHeard, IsRound, RaisesPermits, Follows};
+ghost use Rattle.dds_propose.specs.Following.{AreHeard, IsMade, IsNeed, IsRisenHeard, IsRound, RaisesPermits, Follows};
 ghost use Rattle.dds_propose.specs.Following.{RaisesTakes, RaisesSamples};
-ghost use Rattle.dds_propose.specs.Relaxation.{IsRest, IsSame, first_risen, opening, takes_risen};
-ghost use Rattle.dds_propose.specs.Tables.{cell, is_place, row_of};
+ghost use Rattle.dds_propose.specs.Relaxation.{IsRest, IsSame, first_risen, needs_of, opening, seen, takes_risen};
+ghost use Rattle.dds_propose.specs.Tables.{cell, row_of};
 ghost use Rattle.dds_propose.specs.Targets.{IsReached, counts, reader_of};
 
+use crate::needs::{Carrying, by_permits, counted_rule, first_need, first_need_of, needs_weighed};
 use crate::targets::Target;
 use crate::weights::Weights;
 use dds_base::grid::KEYS;
@@ -49,16 +49,17 @@ fn raise_permits(
 }
 
 /// Lets the permits of the matched writers follow the samples of a key of a reader. A permit weighs what the samples of
-/// its key weigh at all matched readers together; weights never fall, so it rises by as much as they have risen.
-/// Returns whether a permit rose.
+/// its key weigh at all matched readers together, but for samples that caps carry; weights never fall, so it rises by
+/// as much as they have risen. Returns whether a permit rose.
 fn follow_samples(
     plan: &Plan,
+    carrying: Carrying,
     weights: &mut Weights,
     reader: ReaderNo,
     key: KeyNo,
 ) -> Result<bool, NoRow>
-    requires { IsRisenHeard (network_of plan.now) weights.old }
-    ensures followed { IfOk result (Follows (network_of plan.now) weights.old weights.new) }
+    requires { IsRisenHeard (seen carrying (network_of plan.now)) weights.old }
+    ensures followed { IfOk result (Follows (seen carrying (network_of plan.now)) weights.old weights.new) }
     ensures done { IfOk result (λ _. cell weights.new.risen reader key ≡ 0) }
 {
     // Its lists name nothing that isn't there.
@@ -68,13 +69,21 @@ fn follow_samples(
         return Ok(false);
     }
     weights.risen.put(reader, key, 0);
+    if !by_permits(plan, carrying, reader, key) {
+        return Ok(false);
+    }
     raise_permits(weights, plan.writers_of(reader), key, rise)
 }
 
 /// Lets the permits follow the samples of a target.
-fn follow_target(plan: &Plan, target: &Target, weights: &mut Weights) -> Result<bool, NoRow>
-    requires { IsRisenHeard (network_of plan.now) weights.old }
-    ensures followed { IfOk result (Follows (network_of plan.now) weights.old weights.new) }
+fn follow_target(
+    plan: &Plan,
+    carrying: Carrying,
+    target: &Target,
+    weights: &mut Weights,
+) -> Result<bool, NoRow>
+    requires { IsRisenHeard (seen carrying (network_of plan.now)) weights.old }
+    ensures followed { IfOk result (Follows (seen carrying (network_of plan.now)) weights.old weights.new) }
     ensures done { IfOk result
         (λ _. (k : ℕ) → counts (network_of plan.now) target.now k ≡ true
         → cell weights.new.risen (reader_of target.now) k ≡ 0) }
@@ -83,57 +92,71 @@ fn follow_target(plan: &Plan, target: &Target, weights: &mut Weights) -> Result<
     for k in 0..KEYS {
         let key = KeyNo::new(k);
         if target.counts(plan, key) {
-            let raised = follow_samples(plan, weights, target.reader(), key)?;
+            let raised = follow_samples(plan, carrying, weights, target.reader(), key)?;
             changed |= raised;
         }
     }
     Ok(changed)
 }
 
-/// Lets the permits follow the sample that a rule needs first. Returns whether a permit rose.
-fn follow_need(plan: &Plan, weights: &mut Weights, u: RuleNo) -> Result<bool, NoRow>
+/// Lets the permits follow the sample that a rule needs first, of those that the row carries by permits. Returns
+/// whether a permit rose.
+fn follow_need(
+    plan: &Plan,
+    carrying: Carrying,
+    weights: &mut Weights,
+    u: RuleNo,
+) -> Result<bool, NoRow>
     requires there { u < (network_of plan.now).rules }
-    requires heard { IsRisenHeard (network_of plan.now) weights.old }
-    ensures followed { IfOk result (Follows (network_of plan.now) weights.old weights.new) }
+    requires heard { IsRisenHeard (seen carrying (network_of plan.now)) weights.old }
+    ensures followed { IfOk result (Follows (seen carrying (network_of plan.now)) weights.old weights.new) }
     ensures done { IfOk result
-        (λ _. (e : Portion ℕ) (es : List (Portion ℕ)) → ((network_of plan.now).rule u).takes ≡ e ∷ es
+        (λ _. (e : Portion ℕ) (es : List (Portion ℕ))
+        → needs_of (seen carrying (network_of plan.now)) ((network_of plan.now).rule u).takes ≡ e ∷ es
         → cell weights.new.risen e.endpoint e.key ≡ 0) }
 {
-    match plan.rule(u).takes.first() {
-        Some(need) => follow_samples(plan, weights, need.endpoint, need.key),
+    match first_need_of(plan, carrying, u) {
+        Some(need) => follow_samples(plan, carrying, weights, need.endpoint, need.key),
         None => Ok(false),
     }
 }
 
 /// Lets the permits follow the samples that rules need first. No other sample but a target's has a weight.
-fn follow_needs(plan: &Plan, weights: &mut Weights) -> Result<bool, NoRow>
-    requires { IsRisenHeard (network_of plan.now) weights.old }
-    ensures followed { IfOk result (Follows (network_of plan.now) weights.old weights.new) }
-    ensures done { IfOk result (λ _. (r k : ℕ) → IsNeed (network_of plan.now) r k → cell weights.new.risen r k ≡ 0) }
+fn follow_needs(plan: &Plan, carrying: Carrying, weights: &mut Weights) -> Result<bool, NoRow>
+    requires { IsRisenHeard (seen carrying (network_of plan.now)) weights.old }
+    ensures followed { IfOk result (Follows (seen carrying (network_of plan.now)) weights.old weights.new) }
+    ensures done { IfOk result
+        (λ _. (r k : ℕ) → IsNeed (seen carrying (network_of plan.now)) r k → cell weights.new.risen r k ≡ 0) }
 {
     let mut changed = false;
     for u in 0..plan.lists().rules() {
-        let raised = follow_need(plan, weights, RuleNo::new(u))?;
+        let raised = follow_need(plan, carrying, weights, RuleNo::new(u))?;
         changed |= raised;
     }
     Ok(changed)
 }
 
-/// Raises the take of a rule's first need to the least weight at which what the rule writes weighs no more than what it
-/// needs. Returns whether it rose. A rule without needs is never fired.
-fn raise_take(weights: &mut Weights, rule: &Rule) -> Result<bool, NoRow>
+/// Raises the take of a rule's first need, of those that the row carries by permits, to the least weight at which what
+/// the rule writes weighs no more than what it needs. Returns whether it rose. A rule without needs is never fired.
+fn raise_take(
+    plan: &Plan,
+    carrying: Carrying,
+    weights: &mut Weights,
+    rule: &Rule,
+) -> Result<bool, NoRow>
     requires counted { All IsCounted rule.now.takes.items }
-    requires known { (e : Portion ℕ) (es : List (Portion ℕ)) → rule.now.takes.items ≡ e ∷ es
-        → is_place e.endpoint e.key ≡ true }
+    requires heard { AreHeard (network_of plan.now) rule.now.takes.items }
     ensures { IfOk result
-        (RaisesTakes (first_risen rule.now.takes.items (weighed rule.now.writes.items (cell weights.old.permits))
-        (cell weights.old.takes)) weights.old weights.new) }
+        (RaisesTakes (first_risen (needs_of (seen carrying (network_of plan.now)) rule.now.takes.items)
+        (weighed rule.now.writes.items (cell weights.old.permits)) (cell weights.old.takes)) weights.old weights.new) }
 {
-    let Some(need) = rule.takes.first() else {
+    // What is heard is there.
+    plan.assert_well_formed();
+    let Some(need) = first_need(plan, carrying, &rule.takes) else {
         return Ok(false);
     };
     let written = weights.permits.weighed(&rule.writes);
-    let needed = weights.takes.weighed(&rule.takes);
+    let needed = needs_weighed(plan, carrying, &weights.takes, &rule.takes);
     if written <= needed {
         return Ok(false);
     }
@@ -148,28 +171,15 @@ fn raise_take(weights: &mut Weights, rule: &Rule) -> Result<bool, NoRow>
     }
 }
 
-/// A rule whose counts are above 0.
-fn counted_rule(plan: &Plan, u: RuleNo) -> &Rule
-    requires { u < (network_of plan.now).rules }
-    ensures value { rule_view result.now ≡ (network_of plan.now).rule u }
-    ensures counted { All IsCounted result.now.takes.items }
-    ensures known { (e : Portion ℕ) (es : List (Portion ℕ)) → result.now.takes.items ≡ e ∷ es
-        → is_place e.endpoint e.key ≡ true }
-{
-    // Its counts are 1 to 65,535, and its rules take what is there.
-    plan.lists().assert_well_formed();
-    plan.rule(u)
-}
-
 /// Raises the takes, rules in file order. Returns whether one rose.
-fn raise_takes(plan: &Plan, weights: &mut Weights) -> Result<bool, NoRow>
+fn raise_takes(plan: &Plan, carrying: Carrying, weights: &mut Weights) -> Result<bool, NoRow>
     ensures { IfOk result
-        (RaisesTakes (takes_risen (network_of plan.now) (cell weights.old.permits) (cell weights.old.takes)
-        (network_of plan.now).rules) weights.old weights.new) }
+        (RaisesTakes (takes_risen (seen carrying (network_of plan.now)) (cell weights.old.permits)
+        (cell weights.old.takes) (network_of plan.now).rules) weights.old weights.new) }
 {
     let mut changed = false;
     for u in 0..plan.lists().rules() {
-        let raised = raise_take(weights, counted_rule(plan, RuleNo::new(u)))?;
+        let raised = raise_take(plan, carrying, weights, counted_rule(plan, RuleNo::new(u)))?;
         changed |= raised;
     }
     Ok(changed)
@@ -193,15 +203,16 @@ fn raise_sample(weights: &mut Weights, reader: ReaderNo, key: KeyNo) -> bool
 }
 
 /// Raises the sample that a rule needs first to the weight of its take. Returns whether it rose.
-fn raise_need(plan: &Plan, weights: &mut Weights, u: RuleNo) -> bool
+fn raise_need(plan: &Plan, carrying: Carrying, weights: &mut Weights, u: RuleNo) -> bool
     requires there { u < (network_of plan.now).rules }
     requires fresh { (r k : ℕ) → cell weights.old.samples r k < cell weights.old.takes r k
         → cell weights.old.risen r k ≡ 0 }
     ensures raised { RaisesSamples weights.old weights.new result }
-    ensures done { (e : Portion ℕ) (es : List (Portion ℕ)) → ((network_of plan.now).rule u).takes ≡ e ∷ es
+    ensures done { (e : Portion ℕ) (es : List (Portion ℕ))
+        → needs_of (seen carrying (network_of plan.now)) ((network_of plan.now).rule u).takes ≡ e ∷ es
         → cell weights.new.takes e.endpoint e.key ≤ cell weights.new.samples e.endpoint e.key }
 {
-    match plan.rule(u).takes.first() {
+    match first_need_of(plan, carrying, u) {
         Some(need) => raise_sample(weights, need.endpoint, need.key),
         None => false,
     }
@@ -209,15 +220,15 @@ fn raise_need(plan: &Plan, weights: &mut Weights, u: RuleNo) -> bool
 
 /// Raises the samples to the weights of their takes. Only a first need of a rule has a take with a weight. Returns
 /// whether one rose.
-fn raise_samples(plan: &Plan, weights: &mut Weights) -> bool
+fn raise_samples(plan: &Plan, carrying: Carrying, weights: &mut Weights) -> bool
     requires { (r k : ℕ) → cell weights.old.risen r k ≡ 0 }
     ensures raised { RaisesSamples weights.old weights.new result }
-    ensures done { (r k : ℕ) → IsNeed (network_of plan.now) r k
+    ensures done { (r k : ℕ) → IsNeed (seen carrying (network_of plan.now)) r k
         → cell weights.new.takes r k ≤ cell weights.new.samples r k }
 {
     let mut changed = false;
     for u in 0..plan.lists().rules() {
-        let raised = raise_need(plan, weights, RuleNo::new(u));
+        let raised = raise_need(plan, carrying, weights, RuleNo::new(u));
         changed |= raised;
     }
     changed
@@ -225,27 +236,37 @@ fn raise_samples(plan: &Plan, weights: &mut Weights) -> bool
 
 /// One round: the permits follow the samples, then the takes the permits, then the samples the takes. Returns whether
 /// a weight rose.
-fn round(plan: &Plan, target: &Target, weights: &mut Weights) -> Result<bool, NoRow>
-    requires { IsMade (network_of plan.now) target.now weights.old }
-    ensures { IfOk result (IsRound (network_of plan.now) target.now weights.old weights.new) }
+fn round(
+    plan: &Plan,
+    carrying: Carrying,
+    target: &Target,
+    weights: &mut Weights,
+) -> Result<bool, NoRow>
+    requires { IsMade (seen carrying (network_of plan.now)) target.now weights.old }
+    ensures { IfOk result (IsRound (seen carrying (network_of plan.now)) target.now weights.old weights.new) }
 {
     // Its lists name nothing that isn't there.
     plan.assert_well_formed();
-    let by_target = follow_target(plan, target, weights)?;
-    let by_needs = follow_needs(plan, weights)?;
-    let takes = raise_takes(plan, weights)?;
-    let samples = raise_samples(plan, weights);
+    let by_target = follow_target(plan, carrying, target, weights)?;
+    let by_needs = follow_needs(plan, carrying, weights)?;
+    let takes = raise_takes(plan, carrying, weights)?;
+    let samples = raise_samples(plan, carrying, weights);
     Ok(by_target | by_needs | takes | samples)
 }
 
 /// Rounds until one changes nothing.
-fn come_to_rest(plan: &Plan, target: &Target, weights: &mut Weights) -> Result<(), NoRow>
-    requires made { IsMade (network_of plan.now) target.now weights.old }
+fn come_to_rest(
+    plan: &Plan,
+    carrying: Carrying,
+    target: &Target,
+    weights: &mut Weights,
+) -> Result<(), NoRow>
+    requires made { IsMade (seen carrying (network_of plan.now)) target.now weights.old }
     requires opened { IsSame (row_of weights.old) (opening (network_of plan.now) target.now) }
-    ensures { IfOk result (λ _. IsRest (network_of plan.now) target.now (row_of weights.new)) }
+    ensures { IfOk result (λ _. IsRest (seen carrying (network_of plan.now)) target.now (row_of weights.new)) }
 {
     for count in 0..ROUNDS {
-        if !round(plan, target, weights)? {
+        if !round(plan, carrying, target, weights)? {
             return Ok(());
         }
     }
@@ -255,7 +276,8 @@ fn come_to_rest(plan: &Plan, target: &Target, weights: &mut Weights) -> Result<(
 /// The weights before the first round: the samples of the target weigh a unit.
 fn opening_weights(alloc: Global, plan: &Plan, target: &Target) -> Result<Weights, NoMemory>
     requires { IsReached (network_of plan.now) target.now }
-    ensures made { IfOk result (IsMade (network_of plan.now) target.now) }
+    ensures made { IfOk result
+        (λ weights. (carrying : Carrying) → IsMade (seen carrying (network_of plan.now)) target.now weights) }
     ensures opened { IfOk result (λ weights. IsSame (row_of weights) (opening (network_of plan.now) target.now)) }
 {
     // Its lists name nothing that isn't there.
@@ -271,18 +293,21 @@ fn opening_weights(alloc: Global, plan: &Plan, target: &Target) -> Result<Weight
     Ok(weights)
 }
 
-/// The weights of the row that shows a target. `None` where a weight would be above 4,294,967,295, or where each of 256
-/// rounds changed something.
+/// The weights of the row that shows a target and carries samples in this way. `None` where a weight would be above
+/// 4,294,967,295, or where each of 256 rounds changed something.
 pub(crate) fn row_weights(
     alloc: Global,
     plan: &Plan,
+    carrying: Carrying,
     target: &Target,
 ) -> Result<Option<Weights>, NoMemory>
     requires { IsReached (network_of plan.now) target.now }
-    ensures { IfOk result (λ made. IfSome made (λ weights. IsRest (network_of plan.now) target.now (row_of weights))) }
+    ensures { IfOk result
+        (λ made. IfSome made
+        (λ weights. IsRest (seen carrying (network_of plan.now)) target.now (row_of weights))) }
 {
     let mut weights = opening_weights(alloc, plan, target)?;
-    match come_to_rest(plan, target, &mut weights) {
+    match come_to_rest(plan, carrying, target, &mut weights) {
         Ok(()) => Ok(Some(weights)),
         Err(NoRow) => Ok(None),
     }

@@ -3,8 +3,8 @@ use Rattle.std.specs.Prelude.{Bool, true, false, List}
 use Rattle.std.specs.List.{list_all}
 use Rattle.dds_apps.specs.declared.player.AppEnd.{AppEnd}
 use Rattle.dds_apps.specs.declared.player.AppEnd.TheVariants as end
-use Rattle.dds_recap.specs.declared.ends.GoodEnds.{GoodEnds}
-use Rattle.dds_recap.specs.declared.ends.GoodEnds.TheVariants.{Stopped, StoppedOrIdle}
+use Rattle.dds_options.specs.declared.ends.GoodEnds.{GoodEnds}
+use Rattle.dds_options.specs.declared.ends.GoodEnds.TheVariants.{Stopped, StoppedOrIdle}
 
 -- the application's thread ended since nothing changed any more
 abbrev pub is_idle : AppEnd → Bool

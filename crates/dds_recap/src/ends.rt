@@ -3,15 +3,7 @@ ghost use Rattle.std.specs.Prelude.{◌≡◌};
 ghost use Rattle.dds_recap.specs.Ends.{all_good, is_good, is_idle};
 
 use dds_apps::AppEnd;
-
-/// The ends of all applications that make the answer of a run yes.
-#[derive(Clone, Copy, Debug, PartialEq, Eq)]
-pub enum GoodEnds {
-    /// Each thread ended as its application asked.
-    Stopped,
-    /// Each ended so, or since nothing changed any more.
-    StoppedOrIdle,
-}
+use dds_options::GoodEnds;
 
 /// Whether an application's thread ended since nothing changed any more.
 pub(crate) fn is_idle(end: AppEnd) -> bool

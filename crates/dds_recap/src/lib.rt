@@ -12,5 +12,5 @@ mod recap;
 mod tally;
 mod waits;
 
-pub use ends::{GoodEnds, all_good};
+pub use ends::all_good;
 pub use explaining::explain_run;

@@ -3,7 +3,7 @@ use Rattle.std.proofs.Common.{◌≡◌, ◌≢◌, ◌<◌, ◌≤◌, ℕ, tru
 use Rattle.std.specs.List.{list_all}
 use Rattle.dds_base.specs.declared.events.Fate.{Fate}
 use Rattle.dds_base.specs.declared.events.Fate.TheVariants.{Pass, Keep, Last, Lose}
-use Rattle.dds_peers.specs.Fates.{AreFates}
+use Rattle.dds_options.specs.Fates.{AreFates}
 use Rattle.dds_request.specs.Wishes.{fate_word, fates_text}
 use Rattle.dds_request.proofs.WordLists.{no_word, not_comma, parts_of, same_length, some_parts, text_is, too_many}
 

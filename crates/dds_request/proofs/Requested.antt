@@ -1,9 +1,9 @@
 -- What the arguments of a command ask for.
-use Rattle.std.proofs.Common.{◌≡◌, ◌∙◌, ◌<◌, ◌⊎◌, ℕ, Bool, true, false, List, [], Option, Some, None, Result, Ok, Err, IfOk, IfErr, codes, slice_index, refl, sym, ap, ap₂, arith, inl, inr, subst, unwrap_or}
+use Rattle.std.proofs.Common.{◌≡◌, ◌∙◌, ◌<◌, ℕ, Bool, true, false, List, [], Option, Some, None, Result, Ok, Err, IfOk, IfErr, codes, slice_index, refl, sym, ap, ap₂, arith, subst, unwrap_or}
 use Rattle.clap.specs.Words.{Row, Text, first_of, subcommand_of}
-use Rattle.dds_json.specs.declared.style.Style.{Style}
-use Rattle.dds_json.specs.declared.style.Style.TheVariants as style
-use Rattle.dds_request.specs.Asking.{AskFor, Asks, Counts, IsStyled, IsTimed, Misses, NamesBoth, NamesStyled, Reads, comparison_of, is_input_twice, is_printed, is_set, name_of}
+use Rattle.dds_options.specs.declared.style.Style.{Style}
+use Rattle.dds_options.specs.declared.style.Style.TheVariants as style
+use Rattle.dds_request.specs.Asking.{AskFor, Asks, Counts, IsStyled, Misses, NamesBoth, NamesStyled, Reads, comparison_of, is_input_twice, is_printed, is_set, name_of}
 use Rattle.dds_request.specs.Command.{whole}
 use Rattle.dds_request.specs.Wishes.{style_word}
 use Rattle.dds_request.specs.declared.request.NoRequest.{NoRequest}
@@ -77,7 +77,7 @@ draws_once rows (asked.Two x y pair.Draw) named asks d c first second again = tw
 draws_once rows (asked.One x (task.Match what style)) named asks d c first second again = absurd (later 109 100 (omega arith) (ap first_byte named))
 draws_once rows (asked.One x (task.Propose style)) named asks d c first second again = absurd (later 112 100 (omega arith) (ap first_byte named))
 draws_once rows (asked.One x (task.ProposeThoroughly seconds style)) named asks d c first second again = absurd (later 112 100 (omega arith) (ap first_byte named))
-draws_once rows (asked.One x task.Migrate) named asks d c first second again = absurd (later 109 100 (omega arith) (ap first_byte named))
+draws_once rows (asked.One x (task.Migrate to)) named asks d c first second again = absurd (later 109 100 (omega arith) (ap first_byte named))
 draws_once rows (asked.One x (task.Refute seconds style)) named asks d c first second again = absurd (later 114 100 (omega arith) (ap first_byte named))
 draws_once rows (asked.One x (task.Limits what seconds style)) named asks d c first second again = absurd (later 108 100 (omega arith) (ap first_byte named))
 draws_once rows (asked.One x (task.Show format)) named asks d c first second again = absurd (later 115 100 (omega arith) (ap first_byte named))
@@ -96,7 +96,7 @@ lints_once rows (asked.Two x y (pair.Lint form denied)) named asks d c first sec
 lints_once rows (asked.One x (task.Match what style)) named asks d c first second again = absurd (later 109 108 (omega arith) (ap first_byte named))
 lints_once rows (asked.One x (task.Propose style)) named asks d c first second again = absurd (later 112 108 (omega arith) (ap first_byte named))
 lints_once rows (asked.One x (task.ProposeThoroughly seconds style)) named asks d c first second again = absurd (later 112 108 (omega arith) (ap first_byte named))
-lints_once rows (asked.One x task.Migrate) named asks d c first second again = absurd (later 109 108 (omega arith) (ap first_byte named))
+lints_once rows (asked.One x (task.Migrate to)) named asks d c first second again = absurd (later 109 108 (omega arith) (ap first_byte named))
 lints_once rows (asked.One x (task.Refute seconds style)) named asks d c first second again = absurd (later 114 108 (omega arith) (ap first_byte named))
 lints_once rows (asked.One x (task.Limits what seconds style)) named asks d c first second again = absurd (earlier 109 110 (omega arith) (ap third_byte named))
 lints_once rows (asked.One x (task.Show format)) named asks d c first second again = absurd (later 115 108 (omega arith) (ap first_byte named))
@@ -120,7 +120,7 @@ pub matches_one : (rows : List Row) (request : Request) → name_of request ≡ 
 matches_one rows (asked.One x (task.Match what style)) named asks none = none x.now style (asks.0, asks.1.1)
 matches_one rows (asked.One x (task.Propose style)) named asks none = absurd (later 112 109 (omega arith) (ap first_byte named))
 matches_one rows (asked.One x (task.ProposeThoroughly seconds style)) named asks none = absurd (later 112 109 (omega arith) (ap first_byte named))
-matches_one rows (asked.One x task.Migrate) named asks none = absurd (earlier 103 116 (omega arith) (ap third_byte named))
+matches_one rows (asked.One x (task.Migrate to)) named asks none = absurd (earlier 103 116 (omega arith) (ap third_byte named))
 matches_one rows (asked.One x (task.Refute seconds style)) named asks none = absurd (later 114 109 (omega arith) (ap first_byte named))
 matches_one rows (asked.One x (task.Limits what seconds style)) named asks none = absurd (earlier 108 109 (omega arith) (ap first_byte named))
 matches_one rows (asked.One x (task.Show format)) named asks none = absurd (later 115 109 (omega arith) (ap first_byte named))
@@ -138,7 +138,7 @@ pub proposes_one : (rows : List Row) (request : Request) → name_of request ≡
 proposes_one rows (asked.One x (task.Propose style)) named asks plain none = none x.now style (asks.0, asks.1.1)
 proposes_one rows (asked.One x (task.ProposeThoroughly seconds style)) named asks plain none = true_and_false (is_set rows (codes "thorough")) asks.1.0 plain
 proposes_one rows (asked.One x (task.Match what style)) named asks plain none = absurd (earlier 109 112 (omega arith) (ap first_byte named))
-proposes_one rows (asked.One x task.Migrate) named asks plain none = absurd (earlier 109 112 (omega arith) (ap first_byte named))
+proposes_one rows (asked.One x (task.Migrate to)) named asks plain none = absurd (earlier 109 112 (omega arith) (ap first_byte named))
 proposes_one rows (asked.One x (task.Refute seconds style)) named asks plain none = absurd (later 114 112 (omega arith) (ap first_byte named))
 proposes_one rows (asked.One x (task.Limits what seconds style)) named asks plain none = absurd (earlier 108 112 (omega arith) (ap first_byte named))
 proposes_one rows (asked.One x (task.Show format)) named asks plain none = absurd (later 115 112 (omega arith) (ap first_byte named))
@@ -156,7 +156,7 @@ pub searches_one : (rows : List Row) (request : Request) → name_of request ≡
 searches_one rows (asked.One x (task.Propose style)) named asks flag none = true_and_false (is_set rows (codes "thorough")) flag asks.1.0
 searches_one rows (asked.One x (task.ProposeThoroughly seconds style)) named asks flag none = none x.now seconds style (asks.0, asks.1.1.0) asks.1.1.1
 searches_one rows (asked.One x (task.Match what style)) named asks flag none = absurd (earlier 109 112 (omega arith) (ap first_byte named))
-searches_one rows (asked.One x task.Migrate) named asks flag none = absurd (earlier 109 112 (omega arith) (ap first_byte named))
+searches_one rows (asked.One x (task.Migrate to)) named asks flag none = absurd (earlier 109 112 (omega arith) (ap first_byte named))
 searches_one rows (asked.One x (task.Refute seconds style)) named asks flag none = absurd (later 114 112 (omega arith) (ap first_byte named))
 searches_one rows (asked.One x (task.Limits what seconds style)) named asks flag none = absurd (earlier 108 112 (omega arith) (ap first_byte named))
 searches_one rows (asked.One x (task.Show format)) named asks flag none = absurd (later 115 112 (omega arith) (ap first_byte named))
@@ -175,7 +175,7 @@ refutes_one rows (asked.One x (task.Refute seconds style)) named asks none = non
 refutes_one rows (asked.One x (task.Match what style)) named asks none = absurd (earlier 109 114 (omega arith) (ap first_byte named))
 refutes_one rows (asked.One x (task.Propose style)) named asks none = absurd (earlier 112 114 (omega arith) (ap first_byte named))
 refutes_one rows (asked.One x (task.ProposeThoroughly seconds style)) named asks none = absurd (earlier 112 114 (omega arith) (ap first_byte named))
-refutes_one rows (asked.One x task.Migrate) named asks none = absurd (earlier 109 114 (omega arith) (ap first_byte named))
+refutes_one rows (asked.One x (task.Migrate to)) named asks none = absurd (earlier 109 114 (omega arith) (ap first_byte named))
 refutes_one rows (asked.One x (task.Limits what seconds style)) named asks none = absurd (earlier 108 114 (omega arith) (ap first_byte named))
 refutes_one rows (asked.One x (task.Show format)) named asks none = absurd (later 115 114 (omega arith) (ap first_byte named))
 refutes_one rows (asked.One x task.Draw) named asks none = absurd (earlier 100 114 (omega arith) (ap first_byte named))
@@ -193,7 +193,7 @@ limits_one rows (asked.One x (task.Limits what seconds style)) named asks none =
 limits_one rows (asked.One x (task.Match what style)) named asks none = absurd (later 109 108 (omega arith) (ap first_byte named))
 limits_one rows (asked.One x (task.Propose style)) named asks none = absurd (later 112 108 (omega arith) (ap first_byte named))
 limits_one rows (asked.One x (task.ProposeThoroughly seconds style)) named asks none = absurd (later 112 108 (omega arith) (ap first_byte named))
-limits_one rows (asked.One x task.Migrate) named asks none = absurd (later 109 108 (omega arith) (ap first_byte named))
+limits_one rows (asked.One x (task.Migrate to)) named asks none = absurd (later 109 108 (omega arith) (ap first_byte named))
 limits_one rows (asked.One x (task.Refute seconds style)) named asks none = absurd (later 114 108 (omega arith) (ap first_byte named))
 limits_one rows (asked.One x (task.Show format)) named asks none = absurd (later 115 108 (omega arith) (ap first_byte named))
 limits_one rows (asked.One x task.Draw) named asks none = absurd (earlier 100 108 (omega arith) (ap first_byte named))
@@ -214,7 +214,7 @@ pub checks_both : (rows : List Row) (request : Request) → name_of request ≡ 
 checks_both rows (asked.One x (task.Match what style)) named asks none = absurd (later 109 99 (omega arith) (ap first_byte named))
 checks_both rows (asked.One x (task.Propose style)) named asks none = absurd (later 112 99 (omega arith) (ap first_byte named))
 checks_both rows (asked.One x (task.ProposeThoroughly seconds style)) named asks none = absurd (later 112 99 (omega arith) (ap first_byte named))
-checks_both rows (asked.One x task.Migrate) named asks none = absurd (later 109 99 (omega arith) (ap first_byte named))
+checks_both rows (asked.One x (task.Migrate to)) named asks none = absurd (later 109 99 (omega arith) (ap first_byte named))
 checks_both rows (asked.One x (task.Refute seconds style)) named asks none = absurd (later 114 99 (omega arith) (ap first_byte named))
 checks_both rows (asked.One x (task.Limits what seconds style)) named asks none = absurd (later 108 99 (omega arith) (ap first_byte named))
 checks_both rows (asked.One x (task.Show format)) named asks none = absurd (later 115 99 (omega arith) (ap first_byte named))
@@ -232,7 +232,7 @@ pub runs_both : (rows : List Row) (request : Request) → name_of request ≡ co
 runs_both rows (asked.One x (task.Match what style)) named asks none = absurd (earlier 109 114 (omega arith) (ap first_byte named))
 runs_both rows (asked.One x (task.Propose style)) named asks none = absurd (earlier 112 114 (omega arith) (ap first_byte named))
 runs_both rows (asked.One x (task.ProposeThoroughly seconds style)) named asks none = absurd (earlier 112 114 (omega arith) (ap first_byte named))
-runs_both rows (asked.One x task.Migrate) named asks none = absurd (earlier 109 114 (omega arith) (ap first_byte named))
+runs_both rows (asked.One x (task.Migrate to)) named asks none = absurd (earlier 109 114 (omega arith) (ap first_byte named))
 runs_both rows (asked.One x (task.Refute seconds style)) named asks none = absurd (earlier 102 110 (omega arith) (ap third_byte named))
 runs_both rows (asked.One x (task.Limits what seconds style)) named asks none = absurd (earlier 108 114 (omega arith) (ap first_byte named))
 runs_both rows (asked.One x (task.Show format)) named asks none = absurd (later 115 114 (omega arith) (ap first_byte named))
@@ -250,7 +250,7 @@ pub replays_both : (rows : List Row) (request : Request) → name_of request ≡
 replays_both rows (asked.One x (task.Match what style)) named asks none = absurd (earlier 109 114 (omega arith) (ap first_byte named))
 replays_both rows (asked.One x (task.Propose style)) named asks none = absurd (earlier 112 114 (omega arith) (ap first_byte named))
 replays_both rows (asked.One x (task.ProposeThoroughly seconds style)) named asks none = absurd (earlier 112 114 (omega arith) (ap first_byte named))
-replays_both rows (asked.One x task.Migrate) named asks none = absurd (earlier 109 114 (omega arith) (ap first_byte named))
+replays_both rows (asked.One x (task.Migrate to)) named asks none = absurd (earlier 109 114 (omega arith) (ap first_byte named))
 replays_both rows (asked.One x (task.Refute seconds style)) named asks none = absurd (earlier 102 112 (omega arith) (ap third_byte named))
 replays_both rows (asked.One x (task.Limits what seconds style)) named asks none = absurd (earlier 108 114 (omega arith) (ap first_byte named))
 replays_both rows (asked.One x (task.Show format)) named asks none = absurd (later 115 114 (omega arith) (ap first_byte named))
@@ -268,7 +268,7 @@ pub conforms_both : (rows : List Row) (request : Request) → name_of request �
 conforms_both rows (asked.One x (task.Match what style)) named asks none = absurd (later 109 99 (omega arith) (ap first_byte named))
 conforms_both rows (asked.One x (task.Propose style)) named asks none = absurd (later 112 99 (omega arith) (ap first_byte named))
 conforms_both rows (asked.One x (task.ProposeThoroughly seconds style)) named asks none = absurd (later 112 99 (omega arith) (ap first_byte named))
-conforms_both rows (asked.One x task.Migrate) named asks none = absurd (later 109 99 (omega arith) (ap first_byte named))
+conforms_both rows (asked.One x (task.Migrate to)) named asks none = absurd (later 109 99 (omega arith) (ap first_byte named))
 conforms_both rows (asked.One x (task.Refute seconds style)) named asks none = absurd (later 114 99 (omega arith) (ap first_byte named))
 conforms_both rows (asked.One x (task.Limits what seconds style)) named asks none = absurd (later 108 99 (omega arith) (ap first_byte named))
 conforms_both rows (asked.One x (task.Show format)) named asks none = absurd (later 115 99 (omega arith) (ap first_byte named))
@@ -295,7 +295,7 @@ matches_printed rows (asked.One x (task.Match what style)) named asks one styled
     true_and_false (is_printed (comparison_of rows) one) (ap₂ is_printed asks.1.0 same ∙ asks.1.2) unprinted
 matches_printed rows (asked.One x (task.Propose style)) named asks one styled unprinted = absurd (later 112 109 (omega arith) (ap first_byte named))
 matches_printed rows (asked.One x (task.ProposeThoroughly seconds style)) named asks one styled unprinted = absurd (later 112 109 (omega arith) (ap first_byte named))
-matches_printed rows (asked.One x task.Migrate) named asks one styled unprinted = absurd (earlier 103 116 (omega arith) (ap third_byte named))
+matches_printed rows (asked.One x (task.Migrate to)) named asks one styled unprinted = absurd (earlier 103 116 (omega arith) (ap third_byte named))
 matches_printed rows (asked.One x (task.Refute seconds style)) named asks one styled unprinted = absurd (later 114 109 (omega arith) (ap first_byte named))
 matches_printed rows (asked.One x (task.Limits what seconds style)) named asks one styled unprinted = absurd (earlier 108 109 (omega arith) (ap first_byte named))
 matches_printed rows (asked.One x (task.Show format)) named asks one styled unprinted = absurd (later 115 109 (omega arith) (ap first_byte named))

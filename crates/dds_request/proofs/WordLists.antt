@@ -1,5 +1,5 @@
 -- Texts of words with commas between them, cut at their commas.
-use Rattle.std.proofs.Common.{◌≡◌, ◌≢◌, ◌+◌, ◌<◌, ◌≤◌, ◌∙◌, ℕ, Bool, true, false, not, eqb, List, [], ◌∷◌, ◌++◌, Option, Some, None, IfSome, IfNone, codes, length, map, take, get_or, set, zero, suc, refl, sym, ap, arith, add-one, append-nil}
+use Rattle.std.proofs.Common.{◌≡◌, ◌≢◌, ◌+◌, ◌<◌, ◌≤◌, ◌∙◌, ℕ, Bool, true, false, not, eqb, List, [], ◌∷◌, ◌++◌, codes, length, map, take, get_or, set, zero, suc, refl, sym, ap, arith, add-one, append-nil}
 use Rattle.std.specs.List.{All, join_by, join_with_byte, list_all, slice_index_or, slice_split}
 use Rattle.std.proofs.Math.Seq.{take-suc}
 use Rattle.std.proofs.lemmas.List.{length-map, map-append, take_more_set}

@@ -6,18 +6,18 @@ use Rattle.std.specs.Str.Parse.{IsNumeral, digits_value, without_leading_plus}
 use Rattle.clap.specs.Words.{IsAmong, Row, Text, fault_of, subcommand_of, first_of, one_of}
 use Rattle.clap.specs.declared.error.kind.ErrorKind.{ErrorKind}
 use Rattle.clap.specs.declared.error.kind.ErrorKind.TheVariants as kind
-use Rattle.dds_peers.specs.Fates.{AreFates}
-use Rattle.dds_recap.specs.declared.ends.GoodEnds.{GoodEnds}
-use Rattle.dds_recap.specs.declared.ends.GoodEnds.TheVariants.{Stopped, StoppedOrIdle}
-use Rattle.dds_answers.specs.declared.report.Detail.{Detail}
-use Rattle.dds_answers.specs.declared.report.Detail.TheVariants.{Plain, Explained}
-use Rattle.dds_json.specs.declared.style.Style.{Style}
-use Rattle.dds_json.specs.declared.style.Style.TheVariants as style
-use Rattle.dds_findings.specs.Allowed.{AreNoteWords}
-use Rattle.dds_findings.specs.declared.answer.Deny.{Deny}
-use Rattle.dds_findings.specs.declared.answer.Deny.TheVariants as deny
+use Rattle.dds_options.specs.Fates.{AreFates}
+use Rattle.dds_options.specs.declared.ends.GoodEnds.{GoodEnds}
+use Rattle.dds_options.specs.declared.ends.GoodEnds.TheVariants.{Stopped, StoppedOrIdle}
+use Rattle.dds_options.specs.declared.detail.Detail.{Detail}
+use Rattle.dds_options.specs.declared.detail.Detail.TheVariants.{Plain, Explained}
+use Rattle.dds_options.specs.declared.style.Style.{Style}
+use Rattle.dds_options.specs.declared.style.Style.TheVariants as style
+use Rattle.dds_options.specs.Allowed.{AreNoteWords}
+use Rattle.dds_options.specs.declared.deny.Deny.{Deny}
+use Rattle.dds_options.specs.declared.deny.Deny.TheVariants as deny
 use Rattle.dds_request.specs.Command.{whole}
-use Rattle.dds_request.specs.Wishes.{fates_text, form_word, format_word, style_word}
+use Rattle.dds_request.specs.Wishes.{fates_text, form_word, format_word, style_word, version_word}
 use Rattle.dds_request.specs.declared.wishes.Wishes.{Wishes}
 use Rattle.dds_request.specs.declared.request.Comparison.{Comparison}
 use Rattle.dds_request.specs.declared.request.Comparison.TheVariants.{Pairs, Connections}
@@ -108,7 +108,7 @@ abbrev pub name_of_task : Task → Text
 name_of_task (task.Match what style) = codes "match"
 name_of_task (task.Propose style) = codes "propose"
 name_of_task (task.ProposeThoroughly seconds style) = codes "propose"
-name_of_task task.Migrate = codes "migrate"
+name_of_task (task.Migrate to) = codes "migrate"
 name_of_task (task.Refute seconds style) = codes "refute"
 name_of_task (task.Limits what seconds style) = codes "limits"
 name_of_task (task.Show format) = codes "show"
@@ -120,7 +120,7 @@ abbrev pub AskForTask : List Row → Task → Type 0
 AskForTask rows (task.Match what style) = (comparison_of rows ≡ what) × IsStyled rows style × (is_printed what style ≡ true)
 AskForTask rows (task.Propose style) = (is_set rows (codes "thorough") ≡ false) × IsStyled rows style
 AskForTask rows (task.ProposeThoroughly seconds style) = (is_set rows (codes "thorough") ≡ true) × IsTimed rows seconds style
-AskForTask rows task.Migrate = Unit {0}
+AskForTask rows (task.Migrate to) = first_of (codes "to") rows ≡ Some (version_word to)
 AskForTask rows (task.Refute seconds style) = IsTimed rows seconds style
 AskForTask rows (task.Limits what seconds style) = (sizing_of rows ≡ what) × IsTimed rows seconds style
 AskForTask rows (task.Show format) = first_of (codes "format") rows ≡ Some (format_word format)

@@ -66,6 +66,10 @@ wishing =
 abbrev pub running : App
 running = styled (with_rule (with_rule wishing (flag_rule (codes "idle-ok"))) (flag_rule (codes "explain")))
 
+-- the command that prints a deployment as one of a later version
+abbrev pub migrating : App
+migrating = with_rule (one_file (codes "migrate")) (wish_rule (codes "to") (codes "2"))
+
 -- the command that shows a deployment in a format
 abbrev pub showing : App
 showing = with_rule (one_file (codes "show")) (wish_rule (codes "format") (codes "json"))
@@ -114,7 +118,7 @@ whole =
     (with_subcommand
     (with_subcommand
     (with_subcommand (with_subcommand (with_subcommand (with_subcommand top_app matching.top) checking.top) searching.top) running.top)
-    (one_file (codes "migrate")).top)
+    migrating.top)
     showing.top)
     drawing.top)
     refuting.top)

@@ -1,10 +1,10 @@
 -- What can be asked for, and in which style it is answered.
-use Rattle.std.specs.Prelude.{ℕ, List, [], ◌∷◌}
+use Rattle.std.specs.Prelude.{List, [], ◌∷◌}
 use Rattle.clap.specs.Words.{Text}
-use Rattle.dds_findings.specs.declared.answer.LintStyle.{LintStyle}
-use Rattle.dds_findings.specs.declared.answer.LintStyle.TheVariants as form
-use Rattle.dds_json.specs.declared.style.Style.{Style}
-use Rattle.dds_json.specs.declared.style.Style.TheVariants as style
+use Rattle.dds_options.specs.declared.style.LintStyle.{LintStyle}
+use Rattle.dds_options.specs.declared.style.LintStyle.TheVariants as form
+use Rattle.dds_options.specs.declared.style.Style.{Style}
+use Rattle.dds_options.specs.declared.style.Style.TheVariants as style
 use Rattle.dds_request.specs.declared.request.PairTask.{PairTask}
 use Rattle.dds_request.specs.declared.request.PairTask.TheVariants as pair
 use Rattle.dds_request.specs.declared.request.Request.{Request}
@@ -28,7 +28,7 @@ abbrev pub style_of_task : Task → Style
 style_of_task (task.Match what style) = style
 style_of_task (task.Propose style) = style
 style_of_task (task.ProposeThoroughly seconds style) = style
-style_of_task task.Migrate = style.Text
+style_of_task (task.Migrate to) = style.Text
 style_of_task (task.Refute seconds style) = style
 style_of_task (task.Limits what seconds style) = style
 style_of_task (task.Show format) = style.Text

@@ -1,12 +1,14 @@
--- The words for formats and styles, and for what happens to packets.
+-- The words for formats, styles and versions, and for what happens to packets.
 use Rattle.std.specs.Prelude.{ℕ, List, codes}
 use Rattle.std.specs.List.{join_by}
-use Rattle.dds_answers.specs.declared.format.Format.{Format}
-use Rattle.dds_answers.specs.declared.format.Format.TheVariants.{Json, DdsXml}
-use Rattle.dds_json.specs.declared.style.Style.{Style}
-use Rattle.dds_json.specs.declared.style.Style.TheVariants as style
-use Rattle.dds_findings.specs.declared.answer.LintStyle.{LintStyle}
-use Rattle.dds_findings.specs.declared.answer.LintStyle.TheVariants as form
+use Rattle.dds_options.specs.declared.format.Format.{Format}
+use Rattle.dds_options.specs.declared.format.Format.TheVariants.{Json, DdsXml}
+use Rattle.dds_options.specs.declared.style.Style.{Style}
+use Rattle.dds_options.specs.declared.style.Style.TheVariants as style
+use Rattle.dds_options.specs.declared.style.LintStyle.{LintStyle}
+use Rattle.dds_options.specs.declared.style.LintStyle.TheVariants as form
+use Rattle.dds_options.specs.declared.versions.LaterVersion.{LaterVersion}
+use Rattle.dds_options.specs.declared.versions.LaterVersion.TheVariants as version
 use Rattle.dds_base.specs.declared.events.Fate.{Fate}
 use Rattle.dds_base.specs.declared.events.Fate.TheVariants.{Pass, Keep, Last, Lose}
 
@@ -32,6 +34,12 @@ abbrev pub form_word : LintStyle → List ℕ
 form_word form.Text = codes "text"
 form_word form.Json = codes "json"
 form_word form.Sarif = codes "sarif"
+
+-- the word for a version: its number
+abbrev pub version_word : LaterVersion → List ℕ
+version_word version.Second = codes "2"
+version_word version.Third = codes "3"
+version_word version.Fourth = codes "4"
 
 -- a list of fates: their words, with commas between them
 abbrev pub fates_text : List Fate → List ℕ

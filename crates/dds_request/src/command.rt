@@ -3,14 +3,14 @@ ghost use Rattle.std.specs.Prelude.{◌≡◌, IfOk, IsOk, OnOk, codes, false};
 ghost use Rattle.clap.specs.Words.{app_of, rule_of, with_subcommand};
 ghost use Rattle.clap.specs.declared.builder.command.Command.TheViews.{out-Command as fields_of};
 ghost use Rattle.dds_request.specs.Command.{checking, conforming, count_rule, drawing, file_rule, flag_rule, limiting};
-ghost use Rattle.dds_request.specs.Command.{linting, matching, one_file, optional_file_rule, optional_wish_rule};
-ghost use Rattle.dds_request.specs.Command.{refuting, replaying};
+ghost use Rattle.dds_request.specs.Command.{linting, matching, migrating, one_file, optional_file_rule};
+ghost use Rattle.dds_request.specs.Command.{optional_wish_rule, refuting, replaying};
 ghost use Rattle.dds_request.specs.Command.{running, searching, seconds_rule, showing, styled, top_app, two_files};
 ghost use Rattle.dds_request.specs.Command.{whole, wish_rule, wishing};
 
 use clap::{Arg, ArgAction, Command, value_parser};
-use dds_answers::VERSION;
 use dds_base::NoMemory;
+use dds_options::VERSION;
 use std::alloc::Global;
 
 /// What help says of the argument that names a deployment.
@@ -53,6 +53,9 @@ const IDLE_OK: &str = "Ends with status 0 also where applications were idle";
 /// What help says of the flag of an explained run.
 const EXPLAIN_RUN: &str =
     "Also prints the reason of a no, or how full each reader was and what idle applications wait for";
+
+/// What help says of the version that a file is to have.
+const TO: &str = "The version that it's to have: 2, 3 or 4";
 
 /// What help says of the style of an answer.
 const STYLE: &str = "text or json";
@@ -344,14 +347,15 @@ fn lint_command<'a>(alloc: Global) -> Result<Command<'a>, NoMemory>
 }
 
 fn migrate_command<'a>(alloc: Global) -> Result<Command<'a>, NoMemory>
-    ensures app { IfOk result (λ c. app_of c ≡ one_file (codes "migrate")) }
+    ensures app { IfOk result (λ c. app_of c ≡ migrating) }
     ensures local { IfOk result (λ c. (fields_of c).has_globals ≡ false) }
 {
     one_file_command(
         alloc,
         "migrate",
-        "Prints a deployment file of version 1 as one of version 2",
-    )
+        "Prints a deployment file as one of a later version",
+    )?
+    .arg(wish(alloc, "to", "VERSION", "2", TO))
 }
 
 /// The command, and a subcommand more that has no global argument.

@@ -3,26 +3,24 @@ ghost use Rattle.std.specs.Prelude.{◌≡◌, ◌⊎◌, ℕ, List, IsErrAnd, I
 ghost use Rattle.std.specs.Prelude.{map, option_map};
 ghost use Rattle.clap.specs.Words.{Text, first_of, found_of, kind_of, rows_of, subcommand_of, subcommand_rows_of};
 ghost use Rattle.clap.specs.Words.{takes};
-ghost use Rattle.dds_answers.specs.declared.format.Format.{Format};
-ghost use Rattle.dds_json.specs.declared.style.Style.{Style};
+ghost use Rattle.dds_options.specs.declared.format.Format.{Format};
+ghost use Rattle.dds_options.specs.declared.style.Style.{Style};
 ghost use Rattle.dds_request.specs.Asking.{AreRefused, AskForHelp, Asks, Counts, Denies, IsHelp, IsHelpKind};
 ghost use Rattle.dds_request.specs.Asking.{IsStyled, LetsPass, Misses, NamesBoth, NamesStyled, Reads, Wants};
 ghost use Rattle.dds_request.specs.Asking.{comparison_of, detail_of, good_of, is_input_twice, is_printed, is_set};
 ghost use Rattle.dds_request.specs.Asking.{sizing_of};
-ghost use Rattle.dds_findings.specs.declared.answer.Deny.{Deny as DenyView};
-ghost use Rattle.dds_findings.specs.declared.answer.LintStyle.{LintStyle as LintStyleView};
+ghost use Rattle.dds_options.specs.declared.deny.Deny.{Deny as DenyView};
+ghost use Rattle.dds_options.specs.declared.style.LintStyle.{LintStyle as LintStyleView};
 ghost use Rattle.dds_request.specs.Command.{whole};
-ghost use Rattle.dds_request.specs.Wishes.{form_word, format_word};
+ghost use Rattle.dds_options.specs.declared.versions.LaterVersion.{LaterVersion as LaterVersionView};
+ghost use Rattle.dds_request.specs.Wishes.{form_word, format_word, version_word};
 
 use crate::command::whole_command;
 use crate::request::{Comparison, NoRequest, PairTask, Request, Sizing, Task};
-use crate::wishes::{Wishes, read_fates, read_form, read_format, read_style};
+use crate::wishes::{Wishes, read_fates, read_form, read_format, read_style, read_version};
 use clap::ArgMatches;
 use clap::error::ErrorKind;
-use dds_answers::{Detail, Format};
-use dds_findings::{Allowed, Deny, LintStyle};
-use dds_json::Style;
-use dds_recap::GoodEnds;
+use dds_options::{Allowed, Deny, Detail, Format, GoodEnds, LaterVersion, LintStyle, Style};
 use std::alloc::Global;
 use std::convert::AsStr;
 
@@ -34,6 +32,9 @@ const INPUT_TWICE: &str = "error: standard input can be read only once\n";
 
 /// The message for a word that is no format.
 const WRONG_FORMAT: &str = "error: the format is json or dds-xml\n";
+
+/// The message for a word that is no version of a deployment that others go before.
+const WRONG_VERSION: &str = "error: --to takes 2, 3 or 4\n";
 
 /// The message for a word that is no style.
 const WRONG_STYLE: &str = "error: the format is text or json\n";
@@ -346,13 +347,26 @@ fn run_request<'a>(alloc: Global, matches: &ArgMatches<'a>) -> Result<Request<'a
     })
 }
 
+/// The version that a deployment is to have, or `None` where the word stands for none.
+fn later_version(matches: &ArgMatches) -> Option<LaterVersion>
+    ensures some { IfSome result
+        (λ version. first_of (codes "to") (rows_of (found_of matches.now)) ≡ Some (version_word version)) }
+    ensures none { IfNone result ((version : LaterVersionView)
+        → first_of (codes "to") (rows_of (found_of matches.now)) ≡ Some (version_word version) → ⊥) }
+{
+    read_version(argument(matches, "to")?)
+}
+
 fn migrate_request<'a>(alloc: Global, matches: &ArgMatches<'a>) -> Result<Request<'a>, NoRequest>
     ensures asked { Reads (codes "migrate") (rows_of (found_of matches.now)) result }
     ensures fault { IfErr result (λ e. ¬ IsHelp e) }
     ensures unasked { Misses (codes "migrate") (rows_of (found_of matches.now)) result }
 {
+    let Some(to) = later_version(matches) else {
+        return Err(usage(alloc, WRONG_VERSION));
+    };
     let deployment = deployment(alloc, matches)?;
-    let task = Task::Migrate;
+    let task = Task::Migrate { to };
     Ok(Request::One { deployment, task })
 }
 

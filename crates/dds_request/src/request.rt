@@ -3,9 +3,7 @@ ghost use Rattle.std.specs.Prelude.{◌≡◌};
 ghost use Rattle.dds_request.specs.Request.{style_of, style_of_form, style_of_pair, style_of_task};
 
 use crate::wishes::Wishes;
-use dds_answers::{Detail, Format};
-use dds_findings::{Deny, LintStyle};
-use dds_json::Style;
+use dds_options::{Deny, Detail, Format, LaterVersion, LintStyle, Style};
 
 /// What is printed of a comparison of the endpoints.
 #[derive(Clone, Copy, Debug, PartialEq, Eq)]
@@ -61,8 +59,10 @@ pub enum Task<'a> {
         seconds: u16,
         style: Style,
     },
-    /// The deployment, of version 1, as one of version 2.
-    Migrate,
+    /// The deployment, of an earlier version, as one of this version.
+    Migrate {
+        to: LaterVersion,
+    },
     /// A run that loses a sample, or why there is none. The searches may take so many seconds.
     Refute {
         seconds: u16,
@@ -137,7 +137,7 @@ impl<'a> Task<'a> {
             | Task::Refute { style, .. }
             | Task::Limits { style, .. } => *style,
             Task::Lint { form, .. } => style_of_form(*form),
-            Task::Migrate | Task::Show { .. } | Task::Draw => Style::Text,
+            Task::Migrate { .. } | Task::Show { .. } | Task::Draw => Style::Text,
         }
     }
 }

@@ -1,18 +1,15 @@
 //! How a deployment is to be shown, and how it is to run.
 ghost use Rattle.std.specs.Prelude.{◌≡◌, ◌≢◌, List, IfNone, IfSome};
 ghost use Rattle.dds_base.specs.declared.events.Fate.{Fate};
-ghost use Rattle.dds_peers.specs.Fates.{AreFates};
-ghost use Rattle.dds_answers.specs.declared.format.Format.{Format};
-ghost use Rattle.dds_json.specs.declared.style.Style.{Style};
-ghost use Rattle.dds_findings.specs.declared.answer.LintStyle.{LintStyle};
-ghost use Rattle.dds_request.specs.Wishes.{fate_word, fates_text, form_word, format_word, style_word};
+ghost use Rattle.dds_options.specs.Fates.{AreFates};
+ghost use Rattle.dds_options.specs.declared.format.Format.{Format};
+ghost use Rattle.dds_options.specs.declared.style.Style.{Style};
+ghost use Rattle.dds_options.specs.declared.style.LintStyle.{LintStyle};
+ghost use Rattle.dds_options.specs.declared.versions.LaterVersion.{LaterVersion};
+ghost use Rattle.dds_request.specs.Wishes.{fate_word, fates_text, form_word, format_word, style_word, version_word};
 
-use dds_answers::{Detail, Format};
 use dds_base::Fate;
-use dds_findings::LintStyle;
-use dds_json::Style;
-use dds_peers::Fates;
-use dds_recap::GoodEnds;
+use dds_options::{Detail, Fates, Format, GoodEnds, LaterVersion, LintStyle, Style};
 
 /// The most fates that a list has.
 const MOST: usize = 64;
@@ -61,6 +58,19 @@ pub(crate) fn read_form(word: &str) -> Option<LintStyle>
         "text" => Some(LintStyle::Text),
         "json" => Some(LintStyle::Json),
         "sarif" => Some(LintStyle::Sarif),
+        _ => None,
+    }
+}
+
+/// The version for which a word stands, or `None` where it stands for none.
+pub(crate) fn read_version(word: &str) -> Option<LaterVersion>
+    ensures some { IfSome result (λ version. word.now ≡ version_word version) }
+    ensures none { IfNone result ((version : LaterVersion) → word.now ≢ version_word version) }
+{
+    match word {
+        "2" => Some(LaterVersion::Second),
+        "3" => Some(LaterVersion::Third),
+        "4" => Some(LaterVersion::Fourth),
         _ => None,
     }
 }

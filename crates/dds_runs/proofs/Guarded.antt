@@ -18,8 +18,9 @@ use Rattle.dds_runs.specs.World.{World, Sample, Packet, marked, is_dropped, spar
 use Rattle.dds_runs.specs.Steps.{Event, Reply, Refusal, DataFor, is_empty, refusal, RefusedOr, Replies, May, after, GapFor, HeartbeatFor, covers, new_by_gap, after_gap, after_heartbeat, packet_reply, after_packet, after_data, after_watched, arrival_of_data, admission, available, IsLeastOfWriter, new_by_heartbeat, lost_or_heard, data_packet, gap_packet, heartbeat_packet, acknack_packet, send, take_away, arrived_from, AtPlace}
 use Rattle.dds_runs.specs.Runs.{Move, MayMove, after_move, replay, IsRunFrom, brought, is_watchers, reader_of}
 use Rattle.dds_runs.specs.Runs.Move.{Do, Redeliver}
-use Rattle.dds_runs.specs.Accepted.{Row, budget, Certificate, Accepted}
+use Rattle.dds_runs.specs.Accepted.{Row, opening_weight, budget, Certificate, Accepted}
 use Rattle.dds_runs.specs.Certified.{weight, IsGood, IsGoodArrival}
+use Rattle.dds_runs.proofs.Caps.{uncarried, balanced, within_budget}
 use Rattle.dds_runs.proofs.CountsWeights.{write_weight, fire_weight, take_weight, after_write, after_fire, after_take}
 use Rattle.dds_runs.proofs.StoredSupply.{IsWrittenFor}
 use Rattle.dds_runs.proofs.PacketsFacts.{IsSilent, FactOf, silent_grows, below_base}
@@ -31,8 +32,9 @@ use Rattle.dds_runs.proofs.Settled.{settled_marked}
 use Rattle.dds_runs.proofs.StoredInFlight.{admitted}
 use Rattle.dds_runs.proofs.Moves.{Healthy, served, repeat_is, answered_is, may_write, may_fire, may_take, delivered, move_step}
 
--- no row weighs more than its budget, no strict reader is hurt, and each takes in order
+-- no row weighs more than its budget (without what caps carry than the opening), no strict reader is hurt, and each takes in order
 pub record Guarded (net : Network) (cert : Certificate) (v : World) : Type 0 where
+  pub low : (row : Row) → In row cert.rows → weight net (uncarried net row) v ≤ opening_weight net row
   pub light : (row : Row) → In row cert.rows → weight net row v ≤ budget net row
   pub unhurt : Unhurt net v
   pub order : InOrder net v
@@ -41,10 +43,10 @@ module _ (net : Network) (known : IsNetwork net) (cert : Certificate) (accepted 
   module _ (v : World) (healthy : Healthy net v) (guarded : Guarded net cert v) where
     -- what a move keeps beside the order
     abbrev Keeps : World → Type 0
-    Keeps new = ((row : Row) → In row cert.rows → weight net row new ≤ budget net row) × Unhurt net new
+    Keeps new = ((row : Row) → In row cert.rows → weight net (uncarried net row) new ≤ opening_weight net row) × Unhurt net new
 
     kept : Keeps v
-    kept = (guarded.light, guarded.unhurt)
+    kept = (guarded.low, guarded.unhurt)
 
     -- what a writer dropped strict readers have marked
     marks_dropped : (w r n : ℕ) → net.matched w r ≡ true → net.watcher r ≡ false → is_dropped net v w n ≡ true → marked v r w n ≡ true
@@ -69,7 +71,7 @@ module _ (net : Network) (known : IsNetwork net) (cert : Certificate) (accepted 
     -- what a DATA does at a watcher, by what its cache answers
     watched_guarded : (d : DataFor) → net.watcher d.reader ≡ true → (a : Admit) → Keeps (after_watched v d.reader d.sample (arrival_of a))
     watched_guarded d watches Stored = (
-      guarded.light,
+      guarded.low,
       record {
         none = guarded.unhurt.none;
         silent = guarded.unhurt.silent;
@@ -77,7 +79,7 @@ module _ (net : Network) (known : IsNetwork net) (cert : Certificate) (accepted 
       },
     )
     watched_guarded d watches (Replaced old) = (
-      guarded.light,
+      guarded.low,
       record {
         none = overwrites d.reader old watches;
         silent = guarded.unhurt.silent;
@@ -116,15 +118,15 @@ module _ (net : Network) (known : IsNetwork net) (cert : Certificate) (accepted 
         by_kind : (t : Bool) → net.watcher d.reader ≡ t → Keeps (cond t (after_watched v d.reader d.sample (arrival_of_data net v d)) (after_data v d.reader d.sample (arrival_of_data net v d)))
         by_kind false e = elim (arrival_is d e fact) [
           | inl x ↦ subst (λ a. Keeps (after_data v d.reader d.sample a)) (sym x) kept
-          | inr x ↦ subst (λ a. Keeps (after_data v d.reader d.sample a)) (sym x.1) (guarded.light, record { none = guarded.unhurt.none; silent = guarded.unhurt.silent; lost = guarded.unhurt.lost })
+          | inr x ↦ subst (λ a. Keeps (after_data v d.reader d.sample a)) (sym x.1) (guarded.low, record { none = guarded.unhurt.none; silent = guarded.unhurt.silent; lost = guarded.unhurt.lost })
         ]
         by_kind true e = elim (answered_is net known v healthy d fact) [
           | inl x ↦ subst (λ a. Keeps (after_watched v d.reader d.sample a)) (sym x) kept
           | inr x ↦ subst (λ a. Keeps (after_watched v d.reader d.sample a)) (sym x.1) (watched_guarded d e (admission (net.reader_limits d.reader) (stored v d.reader) (known_keys v d.reader) d.sample))
         ]
-    packet_guarded (Gap g) fact = rw fact.0 (guarded.light, record { none = guarded.unhurt.none; silent = gap_silent g fact; lost = guarded.unhurt.lost })
-    packet_guarded (Heartbeat h) fact = rw fact.0 (guarded.light, record { none = guarded.unhurt.none; silent = guarded.unhurt.silent; lost = heartbeat_lost h fact })
-    packet_guarded (AckNack a) fact = rw fact.0 (guarded.light, record { none = guarded.unhurt.none; silent = guarded.unhurt.silent; lost = guarded.unhurt.lost })
+    packet_guarded (Gap g) fact = rw fact.0 (guarded.low, record { none = guarded.unhurt.none; silent = gap_silent g fact; lost = guarded.unhurt.lost })
+    packet_guarded (Heartbeat h) fact = rw fact.0 (guarded.low, record { none = guarded.unhurt.none; silent = guarded.unhurt.silent; lost = heartbeat_lost h fact })
+    packet_guarded (AckNack a) fact = rw fact.0 (guarded.low, record { none = guarded.unhurt.none; silent = guarded.unhurt.silent; lost = guarded.unhurt.lost })
 
     pub packet_good : (p : Packet) → FactOf net v p → IsGood (net.watcher (reader_of p)) (packet_reply net v p)
     packet_good (Data d) fact = by_kind (net.watcher d.reader) refl
@@ -154,31 +156,31 @@ module _ (net : Network) (known : IsNetwork net) (cert : Certificate) (accepted 
     write_guarded : (w k : ℕ) (d : List ℕ) → refusal net v (Write w k d) ≡ None → Keeps (after_write v w k d)
     write_guarded w k d e =
         let may = may_write net known v healthy w k d e in (
-          λ row i. (let x = write_weight net known v healthy.sound.counts row (accepted.rows row i) w k d may.0 may.1 in let y = guarded.light row i in omega arith),
+          λ row i. (let x = write_weight net known v healthy.sound.counts (uncarried net row) (balanced net row (accepted.rows row i)) w k d may.0 may.1 in let y = guarded.low row i in omega arith),
           record { none = guarded.unhurt.none; silent = λ r x n t h. silent_grows net v (after_write v w k d) (write_grows_of v w k d) x r n (guarded.unhurt.silent r x n t h); lost = guarded.unhurt.lost },
         )
 
     fire_guarded : (u : ℕ) → refusal net v (Fire u) ≡ None → Keeps (after_fire v u)
     fire_guarded u e =
         let may = may_fire net known v healthy u e in (
-          λ row i. (let x = fire_light row i (net.rule u).takes refl may.1 may.0 may.2 in let y = guarded.light row i in omega arith),
+          λ row i. (let x = fire_light row i (net.rule u).takes refl may.1 may.0 may.2 in let y = guarded.low row i in omega arith),
           record { none = guarded.unhurt.none; silent = guarded.unhurt.silent; lost = guarded.unhurt.lost },
         )
       where
-        fire_light : (row : Row) → In row cert.rows → (es : List (Portion ℕ)) → (net.rule u).takes ≡ es → is_empty (net.rule u).takes ≡ false → u < net.rules → ((r k : ℕ) → named (net.rule u).takes r k ≤ spare net v r k) → weight net row (after_fire v u) ≤ weight net row v
+        fire_light : (row : Row) → In row cert.rows → (es : List (Portion ℕ)) → (net.rule u).takes ≡ es → is_empty (net.rule u).takes ≡ false → u < net.rules → ((r k : ℕ) → named (net.rule u).takes r k ≤ spare net v r k) → weight net (uncarried net row) (after_fire v u) ≤ weight net (uncarried net row) v
         fire_light row i [] e some below enough = absurd (true≢false (subst (λ xs. is_empty xs ≡ false) e some))
-        fire_light row i (x ∷ es) e some below enough = fire_weight net known v healthy.sound.counts row (accepted.rows row i) u x es below e enough
+        fire_light row i (x ∷ es) e some below enough = fire_weight net known v healthy.sound.counts (uncarried net row) (balanced net row (accepted.rows row i)) u x es below e enough
 
     take_guarded : (r k : ℕ) (s : Sample) → IsLeastOfWriter s (available v r k) → Keeps (after_take v r s)
     take_guarded r k s least =
         let may = may_take net known v healthy r k s least in (
-          λ row i. (let x = take_weight net known v healthy.sound.counts row (accepted.rows row i) r s may.2 may.3 in let y = guarded.light row i in omega arith),
+          λ row i. (let x = take_weight net known v healthy.sound.counts (uncarried net row) (balanced net row (accepted.rows row i)) r s may.2 may.3 in let y = guarded.low row i in omega arith),
           record { none = guarded.unhurt.none; silent = guarded.unhurt.silent; lost = guarded.unhurt.lost },
         )
 
     -- of what is sent nothing weighs
     send_guarded : (p : Packet) → Keeps (send v p)
-    send_guarded p = (guarded.light, record { none = guarded.unhurt.none; silent = guarded.unhurt.silent; lost = guarded.unhurt.lost })
+    send_guarded p = (guarded.low, record { none = guarded.unhurt.none; silent = guarded.unhurt.silent; lost = guarded.unhurt.lost })
 
     away : (i : ℕ) (new : World) → Keeps new → Keeps (take_away new i)
     away i new g = (g.0, record { none = g.1.none; silent = g.1.silent; lost = g.1.lost })
@@ -224,7 +226,7 @@ module _ (net : Network) (known : IsNetwork net) (cert : Certificate) (accepted 
     pub move_guarded : (m : Move) (reply : Reply) → MayMove net v m reply → Guarded net cert (after_move net v m reply) × IsGood (is_watchers net (brought v m)) reply
     move_guarded m reply h =
         let k = move_keeps m reply h in (
-          record { light = k.0.0; unhurt = k.0.1; order = order_step net known v healthy.sound guarded.unhurt m reply (after_move net v m reply) (move_change net v m reply h) guarded.order },
+          record { low = k.0.0; light = λ row i. within_budget net (after_move net v m reply) (move_step net known v healthy m reply h).sound.counts row (k.0.0 row i); unhurt = k.0.1; order = order_step net known v healthy.sound guarded.unhurt m reply (after_move net v m reply) (move_change net v m reply h) guarded.order },
           k.1,
         )
 

@@ -107,6 +107,22 @@ count_part (t ∷ ts) ss p dt ds i =
     parts true false c = refl
     parts false b c = refl
 
+-- ── the samples that pass
+filter_apart : (p : Sample → Bool) (ss : List Sample) (s : Sample) → holds ss s ≡ false → holds (filter p ss) s ≡ false
+filter_apart p [] s h = refl
+filter_apart p (t ∷ ss) s h =
+    let parts = or_parts (eqb t.writer s.writer && eqb t.sn s.sn) (holds ss s) h in
+    let rest = filter_apart p ss s parts.1 in
+    cond_both (p t) (t ∷ filter p ss) (filter p ss) (λ xs. holds xs s ≡ false) (λ e. or_from (eqb t.writer s.writer && eqb t.sn s.sn) (holds (filter p ss) s) parts.0 rest) (λ e. rest)
+
+pub filter_distinct : (p : Sample → Bool) (ss : List Sample) → Distinct ss → Distinct (filter p ss)
+filter_distinct p [] d = tt
+filter_distinct p (s ∷ ss) d = cond_both (p s) (s ∷ filter p ss) (filter p ss) Distinct (λ e. (filter_apart p ss s d.0, filter_distinct p ss d.1)) (λ e. filter_distinct p ss d.1)
+
+-- the sample is of the writer and the key
+abbrev pub of_writer_key : ℕ → ℕ → Sample → Bool
+of_writer_key w k s = eqb s.writer w && eqb s.key k
+
 -- ── all that matched writers have written
 -- the samples of a history, from number n
 abbrev pub numbered : ℕ → ℕ → List (ℕ × List ℕ) → List Sample

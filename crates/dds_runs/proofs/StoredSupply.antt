@@ -1,12 +1,12 @@
 -- What a reader stored and has not taken is in flight: the samples that matched writers wrote are a list without a place twice.
-use Rattle.std.proofs.Common.{◌≡◌, ◌⊎◌, inl, inr, ℕ, zero, suc, ◌+◌, ◌≤◌, ◌<◌, Bool, true, false, cond, ◌||◌, List, [], ◌∷◌, ◌++◌, Option, Some, None, refl, sym, ap, ◌∙◌, subst, arith}
-use Rattle.std.specs.Prelude.{count_by}
-use Rattle.std.proofs.lemmas.Bool.{cases_eq, cond_both, or_from}
+use Rattle.std.proofs.Common.{◌≡◌, ◌⊎◌, inl, inr, ℕ, zero, suc, ◌+◌, ◌≤◌, ◌<◌, Bool, true, false, cond, eqb, ◌&&◌, ◌||◌, List, [], ◌∷◌, ◌++◌, Option, Some, None, refl, sym, ap, ◌∙◌, subst, arith}
+use Rattle.std.specs.Prelude.{count_by, filter}
+use Rattle.std.proofs.lemmas.Bool.{eqb-true, eq-eqb, cases_eq, cond_both, or_from}
 use Rattle.std.proofs.lemmas.List.Sums.{sum_by-append}
 use Rattle.dds_base.specs.Sums.{total, In}
 use Rattle.dds_match.specs.Network.{Network, IsNetwork}
-use Rattle.dds_runs.specs.World.{World, Sample, entry_at, is_same, holds, has_key, count_key, supply}
-use Rattle.dds_runs.proofs.StoredPlaces.{Distinct, count_part, numbered, numbered_other, numbered_distinct, numbered_in, numbered_count}
+use Rattle.dds_runs.specs.World.{World, Sample, entry_at, is_same, holds, has_key, count_key, taken_from, supply}
+use Rattle.dds_runs.proofs.StoredPlaces.{Distinct, count_part, count_same, count_filter, count_cons, filter_in, filter_distinct, of_writer_key, numbered, numbered_other, numbered_distinct, numbered_in, numbered_count}
 pub use Rattle.dds_runs.specs.Facts.{IsWrittenFor}
 
 pub In_left : {A : Type 0} (xs ys : List A) (x : A) → In x xs → In x (xs ++ ys)
@@ -95,4 +95,30 @@ supply_holds net known v r k ss d each =
     let part = count_part ss whole (has_key k) d (all_distinct M v.written net.writers)
     (λ s i. let x = each s i in all_in M v.written net.writers s (known.matched_writer s.writer r x.matched) x.matched (entry_in v.written s x.entry)) in
     let count = all_count M v.written k net.writers in
+    omega arith
+
+-- and so of each writer
+pub writer_holds : (W : ℕ → List (ℕ × List ℕ)) (w k : ℕ) (ss : List Sample) → Distinct ss → ((s : Sample) → In s ss → entry_at (W s.writer) s.sn ≡ Some (s.key, s.payload)) → count_by (of_writer_key w k) ss ≤ count_key k (W w)
+writer_holds W w k ss d each =
+    let mine = filter (λ (s : Sample). eqb s.writer w) ss in
+    let part = count_part mine (numbered w 1 (W w)) (has_key k) (filter_distinct (λ s. eqb s.writer w) ss d) (numbered_distinct w 1 (W w))
+    (λ s i. let a = filter_in (λ t. eqb t.writer w) ss s i in subst (λ x. In s (numbered x 1 (W x))) (eqb-true s.writer w a.1) (entry_in W s (each s a.0))) in
+    let count = numbered_count w 1 k (W w) in
+    let filtered = count_filter (has_key k) (λ s. eqb s.writer w) ss in
+    let turned = count_same (of_writer_key w k) (λ s. has_key k s && eqb s.writer w) ss (λ s i. turn (eqb s.writer w) (eqb s.key k)) in
+    omega arith
+  where
+    turn : (a b : Bool) → (a && b) ≡ (b && a)
+    turn true true = refl
+    turn true false = refl
+    turn false true = refl
+    turn false false = refl
+
+-- a written sample that was not taken is one more of its writer
+pub take_room : (net : Network) (v : World) (r : ℕ) (s : Sample) → Distinct (v.taken r) → ((t : Sample) → In t (v.taken r) → IsWrittenFor net v r t) → IsWrittenFor net v r s → holds (v.taken r) s ≡ false
+    → taken_from v s.writer r s.key < count_key s.key (v.written s.writer)
+take_room net v r s d each written apart =
+    let all = writer_holds v.written s.writer s.key (s ∷ v.taken r) (apart, d) (λ t i. elim i [ inl e ↦ subst (λ (x : Sample). entry_at (v.written x.writer) x.sn ≡ Some (x.key, x.payload)) e written.entry | inr j ↦ (each t j).entry ]) in
+    let more = count_cons (of_writer_key s.writer s.key) s (v.taken r) in
+    let one : ◌≡◌ {A = ℕ} (cond (eqb s.writer s.writer && eqb s.key s.key) 1 0) 1 = rw (eq-eqb s.writer s.writer refl, eq-eqb s.key s.key refl) refl in
     omega arith

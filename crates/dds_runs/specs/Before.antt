@@ -1,8 +1,8 @@
--- Where each writer keeps all, no write is free and no reader may lose samples, the definitions of runs and certificates are the ones of a
--- system without KEEP_LAST writers, free writes and such readers: each as it is written out here.
-use Rattle.std.specs.Prelude.{◌≡◌, ℕ, ◌-◌, Bool, false, not, ◌&&◌, ◌||◌, ◌==◌, List, All, length, filter, slice_get, nat_le, Some, None, if◌then◌else◌}
+-- Where each writer keeps all, no write is free, there are no caps and no lags and no reader may lose samples, the definitions of runs and certificates are the
+-- ones of a system without KEEP_LAST writers, free writes, caps, lags and such readers: each as it is written out here.
+use Rattle.std.specs.Prelude.{◌≡◌, ◌<◌, ℕ, ◌-◌, Bool, false, not, ◌&&◌, ◌||◌, ◌==◌, List, All, length, filter, slice_get, nat_le, Some, None, if◌then◌else◌}
 use Rattle.std.specs.Option.{option_map_or}
-use Rattle.dds_base.specs.Sums.{least}
+use Rattle.dds_base.specs.Sums.{least, total}
 use Rattle.dds_base.specs.Sets.{last_number}
 use Rattle.dds_base.specs.declared.events.Event.TheVariants.{Write, SendGap}
 use Rattle.dds_base.specs.declared.events.Refusal.TheVariants.{Foreign, NoPermit, NothingToSend, SequenceEnd, InstanceLimit, Full, InstanceFull}
@@ -16,11 +16,11 @@ use Rattle.dds_match.specs.Network.{Network}
 use Rattle.dds_match.specs.Plan.{network_of}
 use Rattle.dds_runs.specs.World.{World, Sample, given, permits, count_key, history, bases, kept, is_kept, is_written, is_dropped, is_at_hand, is_relevant, written_keys}
 use Rattle.dds_runs.specs.Steps.{refusal, gap_packet, heartbeat_packet}
-use Rattle.dds_runs.specs.Accepted.{Row, permit}
+use Rattle.dds_runs.specs.Accepted.{Row, permit, spread, budget, opening_weight}
 
--- the network, but each writer keeps all and no write is free
+-- the network, but each writer keeps all, no write is free and there are no caps and no lags
 abbrev pub plain : Network → Network
-plain net = record net { free = λ w k. false; writer_limits = λ w. record (net.writer_limits w) { keep_last = None } }
+plain net = record net { free = λ w k. false; cap = λ w r k. None; lag = λ w r k. None; writer_limits = λ w. record (net.writer_limits w) { keep_last = None } }
 
 -- a number is awaited that a writer has written
 abbrev pub is_outstanding : Network → World → ℕ → ℕ → Bool
@@ -39,6 +39,9 @@ pub record IsAsBefore (net : Network) : Type 0 where
   -- each write uses a permit
   pub permits : (v : World) (w k : ℕ) → permits (plain net) v w k ≡ given net v w k - count_key k (v.written w)
   pub weight : (row : Row) (w k : ℕ) → permit (plain net) row w k ≡ row.permits w k
+  -- a row carries nothing by caps: what a write puts in flight weighs all, and what the permits at the opening weigh bounds the row
+  pub spread : (row : Row) (w k : ℕ) → w < net.writers → spread (plain net) row w k ≡ total net.readers (λ r. if net.matched w r && net.hears r k then row.samples r k else 0)
+  pub budget : (row : Row) → budget (plain net) row ≡ opening_weight net row
   -- what may be sent: a kept number or a watcher's last one, a GAP of what is irrelevant, and a HEARTBEAT from the least kept number
   pub at_hand : (v : World) (w r n : ℕ) → is_at_hand (plain net) v w r n ≡ (is_outstanding net v w n || (net.watcher r && is_last (length (v.written w)) n))
   pub gap : (v : World) (w r n : ℕ) → gap_packet (plain net) v w r n ≡ Gap (gap_of w r (is_relevant net v w r) (length (v.written w)) n)

@@ -1,5 +1,5 @@
--- The first of several that is there, and tests of every number below a bound.
-use Rattle.std.specs.Prelude.{◌≡◌, ◌<◌, ◌≤◌, ℕ, zero, suc, Bool, true, false, ◌&&◌, Option, Some, None, List, length, slice_get}
+-- The first of several that is there, and tests of lists and of every number below a bound.
+use Rattle.std.specs.Prelude.{◌≡◌, ◌<◌, ◌≤◌, ℕ, zero, suc, Bool, true, false, ◌&&◌, Option, Some, None, List, [], ◌∷◌, length, slice_get}
 use Rattle.std.specs.Option.{option_map_or}
 
 -- the first, and else the second
@@ -20,6 +20,11 @@ at_item xs f i = option_map_or (λ x. f x i) (slice_get xs i) None
 -- the first that is there of f x 0, f y 1, .. for the elements x, y, .. of a list
 abbrev pub first_in : {X A : Type 0} → List X → (X → ℕ → Option A) → Option A
 first_in xs f = first_below (length xs) (at_item xs f)
+
+-- the list has no element
+abbrev pub is_empty : {A : Type 0} → List A → Bool
+is_empty [] = true
+is_empty (x ∷ xs) = false
 
 -- each of f 0, .., f (n - 1) holds
 unfoldable pub all_below : ℕ → (ℕ → Bool) → Bool

@@ -8,4 +8,5 @@ pub mod Facts
 pub mod Laws
 pub mod Unsafe
 pub mod CountRuns
+pub mod Timed
 pub mod Before

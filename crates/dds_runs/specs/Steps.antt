@@ -1,10 +1,10 @@
 -- One step of a run: the event, the reply that may answer it, and the world after it (DDSI-RTPS 2.5, clause 8.4; DDS 1.4, clause 2.2.3).
 use Rattle.std.specs.Prelude.{◌≡◌, ℕ, suc, ◌+◌, ◌-◌, ◌^◌, Bool, true, false, if◌then◌else◌, ◌==◌, nat_lt, nat_le, not, ◌&&◌, ◌||◌, List, [], ◌∷◌, ◌++◌, length, Option, Some, None}
-use Rattle.dds_base.specs.Sums.{least, put}
+use Rattle.dds_base.specs.Sums.{least, put, any_below}
 pub use Rattle.dds_base.specs.declared.events.Event.{Event}
 pub use Rattle.dds_base.specs.declared.events.Event.TheVariants.{Write, Fire, Take, SendData, SendGap, SendHeartbeat, SendAckNack, Deliver, Lose}
 pub use Rattle.dds_base.specs.declared.events.Refusal.{Refusal}
-use Rattle.dds_base.specs.declared.events.Refusal.TheVariants.{Foreign, NoPermit, NotEnough, CountLimit, Empty, NothingToSend, NoPacket}
+use Rattle.dds_base.specs.declared.events.Refusal.TheVariants.{Foreign, NoPermit, NotYet, NotEnough, CountLimit, Empty, NothingToSend, NoPacket}
 pub use Rattle.dds_base.specs.declared.events.Reply.{Reply}
 pub use Rattle.dds_base.specs.declared.events.Reply.TheVariants.{Refused, Written, Fired, Took, Sent, Arrived, Acked, Dropped}
 pub use Rattle.dds_base.specs.declared.sample.Arrival.{Arrival}
@@ -18,20 +18,17 @@ pub use Rattle.dds_qos.specs.Taking.{available_of, IsLeastOfWriter}
 pub use Rattle.dds_qos.specs.Reading.{lost_or_heard, marks_it, new_by_gap, new_by_heartbeat, gap_arrival, heartbeat_arrival, is_repeat, data_arrival, heard_after, missing_of}
 pub use Rattle.dds_qos.specs.Writing.{write_refusal, gap_of, heartbeat_of, counts_ack, base_after}
 use Rattle.dds_match.specs.Network.{Network, follows, named}
+use Rattle.dds_runs.specs.First.{◌orElse◌}
+pub use Rattle.dds_runs.specs.First.{is_empty}
 use Rattle.dds_lists.specs.Lists.{Rule}
 use Rattle.dds_base.specs.declared.portion.Portion.{Portion}
-use Rattle.dds_runs.specs.World.{World, Sample, Packet, entry_at, has_key, permits, spare, kept, is_kept, is_pending, is_at_hand, written_keys, marked, base, stored, known_keys, is_relevant, is_offered}
+use Rattle.dds_runs.specs.World.{World, Sample, Packet, entry_at, has_key, permits, spare, untaken, unavailable, kept, is_kept, is_pending, is_at_hand, written_keys, marked, base, stored, known_keys, is_relevant, is_offered}
 
 -- ── tests of lists and options
 -- some entry of a rule's list passes the test
 abbrev pub any_entry : (Portion ℕ → Bool) → List (Portion ℕ) → Bool
 any_entry p [] = false
 any_entry p (e ∷ es) = p e || any_entry p es
-
--- the list has no element
-abbrev pub is_empty : {A : Type 0} → List A → Bool
-is_empty [] = true
-is_empty (x ∷ xs) = false
 
 -- there is nothing
 abbrev pub is_none_of : {A : Type 0} → Option A → Bool
@@ -56,13 +53,18 @@ fire_needs_more net v rule = is_empty rule.takes || any_entry (λ e. nat_lt (spa
 abbrev pub fire_passes_limit : Network → World → Rule → Bool
 fire_passes_limit net v rule = any_entry (λ e. nat_le (2 ^ 64) (permits net v e.endpoint e.key + named rule.writes e.endpoint e.key)) rule.writes
 
+-- some matched reader has yet to take as many samples of the key, written at the writer, as its cap allows, or as many of them as its lag allows
+-- aren't available there yet
+abbrev pub is_early : Network → World → ℕ → ℕ → Bool
+is_early net v w k = any_below net.readers (λ r. net.matched w r && (is_reached (net.cap w r k) (untaken v w r k) || is_reached (net.lag w r k) (unavailable v w r k)))
+
 -- why an event is refused: the first test that holds. Foreign speaks of an endpoint, key or rule that isn't there, or of a pair that doesn't
 -- match. A watcher gets DATA alone, and sends nothing
 abbrev pub refusal : Network → World → Event → Option Refusal
 refusal net v (Write w k d) =
     if not (net.writes_key w k) then Some Foreign
     else if not (net.free w k) && (permits net v w k == 0) then Some NoPermit
-    else write_refusal (net.writer_limits w) (length (v.written w)) (written_keys v w) (kept net v w) k
+    else write_refusal (net.writer_limits w) (length (v.written w)) (written_keys v w) (kept net v w) k orElse (if is_early net v w k then Some NotYet else None)
 refusal net v (Fire u) =
     if nat_le net.rules u then Some Foreign
     else if fire_needs_more net v (net.rule u) then Some NotEnough

@@ -5,6 +5,7 @@
 ghost use Rattle.dds_runs.specs.Before.{Before};
 ghost use Rattle.dds_runs.specs.CountRuns.{CountRuns};
 ghost use Rattle.dds_runs.specs.Laws.{Counts, Headline, Order, Packets, Parts, Settled, Stored, Watched};
+ghost use Rattle.dds_runs.specs.Timed.{DeploymentRuns, TimedRuns};
 ghost use Rattle.dds_runs.specs.Unsafe.{EqualBoundOverflows, FilteredWriterLoses, ForgottenReaderOverflows};
 ghost use Rattle.dds_runs.specs.Unsafe.{ShallowWriterLoses};
 
@@ -38,7 +39,7 @@ pub fn order()
 {}
 
 /// What joins the fourth pass and the second: what a writer with KEEP_LAST dropped, each strict reader that matches it
-/// has taken, so that no HEARTBEAT and no GAP costs it a sample.
+/// has received, so that no HEARTBEAT and no GAP costs it a sample; and taken, where the writer has no lag there.
 pub fn settled()
     ensures { Settled }
 {}
@@ -56,6 +57,13 @@ pub fn watched()
 /// What follows from them: an accepted certificate is safe in every wide run.
 pub fn headline()
     ensures { Headline }
+{}
+
+/// A run of a system that keeps its clocks' premises is a run of the network with the caps and lags that the clocks
+/// show: of a deployment's network, where they're the deployment's. So what is promised of all its runs holds.
+pub fn timed()
+    ensures network { TimedRuns }
+    ensures deployment { DeploymentRuns }
 {}
 
 /// A write puts a sample in flight for every matched reader: a rule that forgets one of two accepts a deployment in

@@ -6,3 +6,4 @@ pub mod Sizes
 pub mod Budgets
 pub mod Rays
 pub mod Reasons
+pub mod Depths

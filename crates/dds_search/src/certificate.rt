@@ -3,6 +3,8 @@
 pub(crate) mod attempt;
 pub(crate) mod climbing;
 pub(crate) mod collecting;
+pub(crate) mod depths;
+pub mod finding;
 pub(crate) mod listing;
 pub mod rays;
 pub mod reasons;

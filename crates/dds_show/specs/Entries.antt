@@ -6,6 +6,7 @@ use Rattle.dds_base.specs.declared.portion.Portion.{Portion}
 use Rattle.dds_qos.specs.declared.policies.Policies.{Policies}
 use Rattle.dds_lists.specs.Lists.{Lists, Participant, Topic, Writer, Reader, Application, Rule, keys_at, key_name}
 use Rattle.dds_lists.specs.declared.lists.Origin.{Origin}
+use Rattle.dds_lists.specs.declared.lists.Pace.{Pace}
 use Rattle.dds_text.specs.Names.{name_at, reader_key, reader_name, writer_key, writer_name}
 use Rattle.dds_text.specs.Texts.{each_below}
 use Rattle.dds_show.specs.Pieces.{comma, name_items, quoted}
@@ -43,10 +44,19 @@ writer_entry d name x = codes "{" ++ (place_fields d name x.participant x.topic 
 abbrev pub may_lose_field : ℕ → Bool → List ℕ
 may_lose_field v may_lose = if nat_le v 2 then [] else codes ", \"may_lose\": " ++ flag_word may_lose
 
+-- nanoseconds under a name; nothing where the file gives none
+abbrev pub nanoseconds_field : List ℕ → Option ℕ → List ℕ
+nanoseconds_field name (Some n) = codes ", \"" ++ (name ++ (codes "\": " ++ decimal n))
+nanoseconds_field name None = []
+
+-- how soon after its write a reader takes each sample, and can take it
+abbrev pub span_fields : Reader → List ℕ
+span_fields x = nanoseconds_field (codes "taken_within") x.taken_within ++ nanoseconds_field (codes "available_within") x.available_within
+
 abbrev pub reader_entry : Lists → List ℕ → Reader → List ℕ
 reader_entry d name x =
     codes "{" ++ (place_fields d name x.participant x.topic ++ (codes ", \"filter\": [" ++ (numbered_items (keys_at d.topics x.topic) x.filter ++ (codes "]"
-    ++ (may_lose_field d.version x.may_lose ++ (codes ", " ++ (qos_fields x.qos.requested x.partitions ++ codes "}")))))))
+    ++ (may_lose_field d.version x.may_lose ++ (span_fields x ++ (codes ", " ++ (qos_fields x.qos.requested x.partitions ++ codes "}"))))))))
 
 abbrev pub application_entry : Lists → List ℕ → Application → List ℕ
 application_entry d name x =
@@ -88,10 +98,15 @@ origin_fields d (Some o) =
 abbrev pub start_text : Rule → List ℕ
 start_text x = if x.free then codes "\"unlimited\"" else decimal x.start
 
+-- how often it writes at most, by the clock; nothing where nothing bounds that
+abbrev pub pace_fields : Option Pace → List ℕ
+pace_fields (Some pace) = codes ", \"period\": " ++ (decimal pace.period ++ (codes ", \"jitter\": " ++ decimal pace.jitter))
+pace_fields None = []
+
 abbrev pub rule_entry : Lists → Option Origin → Rule → List ℕ
 rule_entry d origin x =
     codes "{" ++ (origin_fields d origin ++ (codes ", \"application\": \"" ++ (name_at d.applications.names x.application ++ (codes "\", \"takes\": [" ++ (take_items d x.takes
-    ++ (codes "], \"writes\": [" ++ (write_items d x.writes ++ (codes "], \"start\": " ++ (start_text x ++ codes "}")))))))))
+    ++ (codes "], \"writes\": [" ++ (write_items d x.writes ++ (codes "], \"start\": " ++ (start_text x ++ (pace_fields x.pace ++ codes "}"))))))))))
 
 abbrev pub connection_entry : Lists → ℕ × ℕ → List ℕ
 connection_entry d pair = codes "{\"writer\": \"" ++ (writer_name d pair.0 ++ (codes "\", \"reader\": \"" ++ (reader_name d pair.1 ++ codes "\"}")))

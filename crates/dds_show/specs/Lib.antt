@@ -4,3 +4,4 @@ pub mod Policies
 pub mod Entries
 pub mod Json
 pub mod Reasons
+pub mod Times

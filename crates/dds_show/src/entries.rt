@@ -8,14 +8,15 @@ ghost use Rattle.dds_text.specs.Names.{name_at};
 ghost use Rattle.dds_text.specs.Texts.{each_below};
 ghost use Rattle.dds_show.specs.Pieces.{comma, quoted};
 ghost use Rattle.dds_show.specs.Entries.{application_entry, connection_entry, may_lose_field, numbered_items};
-ghost use Rattle.dds_show.specs.Entries.{origin_fields, participant_entry, place_fields, portion_entry, qos_fields};
-ghost use Rattle.dds_show.specs.Entries.{reader_entry, rule_entry, start_text, take_entry, take_items, topic_entry};
-ghost use Rattle.dds_show.specs.Entries.{write_entry, write_items, writer_entry};
+ghost use Rattle.dds_show.specs.Entries.{nanoseconds_field, origin_fields, pace_fields, participant_entry};
+ghost use Rattle.dds_show.specs.Entries.{place_fields, portion_entry, qos_fields, reader_entry, rule_entry};
+ghost use Rattle.dds_show.specs.Entries.{span_fields, start_text, take_entry, take_items, topic_entry, write_entry};
+ghost use Rattle.dds_show.specs.Entries.{write_items, writer_entry};
 
 use crate::pieces::{items_below, name_items, quoted, text_items};
 use crate::policies::policies_fields;
 use dds_base::{Endpoint, KeyNo, Names, ParticipantNo, Portion, ReaderNo, TopicNo, WriterNo};
-use dds_lists::{Application, Deployment, Origin, Participant, Reader, Rule, Topic, Writer};
+use dds_lists::{Application, Deployment, Origin, Pace, Participant, Reader, Rule, Topic, Writer};
 use dds_qos::Policies;
 use dds_text::names::{name_at, reader_key, reader_name, writer_key, writer_name};
 use dds_text::texts::TextResult;
@@ -117,6 +118,25 @@ fn may_lose_field(version: u32, may_lose: bool) -> &'static str
     }
 }
 
+/// Nanoseconds under a name, nothing where the file gives none.
+fn nanoseconds_field(alloc: Global, name: &str, nanoseconds: Option<u64>) -> TextResult
+    ensures { IfOk result (λ text. string_bytes text ≡ nanoseconds_field name.now nanoseconds) }
+{
+    match nanoseconds {
+        Some(nanoseconds) => format!(in alloc; ", \"{name}\": {nanoseconds}"),
+        None => Ok(String::new(alloc)),
+    }
+}
+
+/// How soon after its write a reader takes each sample, and can take it.
+fn span_fields(alloc: Global, x: &Reader) -> TextResult
+    ensures { IfOk result (λ text. string_bytes text ≡ span_fields (reader_view x.now)) }
+{
+    let taken = nanoseconds_field(alloc, "taken_within", x.taken_within)?;
+    let available = nanoseconds_field(alloc, "available_within", x.available_within)?;
+    format!(in alloc; "{taken}{available}")
+}
+
 pub(crate) fn reader_entry(alloc: Global, lists: &Deployment, name: &str, x: &Reader) -> TextResult
     requires { x.now.topic < length lists.now.topics.entries }
     ensures { IfOk result (λ text. string_bytes text ≡ reader_entry lists.now name.now (reader_view x.now)) }
@@ -124,8 +144,9 @@ pub(crate) fn reader_entry(alloc: Global, lists: &Deployment, name: &str, x: &Re
     let place = place_fields(alloc, lists, name, x.participant, x.topic)?;
     let filter = filter_items(alloc, lists, x.topic, x.filter.as_slice())?;
     let may_lose = may_lose_field(lists.version(), x.may_lose);
+    let spans = span_fields(alloc, x)?;
     let qos = qos_fields(alloc, &x.qos.requested, x.partitions.as_slice())?;
-    format!(in alloc; "{{{place}, \"filter\": [{filter}]{may_lose}, {qos}}}")
+    format!(in alloc; "{{{place}, \"filter\": [{filter}]{may_lose}{spans}, {qos}}}")
 }
 
 pub(crate) fn application_entry(
@@ -212,6 +233,18 @@ fn start_text(alloc: Global, x: &Rule) -> TextResult
     format!(in alloc; "{start}")
 }
 
+/// How often a rule writes at most, by the clock; nothing where nothing bounds that.
+fn pace_fields(alloc: Global, pace: Option<Pace>) -> TextResult
+    ensures { IfOk result (λ text. string_bytes text ≡ pace_fields pace) }
+{
+    match pace {
+        Some(Pace { period, jitter }) => {
+            format!(in alloc; ", \"period\": {period}, \"jitter\": {jitter}")
+        }
+        None => Ok(String::new(alloc)),
+    }
+}
+
 pub(crate) fn rule_entry(
     alloc: Global,
     lists: &Deployment,
@@ -225,9 +258,10 @@ pub(crate) fn rule_entry(
     let takes = take_items(alloc, lists, x.takes.as_slice())?;
     let writes = write_items(alloc, lists, x.writes.as_slice())?;
     let start = start_text(alloc, x)?;
+    let pace = pace_fields(alloc, x.pace)?;
     format!(in alloc;
         "{{{origin}, \"application\": \"{application}\", \
-         \"takes\": [{takes}], \"writes\": [{writes}], \"start\": {start}}}"
+         \"takes\": [{takes}], \"writes\": [{writes}], \"start\": {start}{pace}}}"
     )
 }
 

@@ -7,5 +7,6 @@ mod json;
 pub mod pieces;
 mod policies;
 pub mod reasons;
+pub mod times;
 
 pub use json::deployment_json;

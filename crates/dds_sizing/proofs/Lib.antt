@@ -1,4 +1,5 @@
 mod NeedsLists
 pub mod LimitEnds
 mod Explanations
+mod SpanLaws
 pub mod Founds

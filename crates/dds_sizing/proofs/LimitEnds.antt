@@ -21,14 +21,14 @@ use Rattle.dds_answers.specs.Reading.{most_bytes}
 use Rattle.dds_answers.specs.Report.{Ends}
 use Rattle.dds_json.proofs.Documents.{no_fractions}
 use Rattle.dds_json.proofs.Ends.{says}
-use Rattle.dds_json.specs.declared.style.Style.{Style}
+use Rattle.dds_options.specs.declared.style.Style.{Style}
 use Rattle.serde_json.specs.Data.{Data}
 use Rattle.serde_json.specs.Written.{has_float}
 use Rattle.dds_request.specs.declared.request.Sizing.{Sizing}
 use Rattle.dds_request.specs.declared.request.Sizing.TheVariants.{Bounds, Reasons, Certificate}
 use Rattle.dds_sizing.specs.LimitsDocument.{least_document, limited_document, limits_document, need_document, subject_document}
 use Rattle.dds_sizing.specs.Limits.{IsLimitsReport, IsSaid, MayLimitLists, MayTellClaim, claim_end, limits_end, none_told, text_told}
-use Rattle.dds_sizing.specs.Needs.{are_bounded, needs_of, room_of}
+use Rattle.dds_sizing.specs.Needs.{are_met, needs_of, room_of}
 use Rattle.dds_sizing.specs.declared.limits.LimitsReport.{LimitsReport}
 use Rattle.dds_sizing.specs.declared.limits.LimitsReport.TheVariants as report
 use Rattle.dds_sizing.specs.declared.needs.Limit.{Limit}
@@ -54,12 +54,12 @@ claim_long style d b cert r long gives = rw (lt-leb (length (certificate_text d 
 -- what is found of a certificate may be answered
 claim_may : (style : Style) (d : Lists) (sizes : List Size) (cert : Option CodeCertificate) → AreSizes (network_of d) sizes
     → IfSome cert (λ c. (fits (network_of d) (certificate_view c) ≡ true) × IsShown (network_of d) (certificate_of (certificate_view c)) × (claims_all (certificate_view c) sizes ≡ true))
-    → MayTellClaim style d (claim_end style d (are_bounded (needs_of (network_of d) sizes)) (option_map certificate_view cert))
+    → MayTellClaim style d (claim_end style d (are_met (needs_of (network_of d) sizes)) (option_map certificate_view cert))
 claim_may style d sizes None are is = (sizes, None, are, tt, refl)
 claim_may style d sizes (Some c) are is = by (nat_le (length (certificate_text d (certificate_view c))) most_bytes) refl
   where
     b : Bool
-    b = are_bounded (needs_of (network_of d) sizes)
+    b = are_met (needs_of (network_of d) sizes)
 
     by : (few : Bool) → nat_le (length (certificate_text d (certificate_view c))) most_bytes ≡ few
         → MayTellClaim style d (if few then said (text_told style (certificate_text d (certificate_view c)) b) b else said (none_told style) false)

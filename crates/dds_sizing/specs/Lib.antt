@@ -4,6 +4,7 @@ pub mod Searches
 pub mod Needs
 pub mod NeedsText
 pub mod LimitsDocument
+pub mod Spans
 pub mod Reasons
 pub mod ReasonsDocument
 pub mod Limits

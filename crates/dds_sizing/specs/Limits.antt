@@ -17,10 +17,10 @@ use Rattle.dds_answers.specs.Outcome.{Outcome, bad_deployment, said}
 use Rattle.dds_answers.specs.Reading.{most_bytes}
 use Rattle.dds_json.specs.Line.{line_of}
 use Rattle.dds_json.specs.Proposing.{none_document}
-use Rattle.dds_json.specs.declared.style.Style.{Style}
-use Rattle.dds_json.specs.declared.style.Style.TheVariants.{Text, Json}
+use Rattle.dds_options.specs.declared.style.Style.{Style}
+use Rattle.dds_options.specs.declared.style.Style.TheVariants.{Text, Json}
 use Rattle.dds_sizing.specs.LimitsDocument.{claim_document, limits_document}
-use Rattle.dds_sizing.specs.Needs.{are_bounded, are_met, has_unbounded, needs_of}
+use Rattle.dds_sizing.specs.Needs.{are_met, has_unbounded, needs_of}
 use Rattle.dds_sizing.specs.NeedsText.{needs_lines}
 use Rattle.dds_sizing.specs.Reasons.{AreExplained, because_of, sizes_of}
 use Rattle.dds_sizing.specs.ReasonsDocument.{reasons_document}
@@ -49,8 +49,8 @@ cure_of needs =
 
 -- the text of a certificate, in this style
 abbrev pub text_told : Style → List ℕ → Bool → List ℕ
-text_told Text text is_bounded = text
-text_told Json text is_bounded = line_of (claim_document text is_bounded)
+text_told Text text is_met = text
+text_told Json text is_met = line_of (claim_document text is_met)
 
 -- that there is no certificate, in this style
 abbrev pub none_told : Style → List ℕ
@@ -59,13 +59,13 @@ none_told Json = line_of none_document
 
 -- a certificate, if there is one
 abbrev pub claim_told : Style → Lists → Bool → Option lists.Certificate → List ℕ
-claim_told style d is_bounded (Some cert) = text_told style (certificate_text d cert) is_bounded
-claim_told style d is_bounded None = none_told style
+claim_told style d is_met (Some cert) = text_told style (certificate_text d cert) is_met
+claim_told style d is_met None = none_told style
 
--- there is one, and a bound is known of each need
+-- there is one, and each need is met
 abbrev pub is_claimed : Bool → Option lists.Certificate → Bool
-is_claimed is_bounded (Some cert) = is_bounded
-is_claimed is_bounded None = false
+is_claimed is_met (Some cert) = is_met
+is_claimed is_met None = false
 
 -- ── which answers may be
 -- what some sizes need is printed, each of which weights show
@@ -90,7 +90,7 @@ IsClaim d sizes cert =
 abbrev pub MayTellClaim : Style → Lists → Outcome → Type 0
 MayTellClaim style d end =
     (sizes : List Size) × (cert : Option lists.Certificate) × AreSizes (network_of d) sizes × IfSome cert (IsClaim d sizes)
-    × (end ≡ said (claim_told style d (are_bounded (needs_of (network_of d) sizes)) cert) (is_claimed (are_bounded (needs_of (network_of d) sizes)) cert))
+    × (end ≡ said (claim_told style d (are_met (needs_of (network_of d) sizes)) cert) (is_claimed (are_met (needs_of (network_of d) sizes)) cert))
 
 -- of a deployment that can be read, as it is asked for
 abbrev pub MayLimitLists : Sizing → Style → Lists → Outcome → Type 0
@@ -116,9 +116,9 @@ IsLimitsReport what d found = ⊥
 
 -- how the answer ends with a certificate that was found: its text is printed where it's no longer than a file may be, else that there is none
 abbrev pub claim_end : Style → Lists → Bool → Option lists.Certificate → Outcome
-claim_end style d is_bounded (Some cert) =
-    if nat_le (length (certificate_text d cert)) most_bytes then said (text_told style (certificate_text d cert) is_bounded) is_bounded else said (none_told style) false
-claim_end style d is_bounded None = said (none_told style) false
+claim_end style d is_met (Some cert) =
+    if nat_le (length (certificate_text d cert)) most_bytes then said (text_told style (certificate_text d cert) is_met) is_met else said (none_told style) false
+claim_end style d is_met None = said (none_told style) false
 
 -- how it ends with what was found
 abbrev pub limits_end : Style → Lists → LimitsReport → Outcome
@@ -126,7 +126,7 @@ limits_end style d (report.Bounds sizes) = said (needs_told style d (needs_of (n
 limits_end style d (report.Reasons es) =
     said (reasons_told style d es.items (needs_of (network_of d) (sizes_of es.items))) (are_met (needs_of (network_of d) (sizes_of es.items)))
 limits_end style d (report.Certificate found) =
-    claim_end style d (are_bounded (needs_of (network_of d) found.list.items)) (option_map certificate_view found.certificate)
+    claim_end style d (are_met (needs_of (network_of d) found.list.items)) (option_map certificate_view found.certificate)
 
 -- ── for the parts of an answer
 -- the answer has this text, and is a yes or a no

@@ -49,6 +49,6 @@ abbrev pub limits_document : Lists → List Need → Data
 limits_document d needs =
     object (member (codes "answer") (string (answer_word (are_met needs))) (member (codes "needs") (array (items_of (map (need_document d) needs))) no_members))
 
--- yes where a bound is known of each need, with the text of a certificate
+-- yes where each need is met, with the text of a certificate
 abbrev pub claim_document : List ℕ → Bool → Data
-claim_document text is_bounded = object (member (codes "answer") (string (answer_word is_bounded)) (member (codes "certificate") (string text) no_members))
+claim_document text is_met = object (member (codes "answer") (string (answer_word is_met)) (member (codes "certificate") (string text) no_members))

@@ -1,5 +1,5 @@
 -- What a thorough search says on the error output where it found no certificate.
-use Rattle.std.specs.Prelude.{ℕ, ◌≡◌, ◌⊎◌, nat_lt, List, ◌++◌, codes, true, Some, if◌then◌else◌}
+use Rattle.std.specs.Prelude.{ℕ, ◌≡◌, ◌⊎◌, nat_lt, List, ◌++◌, codes, true, false, Some, if◌then◌else◌}
 use Rattle.std.specs.Fmt.{decimal}
 use Rattle.std.specs.Option.{option_map_or}
 use Rattle.dds_lists.specs.Lists.{Lists}
@@ -7,13 +7,14 @@ use Rattle.dds_match.specs.Network.{Network, is_written}
 use Rattle.dds_match.specs.Plan.{network_of}
 use Rattle.dds_text.specs.Names.{reader_key, reader_name, writer_key, writer_name}
 use Rattle.dds_answers.specs.Structure.{nothing}
-use Rattle.dds_explain.specs.Refusal.{refusal_line}
+use Rattle.dds_report.specs.Refusal.{refusal_line}
 use Rattle.dds_propose.specs.declared.targets.Target.{Target}
 use Rattle.dds_propose.specs.declared.targets.Target.TheVariants.{Instance, Reader}
 use Rattle.dds_search.specs.declared.answer.Least.{Least}
 use Rattle.dds_search.specs.declared.answer.Least.TheVariants.{Shown, Unbounded, Unknown}
 use Rattle.dds_search.specs.declared.answer.Missing.{Missing}
 use Rattle.dds_search.specs.declared.answer.Missing.TheVariants.{Structure, Limit, Short, Rows, Refused}
+use Rattle.dds_search.specs.Depths.{is_deep_anyway}
 use Rattle.dds_search.specs.declared.budget.Shortage.{Shortage}
 use Rattle.dds_sizing.specs.Shortages.{shortage_word}
 
@@ -24,9 +25,11 @@ own_name net r =
     then option_map_or (λ depth. codes "the history depth") (net.reader_limits r).keep_last (codes "max_samples_per_instance")
     else codes "the limit"
 
--- the writer keeps so many samples of the key for the reader by KEEP_LAST: it matches the reader, and some rule writes the key
+-- the writer keeps so many samples of the key for the reader by KEEP_LAST: it matches the reader, some rule writes the key, and the depth isn't enough whatever
+-- bounds there are
 abbrev pub IsDepthFor : Network → ℕ → ℕ → ℕ → ℕ → Type 0
-IsDepthFor net w r k depth = (net.matched w r ≡ true) × (is_written net w k ≡ true) × ((net.writer_limits w).keep_last ≡ Some depth)
+IsDepthFor net w r k depth =
+    (net.matched w r ≡ true) × (is_written net w k ≡ true) × ((net.writer_limits w).keep_last ≡ Some depth) × (is_deep_anyway net w r k depth ≡ false)
 
 -- the limit of a target by the names of the endpoint and the key: the reader's own, or the depth of a writer
 abbrev pub IsLimitText : Lists → Target → List ℕ → Type 0

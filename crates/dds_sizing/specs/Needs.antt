@@ -6,7 +6,9 @@ use Rattle.dds_qos.specs.declared.limits.ReaderLimits.{ReaderLimits}
 use Rattle.dds_match.specs.Network.{Network, is_written}
 use Rattle.dds_propose.specs.declared.targets.Target.{Target}
 use Rattle.dds_propose.specs.declared.targets.Target.TheVariants as target
-use Rattle.dds_search.specs.Sizes.{total_of}
+use Rattle.dds_propose.specs.Targets.{reader_of}
+use Rattle.dds_runs.specs.Accepted.{is_finite, opening_permits}
+use Rattle.dds_search.specs.Sizes.{lesser, total_of, within_32_bits}
 use Rattle.dds_search.specs.declared.answer.Least.{Least}
 use Rattle.dds_search.specs.declared.answer.Least.TheVariants.{Shown, Unbounded, Unknown}
 use Rattle.dds_search.specs.declared.certificate.sizes.Size.{Size}
@@ -71,9 +73,18 @@ abbrev pub is_for : Network → ℕ → ℕ → Target → Bool
 is_for net w k (target.Instance r other) = (other == k) && net.matched w r
 is_for net w k (target.Reader r) = false
 
--- the greatest of some needs and one more, if it is of the key at a reader that the writer matches
+-- all that the writer ever writes of the key, where only rules that never fire write it there
+abbrev pub all_written : Network → ℕ → ℕ → Option ℕ
+all_written net w k = if is_finite net w k then within_32_bits (opening_permits net w k) else None
+
+-- how deep the writer has to be for the reader: by what is known of what is in flight of the key to the reader, or less by the cap or the lag of the writer
+-- there, or by all that it ever writes of the key
+abbrev pub depth_for : Network → (w r k : ℕ) → Least → Least
+depth_for net w r k least = lesser (lesser (lesser least (net.cap w r k)) (net.lag w r k)) (all_written net w k)
+
+-- the greatest of some depths and that for one size more, if it is of the key at a reader that the writer matches
 abbrev pub with_size : Network → ℕ → ℕ → Option Least → Size → Option Least
-with_size net w k greatest size = if is_for net w k size.target then Some (with_least greatest size.least) else greatest
+with_size net w k greatest size = if is_for net w k size.target then Some (with_least greatest (depth_for net w (reader_of size.target) k size.least)) else greatest
 
 -- with those of a list of sizes
 unfoldable pub greatest_of : Network → ℕ → ℕ → Option Least → List Size → Option Least
@@ -90,7 +101,7 @@ abbrev pub kept_need : Network → List Size → ℕ → ℕ → Option ℕ → 
 kept_need net sizes w k (Some depth) = if is_written net w k then need_at w k depth (greatest_of net w k None sizes) else None
 kept_need net sizes w k None = None
 
--- what the writer with this number needs of a key: the greatest bound of its strict readers
+-- what the writer with this number needs of a key: the greatest depth for one of its strict readers
 abbrev pub depth_need : Network → List Size → ℕ → ℕ → Option Need
 depth_need net sizes w k = kept_need net sizes w k (net.writer_limits w).keep_last
 
@@ -122,10 +133,6 @@ room_of (need.Writer w k room) = room
 
 abbrev pub is_bounded : Need → Bool
 is_bounded one = is_shown (room_of one).least
-
--- a bound is known of each need
-unfoldable pub are_bounded : List Need → Bool
-are_bounded needs = list_all is_bounded needs
 
 -- no weights show a bound
 abbrev pub lacks_bound : Least → Bool

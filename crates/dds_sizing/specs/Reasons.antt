@@ -20,8 +20,11 @@ use Rattle.dds_search.specs.declared.certificate.reasons.Reason.{Reason}
 use Rattle.dds_search.specs.declared.certificate.reasons.Reason.TheVariants.{Weights, Growth, Nothing}
 use Rattle.dds_search.specs.declared.certificate.sizes.Size.{Size}
 use Rattle.dds_explain.specs.Explanation.{margins}
-use Rattle.dds_sizing.specs.Needs.{is_for, limit_of_key, limit_of_total}
+use Rattle.dds_explain.specs.Paces.{span_text}
+use Rattle.dds_propose.specs.Targets.{reader_of}
+use Rattle.dds_sizing.specs.Needs.{depth_for, is_for, limit_of_key, limit_of_total}
 use Rattle.dds_sizing.specs.NeedsText.{least_word, policy_word}
+use Rattle.dds_sizing.specs.Spans.{IsLongest}
 use Rattle.dds_sizing.specs.declared.needs.Limit.{Limit}
 use Rattle.dds_sizing.specs.declared.needs.Need.{Need}
 use Rattle.dds_sizing.specs.declared.needs.Need.TheVariants as need
@@ -80,9 +83,28 @@ reason_line d size (Weights cert) = margins d (certificate_view cert)
 reason_line d size (Growth ray) = unshown_line d size (codes "by " ++ (deeds d ray.firings.items ray.writes.items ++ codes " again and again"))
 reason_line d size Nothing = unshown_line d size (codes "the numbers became too large or the search too long")
 
--- the text gives a reason that the size has
+-- how soon the reader has to take, so that by paces the limit is enough, if any span is short enough
+abbrev pub span_line : Lists → ℕ → Limit → Option ℕ → List ℕ
+span_line d r limit (Some span) =
+    codes "  " ++ (policy_word limit.policy ++ (codes " " ++ (decimal limit.most ++ (codes " is enough by paces if " ++ (reader_name d r ++ (codes " takes each sample within "
+    ++ (span_text span ++ codes "\n")))))))
+span_line d r limit None = []
+
+-- the text says so of the longest such span, if the limit is finite
+abbrev pub IsSpanText : Lists → ℕ → ℕ → Option Limit → List ℕ → Type 0
+IsSpanText d r k (Some limit) text = (span : Option ℕ) × IsLongest d r k limit.most span × (text ≡ span_line d r limit span)
+IsSpanText d r k None text = text ≡ []
+
+-- the same for the target of a size: nothing for all samples of a reader
+abbrev pub IsTargetSpan : Lists → Target → List ℕ → Type 0
+IsTargetSpan d (target.Instance r k) text = IsSpanText d r k (limit_of_key (network_of d) r) text
+IsTargetSpan d (target.Reader r) text = text ≡ []
+
+-- the text gives a reason that the size has, and how soon the reader has to take
 abbrev pub IsExplained : Lists → Explained → Type 0
-IsExplained d e = (reason : Reason) × IsReason (network_of d) e.size.target e.size.least reason × (string_bytes e.because ≡ reason_line d e.size reason)
+IsExplained d e =
+    (reason : Reason) × (span : List ℕ) × IsReason (network_of d) e.size.target e.size.least reason × IsTargetSpan d e.size.target span
+    × (string_bytes e.because ≡ reason_line d e.size reason ++ span)
 
 -- a size for all that a certificate can bound, in file order, each of them explained
 abbrev pub AreExplained : Lists → List Explained → Type 0
@@ -115,19 +137,20 @@ abbrev pub because_of_size : Lists → ℕ → Room → Explained → List ℕ
 because_of_size d r room e =
     if is_as_much e.size.least room.least then string_bytes e.because else because_line (reader_name d r) room (codes "this is the sum of the bounds of its keys")
 
--- a size is one of the key at a reader that the writer matches, and as much as the writer needs
+-- a size is one of the key at a reader that the writer matches, for which it has to be so deep
 abbrev pub is_for_as_much : Network → ℕ → ℕ → Least → Explained → Bool
-is_for_as_much net w k least e = is_for net w k e.size.target && is_as_much e.size.least least
+is_for_as_much net w k least e =
+    is_for net w k e.size.target && is_as_much (depth_for net w (reader_of e.size.target) k e.size.least) least
 
--- the reader of a target
-abbrev pub reader_of : Target → ℕ
-reader_of (target.Instance r k) = r
-reader_of (target.Reader r) = r
+-- a writer has to be as deep as a reader needs, or less, since no more of what it writes can be missing there
+abbrev pub depth_words : Bool → List ℕ
+depth_words as_much = if as_much then codes "as much as reader " else codes "no more that it wrote can be missing at reader "
 
--- why a writer needs so much: a reader does
+-- why a writer needs so much: a reader does, or no more can be missing there
 abbrev pub because_of_reader : Lists → ℕ → ℕ → Room → Explained → List ℕ
 because_of_reader d w k room e =
-    because_line (writer_name d w ++ (codes " " ++ writer_key d w k)) room (codes "as much as reader " ++ reader_name d (reader_of e.size.target))
+    because_line (writer_name d w ++ (codes " " ++ writer_key d w k)) room
+    (depth_words (is_as_much e.size.least room.least) ++ reader_name d (reader_of e.size.target))
 
 -- the line for a need
 abbrev pub because_of : Lists → List Explained → Need → List ℕ

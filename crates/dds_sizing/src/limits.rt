@@ -5,20 +5,20 @@ ghost use Rattle.dds_weights.specs.Views.{certificate_view};
 ghost use Rattle.dds_answers.specs.Answers.{Gives};
 ghost use Rattle.dds_sizing.specs.Limits.{IsLimitsReport, IsSaid, claim_end, cure_of, limits_end, needs_told};
 ghost use Rattle.dds_sizing.specs.Limits.{none_told, reasons_told, text_told};
-ghost use Rattle.dds_sizing.specs.Needs.{are_bounded, are_met, needs_of};
+ghost use Rattle.dds_sizing.specs.Needs.{are_met, needs_of};
 ghost use Rattle.dds_sizing.specs.Reasons.{sizes_of};
 
 use crate::limits_document::{claim_line, limits_line, none_line};
-use crate::needs::{Need, are_bounded, are_met, has_unbounded, needs_of};
+use crate::needs::{Need, are_met, has_unbounded, needs_of};
 use crate::needs_text::needs_text;
 use crate::reasons::{Explained, explain_sizes, reasons_text, sizes_of};
 use crate::reasons_document::reasons_line;
 use crate::thorough::length_text;
 use dds_answers::{Answer, MAX_FILE, ToolFault, answer_with};
 use dds_base::NoMemory;
-use dds_json::Style;
 use dds_lists::Deployment;
 use dds_match::Plan;
+use dds_options::Style;
 use dds_request::Sizing;
 use dds_search::{Budget, Size, Sizes, find_limits_certificate, find_sizes};
 use dds_weights::{Certificate, certificate_text};
@@ -225,17 +225,12 @@ fn answer_none(
 }
 
 /// The text of a certificate, in this style.
-fn claim_text(
-    alloc: Global,
-    text: String,
-    is_bounded: bool,
-    style: Style,
-) -> Result<String, NoMemory>
-    ensures { IfOk result (λ told. string_bytes told ≡ text_told style (string_bytes text) is_bounded) }
+fn claim_text(alloc: Global, text: String, is_met: bool, style: Style) -> Result<String, NoMemory>
+    ensures { IfOk result (λ told. string_bytes told ≡ text_told style (string_bytes text) is_met) }
 {
     match style {
         Style::Text => Ok(text),
-        Style::Json => claim_line(alloc, text.as_str(), is_bounded),
+        Style::Json => claim_line(alloc, text.as_str(), is_met),
     }
 }
 
@@ -245,10 +240,10 @@ fn answer_claim(
     alloc: Global,
     plan: &Plan,
     certificate: &Certificate,
-    is_bounded: bool,
+    is_met: bool,
     style: Style,
 ) -> Result<Answer, ToolFault>
-    ensures gives { Gives result (claim_end style plan.now is_bounded (Some (certificate_view certificate.now))) }
+    ensures gives { Gives result (claim_end style plan.now is_met (Some (certificate_view certificate.now))) }
     ensures memory { IfErr result (λ e. e ≡ ToolFault.NoMemory) }
 {
     let Ok(text) = certificate_text(alloc, plan, certificate) else {
@@ -256,7 +251,7 @@ fn answer_claim(
     };
     let length = text.len();
     if length <= MAX_FILE {
-        return answer_with(claim_text(alloc, text, is_bounded, style), is_bounded);
+        return answer_with(claim_text(alloc, text, is_met, style), is_met);
     }
     drop(text);
     answer_none(alloc, style, length_text(alloc, length))
@@ -267,20 +262,20 @@ fn answer_found(
     alloc: Global,
     plan: &Plan,
     certificate: &Option<Certificate>,
-    is_bounded: bool,
+    is_met: bool,
     style: Style,
 ) -> Result<Answer, ToolFault>
-    ensures gives { Gives result (claim_end style plan.now is_bounded (option_map certificate_view certificate.now)) }
+    ensures gives { Gives result (claim_end style plan.now is_met (option_map certificate_view certificate.now)) }
     ensures memory { IfErr result (λ e. e ≡ ToolFault.NoMemory) }
 {
     match certificate {
-        Some(certificate) => answer_claim(alloc, plan, certificate, is_bounded, style),
+        Some(certificate) => answer_claim(alloc, plan, certificate, is_met, style),
         None => answer_none(alloc, style, String::from_str(alloc, NO_ROWS)),
     }
 }
 
-/// The answer to whether there is a certificate of these sizes: yes where there is one, and a bound is known of each
-/// need.
+/// The answer to whether there is a certificate of these sizes: yes where there is one, a bound is known of each need,
+/// and no limit is lower.
 fn answer_sizes(
     alloc: Global,
     plan: &Plan,
@@ -288,15 +283,15 @@ fn answer_sizes(
     style: Style,
 ) -> Result<Answer, ToolFault>
     ensures gives { Gives result
-        (claim_end style plan.now (are_bounded (needs_of (network_of plan.now) found.now.list.items))
+        (claim_end style plan.now (are_met (needs_of (network_of plan.now) found.now.list.items))
         (option_map certificate_view found.now.certificate)) }
     ensures memory { IfErr result (λ e. e ≡ ToolFault.NoMemory) }
 {
     let Ok(needs) = needs_of(alloc, plan, &found.list) else {
         return Err(ToolFault::NoMemory);
     };
-    let is_bounded = are_bounded(&needs);
-    answer_found(alloc, plan, &found.certificate, is_bounded, style)
+    let is_met = are_met(&needs);
+    answer_found(alloc, plan, &found.certificate, is_met, style)
 }
 
 /// The answer to what was found of a plan.
@@ -320,7 +315,7 @@ fn answer_report(
 
 /// The answer of `limits` to what was found of a plan, both of which are needed no longer, in this style: how much room
 /// each strict reader and each writer with KEEP_LAST needs, beside its limits, or a certificate of at most 1,048,576
-/// bytes. It is yes where a bound is known of each need and, but for a certificate, no limit is lower.
+/// bytes. It is yes where a bound is known of each need and no limit is lower, and what was asked for is there.
 pub fn answer_limits(
     alloc: Global,
     plan: Plan,

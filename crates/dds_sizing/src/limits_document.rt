@@ -112,19 +112,19 @@ pub(crate) fn limits_line(
     line_of(alloc, &document)
 }
 
-/// The document of a certificate with this text: yes where a bound is known of each need.
-fn claim_document(alloc: Global, text: &str, is_bounded: bool) -> Result<Value, NoMemory>
-    ensures { IfOk result (λ v. view v ≡ claim_document text.now is_bounded) }
+/// The document of a certificate with this text: yes where each need is met.
+fn claim_document(alloc: Global, text: &str, is_met: bool) -> Result<Value, NoMemory>
+    ensures { IfOk result (λ v. view v ≡ claim_document text.now is_met) }
 {
-    let answer = answer_word(is_bounded);
+    let answer = answer_word(is_met);
     json!(in alloc; {"answer": answer, "certificate": text})
 }
 
 /// The line of that document.
-pub(crate) fn claim_line(alloc: Global, text: &str, is_bounded: bool) -> Result<String, NoMemory>
-    ensures { IfOk result (λ line. string_bytes line ≡ line_of (claim_document text.now is_bounded)) }
+pub(crate) fn claim_line(alloc: Global, text: &str, is_met: bool) -> Result<String, NoMemory>
+    ensures { IfOk result (λ line. string_bytes line ≡ line_of (claim_document text.now is_met)) }
 {
-    let document = claim_document(alloc, text, is_bounded)?;
+    let document = claim_document(alloc, text, is_met)?;
     line_of(alloc, &document)
 }
 

@@ -4,13 +4,16 @@ ghost use Rattle.std.specs.Prelude.{◌≡◌, ◌<◌, ◌++◌, IfOk, None, fl
 ghost use Rattle.std.specs.List.{range_with_len};
 ghost use Rattle.dds_match.specs.Plan.{network_of};
 ghost use Rattle.dds_runs.specs.Accepted.{instance_limit};
-ghost use Rattle.dds_sizing.specs.Needs.{are_bounded, are_met, depth_need, greater, greatest_of, has_unbounded};
+ghost use Rattle.dds_search.specs.Sizes.{lesser};
+ghost use Rattle.dds_sizing.specs.Needs.{all_written, are_met, depth_for, depth_need, greater, greatest_of};
+ghost use Rattle.dds_sizing.specs.Needs.{has_unbounded};
 ghost use Rattle.dds_sizing.specs.Needs.{is_bounded, is_for, is_low, is_met, is_short, key_limit};
 ghost use Rattle.dds_sizing.specs.Needs.{limit_of_key, limit_of_total, limit_by, list_of, need_at, need_of, needs_of};
 ghost use Rattle.dds_sizing.specs.Needs.{room_of, with_least, with_size, writer_needs};
 
 use dds_base::grid::KEYS;
 use dds_base::{KeyNo, NoMemory, ReaderNo, WriterNo};
+use dds_check::finite::{is_finite, opening_permits};
 use dds_match::Plan;
 use dds_propose::targets::Target;
 use dds_qos::ReaderLimits;
@@ -170,6 +173,49 @@ fn with_least(greatest: Option<Least>, least: Least) -> Least
     }
 }
 
+/// The lesser of what is known and a number, if there is one.
+fn lesser(least: Least, most: Option<u32>) -> Least
+    ensures { result ≡ lesser least most }
+{
+    match (least, most) {
+        (Least::Shown(bound), Some(most)) => Least::Shown(bound.min(most)),
+        (_, Some(most)) => Least::Shown(most),
+        (least, None) => least,
+    }
+}
+
+/// All that a writer ever writes of a key, where only rules that never fire write it there. `None` also where that is
+/// above 4,294,967,295.
+fn all_written(plan: &Plan, writer: WriterNo, key: KeyNo) -> Option<u32>
+    ensures { result ≡ all_written (network_of plan.now) writer key }
+{
+    if !is_finite(plan, writer, key) {
+        return None;
+    }
+    let permits = opening_permits(plan, writer, key);
+    if permits < 4294967296 {
+        Some(permits as u32)
+    } else {
+        None
+    }
+}
+
+/// How deep the history of a writer has to be for one of the readers that it matches, where so much is known of what is
+/// in flight of the key to that reader.
+pub(crate) fn depth_for(
+    plan: &Plan,
+    writer: WriterNo,
+    reader: ReaderNo,
+    key: KeyNo,
+    least: Least,
+) -> Least
+    ensures { result ≡ depth_for (network_of plan.now) writer reader key least }
+{
+    let least = lesser(least, plan.cap(writer, reader, key));
+    let least = lesser(least, plan.lag(writer, reader, key));
+    lesser(least, all_written(plan, writer, key))
+}
+
 /// Whether a target is of the key at a reader that the writer matches.
 pub(crate) fn is_for(plan: &Plan, writer: WriterNo, key: KeyNo, target: &Target) -> bool
     ensures { result ≡ is_for (network_of plan.now) writer key target.now }
@@ -180,7 +226,7 @@ pub(crate) fn is_for(plan: &Plan, writer: WriterNo, key: KeyNo, target: &Target)
     }
 }
 
-/// The greatest of some needs and one more, if it is of the key at a reader that the writer matches.
+/// The greatest of some depths and that for one size more, if it is of the key at a reader that the writer matches.
 fn with_size(
     plan: &Plan,
     writer: WriterNo,
@@ -191,13 +237,14 @@ fn with_size(
     ensures { result ≡ with_size (network_of plan.now) writer key greatest size.now }
 {
     if is_for(plan, writer, key, &size.target) {
-        Some(with_least(greatest, size.least))
+        let depth = depth_for(plan, writer, size.target.reader(), key, size.least);
+        Some(with_least(greatest, depth))
     } else {
         greatest
     }
 }
 
-/// The greatest bound of the key at the readers that the writer matches, if one of these is among the sizes.
+/// The greatest depth for the readers that the writer matches, if a key of one of these is among the sizes.
 fn greatest_of(plan: &Plan, sizes: &[Size], writer: WriterNo, key: KeyNo) -> Option<Least>
     ensures { result ≡ greatest_of (network_of plan.now) writer key None sizes.now }
 {
@@ -225,8 +272,8 @@ fn need_at(writer: WriterNo, key: KeyNo, depth: u32, greatest: Option<Least>) ->
     }
 }
 
-/// What a writer needs of a key: the greatest bound of its strict readers. `None` where it keeps all, no rule writes
-/// the key, or no strict reader takes it.
+/// What a writer needs of a key: the greatest depth for one of its strict readers. `None` where it keeps all, no rule
+/// writes the key, or no strict reader takes it.
 fn depth_need(plan: &Plan, sizes: &[Size], writer: WriterNo, key: KeyNo) -> Option<Need>
     requires { writer < (network_of plan.now).writers }
     ensures { result ≡ depth_need (network_of plan.now) sizes.now writer key }
@@ -296,14 +343,6 @@ fn is_bounded(need: &Need) -> bool
     ensures { result ≡ is_bounded need.now }
 {
     matches!(room_of(need).least, Least::Shown(_))
-}
-
-/// Whether a bound is known of each need.
-#[tactic(auto, unfolding(crate::specs::Needs::are_bounded))]
-pub(crate) fn are_bounded(needs: &[Need]) -> bool
-    ensures { result ≡ are_bounded needs.now }
-{
-    needs.iter().all(|need| is_bounded(need))
 }
 
 /// Whether no weights show a bound of some need.

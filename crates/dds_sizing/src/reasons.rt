@@ -1,16 +1,19 @@
 //! Why a deployment needs what it needs.
-ghost use Rattle.std.specs.Prelude.{◌≡◌, ◌++◌, IfOk, codes, find, flat_map, option_map, string_bytes};
+ghost use Rattle.std.specs.Prelude.{◌≡◌, ◌++◌, ℕ, IfOk, List, codes, find, flat_map, option_map, string_bytes};
 ghost use Rattle.dds_match.specs.Plan.{network_of};
 ghost use Rattle.dds_search.specs.Reasons.{IsReason, IsReasoned};
-ghost use Rattle.dds_sizing.specs.Reasons.{AreExplained, IsExplained, because_line, because_of, because_of_reader};
-ghost use Rattle.dds_sizing.specs.Reasons.{because_of_size, because_of_target, deeds, firings_words, is_as_much};
-ghost use Rattle.dds_sizing.specs.Reasons.{is_for_as_much, is_target, limit_of_target, limit_or_none, listed};
-ghost use Rattle.dds_sizing.specs.Reasons.{reader_of, reason_line, sizes_of, target_words, unshown_line, writes_words};
+ghost use Rattle.dds_sizing.specs.Needs.{limit_of_key};
+ghost use Rattle.dds_sizing.specs.Reasons.{AreExplained, IsExplained, IsSpanText, IsTargetSpan, because_line};
+ghost use Rattle.dds_sizing.specs.Reasons.{because_of, because_of_reader, span_line};
+ghost use Rattle.dds_sizing.specs.Reasons.{because_of_size, because_of_target, deeds, depth_words, firings_words};
+ghost use Rattle.dds_sizing.specs.Reasons.{is_as_much, is_for_as_much, is_target, limit_of_target, limit_or_none};
+ghost use Rattle.dds_sizing.specs.Reasons.{listed, reason_line, sizes_of, target_words, unshown_line, writes_words};
 
-use crate::needs::{Limit, Need, Room, is_for, limit_of_key, limit_of_total};
+use crate::needs::{Limit, Need, Room, depth_for, is_for, limit_of_key, limit_of_total};
 use crate::needs_text::{least_text, policy_word};
+use crate::spans::longest_span;
 use dds_base::{KeyNo, NoMemory, ReaderNo, WriterNo};
-use dds_explain::margins;
+use dds_explain::{margins, span_text};
 use dds_lists::Deployment;
 use dds_match::Plan;
 use dds_propose::targets::Target;
@@ -20,7 +23,7 @@ use dds_text::texts::{TextResult, text_of_each};
 use std::alloc::Global;
 use std::time::Clock;
 
-/// A size, and a line with the reason for it.
+/// A size, and lines with the reason for it, and how soon the reader has to take.
 #[derive(Drop)]
 pub struct Explained {
     pub size: Size,
@@ -213,14 +216,70 @@ fn reason_line(alloc: Global, plan: &Plan, size: &Size, reason: &Reason) -> Text
     }
 }
 
-/// A size with its line.
+/// How soon a reader has to take, so that by paces a limit is enough. Empty where no span is short enough.
+fn span_line(
+    alloc: Global,
+    plan: &Plan,
+    reader: ReaderNo,
+    limit: Limit,
+    span: Option<u64>,
+) -> TextResult
+    ensures { IfOk result (λ text. string_bytes text ≡ span_line plan.now reader limit span) }
+{
+    let Some(span) = span else {
+        return Ok(String::new(alloc));
+    };
+    let word = policy_word(limit.policy);
+    let most = limit.most;
+    let reader = reader_name(plan.lists(), reader);
+    let span = span_text(alloc, span)?;
+    format!(in alloc;
+        "  {word} {most} is enough by paces if {reader} takes each sample within {span}\n"
+    )
+}
+
+/// How soon a reader has to take, so that by paces the limit of a key is enough. Empty where it has none, or no span is
+/// short enough.
+fn key_span_text(alloc: Global, plan: &Plan, reader: ReaderNo, key: KeyNo) -> TextResult
+    ensures { IfOk result
+        (λ text. IsSpanText plan.now reader key (limit_of_key (network_of plan.now) reader) (string_bytes text)) }
+{
+    let Some(limit) = limit_of_key(plan, reader) else {
+        return Ok(String::new(alloc));
+    };
+    let span = longest_span(plan, reader, key, limit.most);
+    span_line(alloc, plan, reader, limit, span)
+}
+
+/// The same for a target. Empty where all samples of a reader count.
+fn target_span_text(alloc: Global, plan: &Plan, target: &Target) -> TextResult
+    ensures { IfOk result (λ text. IsTargetSpan plan.now target.now (string_bytes text)) }
+{
+    match target {
+        Target::Instance { reader, key } => key_span_text(alloc, plan, *reader, *key),
+        Target::Reader(_) => Ok(String::new(alloc)),
+    }
+}
+
+/// Why a size is what it is, and how soon the reader has to take.
+fn explained_text(alloc: Global, plan: &Plan, size: &Size, reason: &Reason) -> TextResult
+    ensures { IfOk result
+        (λ text. (span : List ℕ) × IsTargetSpan plan.now size.now.target span
+        × (string_bytes text ≡ reason_line plan.now size.now reason.now ++ span)) }
+{
+    let line = reason_line(alloc, plan, size, reason)?;
+    let span = target_span_text(alloc, plan, &size.target)?;
+    format!(in alloc; "{line}{span}")
+}
+
+/// A size with its lines.
 fn explain(alloc: Global, plan: &Plan, found: Reasoned) -> Result<Explained, NoMemory>
     requires { IsReasoned (network_of plan.now) found }
     ensures size { IfOk result (λ e. e.size ≡ found.size) }
     ensures explained { IfOk result (IsExplained plan.now) }
 {
     let Reasoned { size, reason } = found;
-    let line = reason_line(alloc, plan, &size, &reason);
+    let line = explained_text(alloc, plan, &size, &reason);
     drop(reason);
     match line {
         Ok(because) => Ok(Explained { size, because }),
@@ -342,7 +401,7 @@ fn because_of_size(
     }
 }
 
-/// Whether a size is one of the key at a reader that the writer matches, and as much as the writer needs.
+/// Whether a size is one of the key at a reader that the writer matches, for which it has to be so deep.
 fn is_for_as_much(
     plan: &Plan,
     writer: WriterNo,
@@ -352,10 +411,15 @@ fn is_for_as_much(
 ) -> bool
     ensures { result ≡ is_for_as_much (network_of plan.now) writer key least explained.now }
 {
-    is_for(plan, writer, key, &explained.size.target) && is_as_much(explained.size.least, least)
+    let size = explained.size;
+    is_for(plan, writer, key, &size.target)
+        && is_as_much(
+            depth_for(plan, writer, size.target.reader(), key, size.least),
+            least,
+        )
 }
 
-/// The first of these that is of the key at a reader that the writer matches, and as much as the writer needs.
+/// The first of these that is of the key at a reader that the writer matches, for which it has to be so deep.
 fn find_reader<'a>(
     plan: &Plan,
     explained: &'a [Explained],
@@ -371,17 +435,18 @@ fn find_reader<'a>(
         .find(|one| is_for_as_much(plan, writer, key, least, one))
 }
 
-/// The reader of a target.
-fn reader_of(target: &Target) -> ReaderNo
-    ensures { result ≡ reader_of target.now }
+/// The words for why a writer has to be so deep, before the reader's name.
+fn depth_words(as_much: bool) -> &'static str
+    ensures { result.now ≡ depth_words as_much }
 {
-    match target {
-        Target::Instance { reader, .. } => *reader,
-        Target::Reader(reader) => *reader,
+    if as_much {
+        "as much as reader "
+    } else {
+        "no more that it wrote can be missing at reader "
     }
 }
 
-/// Why a writer needs so much: a reader does.
+/// Why a writer needs so much: a reader does, or no more can be missing there.
 fn because_of_reader(
     alloc: Global,
     lists: &Deployment,
@@ -392,12 +457,12 @@ fn because_of_reader(
 ) -> TextResult
     ensures { IfOk result (λ text. string_bytes text ≡ because_of_reader lists.now writer key room explained.now) }
 {
-    let reader = reader_of(&explained.size.target);
-    let reader = reader_name(lists, reader);
+    let reader = reader_name(lists, explained.size.target.reader());
+    let words = depth_words(is_as_much(explained.size.least, room.least));
     let key = writer_key(lists, writer, key);
     let writer = writer_name(lists, writer);
     let who = format!(in alloc; "{writer} {key}")?;
-    let why = format!(in alloc; "as much as reader {reader}")?;
+    let why = format!(in alloc; "{words}{reader}")?;
     because_line(alloc, who.as_str(), room, why.as_str())
 }
 

@@ -1,29 +1,24 @@
-//! What `propose --thorough` finds for a plan, and what it answers.
-ghost use Rattle.std.specs.Prelude.{◌≡◌, ◌<◌, ℕ, IfErr, IfOk, IfSome, IsOk, OnOk, Some, string_bytes, true};
+//! What `propose --thorough` answers to what was found for a plan.
+ghost use Rattle.std.specs.Prelude.{◌≡◌, ◌<◌, ℕ, IfErr, IfOk, IfSome, IsOk, OnOk, Some, string_bytes};
 ghost use Rattle.dds_match.specs.Plan.{network_of};
-ghost use Rattle.dds_weights.specs.Fits.{fits};
-ghost use Rattle.dds_weights.specs.Views.{certificate_view};
 ghost use Rattle.dds_runs.specs.Accepted.{instance_limit};
 ghost use Rattle.dds_answers.specs.Answers.{Gives};
 ghost use Rattle.dds_answers.specs.Fault.{IsAnswerFault};
 ghost use Rattle.dds_answers.specs.Outcome.{unproposed};
 ghost use Rattle.dds_sizing.specs.Missing.{IsDepthFor, IsLimitText, IsMissingText, least_line, length_line, own_name};
 ghost use Rattle.dds_sizing.specs.Missing.{short_line, shower};
-ghost use Rattle.dds_sizing.specs.Searches.{IsAccepted, found_end};
+ghost use Rattle.dds_sizing.specs.Searches.{SaysWhy, found_end};
 
 use crate::shortages::shortage_word;
 use dds_answers::{Answer, MAX_FILE, ToolFault, answer_certificate, structure_text};
 use dds_base::{KeyNo, NoMemory, ReaderNo, WriterNo};
 use dds_check::No;
-use dds_check::accepts::accepts;
 use dds_match::Plan;
-use dds_propose::propose;
 use dds_propose::targets::Target;
-use dds_search::{Budget, Found, Least, Missing, Shortage, Sizes, find_limits_certificate, search};
+use dds_search::{Found, Least, Missing, Shortage, is_deep_anyway};
 use dds_text::names::{reader_key, reader_name, writer_key, writer_name};
 use dds_weights::Certificate;
 use std::alloc::Global;
-use std::time::Clock;
 
 /// The limit of a key of a reader by its own policies, with its name: its depth where it keeps the last samples alone.
 fn own_limit(plan: &Plan, reader: ReaderNo) -> (&'static str, Option<u32>)
@@ -42,13 +37,16 @@ fn own_limit(plan: &Plan, reader: ReaderNo) -> (&'static str, Option<u32>)
 }
 
 /// How many samples of a key a writer keeps for a reader by KEEP_LAST. `None` where it keeps all, doesn't match the
-/// reader, or no rule writes the key.
+/// reader, or no rule writes the key, and where it's deep enough whatever bounds there are.
 fn depth_for(plan: &Plan, writer: WriterNo, reader: ReaderNo, key: KeyNo) -> Option<u32>
     ensures { IfSome result (IsDepthFor (network_of plan.now) writer reader key) }
 {
     let is_there = writer.number() < plan.lists().writers();
     if is_there && plan.matched(writer, reader) && plan.is_written(writer, key) {
-        plan.writer_limits(writer).keep_last
+        match plan.writer_limits(writer).keep_last {
+            Some(depth) if !is_deep_anyway(plan, writer, reader, key, depth) => Some(depth),
+            _ => None,
+        }
     } else {
         None
     }
@@ -207,8 +205,7 @@ fn answer_none_with(alloc: Global, note: Result<String, NoMemory>) -> Result<Ans
 /// The answer where no certificate was found, with a line that says why.
 fn answer_missing(alloc: Global, plan: &Plan, missing: Missing) -> Result<Answer, ToolFault>
     ensures gives { Gives result unproposed }
-    ensures note { IfOk result
-        (λ a. (note : _) × (a.note ≡ Some note) × IsMissingText plan.now missing (string_bytes note)) }
+    ensures note { IfOk result (SaysWhy plan.now (Found.Missing missing)) }
     ensures memory { IfErr result (λ e. e ≡ ToolFault.NoMemory) }
 {
     answer_none_with(alloc, missing_text(alloc, plan, missing))
@@ -249,6 +246,7 @@ fn answer_certified(
 /// The answer to what a search for a certificate found.
 fn answer_found(alloc: Global, plan: &Plan, found: Found) -> Result<Answer, ToolFault>
     ensures gives { Gives result (found_end plan.now found) }
+    ensures note { IfOk result (SaysWhy plan.now found) }
     ensures memory { IfErr result (λ e. e ≡ ToolFault.NoMemory) }
 {
     match found {
@@ -261,83 +259,11 @@ fn answer_found(alloc: Global, plan: &Plan, found: Found) -> Result<Answer, Tool
 /// text of the certificate, of at most 1,048,576 bytes, or no where there's none, and then with a note that says why.
 pub fn answer_search(alloc: Global, plan: Plan, found: Found) -> Result<Answer, ToolFault>
     ensures gives { Gives result (found_end plan found) }
+    ensures note { IfOk result (SaysWhy plan found) }
     ensures fault { IfErr result IsAnswerFault }
     ensures memory { IfErr result (λ e. e ≡ ToolFault.NoMemory) }
 {
     let answer = answer_found(alloc, &plan, found);
     drop(plan);
     answer
-}
-
-/// The certificate, where it's accepted.
-fn accepted(plan: &Plan, certificate: Certificate) -> Option<Certificate>
-    requires { fits (network_of plan.now) (certificate_view certificate) ≡ true }
-    ensures { IfSome result (λ c. IsAccepted plan.now (Found.Certificate c)) }
-{
-    match accepts(plan, &certificate) {
-        Ok(()) => Some(certificate),
-        Err(_) => None,
-    }
-}
-
-/// A certificate with the least bounds, where that is accepted. It needs no row for a limit of all samples of a reader
-/// that the sum of the bounds of its keys shows.
-fn find_by_sums<C: Clock>(
-    alloc: Global,
-    plan: &Plan,
-    budget: Budget<C>,
-) -> Result<Option<Certificate>, NoMemory>
-    ensures { IfOk result (λ found. IfSome found (λ c. IsAccepted plan.now (Found.Certificate c))) }
-{
-    let Sizes { certificate, .. } = find_limits_certificate(alloc, plan, budget)?;
-    match certificate {
-        Some(certificate) => Ok(accepted(plan, certificate)),
-        None => Ok(None),
-    }
-}
-
-/// What is found where the search found nothing: the rounds may still find a certificate, since their numbers are
-/// smaller.
-fn find_by_rounds(alloc: Global, plan: &Plan, missing: Missing) -> Result<Found, NoMemory>
-    ensures { IfOk result (IsAccepted plan.now) }
-{
-    match propose(alloc, plan) {
-        Ok(Some(certificate)) => Ok(Found::Certificate(certificate)),
-        Ok(None) => Ok(Found::Missing(missing)),
-        Err(no) => Err(no),
-    }
-}
-
-/// What is found where the search found no certificate of so few rows as one may have.
-fn find_with_fewer_rows<C: Clock>(
-    alloc: Global,
-    plan: &Plan,
-    budget: Budget<C>,
-) -> Result<Found, NoMemory>
-    ensures { IfOk result (IsAccepted plan.now) }
-{
-    match find_by_sums(alloc, plan, budget) {
-        Ok(Some(certificate)) => Ok(Found::Certificate(certificate)),
-        Ok(None) => find_by_rounds(alloc, plan, Missing::Rows),
-        Err(no) => Err(no),
-    }
-}
-
-/// A certificate of a plan that is accepted, or why none was found: by the search for weights, then, where that has
-/// too many rows, by the least bounds, and at last by the rounds. Each of the two budgets is for one search, and both
-/// are of one command. `NoMemory` is the only error.
-pub fn find_certificate<C: Clock>(
-    alloc: Global,
-    plan: &Plan,
-    budget: Budget<C>,
-    other: Budget<C>,
-) -> Result<Found, NoMemory>
-    ensures { IfOk result (IsAccepted plan.now) }
-{
-    match search(alloc, plan, budget) {
-        Ok(Found::Certificate(certificate)) => Ok(Found::Certificate(certificate)),
-        Ok(Found::Missing(Missing::Rows)) => find_with_fewer_rows(alloc, plan, other),
-        Ok(Found::Missing(missing)) => find_by_rounds(alloc, plan, missing),
-        Err(no) => Err(no),
-    }
 }

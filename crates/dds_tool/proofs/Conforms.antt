@@ -10,7 +10,7 @@ use Rattle.dds_conform.specs.declared.fault.TraceFault.TheVariants as untold
 use Rattle.dds_answers.specs.declared.fault.ToolFault.{ToolFault}
 use Rattle.dds_answers.specs.Outcome.{bad_trace}
 use Rattle.dds_findings.specs.Blocks.{FileNames}
-use Rattle.dds_json.specs.declared.style.Style.{Style}
+use Rattle.dds_options.specs.declared.style.Style.{Style}
 use Rattle.dds_json.proofs.Documents.{no_fractions}
 use Rattle.serde_json.specs.Written.{has_float}
 use Rattle.dds_tool.specs.Conforming.{IsTraceFault, MayConform, conformance_document, shortage_document}

@@ -1,5 +1,5 @@
 -- What commands come to, and what is given of it.
-use Rattle.std.proofs.Common.{◌≡◌, ◌⊎◌, Bool, List, ℕ, Option, Some, None, Result, Ok, Err, IfOk, IfErr, IsErrOf, inl, inr, refl, subst, sym, option_map, nat_le, length, string_bytes, ap, if◌then◌else◌, true, false}
+use Rattle.std.proofs.Common.{◌≡◌, ◌⊎◌, ◌-◌, Bool, List, ℕ, Option, Some, None, Result, Ok, Err, IfOk, IfErr, IsErrOf, inl, inr, refl, subst, sym, option_map, nat_le, length, string_bytes, ap, if◌then◌else◌, true, false}
 use Rattle.dds_fields.specs.Reading.{Flaw, Read}
 use Rattle.dds_deploy.specs.Document.{read_up_to}
 use Rattle.dds_deploy.specs.Migration.{IsMigrated}
@@ -20,8 +20,8 @@ use Rattle.dds_answers.proofs.FileEnds.{one_of}
 use Rattle.dds_answers.proofs.Unread.{unread_one}
 use Rattle.dds_findings.specs.Blocks.{FileNames}
 use Rattle.dds_json.specs.Ends.{EndsProposal, in_style}
-use Rattle.dds_json.specs.declared.style.Style.{Style}
-use Rattle.dds_json.specs.declared.style.Style.TheVariants.{Text, Json}
+use Rattle.dds_options.specs.declared.style.Style.{Style}
+use Rattle.dds_options.specs.declared.style.Style.TheVariants.{Text, Json}
 use Rattle.dds_json.proofs.Ends.{says}
 use Rattle.dds_request.specs.declared.request.Comparison.{Comparison}
 use Rattle.dds_request.specs.declared.request.Comparison.TheVariants.{Pairs, Connections}
@@ -58,8 +58,8 @@ bad_styled Text flaw = refl
 bad_styled Json flaw = refl
 
 -- the text of a migration is what it ends with
-pub may_migrate : (d text : List ℕ) → IsMigrated d text → MayMigrate d (read_up_to 1 d) (end.migrated text)
-may_migrate d text m = rw m.from (text, m, refl)
+pub may_migrate : (to : ℕ) (d text : List ℕ) → IsMigrated to d text → MayMigrate to d (read_up_to (to - 1) d) (end.migrated text)
+may_migrate to d text m = rw m.from (text, m, refl)
 
 -- what the searches for a certificate end with
 pub proposal_ends : (d : Lists) (cert : Option CodeCertificate) → EndsProposal (proposal_end d (option_map certificate_view cert))

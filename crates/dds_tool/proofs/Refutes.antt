@@ -15,7 +15,7 @@ use Rattle.dds_search.specs.declared.loss.refuting.Refutation.TheVariants as ref
 use Rattle.dds_search.specs.declared.loss.refuting.Unknown.TheVariants as unknown
 use Rattle.dds_search.specs.Refutations.{IfSafe, IfStructure, IfUnsafe, IsCounterexample}
 use Rattle.dds_tool.specs.Refuting.{IsKnown, MayRefute, is_safe, known_document, told_known}
-use Rattle.dds_json.specs.declared.style.Style.{Style}
+use Rattle.dds_options.specs.declared.style.Style.{Style}
 use Rattle.serde_json.specs.Written.{has_float}
 use Rattle.dds_answers.specs.Structure.{nothing}
 use Rattle.dds_json.proofs.Documents.{refusal_plain}

@@ -11,7 +11,7 @@ use Rattle.dds_events.specs.declared.fault.EventsFault.TheVariants as unsaid
 use Rattle.dds_answers.specs.declared.fault.ToolFault.{ToolFault}
 use Rattle.dds_answers.specs.Outcome.{bad_events}
 use Rattle.dds_findings.specs.Blocks.{FileNames}
-use Rattle.dds_json.specs.declared.style.Style.{Style}
+use Rattle.dds_options.specs.declared.style.Style.{Style}
 use Rattle.dds_tool.specs.Outcome.{ComesTo}
 use Rattle.dds_tool.specs.Replaying.{IsEventsFault, MayReplay}
 

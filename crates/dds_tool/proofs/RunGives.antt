@@ -14,13 +14,13 @@ use Rattle.dds_check.specs.declared.verdict.No.{No}
 use Rattle.dds_answers.specs.declared.fault.ToolFault.{ToolFault}
 use Rattle.dds_answers.specs.declared.fault.ToolFault.TheVariants as fault
 use Rattle.dds_answers.specs.Outcome.{Outcome, accepted, bad_certificate, bad_deployment, judged, outcome, planned, refused, told, verdict}
-use Rattle.dds_answers.specs.declared.report.Detail.{Detail}
-use Rattle.dds_answers.specs.declared.report.Detail.TheVariants.{Plain, Explained}
+use Rattle.dds_options.specs.declared.detail.Detail.{Detail}
+use Rattle.dds_options.specs.declared.detail.Detail.TheVariants.{Plain, Explained}
 use Rattle.dds_answers.specs.Report.{Tells}
 use Rattle.dds_findings.specs.Blocks.{FileNames}
 use Rattle.dds_json.specs.Ends.{in_style}
-use Rattle.dds_json.specs.declared.style.Style.{Style}
-use Rattle.dds_json.specs.declared.style.Style.TheVariants.{Text, Json}
+use Rattle.dds_options.specs.declared.style.Style.{Style}
+use Rattle.dds_options.specs.declared.style.Style.TheVariants.{Text, Json}
 use Rattle.dds_request.specs.declared.wishes.Wishes.{Wishes}
 use Rattle.dds_tool.specs.Outcome.{ComesTo}
 use Rattle.dds_tool.specs.RunEnds.{IsAccepted, MayRun}

@@ -12,8 +12,8 @@ use Rattle.dds_answers.specs.declared.fault.ToolFault.{ToolFault}
 use Rattle.dds_answers.specs.declared.fault.ToolFault.TheVariants as fault
 use Rattle.dds_json.specs.Fault.{fault_document}
 use Rattle.dds_json.specs.Line.{line_of}
-use Rattle.dds_json.specs.declared.style.Style.{Style}
-use Rattle.dds_json.specs.declared.style.Style.TheVariants.{Text, Json}
+use Rattle.dds_options.specs.declared.style.Style.{Style}
+use Rattle.dds_options.specs.declared.style.Style.TheVariants.{Text, Json}
 use Rattle.dds_request.specs.Request.{style_of}
 use Rattle.dds_tool.specs.Commands.{Answers, GivesTo, IsAcceptedRun, MayEndFiles, Tells, TellsBadFile}
 use Rattle.dds_tool.specs.Causes.{IsCaused, IsRun}

@@ -1,5 +1,5 @@
 -- How each command ends, and what is answered to a request.
-use Rattle.std.specs.Prelude.{ℕ, Err, IfErr, ◌≡◌, ◌≢◌, ◌⊎◌, Bool, List, [], ◌∷◌, Option, Some, None, Result, Ok}
+use Rattle.std.specs.Prelude.{ℕ, ◌-◌, Err, IfErr, ◌≡◌, ◌≢◌, ◌⊎◌, Bool, List, [], ◌∷◌, Option, Some, None, Result, Ok}
 use Rattle.std.specs.Io.KnownBytes.{Appends}
 use Rattle.dds_deploy.specs.Document.{read, read_up_to}
 use Rattle.dds_answers.specs.Answers.{GivesOneOf, IsAnswer, SaysNothing}
@@ -18,8 +18,9 @@ use Rattle.dds_findings.specs.Answers.{names_of}
 use Rattle.dds_json.specs.Ends.{in_style}
 use Rattle.dds_json.specs.Fault.{fault_document}
 use Rattle.dds_json.specs.Line.{line_of}
-use Rattle.dds_json.specs.declared.style.Style.{Style}
-use Rattle.dds_json.specs.declared.style.Style.TheVariants as style
+use Rattle.dds_options.specs.Versions.{version_number}
+use Rattle.dds_options.specs.declared.style.Style.{Style}
+use Rattle.dds_options.specs.declared.style.Style.TheVariants as style
 use Rattle.dds_request.specs.Request.{style_of}
 use Rattle.dds_request.specs.declared.request.PairTask.{PairTask}
 use Rattle.dds_request.specs.declared.request.PairTask.TheVariants as pair
@@ -46,7 +47,7 @@ abbrev pub MayEnd : Task → (name : List ℕ) → List ℕ → Outcome → Type
 MayEnd (task.Match what style) name d end = end ≡ compared what style (read d)
 MayEnd (task.Propose style) name d end = MayInStyle style (MayPropose (read d)) end
 MayEnd (task.ProposeThoroughly seconds style) name d end = MayInStyle style (MayFind (read d)) end
-MayEnd task.Migrate name d end = MayMigrate d (read_up_to 1 d) end
+MayEnd (task.Migrate to) name d end = MayMigrate (version_number to) d (read_up_to (version_number to - 1) d) end
 MayEnd (task.Refute seconds style) name d end = MayRefute style (read d) end
 MayEnd (task.Limits what seconds style) name d end = MayLimit what style (read d) end
 MayEnd (task.Show format) name d end = end ≡ showing format (read d)

@@ -4,8 +4,8 @@ use Rattle.dds_answers.specs.Outcome.{Outcome, said}
 use Rattle.dds_findings.specs.Answers.{findings_text, is_clean}
 use Rattle.dds_findings.specs.Blocks.{FileNames}
 use Rattle.dds_findings.specs.Findings.{IsLint, matters}
-use Rattle.dds_findings.specs.declared.answer.Deny.{Deny}
-use Rattle.dds_findings.specs.declared.answer.LintStyle.{LintStyle}
+use Rattle.dds_options.specs.declared.deny.Deny.{Deny}
+use Rattle.dds_options.specs.declared.style.LintStyle.{LintStyle}
 use Rattle.dds_findings.specs.declared.finding.Finding.{Finding}
 
 -- everything that is found in files with these names and bytes is printed in this form: a yes where none of it is denied

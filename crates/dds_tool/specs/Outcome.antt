@@ -14,7 +14,7 @@ use Rattle.dds_fields.specs.Reading.{Read}
 use Rattle.dds_findings.specs.Answers.{findings_text, is_clean}
 use Rattle.dds_findings.specs.Blocks.{FileNames}
 use Rattle.dds_json.specs.Ends.{in_style}
-use Rattle.dds_json.specs.declared.style.Style.{Style}
+use Rattle.dds_options.specs.declared.style.Style.{Style}
 use Rattle.dds_request.specs.declared.request.Comparison.{Comparison}
 use Rattle.dds_request.specs.declared.request.Comparison.TheVariants.{Pairs, Connections}
 use Rattle.dds_sizing.specs.Limits.{limits_end}

@@ -27,12 +27,12 @@ use Rattle.dds_sizing.specs.Shortages.{shortage_word}
 use Rattle.dds_tool.specs.Summary.{summary_line, summary_text}
 use Rattle.dds_answers.specs.Outcome.{Outcome, bad_deployment, said}
 use Rattle.dds_answers.specs.Structure.{nothing}
-use Rattle.dds_explain.specs.Refusal.{refusal_line}
+use Rattle.dds_report.specs.Refusal.{refusal_line}
 use Rattle.serde_json.specs.Data.{Data, member, no_members, object, string}
 use Rattle.dds_json.specs.Checking.{refusal_document}
 use Rattle.dds_json.specs.Line.{line_of}
-use Rattle.dds_json.specs.declared.style.Style.{Style}
-use Rattle.dds_json.specs.declared.style.Style.TheVariants.{Text, Json}
+use Rattle.dds_options.specs.declared.style.Style.{Style}
+use Rattle.dds_options.specs.declared.style.Style.TheVariants.{Text, Json}
 
 -- ── a run that loses a sample
 -- the word for a loss: the limit that rejects, or that a sample is overwritten or given up

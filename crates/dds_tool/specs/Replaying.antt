@@ -15,8 +15,8 @@ use Rattle.dds_events.specs.declared.fault.EventsFault.TheVariants.{At, NoMemory
 use Rattle.dds_events.specs.declared.fault.EventsFaultKind.{EventsFaultKind}
 use Rattle.serde_json.specs.Data.{Data, member, no_members, object, string}
 use Rattle.dds_json.specs.Line.{line_of}
-use Rattle.dds_json.specs.declared.style.Style.{Style}
-use Rattle.dds_json.specs.declared.style.Style.TheVariants.{Text, Json}
+use Rattle.dds_options.specs.declared.style.Style.{Style}
+use Rattle.dds_options.specs.declared.style.Style.TheVariants.{Text, Json}
 use Rattle.dds_answers.specs.declared.fault.ToolFault.{ToolFault}
 use Rattle.dds_answers.specs.declared.fault.ToolFault.TheVariants as fault
 use Rattle.dds_answers.specs.Outcome.{MayIf, Outcome, bad_deployment, bad_events, said}

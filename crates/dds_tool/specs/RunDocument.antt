@@ -11,8 +11,8 @@ use Rattle.dds_apps.specs.declared.player.AppEnd.TheVariants as end
 use Rattle.dds_apps.specs.Kept.{entries_of}
 use Rattle.dds_json.specs.Line.{line_of}
 use Rattle.dds_json.specs.Matching.{answer_word}
-use Rattle.dds_json.specs.declared.style.Style.{Style}
-use Rattle.dds_json.specs.declared.style.Style.TheVariants.{Text, Json}
+use Rattle.dds_options.specs.declared.style.Style.{Style}
+use Rattle.dds_options.specs.declared.style.Style.TheVariants.{Text, Json}
 use Rattle.dds_tool.specs.Running.{end_word, is_taken, is_written, run_lines}
 
 -- the application with this name: how much it wrote and took, and how its thread ended

@@ -10,13 +10,13 @@ use Rattle.dds_answers.specs.Answers.{IsAnswer, SaysNothing}
 use Rattle.dds_answers.specs.Outcome.{Outcome, accepted, said, told}
 use Rattle.dds_answers.specs.Report.{Ends}
 use Rattle.dds_json.specs.Ends.{in_style}
-use Rattle.dds_json.specs.declared.style.Style.{Style}
+use Rattle.dds_options.specs.declared.style.Style.{Style}
 use Rattle.dds_tool.specs.RunDocument.{told_run}
 use Rattle.dds_lists.specs.Lists.{Lists}
 use Rattle.dds_tool.specs.Running.{app_names, because_of}
-use Rattle.dds_answers.specs.declared.report.Detail.{Detail}
+use Rattle.dds_options.specs.declared.detail.Detail.{Detail}
 use Rattle.dds_recap.specs.Ends.{all_good}
-use Rattle.dds_recap.specs.declared.ends.GoodEnds.{GoodEnds}
+use Rattle.dds_options.specs.declared.ends.GoodEnds.{GoodEnds}
 use Rattle.dds_request.specs.declared.wishes.Wishes.{Wishes}
 
 -- what is said of a run by its journal and the ends of its applications' threads

@@ -12,8 +12,8 @@ use Rattle.dds_book.specs.declared.entry.Entry.{Entry}
 use Rattle.dds_apps.specs.declared.player.AppEnd.{AppEnd}
 use Rattle.dds_apps.specs.declared.player.AppEnd.TheVariants as end
 use Rattle.dds_apps.specs.Kept.{entries_of}
-use Rattle.dds_answers.specs.declared.report.Detail.{Detail}
-use Rattle.dds_answers.specs.declared.report.Detail.TheVariants.{Plain, Explained}
+use Rattle.dds_options.specs.declared.detail.Detail.{Detail}
+use Rattle.dds_options.specs.declared.detail.Detail.TheVariants.{Plain, Explained}
 use Rattle.dds_recap.specs.Explanation.{explanation}
 
 -- the reply reports a sample that was written

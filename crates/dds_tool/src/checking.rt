@@ -5,11 +5,12 @@ ghost use Rattle.dds_answers.specs.Outcome.{outcome, told};
 ghost use Rattle.dds_answers.specs.Syntax.{IsFaultTold};
 ghost use Rattle.dds_findings.specs.Blocks.{FileNames};
 ghost use Rattle.dds_json.specs.Ends.{in_style};
-ghost use Rattle.dds_json.specs.declared.style.Style.{Style};
+ghost use Rattle.dds_options.specs.declared.style.Style.{Style};
 ghost use Rattle.dds_tool.specs.Outcome.{ComesTo};
 
 use crate::outcome::Outcome;
-use dds_answers::{Detail, ToolFault, detailed_check};
+use dds_answers::{ToolFault, detailed_check};
+use dds_options::Detail;
 use std::alloc::Global;
 
 /// What `check` comes to for the bytes of a deployment and of a certificate: the report on them. With its reason, where

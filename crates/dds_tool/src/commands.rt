@@ -3,7 +3,7 @@ ghost use Rattle.std.specs.Prelude.{◌≡◌, ◌≢◌, ℕ, List, [], ◌∷�
 ghost use Rattle.std.specs.Prelude.{IfErr, OnOk, OnErr, Err};
 ghost use Rattle.std.specs.Io.KnownBytes.{Appends, Keeps};
 ghost use Rattle.clap.specs.Words.{takes};
-ghost use Rattle.dds_json.specs.declared.style.Style.TheVariants.{Json};
+ghost use Rattle.dds_options.specs.declared.style.Style.TheVariants.{Json};
 ghost use Rattle.dds_request.specs.Asking.{AreRefused, AskForHelp, Asks, IsHelp};
 ghost use Rattle.dds_request.specs.Command.{whole};
 ghost use Rattle.dds_request.specs.Request.{paths_of, style_of, style_of_pair, style_of_task};
@@ -65,7 +65,7 @@ fn find_outcome<'a, C: Clock>(
         Task::Match { what, .. } => compare_endpoints(alloc, bytes, what),
         Task::Propose { .. } => propose_certificate(alloc, bytes),
         Task::ProposeThoroughly { seconds, .. } => search_certificate(rt, alloc, bytes, seconds),
-        Task::Migrate => migrate_deployment(alloc, bytes),
+        Task::Migrate { to } => migrate_deployment(alloc, bytes, to),
         Task::Refute { seconds, .. } => refute_deployment(alloc, bytes, Budget::new(rt, seconds)),
         Task::Limits { what, seconds, .. } => {
             size_limits(alloc, bytes, what, Budget::new(rt, seconds))

@@ -4,13 +4,14 @@ ghost use Rattle.dds_answers.specs.Answers.{Gives};
 ghost use Rattle.dds_answers.specs.Fault.{IsAnswerFault};
 ghost use Rattle.dds_deploy.specs.Document.{read as deployment_read};
 ghost use Rattle.dds_findings.specs.Blocks.{FileNames};
-ghost use Rattle.dds_json.specs.declared.style.Style.{Style};
+ghost use Rattle.dds_options.specs.declared.style.Style.{Style};
 ghost use Rattle.dds_tool.specs.Outcome.{ComesTo, compared};
 
 use crate::outcome::Outcome;
 use dds_answers::{Answer, ToolFault, answer_connections, read_plan};
-use dds_json::{Style, pairs_in_style};
+use dds_json::pairs_in_style;
 use dds_match::Plan;
+use dds_options::Style;
 use dds_request::Comparison;
 use std::alloc::Global;
 

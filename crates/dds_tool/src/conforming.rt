@@ -9,7 +9,7 @@ ghost use Rattle.dds_answers.specs.Fault.{IsAnswerFault};
 ghost use Rattle.dds_answers.specs.Outcome.{said};
 ghost use Rattle.dds_deploy.specs.Document.{read as deployment_read};
 ghost use Rattle.dds_findings.specs.Blocks.{FileNames};
-ghost use Rattle.dds_json.specs.declared.style.Style.{Style};
+ghost use Rattle.dds_options.specs.declared.style.Style.{Style};
 ghost use Rattle.dds_tool.specs.Conforming.{IsTraceFault, MayConform, is_kept, told_conformance};
 ghost use Rattle.dds_tool.specs.Outcome.{ComesTo};
 
@@ -18,8 +18,8 @@ use crate::outcome::Outcome;
 use dds_answers::{Answer, ToolFault, answer_with, read_plan};
 use dds_base::NoMemory;
 use dds_conform::{Conformance, Entry, TraceFault, answer_text, conform, read_trace};
-use dds_json::Style;
 use dds_match::Plan;
+use dds_options::Style;
 use std::alloc::Global;
 
 /// Whether a trace keeps the rules, in this style.

@@ -4,13 +4,14 @@ ghost use Rattle.dds_answers.specs.Answers.{Gives};
 ghost use Rattle.dds_answers.specs.Outcome.{said};
 ghost use Rattle.dds_findings.specs.Answers.{findings_text, is_clean};
 ghost use Rattle.dds_findings.specs.Blocks.{FileNames};
-ghost use Rattle.dds_json.specs.declared.style.Style.{Style};
+ghost use Rattle.dds_options.specs.declared.style.Style.{Style};
 ghost use Rattle.dds_tool.specs.Linting.{MayLint};
 ghost use Rattle.dds_tool.specs.Outcome.{ComesTo};
 
 use crate::outcome::Outcome;
 use dds_answers::{Answer, ToolFault};
-use dds_findings::{Deny, FileNames, Finding, LintStyle, answer_findings, lint};
+use dds_findings::{FileNames, Finding, answer_findings, lint};
+use dds_options::{Deny, LintStyle};
 use std::alloc::Global;
 
 /// What `lint` comes to for the bytes of a deployment and of a certificate, if there is one: everything that it finds.

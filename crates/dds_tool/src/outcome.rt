@@ -1,14 +1,14 @@
 //! What the commands come to.
 
-use dds_answers::{Detail, Format, Report};
+use dds_answers::Report;
 use dds_base::{Event, Reply};
 use dds_book::Journal;
 use dds_conform::Conformance;
-use dds_findings::{Deny, Finding, LintStyle};
+use dds_findings::Finding;
 use dds_lists::Deployment;
 use dds_match::Plan;
+use dds_options::{Deny, Detail, Format, GoodEnds, LintStyle};
 use dds_peers::AppEnd;
-use dds_recap::GoodEnds;
 use dds_request::Comparison;
 use dds_search::{Found, Refutation};
 use dds_sizing::LimitsReport;
@@ -37,7 +37,7 @@ pub(crate) enum Outcome<'a> {
         plan: Plan,
         found: Found,
     },
-    /// `migrate`: the text of the deployment in version 2.
+    /// `migrate`: the text of the deployment in a later version.
     Migrated(String),
     /// `refute`: what is known of the runs of the plan.
     Refuted {

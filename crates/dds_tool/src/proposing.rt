@@ -4,7 +4,7 @@ ghost use Rattle.dds_answers.specs.Fault.{IsAnswerFault};
 ghost use Rattle.dds_answers.specs.Proposals.{MayPropose};
 ghost use Rattle.dds_deploy.specs.Document.{read as deployment_read};
 ghost use Rattle.dds_findings.specs.Blocks.{FileNames};
-ghost use Rattle.dds_json.specs.declared.style.Style.{Style};
+ghost use Rattle.dds_options.specs.declared.style.Style.{Style};
 ghost use Rattle.dds_sizing.specs.Searches.{MayFind};
 ghost use Rattle.dds_tool.specs.Commands.{MayInStyle};
 ghost use Rattle.dds_tool.specs.Outcome.{ComesTo};
@@ -13,8 +13,7 @@ use crate::outcome::Outcome;
 use dds_answers::{ToolFault, read_plan};
 use dds_match::Plan;
 use dds_propose::propose;
-use dds_search::Budget;
-use dds_sizing::find_certificate;
+use dds_search::{Budget, find_certificate};
 use std::alloc::Global;
 use std::time::Clock;
 
@@ -60,7 +59,7 @@ fn search_for<C: Clock>(
     ensures fault { IfErr result IsAnswerFault }
 {
     let budget = Budget::new(rt, seconds);
-    match find_certificate(alloc, &plan, budget, Budget::new(rt, seconds)) {
+    match find_certificate(alloc, &plan, budget) {
         Ok(found) => Ok(Outcome::Searched { plan, found }),
         Err(_) => {
             drop(plan);

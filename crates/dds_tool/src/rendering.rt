@@ -14,7 +14,8 @@ use dds_answers::{
     Answer, ToolFault, answer_drawing, answer_lists, answer_migration, answer_proposal,
 };
 use dds_findings::FileNames;
-use dds_json::{Style, proposal_in_style, report_in_style};
+use dds_json::{proposal_in_style, report_in_style};
+use dds_options::Style;
 use dds_sizing::{answer_limits, answer_search};
 use std::alloc::Global;
 

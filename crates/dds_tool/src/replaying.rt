@@ -12,7 +12,7 @@ ghost use Rattle.dds_deploy.specs.Document.{read as deployment_read};
 ghost use Rattle.dds_findings.specs.Blocks.{FileNames};
 ghost use Rattle.serde_json.specs.View.{view};
 ghost use Rattle.dds_json.specs.Line.{line_of};
-ghost use Rattle.dds_json.specs.declared.style.Style.{Style};
+ghost use Rattle.dds_options.specs.declared.style.Style.{Style};
 ghost use Rattle.dds_tool.specs.Outcome.{ComesTo};
 ghost use Rattle.dds_tool.specs.Replaying.{IsEventsFault, MayReplay, replay_document, told_replay};
 
@@ -21,9 +21,10 @@ use dds_answers::{Answer, ToolFault, answer_with, read_plan};
 use dds_base::{Event, NoMemory, Reply};
 use dds_domain::Simulator;
 use dds_events::{EventsFault, lines_text, read_events};
-use dds_json::{Style, line_of};
+use dds_json::line_of;
 use dds_lists::Deployment;
 use dds_match::Plan;
+use dds_options::Style;
 use serde_json::{Value, json};
 use std::alloc::Global;
 

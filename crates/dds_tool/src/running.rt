@@ -11,7 +11,7 @@ ghost use Rattle.dds_answers.specs.Answers.{Gives};
 ghost use Rattle.dds_answers.specs.Fault.{IsAnswerFault};
 ghost use Rattle.dds_answers.specs.Outcome.{accepted, outcome};
 ghost use Rattle.dds_findings.specs.Blocks.{FileNames};
-ghost use Rattle.dds_json.specs.declared.style.Style.{Style};
+ghost use Rattle.dds_options.specs.declared.style.Style.{Style};
 ghost use Rattle.dds_tool.specs.Outcome.{ComesTo};
 ghost use Rattle.dds_tool.specs.RunDocument.{told_run};
 ghost use Rattle.dds_tool.specs.RunEnds.{IsAccepted, MayRun, ran};
@@ -20,17 +20,17 @@ ghost use Rattle.dds_tool.specs.Running.{is_taken, is_written, run_lines};
 
 use crate::outcome::Outcome;
 use crate::run_document::run_line;
-use dds_answers::{Answer, Detail, Report, ToolFault, answer_check, answer_with, read_plan};
+use dds_answers::{Answer, Report, ToolFault, answer_check, answer_with, read_plan};
 use dds_base::{AppNo, NoMemory, Reply};
 use dds_book::{Entry, Journal};
 use dds_check::{Checked, No};
-use dds_json::Style;
 use dds_lists::Deployment;
 use dds_match::Plan;
+use dds_options::{Detail, GoodEnds, Style};
 use dds_peers::{
     App, AppEnd, Gate, Limits, Outcome as Played, RunFault, Steady, gauge_of, run_peers,
 };
-use dds_recap::{GoodEnds, all_good, explain_run};
+use dds_recap::{all_good, explain_run};
 use dds_request::Wishes;
 use dds_text::names::name_at;
 use dds_weights::Certificate;

@@ -1,18 +1,20 @@
 //! What `show`, `draw` and `migrate` come to.
-ghost use Rattle.std.specs.Prelude.{◌≡◌, IfErr, Ok, Some, option_map};
+ghost use Rattle.std.specs.Prelude.{◌≡◌, ◌-◌, IfErr, Ok, Some, option_map};
 ghost use Rattle.dds_answers.specs.Fault.{IsAnswerFault};
 ghost use Rattle.dds_answers.specs.Migrations.{MayMigrate};
 ghost use Rattle.dds_answers.specs.Outcome.{drawing, showing};
 ghost use Rattle.dds_deploy.specs.Document.{read as deployment_read, read_up_to};
 ghost use Rattle.dds_findings.specs.Blocks.{FileNames};
-ghost use Rattle.dds_json.specs.declared.style.Style.{Style};
+ghost use Rattle.dds_options.specs.Versions.{version_number};
+ghost use Rattle.dds_options.specs.declared.style.Style.{Style};
 ghost use Rattle.dds_tool.specs.Outcome.{ComesTo};
 
 use crate::outcome::Outcome;
-use dds_answers::{Format, ToolFault, certificate_fault, deployment_fault, read_plan};
+use dds_answers::{ToolFault, certificate_fault, deployment_fault, read_plan};
 use dds_cert::read_certificate;
 use dds_deploy::{migrate, read_deployment};
 use dds_match::Plan;
+use dds_options::{Format, LaterVersion};
 use std::alloc::Global;
 
 /// What `show` comes to for the bytes of a deployment.
@@ -31,16 +33,17 @@ pub(crate) fn show_deployment(
     }
 }
 
-/// What `migrate` comes to for the bytes of a deployment of version 1.
+/// What `migrate` comes to for the bytes of a deployment of a version before this one.
 pub(crate) fn migrate_deployment(
     alloc: Global,
     deployment: &[u8],
+    to: LaterVersion,
 ) -> Result<Outcome<'static>, ToolFault>
     ensures comes { (names : FileNames) → (style : Style) → ComesTo names style ⊥
-        (MayMigrate deployment.now (read_up_to 1 deployment.now)) result }
+        (MayMigrate (version_number to) deployment.now (read_up_to (version_number to - 1) deployment.now)) result }
     ensures fault { IfErr result IsAnswerFault }
 {
-    match migrate(alloc, deployment) {
+    match migrate(alloc, deployment, to.number()) {
         Ok(text) => Ok(Outcome::Migrated(text)),
         Err(fault) => Err(deployment_fault(fault)),
     }

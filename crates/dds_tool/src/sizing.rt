@@ -3,7 +3,7 @@ ghost use Rattle.std.specs.Prelude.{Ok, IfErr};
 ghost use Rattle.dds_answers.specs.Fault.{IsAnswerFault};
 ghost use Rattle.dds_deploy.specs.Document.{read as deployment_read};
 ghost use Rattle.dds_findings.specs.Blocks.{FileNames};
-ghost use Rattle.dds_json.specs.declared.style.Style.{Style};
+ghost use Rattle.dds_options.specs.declared.style.Style.{Style};
 ghost use Rattle.dds_sizing.specs.Limits.{MayLimit};
 ghost use Rattle.dds_tool.specs.Outcome.{ComesTo};
 

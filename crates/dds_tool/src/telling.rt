@@ -8,7 +8,8 @@ ghost use Rattle.dds_json.specs.Fault.{fault_document};
 ghost use Rattle.dds_json.specs.Line.{line_of};
 
 use dds_answers::{Exit, Output, ToolFault, print, tell_fault};
-use dds_json::{Style, fault_line};
+use dds_json::fault_line;
+use dds_options::Style;
 use std::alloc::Global;
 
 /// Writes the document of a fault, unless it is that the output failed. `NoMemory` comes where there is no memory for

@@ -1,5 +1,6 @@
 pub mod DistinctLaws
 pub mod NamedLaws
 pub mod FitLaws
-pub mod WeighingLaws
+pub mod PlaceLaws
+pub mod OrderLaws
 pub mod TextLaws

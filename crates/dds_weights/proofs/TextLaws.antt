@@ -1,4 +1,4 @@
--- The parts of a certificate's text, and the lines of an endpoint from the table of weights.
+-- The parts of a certificate's text, and the lines of an endpoint.
 use Rattle.std.proofs.Common.{ℕ, zero, suc, ◌≡◌, ◌+◌, ◌*◌, ◌<◌, ◌≤◌, ◌==◌, ◌&&◌, List, [], ◌∷◌, ◌++◌, cond, flat_map, map, length, refl, sym, ap, ◌∙◌, arith, slice_index, slice_get, Option, Some, None, unwrap_or, option_map}
 use Rattle.std.specs.List.{range_with_len}
 use Rattle.std.proofs.lemmas.List.Folds.{flat_map-map}
@@ -8,7 +8,7 @@ use Rattle.dds_weights.specs.declared.certificate.Weight.{Weight}
 use Rattle.dds_weights.specs.Lists.{weight_of}
 use Rattle.dds_text.specs.Names.{name_at, reader_keys, writer_keys}
 use Rattle.dds_weights.specs.Text.{weight_line, endpoint_lines}
-use Rattle.dds_weights.specs.Weighing.{weight_by, ShowsWeights}
+use Rattle.dds_weights.specs.Weighing.{weight_by}
 use Rattle.dds_weights.proofs.FitLaws.{keys_few}
 
 -- three parts are added, the first over what the elements stand for
@@ -28,23 +28,8 @@ weight_same : (xs : List (Weight ℕ)) (e k : ℕ) → weight_by (λ n. n) xs e 
 weight_same [] e k = refl
 weight_same (x ∷ xs) e k = ap (λ n. cond ((x.endpoint == e) && (x.key == k)) x.weight n) (weight_same xs e k)
 
--- the table has the weights of an endpoint
-pub lines_shown : (side name : List ℕ) (keys : List (List ℕ)) (cells : List ℕ) (xs : List (Weight ℕ)) (e : ℕ) → ShowsWeights (λ n. n) cells xs → e < 256 → length keys ≤ 64 →
-    endpoint_lines side name keys (λ k. slice_index cells (e * 64 + k)) ≡ endpoint_lines side name keys (weight_of xs e)
-lines_shown side name keys cells xs e shows few small =
-    same_from (λ k. weight_line side name (name_at keys k) (slice_index cells (e * 64 + k))) (λ k. weight_line side name (name_at keys k) (weight_of xs e k)) 0 (length keys)
-    (λ k l. ap (weight_line side name (name_at keys k)) (shows.shown e k few (omega arith) ∙ weight_same xs e k))
-
-pub reader_keys_few : (d : Lists) (r : ℕ) → IsWellFormed d → length (reader_keys d r) ≤ 64
-reader_keys_few d r w = by (slice_get d.readers.entries r)
-  where
-    by : (o : Option Reader) → length (unwrap_or (option_map (λ (x : Reader). keys_at d.topics x.topic) o) []) ≤ 64
-    by None = omega arith
-    by (Some x) = keys_few d x.topic w
-
-pub writer_keys_few : (d : Lists) (n : ℕ) → IsWellFormed d → length (writer_keys d n) ≤ 64
-writer_keys_few d n w = by (slice_get d.writers.entries n)
-  where
-    by : (o : Option Writer) → length (unwrap_or (option_map (λ (x : Writer). keys_at d.topics x.topic) o) []) ≤ 64
-    by None = omega arith
-    by (Some x) = keys_few d x.topic w
+-- the lines of an endpoint whose number is a number already
+pub lines_same : (side name : List ℕ) (keys : List (List ℕ)) (xs : List (Weight ℕ)) (e : ℕ) → endpoint_lines side name keys (weight_by (λ n. n) xs e) ≡ endpoint_lines side name keys (weight_of xs e)
+lines_same side name keys xs e =
+    same_from (λ k. weight_line side name (name_at keys k) (weight_by (λ n. n) xs e k)) (λ k. weight_line side name (name_at keys k) (weight_of xs e k)) 0 (length keys)
+    (λ k l. ap (weight_line side name (name_at keys k)) (weight_same xs e k))

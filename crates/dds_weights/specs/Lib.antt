@@ -4,4 +4,6 @@ pub mod Naming
 pub mod Fits
 pub mod Named
 pub mod Weighing
+pub mod Places
+pub mod Order
 pub mod Text

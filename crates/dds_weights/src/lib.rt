@@ -6,6 +6,8 @@ pub mod certificate;
 mod fit;
 pub mod named;
 pub mod naming;
+pub mod order;
+pub mod places;
 pub mod text;
 pub mod weighing;
 

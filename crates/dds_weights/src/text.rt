@@ -1,16 +1,14 @@
 //! The text of a certificate, as a certificate file has it.
-ghost use Rattle.std.specs.Prelude.{◌≡◌, ◌<◌, ◌≤◌, ◌+◌, ◌*◌, ◌++◌, IfOk, flat_map, length, slice_index};
-ghost use Rattle.std.specs.Prelude.{string_bytes};
-ghost use Rattle.dds_base.specs.Grid.{most_endpoints, most_keys};
+ghost use Rattle.std.specs.Prelude.{◌≡◌, ◌++◌, IfOk, flat_map, string_bytes};
 ghost use Rattle.dds_weights.specs.Text.{weight_line, endpoint_lines, reader_lines, writer_lines, list_text, row_text};
 ghost use Rattle.dds_weights.specs.Text.{bound_text, total_text, certificate_text};
 ghost use Rattle.dds_weights.specs.Views.{row_view, certificate_view};
+ghost use Rattle.dds_weights.specs.Weighing.{weight_by};
 
 use crate::certificate::{Bound, Certificate, Row, Total, Weight};
 use crate::naming::row_name;
-use crate::weighing::weights_by_place;
-use dds_base::grid::{KEYS, PLACES};
-use dds_base::{Names, NoMemory, ReaderNo, WriterNo};
+use crate::weighing::Table;
+use dds_base::{Endpoint, KeyNo, Names, NoMemory, ReaderNo, WriterNo};
 use dds_lists::Deployment;
 use dds_match::Plan;
 use dds_text::names::{keys_of_reader, keys_of_writer, name_at, reader_key};
@@ -37,26 +35,24 @@ fn push_weight(
     text.push_str(line.as_str())
 }
 
-/// The lines of an endpoint, whose weights stand in the table from its number times 64 on.
-fn push_endpoint(
+/// The lines of an endpoint of this name.
+fn push_endpoint<E: Endpoint>(
     alloc: Global,
     text: &mut String,
     side: &str,
-    endpoint: &str,
+    name: &str,
     keys: &Names,
-    number: usize,
-    cells: &[u32; PLACES],
+    endpoint: E,
+    weights: &Table<E>,
 ) -> Result<(), NoMemory>
-    requires few_endpoints { number < most_endpoints }
-    requires few_keys { length keys.now ≤ most_keys }
     ensures { IfOk result
         (λ _. string_bytes text.new
         ≡ string_bytes text.old
-        ++ endpoint_lines side.now endpoint.now keys.now (λ k. slice_index cells.now (number * most_keys + k))) }
+        ++ endpoint_lines side.now name.now keys.now (weight_by E.number_of weights.now (E.number_of endpoint))) }
 {
     for k in 0..keys.len() {
-        let weight = cells[number * KEYS + k];
-        push_weight(alloc, text, side, endpoint, name_at(keys, k), weight)?;
+        let weight = weights.at(endpoint, KeyNo::new(k));
+        push_weight(alloc, text, side, name, name_at(keys, k), weight)?;
     }
     Ok(())
 }
@@ -69,12 +65,13 @@ fn reader_lines(
 ) -> Result<String, NoMemory>
     ensures { IfOk result (λ text. string_bytes text ≡ reader_lines lists.now weights.now) }
 {
-    let cells = weights_by_place(weights);
+    let table = Table::new(weights);
     let mut text = String::new(alloc);
     for r in 0..lists.readers() {
         let name = name_at(lists.reader_names(), r);
-        let keys = keys_of_reader(lists, ReaderNo::new(r));
-        push_endpoint(alloc, &mut text, "reader", name, keys, r, &cells)?;
+        let reader = ReaderNo::new(r);
+        let keys = keys_of_reader(lists, reader);
+        push_endpoint(alloc, &mut text, "reader", name, keys, reader, &table)?;
     }
     Ok(text)
 }
@@ -87,12 +84,13 @@ fn writer_lines(
 ) -> Result<String, NoMemory>
     ensures { IfOk result (λ text. string_bytes text ≡ writer_lines lists.now weights.now) }
 {
-    let cells = weights_by_place(weights);
+    let table = Table::new(weights);
     let mut text = String::new(alloc);
     for w in 0..lists.writers() {
         let name = name_at(lists.writer_names(), w);
-        let keys = keys_of_writer(lists, WriterNo::new(w));
-        push_endpoint(alloc, &mut text, "writer", name, keys, w, &cells)?;
+        let writer = WriterNo::new(w);
+        let keys = keys_of_writer(lists, writer);
+        push_endpoint(alloc, &mut text, "writer", name, keys, writer, &table)?;
     }
     Ok(text)
 }

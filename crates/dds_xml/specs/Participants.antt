@@ -1,5 +1,5 @@
 -- The participants in XML, each with its writers and then its readers, in file order (OMG DDS-XML 1.0, building block DomainParticipants).
-use Rattle.std.specs.Prelude.{codes, ℕ, List, [], ◌++◌, ◌==◌, nat_le, length, slice_get, if◌then◌else◌}
+use Rattle.std.specs.Prelude.{codes, ℕ, List, [], ◌++◌, ◌==◌, nat_le, length, slice_get, Option, Some, None, if◌then◌else◌}
 use Rattle.std.specs.Fmt.{decimal}
 use Rattle.std.specs.Option.{option_map_or}
 use Rattle.dds_lists.specs.Lists.{Lists, Participant, Reader, Writer, keys_at}
@@ -33,11 +33,20 @@ content_filter name keys filter =
     then []
     else codes "          <content_filter name=\"" ++ (name ++ (codes "\">\n            <expression>" ++ (filter_expression keys filter ++ codes "</expression>\n          </content_filter>\n")))
 
+-- a field of the file that has no place in XML, as a comment; nothing where the file has none
+abbrev pub span_comment : List ℕ → Option ℕ → List ℕ
+span_comment field (Some n) = codes "          <!-- " ++ (field ++ (codes " = " ++ (decimal n ++ codes " -->\n")))
+span_comment field None = []
+
+-- how soon after its write a reader takes each sample, and can take it
+abbrev pub span_comments : Reader → List ℕ
+span_comments x = span_comment (codes "taken_within") x.taken_within ++ span_comment (codes "available_within") x.available_within
+
 -- a reader
 abbrev pub data_reader : Lists → List ℕ → Reader → List ℕ
 data_reader d name x =
     codes "        <data_reader name=\"" ++ (name ++ (codes "\" topic_ref=\"" ++ (name_at d.topics.names x.topic ++ (codes "\">\n          <datareader_qos base_name=\"readers::" ++ (name
-    ++ (codes "\"/>\n" ++ (content_filter name (keys_at d.topics x.topic) x.filter ++ codes "        </data_reader>\n")))))))
+    ++ (codes "\"/>\n" ++ (content_filter name (keys_at d.topics x.topic) x.filter ++ (span_comments x ++ codes "        </data_reader>\n"))))))))
 
 -- a reader, in a subscriber of its name, both with the reader's profile
 abbrev pub subscriber : Lists → List ℕ → Reader → List ℕ

@@ -4,7 +4,8 @@ ghost use Rattle.std.specs.Prelude.{◌≡◌, ◌<◌, IfOk, length, string_byt
 ghost use Rattle.dds_lists.specs.Views.{participant_view, reader_view, writer_view};
 ghost use Rattle.dds_xml.specs.Participants.{content_filter, data_reader, filter_expression, filter_term};
 ghost use Rattle.dds_xml.specs.Participants.{participant_element, participant_library, publisher, publisher_at};
-ghost use Rattle.dds_xml.specs.Participants.{publishers, subscriber, subscriber_at, subscribers};
+ghost use Rattle.dds_xml.specs.Participants.{publishers, span_comment, span_comments, subscriber, subscriber_at};
+ghost use Rattle.dds_xml.specs.Participants.{subscribers};
 
 use crate::pieces::library;
 use dds_base::{KeyNo, Names, ParticipantNo, ReaderNo, WriterNo};
@@ -59,15 +60,35 @@ fn content_filter(alloc: Global, name: &str, keys: &Names, filter: &[KeyNo]) -> 
     )
 }
 
+/// A field of the file that has no place in XML, as a comment; nothing where the file has none.
+fn span_comment(alloc: Global, field: &str, nanoseconds: Option<u64>) -> TextResult
+    ensures { IfOk result (λ text. string_bytes text ≡ span_comment field.now nanoseconds) }
+{
+    match nanoseconds {
+        Some(nanoseconds) => { format!(in alloc; "          <!-- {field} = {nanoseconds} -->\n") }
+        None => Ok(String::new(alloc)),
+    }
+}
+
+/// How soon after its write a reader takes each sample, and can take it.
+fn span_comments(alloc: Global, x: &Reader) -> TextResult
+    ensures { IfOk result (λ text. string_bytes text ≡ span_comments (reader_view x.now)) }
+{
+    let taken = span_comment(alloc, "taken_within", x.taken_within)?;
+    let available = span_comment(alloc, "available_within", x.available_within)?;
+    format!(in alloc; "{taken}{available}")
+}
+
 fn data_reader(alloc: Global, lists: &Deployment, name: &str, x: &Reader) -> TextResult
     requires { x.now.topic < length lists.now.topics.entries }
     ensures { IfOk result (λ text. string_bytes text ≡ data_reader lists.now name.now (reader_view x.now)) }
 {
     let topic = name_at(lists.topic_names(), x.topic.number());
     let filter = content_filter(alloc, name, lists.keys(x.topic), x.filter.as_slice())?;
+    let spans = span_comments(alloc, x)?;
     format!(in alloc;
         "        <data_reader name=\"{name}\" topic_ref=\"{topic}\">\n          \
-         <datareader_qos base_name=\"readers::{name}\"/>\n{filter}        </data_reader>\n"
+         <datareader_qos base_name=\"readers::{name}\"/>\n{filter}{spans}        </data_reader>\n"
     )
 }
 

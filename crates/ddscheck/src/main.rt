@@ -1,7 +1,8 @@
 //! `ddscheck`, over the files and the standard streams of the system.
 #![tactic(auto)]
 
-use dds_answers::{Detail, Disk, Stream, ToolFault, advise, tell_fault};
+use dds_answers::{Disk, Stream, ToolFault, advise, tell_fault};
+use dds_options::Detail;
 use dds_tool::tool;
 use std::alloc::Global;
 use std::env::{self, Env};

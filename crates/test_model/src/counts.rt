@@ -56,6 +56,30 @@ impl World {
         }
     }
 
+    /// How many samples of a key a reader's application took of a writer.
+    fn taken_from(&self, writer: WriterNo, reader: ReaderNo, key: KeyNo) -> usize {
+        match self.readers.get(reader.number()) {
+            Some(past) => {
+                let from = past.taken.iter().filter(|s| s.writer == writer);
+                from.filter(|s| s.key == key).count()
+            }
+            None => 0,
+        }
+    }
+
+    /// How many samples of a key that a writer wrote a reader has yet to take.
+    pub(crate) fn untaken(&self, writer: WriterNo, reader: ReaderNo, key: KeyNo) -> usize {
+        let written = self.entries(writer).iter().filter(|e| e.key == key).count();
+        written.saturating_sub(self.taken_from(writer, reader, key))
+    }
+
+    /// How many samples of a key that a writer wrote a reader can't take yet: their numbers aren't below its base.
+    pub(crate) fn unavailable(&self, writer: WriterNo, reader: ReaderNo, key: KeyNo) -> usize {
+        let below = self.base(reader, writer) - 1;
+        let later = self.entries(writer).iter().skip(below as usize);
+        later.filter(|e| e.key == key).count()
+    }
+
     /// The permits of a key that writes used up so far: one each, and none where they are free.
     fn used(&self, writer: WriterNo, key: KeyNo) -> u128 {
         if self.layout.is_free(writer, key) {

@@ -38,12 +38,25 @@ pub struct RuleLayout {
     pub free: bool,
 }
 
+/// What may be under way of a key from a writer to a reader that it matches.
+#[derive(Clone, Copy, Debug)]
+pub struct FlightLayout {
+    pub writer: WriterNo,
+    pub reader: ReaderNo,
+    pub key: KeyNo,
+    /// How many samples the reader has yet to take at most.
+    pub cap: Option<u32>,
+    /// How many samples the reader can't take yet at most.
+    pub lag: Option<u32>,
+}
+
 /// A deployment.
 #[derive(Drop)]
 pub struct Layout {
     pub writers: Vec<WriterLayout>,
     pub readers: Vec<ReaderLayout>,
     pub rules: Vec<RuleLayout>,
+    pub flights: Vec<FlightLayout>,
 }
 
 impl RuleLayout {

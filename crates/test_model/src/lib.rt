@@ -20,6 +20,6 @@ pub mod world;
 mod writes;
 mod writing;
 
-pub use layout::{Layout, ReaderLayout, RuleLayout, WriterLayout};
+pub use layout::{FlightLayout, Layout, ReaderLayout, RuleLayout, WriterLayout};
 pub use stepping::{step, step_as};
 pub use world::{BUS_PLACES, World, empty_bus};

@@ -20,6 +20,11 @@ pub enum Stage {
     WatcherAlone,
     /// As `Small(3)`, but the writer keeps the last two samples of an instance.
     KeepsLast,
+    /// As `Small(3)`, but the writer follows a clock without permits, and the reader has yet to take two samples at
+    /// most.
+    CapOfTwo,
+    /// As `CapOfTwo`, but the writer keeps the last sample, and the reader can't take one sample yet at most.
+    LagOfOne,
     /// Two writers and two readers. Rule 0 takes one of reader 1 and writes two of writer 0, which it may do twice at
     /// first. Rule 1 takes two of reader 0 and writes one of writer 1. The readers take four and two samples of an
     /// instance.
@@ -415,6 +420,55 @@ const LOST: &[(Move, Told)] = &[
     (Move::SendGap(0, 0, 1), Told::Sent(0)),
     (Move::Deliver(0, false), Told::Irrelevant(0)),
     (Move::Stored(0), Told::Number(0)),
+];
+
+/// By a cap of two the third write waits for a take.
+const CAPPED: &[(Move, Told)] = &[
+    (Move::Write(0, 0, 7), Told::Written(1)),
+    (Move::Write(0, 0, 8), Told::Written(2)),
+    (Move::Write(0, 0, 9), Told::Refused(Refusal::NotYet)),
+    (Move::SendData(0, 0, 1), Told::Sent(0)),
+    (Move::Deliver(0, false), Told::New),
+    (Move::Write(0, 0, 9), Told::Refused(Refusal::NotYet)),
+    (Move::Take(0, 0), Told::Took(1, 7)),
+    (Move::Write(0, 0, 9), Told::Written(3)),
+    (Move::Write(0, 0, 10), Told::Refused(Refusal::NotYet)),
+];
+
+/// By a lag of one the second write waits until the first sample is delivered, and not until it is taken.
+const LAGGED: &[(Move, Told)] = &[
+    (Move::Write(0, 0, 7), Told::Written(1)),
+    (Move::Write(0, 0, 8), Told::Refused(Refusal::NotYet)),
+    (Move::SendData(0, 0, 1), Told::Sent(0)),
+    (Move::Write(0, 0, 8), Told::Refused(Refusal::NotYet)),
+    (Move::Deliver(0, false), Told::New),
+    (Move::Write(0, 0, 8), Told::Written(2)),
+    (
+        Move::SendData(0, 0, 1),
+        Told::Refused(Refusal::NothingToSend),
+    ),
+    (Move::SendHeartbeat(0, 0), Told::Sent(0)),
+    (Move::Deliver(0, false), Told::Heard),
+    (Move::Write(0, 0, 9), Told::Refused(Refusal::NotYet)),
+    (Move::SendData(0, 0, 2), Told::Sent(0)),
+    (Move::Deliver(0, false), Told::New),
+    (Move::Take(0, 0), Told::Took(1, 7)),
+    (Move::Take(0, 0), Told::Took(2, 8)),
+    (Move::Take(0, 0), Told::Refused(Refusal::Empty)),
+];
+
+/// The runs of a writer that follows a clock.
+pub static CLOCK_RUNS: [Run; 2] = [
+    Run {
+        about: "a write waits for a take",
+        stage: Stage::CapOfTwo,
+        moves: CAPPED,
+    },
+    Run {
+        about: "a write waits for a delivery",
+        stage: Stage::LagOfOne,
+        moves: LAGGED,
+    },
 ];
 
 /// The runs of writers with KEEP_LAST, which no checked deployment of versions 1 and 2 has.

@@ -1,6 +1,6 @@
 //! A write.
 
-use crate::layout::is_reached;
+use crate::layout::{FlightLayout, is_reached};
 use crate::world::{Entry, LAST_NUMBER, World};
 use crate::writing::{count_of, keys_of};
 use dds_base::{Data, KeyNo, NoMemory, Refusal, Reply, WriterNo};
@@ -13,9 +13,44 @@ fn is_one_key_too_many(world: &World, writer: WriterNo, key: KeyNo) -> Result<bo
     Ok(is_reached(limit, keys.len()) && !keys.iter().any(|k| *k == key))
 }
 
-/// Why a write is refused: the first reason. Where KEEP_LAST's depth of the key is kept, the sample takes the place of
-/// the oldest of them.
+/// Whether as many samples as a cap or a lag allows are under way.
+fn is_full(world: &World, flight: &FlightLayout) -> bool {
+    let FlightLayout {
+        writer,
+        reader,
+        key,
+        cap,
+        lag,
+    } = *flight;
+    is_reached(cap, world.untaken(writer, reader, key))
+        || is_reached(lag, world.unavailable(writer, reader, key))
+}
+
+/// Whether a write of the key has to wait.
+fn is_early(world: &World, writer: WriterNo, key: KeyNo) -> bool {
+    let flights = world.layout.flights.iter();
+    let mut of_key = flights.filter(|flight| flight.writer == writer && flight.key == key);
+    of_key.any(|flight| is_full(world, flight))
+}
+
+/// Why a write is refused: the first reason.
 fn refusal(world: &World, writer: WriterNo, key: KeyNo) -> Result<Option<Refusal>, NoMemory> {
+    if let Some(why) = refusal_at_once(world, writer, key)? {
+        return Ok(Some(why));
+    }
+    if is_early(world, writer, key) {
+        return Ok(Some(Refusal::NotYet));
+    }
+    Ok(None)
+}
+
+/// Why a write is refused that needs to wait for nobody: the first reason. Where KEEP_LAST's depth of the key is kept,
+/// the sample takes the place of the oldest of them.
+fn refusal_at_once(
+    world: &World,
+    writer: WriterNo,
+    key: KeyNo,
+) -> Result<Option<Refusal>, NoMemory> {
     if !world.layout.writes_key(writer, key) {
         return Ok(Some(Refusal::Foreign));
     }

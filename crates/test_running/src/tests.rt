@@ -1,6 +1,7 @@
 mod admissions;
 mod caches;
 mod chance;
+mod clocks;
 mod comparing;
 mod domains;
 mod drawn;

@@ -3,7 +3,7 @@ ghost use Rattle.std.specs.Prelude.{◌≡◌, IfOk};
 ghost use Rattle.dds_propose.specs.Proposal.{bound_entry, total_entry};
 
 use crate::certificate::rows::Entry;
-use crate::certificate::weights::{WeighedRow, permit};
+use crate::certificate::weights::{Carrying, WeighedRow, permit};
 use crate::lists::push;
 use crate::net::Net;
 use crate::net::outlets::Outlet;
@@ -38,9 +38,12 @@ fn samples(alloc: Global, net: &Net, row: &WeighedRow) -> Result<Vec<Weight<Read
     Ok(list)
 }
 
-/// The weights of the takes: of the tokens of each place that a rule needs.
+/// The weights of the takes: of the tokens of each place that a rule needs, and none where caps carry the samples.
 fn takes(alloc: Global, net: &Net, row: &WeighedRow) -> Result<Vec<Weight<ReaderNo>>, NoMemory> {
     let mut list = Vec::new(alloc);
+    if row.carrying == Carrying::Caps {
+        return Ok(list);
+    }
     for number in 0..net.places.len() {
         if !net.places[number].users.is_empty() {
             push_weight(&mut list, &net.places[number], row.weight(number))?;
@@ -67,9 +70,12 @@ fn push_permit(
     Ok(())
 }
 
-/// The weights of the permits.
+/// The weights of the permits, none where caps carry the samples.
 fn permits(alloc: Global, net: &Net, row: &WeighedRow) -> Result<Vec<Weight<WriterNo>>, NoMemory> {
     let mut list = Vec::new(alloc);
+    if row.carrying == Carrying::Caps {
+        return Ok(list);
+    }
     for outlet in &net.outlets {
         push_permit(&mut list, outlet, permit(outlet, &row.weights))?;
     }

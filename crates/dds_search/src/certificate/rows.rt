@@ -80,27 +80,47 @@ fn count_open(served: &[bool], open: &[bool]) -> usize {
     count
 }
 
-/// The row that serves the most open entries, the first of several. `None` where none serves one.
-fn best(table: &[Vec<bool>], open: &[bool]) -> Option<usize> {
+/// How many open entries each row serves.
+fn count_each(alloc: Global, table: &[Vec<bool>], open: &[bool]) -> Result<Vec<usize>, NoMemory> {
+    let mut counts = Vec::new(alloc);
+    for served in table {
+        counts.push(count_open(served, open))?;
+    }
+    Ok(counts)
+}
+
+/// The place of the greatest count, the first of several. `None` where all are 0.
+fn best(counts: &[usize]) -> Option<usize> {
     let mut most = 0;
     let mut found = None;
-    for row in 0..table.len() {
-        let count = count_open(&table[row], open);
-        if count > most {
-            most = count;
+    for row in 0..counts.len() {
+        if counts[row] > most {
+            most = counts[row];
             found = Some(row);
         }
     }
     found
 }
 
-/// What a row serves isn't open any more.
-fn close(open: &mut Vec<bool>, served: &[bool]) {
+/// Each row that serves the entry with this place has one less to serve.
+fn uncount(counts: &mut Vec<usize>, table: &[Vec<bool>], place: usize) {
+    for row in 0..table.len() {
+        if table[row].get(place) == Some(&true) {
+            if let Some(count) = counts.get_mut(row) {
+                *count = count.saturating_sub(1);
+            }
+        }
+    }
+}
+
+/// What a row serves isn't open any more, and is counted no longer.
+fn close(open: &mut Vec<bool>, counts: &mut Vec<usize>, table: &[Vec<bool>], served: &[bool]) {
     for place in 0..served.len() {
-        if served[place] {
+        if served[place] && open.get(place) == Some(&true) {
             if let Some(is_open) = open.get_mut(place) {
                 *is_open = false;
             }
+            uncount(counts, table, place);
         }
     }
 }
@@ -113,14 +133,15 @@ fn chosen(
     entries: usize,
 ) -> Result<Option<Vec<usize>>, NoMemory> {
     let mut open = vec![in alloc; true; entries]?;
+    let mut counts = count_each(alloc, table, &open)?;
     let mut chosen = Vec::new(alloc);
     for _ in 0..table.len() {
-        let Some(row) = best(table, &open) else {
+        let Some(row) = best(&counts) else {
             break;
         };
         chosen.push(row)?;
         if let Some(served) = table.get(row) {
-            close(&mut open, served);
+            close(&mut open, &mut counts, table, served);
         }
     }
     if open.contains(&true) {

@@ -15,9 +15,11 @@ use crate::answer::{Found, Least, Missing};
 use crate::budget::Budget;
 use crate::certificate::attempt::{Attempt, Climber};
 use crate::certificate::collecting::Collected;
+use crate::certificate::depths::greatest_size;
 use crate::certificate::listing::{certificate_of, claim};
 use crate::certificate::rays::{Ray, is_ray};
 use crate::certificate::rows::cover;
+use crate::certificate::sizes::Size;
 use crate::certificate::weights::WeighedRow;
 use crate::limits::{Limited, certified_limits};
 use crate::net::Net;
@@ -31,7 +33,7 @@ use std::alloc::Global;
 use std::time::Clock;
 
 /// The certificate, where it is accepted.
-fn accepted(plan: &Plan, certificate: Certificate) -> Found
+pub(crate) fn accepted(plan: &Plan, certificate: Certificate) -> Found
     ensures fits { IfCertificate result (λ c. fits (network_of plan.now) (certificate_view c) ≡ true) }
     ensures accepted { IfCertificate result (λ c. first_no plan.now (certificate_view c) ≡ None) }
     ensures holds { IfCertificate result (λ c. Accepted (network_of plan.now) (certificate_of (certificate_view c))) }
@@ -119,11 +121,12 @@ pub(crate) fn least_of(
     }
 }
 
-/// Why a limit has no certificate, by an attempt that gave none.
-fn missing_of(
+/// Why a limit has no certificate, by an attempt that gave none. Where it's the depth of a writer, what is known is
+/// that of the reader that needs the most of it.
+fn missing_of<C: Clock>(
     alloc: Global,
     plan: &Plan,
-    net: &Net,
+    climber: &mut Climber<C>,
     target: Target,
     attempt: &Attempt,
 ) -> Result<Missing, NoMemory>
@@ -136,8 +139,12 @@ fn missing_of(
             shortage: *shortage,
         });
     }
-    let least = least_of(alloc, plan, net, &target, attempt)?;
-    Ok(Missing::Limit { target, least })
+    let least = least_of(alloc, plan, &climber.net, &target, attempt)?;
+    let size = greatest_size(alloc, plan, climber, Size { target, least })?;
+    Ok(Missing::Limit {
+        target: size.target,
+        least: size.least,
+    })
 }
 
 /// Adds what one limit needs. Why it has no certificate where that isn't found.
@@ -154,7 +161,7 @@ fn add_limit<C: Clock>(
 {
     match collected.add_limit(alloc, climber, limited)? {
         Some(attempt) => {
-            let missing = missing_of(alloc, plan, &climber.net, limited.target, &attempt)?;
+            let missing = missing_of(alloc, plan, climber, limited.target, &attempt)?;
             Ok(Some(missing))
         }
         None => Ok(None),

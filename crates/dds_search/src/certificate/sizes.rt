@@ -84,7 +84,7 @@ fn measure<C: Clock>(
 }
 
 /// The least bound of a target.
-fn size_of<C: Clock>(
+pub(crate) fn size_of<C: Clock>(
     alloc: Global,
     plan: &Plan,
     climber: &mut Climber<C>,

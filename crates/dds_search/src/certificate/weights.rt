@@ -4,19 +4,46 @@ ghost use Rattle.std.specs.Prelude.{◌≡◌, true};
 use crate::net::Net;
 use crate::net::firings::Change;
 use crate::net::outlets::Outlet;
-use crate::net::places::Place;
+use crate::net::places::{Place, caps_of};
 use dds_base::NoMemory;
 use dds_simplex::common_divisor;
 use std::alloc::Global;
 
-/// A row by places. A permit weighs what the tokens that its write makes weigh together.
+/// How a row carries the samples in flight that it weighs.
+#[derive(Clone, Copy, Debug, PartialEq, Eq)]
+pub(crate) enum Carrying {
+    /// By permits and takes: a permit weighs what the tokens that its write makes weigh together.
+    Permits,
+    /// By caps: nothing else weighs.
+    Caps,
+}
+
+/// A row by places.
 #[derive(Drop)]
 pub(crate) struct WeighedRow {
     /// By place.
     pub(crate) weights: Vec<u32>,
-    /// What the tokens at the opening weigh together.
+    /// What the tokens at the opening weigh together, or as many samples as the caps allow.
     pub(crate) budget: u128,
+    pub(crate) carrying: Carrying,
+    /// Rows with other fingerprints weigh some place otherwise.
+    fingerprint: u64,
 }
+
+/// A number made of all weights in their order.
+fn fingerprint_of(weights: &[u32]) -> u64 {
+    let mut mark: u64 = 0;
+    for weight in weights {
+        mark = mark
+            .wrapping_add(u64::from(*weight))
+            .wrapping_add(1)
+            .wrapping_mul(MULTIPLIER);
+    }
+    mark
+}
+
+/// What fingerprints are multiplied by, time and again: 2^64 over the golden ratio, an odd number.
+const MULTIPLIER: u64 = 0x9e37_79b9_7f4a_7c15;
 
 /// The greatest number that divides all of the values; it stops looking once that is 1.
 pub(crate) fn divisor_of(values: &[i128]) -> u128 {
@@ -77,6 +104,15 @@ fn budget_of(places: &[Place], weights: &[u32]) -> u128 {
     sum
 }
 
+/// The places of a target weigh 1 each.
+fn weigh_target(weights: &mut Vec<u32>, target: &[usize]) {
+    for place in target {
+        if let Some(weight) = weights.get_mut(*place) {
+            *weight = 1;
+        }
+    }
+}
+
 /// What so many tokens of places weigh together.
 pub(crate) fn weighed(changes: &[Change], weights: &[u32]) -> u128 {
     let mut sum: u128 = 0;
@@ -96,7 +132,33 @@ impl WeighedRow {
             return None;
         }
         let budget = budget_of(&net.places, &weights);
-        Some(WeighedRow { weights, budget })
+        let fingerprint = fingerprint_of(&weights);
+        Some(WeighedRow {
+            weights,
+            budget,
+            carrying: Carrying::Permits,
+            fingerprint,
+        })
+    }
+
+    /// The row that weighs the samples of a target alone, 1 each. `None` where caps don't carry all of them.
+    pub(crate) fn by_caps(
+        alloc: Global,
+        net: &Net,
+        target: &[usize],
+    ) -> Result<Option<WeighedRow>, NoMemory> {
+        let Some(budget) = caps_of(&net.places, target) else {
+            return Ok(None);
+        };
+        let mut weights = vec![in alloc; 0; net.places.len()]?;
+        weigh_target(&mut weights, target);
+        let fingerprint = fingerprint_of(&weights);
+        Ok(Some(WeighedRow {
+            weights,
+            budget,
+            carrying: Carrying::Caps,
+            fingerprint,
+        }))
     }
 
     /// The row of some values without their common divisor, `None` where a weight would be above 4,294,967,295.
@@ -141,8 +203,12 @@ impl WeighedRow {
         u32::try_from(quotient).ok()
     }
 
-    /// The bound that the sum with another row shows for the places together.
+    /// The bound that the sum with another row shows for the places together. `None` also where the two carry samples
+    /// in other ways.
     pub(crate) fn bound_with(&self, other: &WeighedRow, places: &[usize]) -> Option<u32> {
+        if self.carrying != other.carrying {
+            return None;
+        }
         let budget = self.budget.checked_add(other.budget)?;
         let mut least = u64::MAX;
         for place in places {
@@ -153,7 +219,8 @@ impl WeighedRow {
         u32::try_from(quotient).ok()
     }
 
-    /// The sum with another row of the same net, `None` where a weight or a permit would be above 4,294,967,295.
+    /// The sum with another row of the same net, which carries samples in the same way. `None` where a weight or a
+    /// permit would be above 4,294,967,295.
     pub(crate) fn plus(
         &self,
         alloc: Global,
@@ -167,7 +234,23 @@ impl WeighedRow {
             };
             weights.push(weight)?;
         }
-        Ok(WeighedRow::of(net, weights))
+        Ok(self.sum_with(net, other, weights))
+    }
+
+    /// The sum with another row, where these are the sums of their weights.
+    fn sum_with(&self, net: &Net, other: &WeighedRow, weights: Vec<u32>) -> Option<WeighedRow> {
+        match self.carrying {
+            Carrying::Permits => WeighedRow::of(net, weights),
+            Carrying::Caps => {
+                let fingerprint = fingerprint_of(&weights);
+                Some(WeighedRow {
+                    weights,
+                    budget: self.budget.saturating_add(other.budget),
+                    carrying: Carrying::Caps,
+                    fingerprint,
+                })
+            }
+        }
     }
 
     /// A copy.
@@ -175,13 +258,17 @@ impl WeighedRow {
         Ok(WeighedRow {
             weights: self.weights.to_vec(alloc)?,
             budget: self.budget,
+            carrying: self.carrying,
+            fingerprint: self.fingerprint,
         })
     }
 
-    /// Whether two rows weigh each place the same.
+    /// Whether two rows weigh each place the same, and carry samples in the same way.
     pub(crate) fn is_same(&self, other: &WeighedRow) -> bool
         ensures { result ≡ true → self.now.weights.items ≡ other.now.weights.items }
     {
-        self.weights.as_slice() == other.weights.as_slice()
+        self.fingerprint == other.fingerprint
+            && self.carrying == other.carrying
+            && self.weights.as_slice() == other.weights.as_slice()
     }
 }

@@ -1,6 +1,7 @@
 //! Makes events of firings: all that a firing needs is written, sent, delivered and taken as late as can be, with one
-//! packet on the bus at a time, and nothing is taken at the reader whose limit is to be passed but what a firing needs.
-//! Where a writer is to drop a sample, that reader gets nothing of it but what a firing needs.
+//! packet on the bus at a time, and nothing is taken at the reader whose limit is to be passed but what a firing
+//! needs. Where a writer is to drop a sample, that reader gets nothing of it but what a firing needs. Where a write
+//! has to wait for a reader, that one takes before, unless it's the reader whose limit is to be passed.
 ghost use Rattle.std.specs.Prelude.{◌≡◌, IfOk};
 
 use crate::hunt::path::Firings;
@@ -84,9 +85,20 @@ pub(crate) struct Making {
     spare: Vec<u64>,
     /// A writer that only writes what no other one may.
     spared: Option<WriterNo>,
+    /// The reader whose limit is to be passed.
+    crammed: Option<ReaderNo>,
     events: Vec<Event>,
     /// The most events.
     room: usize,
+}
+
+/// A write of a sample without data.
+fn write_of(writer: WriterNo, key: KeyNo) -> Event {
+    Event::Write {
+        writer,
+        key,
+        payload: NOTHING,
+    }
 }
 
 /// The place of a reader's key.
@@ -113,6 +125,7 @@ impl Making {
                 history,
                 spare,
                 spared: None,
+                crammed: None,
                 events: Vec::new(alloc),
                 room: room.min(EVENTS),
             }),
@@ -226,17 +239,25 @@ impl Making {
         Ok(true)
     }
 
-    /// Brings a reader all numbers of a writer, and lets it acknowledge them.
-    fn settle(&mut self, writer: WriterNo, reader: ReaderNo) -> Result<(), Halt>
+    /// Brings a reader all numbers of a writer.
+    fn bring_all(&mut self, writer: WriterNo, reader: ReaderNo) -> Result<(), Halt>
         ensures plan { self.new.simulator.plan ≡ self.old.simulator.plan }
     {
         for _ in 0..EVENTS {
             if !self.bring(writer, reader)? {
-                self.send(Event::SendAckNack { reader, writer })?;
                 return Ok(());
             }
         }
         Err(Halt::Long)
+    }
+
+    /// Brings a reader all numbers of a writer, and lets it acknowledge them.
+    fn settle(&mut self, writer: WriterNo, reader: ReaderNo) -> Result<(), Halt>
+        ensures plan { self.new.simulator.plan ≡ self.old.simulator.plan }
+    {
+        self.bring_all(writer, reader)?;
+        self.send(Event::SendAckNack { reader, writer })?;
+        Ok(())
     }
 
     /// Settles a writer with all its readers, so that it keeps nothing any more.
@@ -252,22 +273,83 @@ impl Making {
         Ok(())
     }
 
-    /// Writes a sample. `false` where that isn't permitted. A writer that is full is settled first.
+    /// Makes a write. A writer that is full is settled first.
+    fn step_write(&mut self, writer: WriterNo, event: Event) -> Result<Made, Halt>
+        ensures plan { self.new.simulator.plan ≡ self.old.simulator.plan }
+    {
+        let made = self.step(event)?;
+        if !matches!(made, Made::Refused(Refusal::Full | Refusal::InstanceFull)) {
+            return Ok(made);
+        }
+        self.settle_all(writer)?;
+        self.step(event)
+    }
+
+    /// Writes a sample. `false` where that isn't permitted, or has to wait for what isn't to be taken. Where it has to
+    /// wait for other readers, they take first.
     fn write(&mut self, writer: WriterNo, key: KeyNo) -> Result<bool, Halt>
         ensures plan { self.new.simulator.plan ≡ self.old.simulator.plan }
     {
-        let event = Event::Write {
-            writer,
-            key,
-            payload: NOTHING,
-        };
-        let made = self.step(event)?;
-        if !matches!(made, Made::Refused(Refusal::Full | Refusal::InstanceFull)) {
-            return self.wrote(writer, key, made);
+        match self.step_write(writer, write_of(writer, key))? {
+            Made::Refused(Refusal::NotYet) => self.write_later(writer, key),
+            made => self.wrote(writer, key, made),
         }
-        self.settle_all(writer)?;
-        let made = self.step(event)?;
+    }
+
+    /// Writes a sample once those take for which it has to wait. `false` where that isn't enough.
+    fn write_later(&mut self, writer: WriterNo, key: KeyNo) -> Result<bool, Halt>
+        ensures plan { self.new.simulator.plan ≡ self.old.simulator.plan }
+    {
+        self.relieve(writer, key)?;
+        let made = self.step_write(writer, write_of(writer, key))?;
         self.wrote(writer, key, made)
+    }
+
+    /// Brings the readers for which a write of a key has to wait what the writer wrote, and lets them take it.
+    fn relieve(&mut self, writer: WriterNo, key: KeyNo) -> Result<(), Halt>
+        ensures plan { self.new.simulator.plan ≡ self.old.simulator.plan }
+    {
+        for r in 0..self.simulator.plan().lists().readers() {
+            let reader = ReaderNo::new(r);
+            if self.is_waited_for(writer, reader, key) {
+                self.relieve_at(writer, reader, key)?;
+            }
+        }
+        Ok(())
+    }
+
+    /// Whether a write of a key may have to wait for a reader.
+    fn is_waited_for(&self, writer: WriterNo, reader: ReaderNo, key: KeyNo) -> bool {
+        let plan = self.simulator.plan();
+        plan.cap(writer, reader, key).is_some() || plan.lag(writer, reader, key).is_some()
+    }
+
+    /// Brings a reader what a writer wrote, and lets it take samples of a key. The reader whose limit is to be passed
+    /// takes nothing, and gets nothing of a writer that is to drop a sample.
+    fn relieve_at(&mut self, writer: WriterNo, reader: ReaderNo, key: KeyNo) -> Result<(), Halt>
+        ensures plan { self.new.simulator.plan ≡ self.old.simulator.plan }
+    {
+        if self.crammed != Some(reader) {
+            self.bring_all(writer, reader)?;
+            return self.take_all(reader, key);
+        }
+        if self.spared == Some(writer) {
+            return Ok(());
+        }
+        self.bring_all(writer, reader)
+    }
+
+    /// Takes all samples of a key that a reader has.
+    fn take_all(&mut self, reader: ReaderNo, key: KeyNo) -> Result<(), Halt>
+        ensures plan { self.new.simulator.plan ≡ self.old.simulator.plan }
+    {
+        for _ in 0..EVENTS {
+            if self.step(Event::Take { reader, key })? != Made::Took {
+                return Ok(());
+            }
+            self.add_spare(reader, key, 1);
+        }
+        Err(Halt::Long)
     }
 
     /// Notes a sample that was written. `false` where none was.
@@ -594,6 +676,7 @@ impl Making {
     ) -> Result<(), Halt>
         ensures plan { self.new.simulator.plan ≡ self.old.simulator.plan }
     {
+        self.crammed = Some(aim.limited.target.reader());
         match aim.dropper {
             Some(writer) => self.run_over(alloc, firings, writer, aim, keys),
             None => self.run(alloc, firings, aim.limited.target.reader(), keys),
@@ -610,6 +693,7 @@ impl Making {
     ) -> Result<(), Halt>
         ensures plan { self.new.simulator.plan ≡ self.old.simulator.plan }
     {
+        self.crammed = Some(reader);
         self.fire_all(alloc, firings)?;
         self.more(reader, &[key])
     }

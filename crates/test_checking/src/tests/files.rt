@@ -4,9 +4,10 @@ ghost use Rattle.dds_answers.specs.Reading.{is_worn};
 
 use crate::tests::expecting::expect_equal;
 use dds_answers::{
-    Answer, Counted, Detail, Exit, MAX_FILE, Output, Sources, Stream, ToolFault, check_answer,
-    give, match_answer, migrate_answer, propose_answer, read_file, read_files, tell_fault,
+    Answer, Counted, Exit, MAX_FILE, Output, Sources, Stream, ToolFault, check_answer, give,
+    match_answer, migrate_answer, propose_answer, read_file, read_files, tell_fault,
 };
+use dds_options::Detail;
 use std::alloc::Global;
 use std::io::{self, ErrorKind, Read};
 use std::process::Abort;

@@ -266,8 +266,8 @@ static TWO_FILES: [File; 4] = [
     },
 ];
 
-/// Several rows, with keys by their place in the topic whatever the order of a filter, weights of zero, and lists in
-/// the order of the file.
+/// Several rows, with keys by their place in the topic whatever the order of a filter, weights of zero, and lists that
+/// aren't in the order of endpoints and keys: weights are put in this order, bounds and totals stay in the file's.
 const MIXED: &str = r#"version = 1
 totals = [
   { reader = "o", row = "last", bound = 0 },
@@ -306,14 +306,14 @@ const MIXED_WANTED: Wanted = Wanted {
             WantedLists {
                 samples: &[],
                 takes: &[],
-                permits: &[(1, 0, 3), (0, 2, 16)],
+                permits: &[(0, 2, 16), (1, 0, 3)],
             },
         ),
         WantedRow::Even("none", &[]),
         WantedRow::Uneven(
             "last",
             WantedLists {
-                samples: &[(1, 2, 2), (2, 0, 0), (1, 0, 1000), (0, 1, 5)],
+                samples: &[(0, 1, 5), (1, 0, 1000), (1, 2, 2), (2, 0, 0)],
                 takes: &[(0, 2, 9)],
                 permits: &[],
             },
@@ -376,9 +376,9 @@ static FILTERS_FILES: [File; 3] = [
                 WantedRow::Uneven(
                     "m",
                     WantedLists {
-                        samples: &[(1, 2, 2), (1, 0, 2), (0, 1, 5), (2, 0, 0)],
+                        samples: &[(0, 1, 5), (1, 0, 2), (1, 2, 2), (2, 0, 0)],
                         takes: &[(0, 0, 7), (0, 1, 7), (0, 2, 7)],
-                        permits: &[(1, 0, 3), (0, 0, 4), (0, 1, 4), (0, 2, 4)],
+                        permits: &[(0, 0, 4), (0, 1, 4), (0, 2, 4), (1, 0, 3)],
                     },
                 ),
                 WantedRow::Uneven(
@@ -386,7 +386,7 @@ static FILTERS_FILES: [File; 3] = [
                     WantedLists {
                         samples: &[],
                         takes: &[],
-                        permits: &[(0, 2, 1), (1, 0, 1), (0, 0, 2)],
+                        permits: &[(0, 0, 2), (0, 2, 1), (1, 0, 1)],
                     },
                 ),
             ],

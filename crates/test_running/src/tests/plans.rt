@@ -8,7 +8,7 @@ use dds_match::Plan;
 use std::alloc::Global;
 use std::process::Abort;
 use test_files::plans::planned;
-use test_model::{Layout, ReaderLayout, RuleLayout, World, WriterLayout};
+use test_model::{FlightLayout, Layout, ReaderLayout, RuleLayout, World, WriterLayout};
 
 /// The message where memory is refused, which ends a test.
 pub(crate) const NO_MEMORY: &str = "no memory";
@@ -138,12 +138,48 @@ fn rule_layouts(rt: &impl Abort, alloc: Global, plan: &Plan) -> Vec<RuleLayout> 
     rules
 }
 
+/// Adds what may be under way from a writer to a reader, of each key that has a cap or a lag.
+fn push_flights(
+    rt: &impl Abort,
+    plan: &Plan,
+    writer: WriterNo,
+    reader: ReaderNo,
+    flights: &mut Vec<FlightLayout>,
+) {
+    for k in 0..KEYS {
+        let key = KeyNo::new(k);
+        let (cap, lag) = (plan.cap(writer, reader, key), plan.lag(writer, reader, key));
+        if cap.is_some() || lag.is_some() {
+            let flight = FlightLayout {
+                writer,
+                reader,
+                key,
+                cap,
+                lag,
+            };
+            flights.push(flight).expect(rt, NO_MEMORY);
+        }
+    }
+}
+
+/// What may be under way from each writer to each reader.
+fn flight_layouts(rt: &impl Abort, alloc: Global, plan: &Plan) -> Vec<FlightLayout> {
+    let mut flights = Vec::new(alloc);
+    for w in 0..plan.lists().writers() {
+        for r in 0..plan.lists().readers() {
+            push_flights(rt, plan, WriterNo::new(w), ReaderNo::new(r), &mut flights);
+        }
+    }
+    flights
+}
+
 /// The plain world of a plan, before the first event.
 pub(crate) fn world_of(rt: &impl Abort, alloc: Global, plan: &Plan) -> World {
     let layout = Layout {
         writers: writer_layouts(rt, alloc, plan),
         readers: reader_layouts(rt, alloc, plan),
         rules: rule_layouts(rt, alloc, plan),
+        flights: flight_layouts(rt, alloc, plan),
     };
     World::open(alloc, layout).expect(rt, NO_MEMORY)
 }

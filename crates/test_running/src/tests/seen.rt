@@ -7,6 +7,7 @@ use dds_base::{Arrival, Refusal, Rejection, Reply};
 pub(crate) enum Kind {
     Foreign,
     NoPermit,
+    NotYet,
     SequenceEnd,
     InstanceLimit,
     Full,
@@ -39,6 +40,7 @@ fn kind_of_refusal(why: &Refusal) -> Kind {
     match why {
         Refusal::Foreign => Kind::Foreign,
         Refusal::NoPermit => Kind::NoPermit,
+        Refusal::NotYet => Kind::NotYet,
         Refusal::SequenceEnd => Kind::SequenceEnd,
         Refusal::InstanceLimit => Kind::InstanceLimit,
         Refusal::Full => Kind::Full,

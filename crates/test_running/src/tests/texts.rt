@@ -273,6 +273,60 @@ writes = [{ writer = "laser", key = "all", count = 1 }, { writer = "clock", key 
 start = "unlimited"
 "#;
 
+/// By the clock: a writer that keeps the last two samples publishes two keys, and an application writes again what it
+/// takes, of three samples at first and by a clock too. The strict reader has caps of 4, 8 and 2, and lags of 2, 4 and
+/// 1; a watcher looks on, whose span isn't used.
+pub(crate) const PACED: &str = r#"version = 4
+participants = [{ name = "p", domain = 0 }, { name = "q", domain = 0 }]
+topics = [{ name = "t", type = "Num", keys = ["a", "b"] }]
+writers = [
+  { name = "clock", participant = "p", topic = "t", depth = 2 },
+  { name = "again", participant = "q", topic = "t", history = "KEEP_ALL" },
+]
+applications = [
+  { name = "publishing", participant = "p", writers = ["clock"] },
+  { name = "answering", participant = "q", writers = ["again"], readers = ["r", "viewer"] },
+]
+connections = [
+  { writer = "clock", reader = "r" },
+  { writer = "again", reader = "r" },
+  { writer = "clock", reader = "viewer" },
+  { writer = "again", reader = "viewer" },
+]
+
+[[readers]]
+name = "r"
+participant = "q"
+topic = "t"
+reliability = "RELIABLE"
+depth = 3
+taken_within = 30
+available_within = 12
+
+[[readers]]
+name = "viewer"
+participant = "q"
+topic = "t"
+depth = 1
+taken_within = 0
+
+[[rules]]
+name = "publish"
+application = "publishing"
+writes = [{ writer = "clock", key = "a", count = 1 }, { writer = "clock", key = "b", count = 2 }]
+start = "unlimited"
+period = 10
+jitter = 5
+
+[[rules]]
+name = "answer"
+application = "answering"
+takes = [{ reader = "r", key = "a", count = 1 }]
+writes = [{ writer = "again", key = "a", count = 1 }]
+start = 3
+period = 20
+"#;
+
 /// A writer publishes by a clock, without permits, and an application answers each two samples that it takes of that.
 /// The reader of the answers has room for two.
 pub(crate) const CLOCK: &str = r#"version = 3

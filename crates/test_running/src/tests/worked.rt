@@ -35,6 +35,11 @@ const READERS: &str = "readers = [\"r\"]";
 
 const CONNECTION: &str = "{ writer = \"w\", reader = \"r\" }";
 
+const VERSION: &str = "version = 1";
+
+/// A write each 10 ns at most.
+const BY_CLOCK: Edit = (START, "start = \"unlimited\"\nperiod = 10");
+
 const LIMIT_2: Edit = (LIMIT, "max_samples_per_instance = 2");
 
 const START_2: Edit = (START, "start = 2");
@@ -87,6 +92,17 @@ fn edits_of(stage: Stage) -> &'static [Edit] {
         Stage::Watched => WATCHED,
         Stage::WatcherAlone => &[(RELIABLE, "reliability = \"BEST_EFFORT\"")],
         Stage::KeepsLast => &[(WRITER, "topic = \"t\", history = \"KEEP_LAST\", depth = 2")],
+        Stage::CapOfTwo => &[
+            (VERSION, "version = 4"),
+            BY_CLOCK,
+            (LIMIT, "taken_within = 19"),
+        ],
+        Stage::LagOfOne => &[
+            (VERSION, "version = 4"),
+            BY_CLOCK,
+            (LIMIT, "taken_within = 95\navailable_within = 9"),
+            (WRITER, "topic = \"t\", history = \"KEEP_LAST\", depth = 1"),
+        ],
         Stage::Loop => &[],
     }
 }

@@ -9,6 +9,7 @@ returns-clause-opening c =
       writers = c.in-Ok.writers.items;
       readers = c.in-Ok-readers.readers.items;
       ledger = c.in-Ok-open.ledger;
+      flights = c.in-Ok-flights.flights.items;
       bus = c.in-Ok-new.bus;
     } in
-    parts_opened d c.in-Ok.ensures.count c.in-Ok-readers.ensures.count c.in-Ok.ensures.each c.in-Ok-readers.ensures.each c.in-Ok-open.ensures.world c.in-Ok-new.ensures
+    parts_opened d c.in-Ok.ensures.count c.in-Ok-readers.ensures.count c.in-Ok.ensures.each c.in-Ok-readers.ensures.each c.in-Ok-open.ensures.world c.in-Ok-flights.ensures.count c.in-Ok-flights.ensures.each c.in-Ok-new.ensures

@@ -19,4 +19,4 @@ returns c =
     let colour : c.colour_of-colour.result.now ≡ colour_of claimed c.args.reader (reader_limits_of x.qos.requested) = c.colour_of-colour.ensures ∙ ap (colour_of claimed c.args.reader) c.reader_limits-limits.ensures in
     let claims : string_bytes c.in_ok-claims.claims ≡ certificate_lines d c.args.reader (reader_limits_of x.qos.requested) claimed =
     c.in_ok-claims.ensures ∙ ap (λ l. certificate_lines d c.args.reader l claimed) c.reader_limits-limits.ensures in
-    rw (name, colour, label, c.may_lose_line-may_lose.ensures, claims) at c.format.ensures.ok
+    rw (name, colour, label, c.may_lose_line-may_lose.ensures, c.in_ok-spans.ensures, claims) at c.format.ensures.ok

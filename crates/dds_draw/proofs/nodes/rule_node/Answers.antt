@@ -3,4 +3,4 @@ use Rattle.dds_draw.proofs.nodes.rule_node.Goals as goal
 
 pub returns : goal.returns
 unfolding rule_node
-returns c = rw (c.number-number.ensures, c.in_ok-name.ensures, c.in_ok-start.ensures) at c.format.ensures.ok
+returns c = rw (c.number-number.ensures, c.in_ok-name.ensures, c.in_ok-start.ensures, c.in_ok-pace.ensures) at c.format.ensures.ok

@@ -10,6 +10,6 @@ pub returns : goal.returns
 returns c =
     let key : c.reader_key-key.result.now ≡ reader_key c.args.plan.now c.args.reader c.args.key =
     c.reader_key-key.ensures ∙ ap (λ (d : Lists). reader_key d (c.args.reader) (c.args.key)) c.lists.ensures.value in
-    let shown : string_bytes c.in_ok-shown.shown ≡ shown_text c.args.opening ((row_of (row_view c.args.row.now)).samples c.args.reader c.args.key) =
-    c.in_ok-shown.ensures ∙ ap (shown_text c.args.opening) c.sample_weight-weight.ensures in
+    let shown : string_bytes c.in_ok-shown.shown ≡ shown_text c.args.whole ((row_of (row_view c.args.row.now)).samples c.args.reader c.args.key) =
+    c.in_ok-shown.ensures ∙ ap (shown_text c.args.whole) c.sample_weight-weight.ensures in
     rw (key, shown, c.sample_weight-weight.ensures) at c.format.ensures.ok

@@ -3,8 +3,9 @@ use Rattle.std.proofs.lemmas.Result.{IfOk-weaker}
 use Rattle.dds_match.specs.Plan.{network_of}
 use Rattle.dds_weights.specs.Lists.{Row}
 use Rattle.dds_weights.specs.Views.{row_view}
-use Rattle.dds_runs.specs.Accepted.{budget, row_of}
+use Rattle.dds_runs.specs.Accepted.{row_of}
 use Rattle.dds_check.specs.Shown.{shows}
+use Rattle.dds_explain.specs.Budgets.{budget_of}
 use Rattle.dds_explain.specs.Shown.{bound_lines}
 use Rattle.dds_explain.proofs.ExplainLaws.{otherwise}
 use Rattle.dds_explain.proofs.shown.unshown_bound_by.Goals as goal
@@ -16,5 +17,5 @@ returns c =
     let b = c.args.bound.now in
     let fails : shows net (row_of row) b.bound b.reader b.key ≡ false =
     sym (c.shows.ensures ∙ ap (λ (r : Row). shows net (row_of r) b.bound b.reader b.key) c.new-weights.ensures) ∙ c.if-shows.false in
-    let opening : c.budget-opening.result ≡ budget net (row_of row) = c.budget-opening.ensures ∙ ap (λ (r : Row). budget net (row_of r)) c.new-weights.ensures in
-    IfOk-weaker c.bound_lines.result _ _ (λ text is. otherwise _ _ _ fails (is ∙ ap (bound_lines c.args.plan.now row b) opening)) c.bound_lines.ensures
+    let budget : c.of-budget.result ≡ budget_of net (row_of row) = c.of-budget.ensures ∙ ap (λ (r : Row). budget_of net (row_of r)) c.new-weights.ensures in
+    IfOk-weaker c.bound_lines.result _ _ (λ text is. otherwise _ _ _ fails (is ∙ ap (bound_lines c.args.plan.now row b) budget)) c.bound_lines.ensures

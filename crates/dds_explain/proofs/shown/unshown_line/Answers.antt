@@ -2,4 +2,4 @@ use Rattle.dds_explain.proofs.shown.unshown_line.Goals as goal
 
 pub returns : goal.returns
 returns c =
-    rw (c.as_str-row.ensures.value) at c.format.ensures.ok
+    rw (c.as_str-row.ensures.value, c.in_ok-carried.ensures) at c.format.ensures.ok

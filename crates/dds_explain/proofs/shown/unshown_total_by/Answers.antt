@@ -3,8 +3,9 @@ use Rattle.std.proofs.lemmas.Result.{IfOk-weaker}
 use Rattle.dds_match.specs.Plan.{network_of}
 use Rattle.dds_weights.specs.Lists.{Row}
 use Rattle.dds_weights.specs.Views.{row_view}
-use Rattle.dds_runs.specs.Accepted.{budget, row_of}
+use Rattle.dds_runs.specs.Accepted.{row_of}
 use Rattle.dds_check.specs.Shown.{shows_all}
+use Rattle.dds_explain.specs.Budgets.{budget_of}
 use Rattle.dds_explain.specs.Shown.{total_lines}
 use Rattle.dds_explain.proofs.ExplainLaws.{otherwise}
 use Rattle.dds_explain.proofs.shown.unshown_total_by.Goals as goal
@@ -16,5 +17,5 @@ returns c =
     let b = c.args.total.now in
     let fails : shows_all net (row_of row) b ≡ false =
     sym (c.shows_all.ensures ∙ ap (λ (r : Row). shows_all net (row_of r) b) c.new-weights.ensures) ∙ c.if-shows_all.false in
-    let opening : c.budget-opening.result ≡ budget net (row_of row) = c.budget-opening.ensures ∙ ap (λ (r : Row). budget net (row_of r)) c.new-weights.ensures in
-    IfOk-weaker c.total_lines.result _ _ (λ text is. otherwise _ _ _ fails (is ∙ ap (total_lines c.args.plan.now row b) opening)) c.total_lines.ensures
+    let budget : c.of-budget.result ≡ budget_of net (row_of row) = c.of-budget.ensures ∙ ap (λ (r : Row). budget_of net (row_of r)) c.new-weights.ensures in
+    IfOk-weaker c.total_lines.result _ _ (λ text is. otherwise _ _ _ fails (is ∙ ap (total_lines c.args.plan.now row b) budget)) c.total_lines.ensures

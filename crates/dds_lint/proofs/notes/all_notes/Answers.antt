@@ -3,7 +3,6 @@ use Rattle.dds_match.specs.Plan.{network_of}
 use Rattle.dds_weights.specs.Views.{certificate_view}
 use Rattle.dds_lint.specs.Notes.{all_notes}
 use Rattle.dds_lint.specs.declared.notes.Note.{Note}
-use Rattle.dds_lint.proofs.EndlessLaws.{are_refused}
 use Rattle.dds_lint.proofs.LiveRounds.{live_of_is, notes_of_live}
 use Rattle.dds_lint.proofs.notes.all_notes.Goals as goal
 
@@ -12,12 +11,6 @@ returns-clause-rules c = live_of_is (network_of c.args.plan.now)
 
 pub returns-in_err-push_all-clause-rules : goal.returns-in_err-push_all-clause-rules
 returns-in_err-push_all-clause-rules c = live_of_is (network_of c.args.plan.now)
-
-pub returns-clause-refused : goal.returns-clause-refused
-returns-clause-refused c = are_refused c.args.plan.now c.assert_well_formed.ensures.well_formed c.assert_well_formed.ensures.network
-
-pub returns-in_err-push_all-clause-refused : goal.returns-in_err-push_all-clause-refused
-returns-in_err-push_all-clause-refused c = are_refused c.args.plan.now c.assert_well_formed.ensures.well_formed c.assert_well_formed.ensures.network
 
 pub returns-clause-all : goal.returns-clause-all
 returns-clause-all c =

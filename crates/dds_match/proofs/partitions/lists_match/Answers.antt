@@ -1,17 +1,12 @@
-use Rattle.std.proofs.Common.{rules, tests, ◌≡◌, map, string_bytes, sym, ◌∙◌}
-use Rattle.std.specs.List.{list_any}
-use Rattle.std.proofs.lemmas.Iterator.{YieldsList-from_slice}
-use Rattle.std.proofs.lemmas.Iterator.Search.{any_from_yields_List}
-use Rattle.dds_match.specs.Partitions.{names_match, partition_names, lists_match}
-use Rattle.dds_match.proofs.Patterns.{names_of_some, one_empty_name}
+use Rattle.std.proofs.Common.{map, string_bytes, sym, ◌∙◌}
+use Rattle.dds_match.proofs.Patterns.{split_found, split_patterns, split_plain}
 use Rattle.dds_match.proofs.partitions.lists_match.Goals as goal
 
-pub returns-then-is_empty : goal.returns-then-is_empty
-unfolding lists_match
-returns-then-is_empty c = c.meets_some.ensures ∙ sym (one_empty_name (λ x. list_any (names_match x) (partition_names (map string_bytes c.args.reader.now))) string_bytes c.args.writer.now (sym c.is_empty.ensures ∙ c.if-is_empty.true))
+pub returns-then-some_meets : goal.returns-then-some_meets
+returns-then-some_meets c = c.if-some_meets.true ∙ split_found (map string_bytes c.args.writer.now) (map string_bytes c.args.reader.now) (sym c.some_meets.ensures ∙ c.if-some_meets.true)
 
-pub returns : goal.returns
-unfolding lists_match
-returns c =
-    let some : c.any.result ≡ list_any (λ x. list_any (names_match (string_bytes x)) (partition_names (map string_bytes c.args.reader.now))) c.args.writer.now = any_from_yields_List (λ x. list_any (names_match (string_bytes x)) (partition_names (map string_bytes c.args.reader.now))) _ _ c.any.result c.any.ensures.ran (YieldsList-from_slice c.args.writer.now cc) (λ x b q k. search (rules, tests)) in
-    some ∙ sym (names_of_some (λ x. list_any (names_match x) (partition_names (map string_bytes c.args.reader.now))) string_bytes c.args.writer.now (sym c.is_empty.ensures ∙ c.if-is_empty.false))
+pub returns-then-has_patterns : goal.returns-then-has_patterns
+returns-then-has_patterns c = c.some_has_pattern.ensures ∙ split_patterns (map string_bytes c.args.writer.now) (map string_bytes c.args.reader.now) (sym c.some_meets.ensures ∙ c.if-some_meets.false) (sym c.has_patterns.ensures ∙ c.if-has_patterns.true)
+
+pub returns-else-has_patterns : goal.returns-else-has_patterns
+returns-else-has_patterns c = c.if-has_patterns.false ∙ split_plain (map string_bytes c.args.writer.now) (map string_bytes c.args.reader.now) (sym c.some_meets.ensures ∙ c.if-some_meets.false) (sym c.has_patterns.ensures ∙ c.if-has_patterns.false)

@@ -2,12 +2,13 @@ use Rattle.std.proofs.Common.{ℕ, ◌≡◌, ◌<◌, List, ◌∷◌}
 use Rattle.dds_base.specs.declared.portion.Portion.{Portion}
 use Rattle.dds_match.specs.Plan.{network_of}
 use Rattle.dds_propose.specs.Following.{Follows}
+use Rattle.dds_propose.specs.Relaxation.{needs_of, seen}
 use Rattle.dds_propose.specs.Tables.{cell}
 use Rattle.dds_propose.proofs.rounds.follow_needs.Given as goal
 
 -- the permits have followed the samples that the rules so far need first
 abbrev pub invariant-loop-u : goal.invariant-loop-u
 invariant-loop-u l = record {
-  followed : Follows (network_of l.plan) l.initial.weights l.weights l.changed;
-  done : (u : ℕ) (e : Portion ℕ) (es : List (Portion ℕ)) → u < l.u → ((network_of l.plan).rule u).takes ≡ e ∷ es → cell l.weights.risen e.endpoint e.key ≡ 0;
+  followed : Follows (seen l.carrying (network_of l.plan)) l.initial.weights l.weights l.changed;
+  done : (u : ℕ) (e : Portion ℕ) (es : List (Portion ℕ)) → u < l.u → needs_of (seen l.carrying (network_of l.plan)) ((network_of l.plan).rule u).takes ≡ e ∷ es → cell l.weights.risen e.endpoint e.key ≡ 0;
 }

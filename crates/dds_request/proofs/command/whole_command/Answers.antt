@@ -1,6 +1,6 @@
-use Rattle.std.proofs.Common.{◌≡◌, ◌∙◌, sym, true≢false, Result, Ok, Err, IfOk, IsOk, OnOk, ap₂, codes}
+use Rattle.std.proofs.Common.{◌≡◌, ◌∙◌, sym, true≢false, Result, Ok, Err, IfOk, IsOk, OnOk, ap₂}
 use Rattle.clap.specs.Words.{App, app_of, with_subcommand}
-use Rattle.dds_request.specs.Command.{checking, conforming, drawing, limiting, linting, matching, one_file, refuting, replaying, running, searching, showing}
+use Rattle.dds_request.specs.Command.{checking, conforming, drawing, limiting, linting, matching, migrating, refuting, replaying, running, searching, showing}
 use Rattle.dds_request.proofs.command.whole_command.Goals as goal
 
 abbrev joined : App → App → App
@@ -24,7 +24,7 @@ returns c =
     let second = added app_of _ _ _ checking c.check_command.result c.in_ok-command-2.ensures.app c.in_ok-command-2.ensures.below c.check_command.ensures.app first in
     let third = added app_of _ _ _ searching c.propose_command.result c.in_ok-command-3.ensures.app c.in_ok-command-3.ensures.below c.propose_command.ensures.app second in
     let fourth = added app_of _ _ _ running c.run_command.result c.in_ok-command-4.ensures.app c.in_ok-command-4.ensures.below c.run_command.ensures.app third in
-    let fifth = added app_of _ _ _ (one_file (codes "migrate")) c.migrate_command.result c.in_ok-command-5.ensures.app c.in_ok-command-5.ensures.below c.migrate_command.ensures.app fourth in
+    let fifth = added app_of _ _ _ migrating c.migrate_command.result c.in_ok-command-5.ensures.app c.in_ok-command-5.ensures.below c.migrate_command.ensures.app fourth in
     let sixth = added app_of _ _ _ showing c.show_command.result c.in_ok-command-6.ensures.app c.in_ok-command-6.ensures.below c.show_command.ensures.app fifth in
     let seventh = added app_of _ _ _ drawing c.draw_command.result c.in_ok-command-7.ensures.app c.in_ok-command-7.ensures.below c.draw_command.ensures.app sixth in
     let eighth = added app_of _ _ _ refuting c.refute_command.result c.in_ok-command-8.ensures.app c.in_ok-command-8.ensures.below c.refute_command.ensures.app seventh in

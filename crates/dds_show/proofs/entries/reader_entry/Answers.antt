@@ -12,4 +12,4 @@ returns c =
     c.in_ok-qos.ensures ∙ ap (λ partitions. qos_fields x.qos.requested (map string_bytes partitions)) c.as_slice-2.ensures.value in
     let may_lose : c.may_lose_field-may_lose.result.now ≡ may_lose_field c.args.lists.now.version x.may_lose =
     c.may_lose_field-may_lose.ensures ∙ ap (λ version. may_lose_field version x.may_lose) c.version.ensures in
-    rw (c.in_ok-place.ensures, filter, may_lose, qos) at c.format.ensures.ok
+    rw (c.in_ok-place.ensures, filter, may_lose, c.in_ok-spans.ensures, qos) at c.format.ensures.ok

@@ -1,6 +1,6 @@
 use Rattle.std.proofs.Common.{None}
 use Rattle.dds_findings.specs.Answers.{names_of}
-use Rattle.dds_json.specs.declared.style.Style.TheVariants.{Text}
+use Rattle.dds_options.specs.declared.style.Style.TheVariants.{Text}
 use Rattle.dds_tool.proofs.Ending.{memory_fault}
 use Rattle.dds_tool.proofs.commands.find_outcome.Goals as goal
 

@@ -12,4 +12,4 @@ returns c =
     let topic : c.name_at-topic.result.now ≡ name_at d.topics.names x.topic = c.name_at-topic.ensures ∙ ap₂ name_at c.topic_names.ensures c.number.ensures in
     let filter : string_bytes c.in_ok-filter.filter ≡ content_filter name (keys_at d.topics x.topic) x.filter.items =
     c.in_ok-filter.ensures ∙ ap₂ (content_filter name) c.keys.ensures c.as_slice.ensures.value in
-    rw (topic, filter) at c.format.ensures.ok
+    rw (topic, filter, c.in_ok-spans.ensures) at c.format.ensures.ok

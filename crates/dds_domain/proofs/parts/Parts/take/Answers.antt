@@ -10,7 +10,7 @@ use Rattle.dds_domain.specs.View.{view_of}
 use Rattle.dds_domain.proofs.Steps.{Steps, refused_kept, refused_now}
 use Rattle.dds_domain.proofs.StepTake.{take_foreign, take_key, take_limit, take_reader, take_row, takes_none, takes_one}
 use Rattle.dds_domain.proofs.parts.Parts.take.Goals as goal
-use Rattle.dds_domain.proofs.parts.Parts.take.Goals.{After-unwrap, In-None}
+use Rattle.dds_domain.proofs.parts.Parts.take.Goals.{After-note_take-in-Some, In-None}
 
 pub returns-then-not-hears-clause-steps : goal.returns-then-not-hears-clause-steps
 returns-then-not-hears-clause-steps c =
@@ -46,15 +46,15 @@ pub returns-in-None-clause-steps : goal.returns-in-None-clause-steps
 returns-in-None-clause-steps c = (none (goal.at.returns-in-None-clause-steps c).In-None).0
 
 -- a sample is taken
-one : (c : After-unwrap) → Steps (Take c.args.reader c.args.key) c.args.self.now (Took c.in-Some.sample) (record (view_of c.self.inside) { readers = set c.self.inside.readers.items c.number.result c.take.new.self; ledger = c.note_take.new.self })
+one : (c : After-note_take-in-Some) → Steps (Take c.args.reader c.args.key) c.args.self.now (Took c.in-Some.sample) (record (view_of c.self.inside) { readers = set c.self.inside.readers.items c.number.result c.take.new.self; ledger = c.note_take.new.self; flights = c.note_take-in-Some.new.flights.items })
 one c =
     let room : count_at (view_of c.self.inside).ledger.spare c.args.reader c.args.key < 2 ^ 64 - 1 = omega (arith, c.spare.ensures, c.spare.type_inv, c.if-spare.false) in
     let e = c.in-Some.ensures in
     takes_one (view_of c.self.inside) _ c.args.reader c.args.key _ _ _ c.self.view_is c.requires (sym c.if-not-hears.ensures) room c.number.ensures c.index_mut.ensures.value
-    c.in-Some.sample c.note_take.new.self e.answer e.stored e.keys e.marks e.notes e.rest (IfOk-at_ok _ c.unwrap.ensures c.note_take.ensures.world)
+    c.in-Some.sample c.note_take.new.self c.note_take-in-Some.new.flights.items e.answer e.stored e.keys e.marks e.notes e.rest (IfOk-at_ok _ c.unwrap.ensures c.note_take.ensures.world) c.note_take-in-Some.ensures
 
 pub returns-in-Some-clause-steps : goal.returns-in-Some-clause-steps
-returns-in-Some-clause-steps c = (one (goal.at.returns-in-Some-clause-steps c).After-unwrap).0
+returns-in-Some-clause-steps c = (one (goal.at.returns-in-Some-clause-steps c).After-note_take-in-Some).0
 
 -- ── notes
 pub returns-then-not-hears-clause-notes : goal.returns-then-not-hears-clause-notes
@@ -67,4 +67,4 @@ pub returns-in-None-clause-notes : goal.returns-in-None-clause-notes
 returns-in-None-clause-notes c = (none (goal.at.returns-in-None-clause-notes c).In-None).1
 
 pub returns-in-Some-clause-notes : goal.returns-in-Some-clause-notes
-returns-in-Some-clause-notes c = (one (goal.at.returns-in-Some-clause-notes c).After-unwrap).1
+returns-in-Some-clause-notes c = (one (goal.at.returns-in-Some-clause-notes c).After-note_take-in-Some).1

@@ -8,6 +8,9 @@ use Rattle.dds_match.proofs.tables.Tables.of.Goals as goal
 pub mark_reached-requires-clause-hearing : goal.mark_reached-requires-clause-hearing
 mark_reached-requires-clause-hearing c = record { each = only_added _ _ (hears c.args.lists.now) (subst (λ old. AddsMarks old c.mark_filters.new.hearing (hears c.args.lists.now)) c.in_ok-hearing.ensures c.mark_filters.ensures) }
 
+pub capped_of-requires-clause-hearing : goal.capped_of-requires-clause-hearing
+capped_of-requires-clause-hearing c = record { each = only_added _ _ (hears c.args.lists.now) (subst (λ old. AddsMarks old c.mark_filters.new.hearing (hears c.args.lists.now)) c.in_ok-hearing.ensures c.mark_filters.ensures) }
+
 pub returns : goal.returns
 returns c = record {
   reasons = c.in_ok-reasons.ensures;
@@ -16,4 +19,6 @@ returns c = record {
   written = only_added _ _ (is_written (network_of c.args.lists.now)) (subst (λ old. AddsMarks old c.mark_written.new.written (is_written (network_of c.args.lists.now))) c.in_ok-written.ensures c.mark_written.ensures);
   free = only_added _ _ (is_free c.args.lists.now) (subst (λ old. AddsMarks old c.mark_free.new.free (is_free c.args.lists.now)) c.in_ok-free.ensures c.mark_free.ensures);
   neighbours = c.in_ok-neighbours.ensures;
+  writes = c.in_ok-writes.ensures;
+  capped = c.in_ok-capped.ensures;
 }

@@ -1,9 +1,0 @@
-use Rattle.std.proofs.Common.{◌≡◌, map, take}
-use Rattle.dds_match.specs.Plan.{network_of}
-use Rattle.dds_weights.specs.Views.{row_view}
-use Rattle.dds_explain.specs.Margin.{openings}
-use Rattle.dds_explain.proofs.margin.weigh_openings.Given as goal
-
--- what the permits weigh by the rows so far
-abbrev pub invariant-loop-row : goal.invariant-loop-row
-invariant-loop-row l = l.weights.items ≡ openings (network_of l.plan) (map row_view (take l.row-index l.certificate.rows.items))

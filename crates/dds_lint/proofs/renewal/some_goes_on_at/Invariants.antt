@@ -1,0 +1,9 @@
+use Rattle.std.proofs.Common.{◌≡◌}
+use Rattle.dds_base.specs.Sums.{any_below}
+use Rattle.dds_match.specs.Plan.{network_of}
+use Rattle.dds_lint.specs.Renewal.{goes_on_at}
+use Rattle.dds_lint.proofs.renewal.some_goes_on_at.Given as goal
+
+-- whether one of the rules so far goes on and writes there
+abbrev pub invariant-loop-u : goal.invariant-loop-u
+invariant-loop-u l = l.any ≡ any_below l.u (goes_on_at (network_of l.plan) l.writer)

@@ -1,0 +1,34 @@
+-- The kinds of notes, by name.
+use Rattle.std.specs.Prelude.{ℕ, Bool, true, false, List, codes}
+use Rattle.dds_options.specs.declared.kinds.NoteKind.{NoteKind}
+use Rattle.dds_options.specs.declared.kinds.NoteKind.TheVariants as kind
+
+-- the name of a kind
+abbrev pub kind_word : NoteKind → List ℕ
+kind_word kind.Watcher = codes "Watcher"
+kind_word kind.MayLose = codes "MayLose"
+kind_word kind.Unlimited = codes "Unlimited"
+kind_word kind.IdleLimit = codes "IdleLimit"
+kind_word kind.IdleReader = codes "IdleReader"
+kind_word kind.Stalls = codes "Stalls"
+kind_word kind.PaceUnused = codes "PaceUnused"
+kind_word kind.UnwrittenKey = codes "UnwrittenKey"
+kind_word kind.IdleWriter = codes "IdleWriter"
+kind_word kind.UnheardWriter = codes "UnheardWriter"
+kind_word kind.NoRules = codes "NoRules"
+kind_word kind.NoStart = codes "NoStart"
+kind_word kind.NoStrictReader = codes "NoStrictReader"
+kind_word kind.StuckRule = codes "StuckRule"
+kind_word kind.Finite = codes "Finite"
+kind_word kind.LossyTake = codes "LossyTake"
+kind_word kind.UnusedRow = codes "UnusedRow"
+kind_word kind.NeedlessBound = codes "NeedlessBound"
+kind_word kind.NeedlessTotal = codes "NeedlessTotal"
+kind_word kind.Incompatible = codes "Incompatible"
+kind_word kind.HeldUp = codes "HeldUp"
+kind_word kind.LateReader = codes "LateReader"
+
+-- a note of this kind says of a reader what its deployment says itself
+abbrev pub is_declared : NoteKind → Bool
+is_declared kind.MayLose = true
+is_declared _ = false
