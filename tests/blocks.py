@@ -1,12 +1,13 @@
 #!/usr/bin/env python3
-"""Runs what the documents print: README, GUIDE, FORMAT, GUARD, HOSTILE, REAL-DDS, examples/README and the pages of the commands.
+"""Runs what the documents print: README, GUIDE, FORMAT, numbers, GUARD, HOSTILE, run-on-dds, capture, import, examples/README and the pages of the commands.
 
   tests/blocks.py
 
 Of a fenced block with lines `$ COMMAND` each command is run, and has to write what stands below it, to either output. A block of commands alone is run line by line, and
 so is each command in a line of text that names files; each has to end with the status 0, of `refute` also 1. What another block shows is the output of the last command before it. A block of
 TOML has to stand in a file of the examples or of tests/commands, comments apart. A block that is none of these fails, so nothing is printed that
-nothing tests. C is compiled by bridge/guard/test, and what needs Cyclone DDS is run by the tests of bridge/cyclone. Then each pattern has to get a yes with limits that suffice, and
+nothing tests. C of the guard is compiled by bridge/guard/test, and other C and C++ here, with Cyclone DDS's headers; what needs Cyclone DDS is run by the tests of
+bridge/cyclone. Then each pattern has to get a yes with limits that suffice, and
 certificates and pictures of the examples have to be what the program, and Graphviz in the version that made them, makes of their deployments. The last line is 'N passed, M failed'; the
 status is 1 if one failed.
 """
@@ -21,13 +22,17 @@ from pathlib import Path
 sys.dont_write_bytecode = True
 from harness import PROGRAM, ROOT, Skipped, Tally, ddscheck, need_program, run  # noqa: E402
 
-DOCUMENTS = ["README.md", "docs/GUIDE.md", "docs/FORMAT.md", "docs/GUARD.md", "docs/HOSTILE.md", "docs/REAL-DDS.md", "examples/README.md"]
+# pages whose output comes of Cyclone DDS: of these the tests of bridge/cyclone run what isn't run here
+ON_CYCLONE = ["docs/run-on-dds.md", "docs/capture.md"]
+DOCUMENTS = ["README.md", "docs/GUIDE.md", "docs/FORMAT.md", "docs/numbers.md", "docs/GUARD.md", "docs/HOSTILE.md", "examples/README.md", "docs/import.md", *ON_CYCLONE]
 DOCUMENTS += sorted(str(page.relative_to(ROOT)) for page in (ROOT / "docs/commands").glob("*.md"))
 COMMAND = re.compile(r"(?:\./)?ddscheck |cp examples/|(?:bench|tests|tools)/")
 # builds and tests are no commands to try within a test, and what needs Cyclone DDS doesn't run here
 NOT_RUN = re.compile(r"\./test$|\./ddscheck --build$|bridge/|make -C bridge/|\(cd crates/dds_guard_c && rt lib\)$|cc -Iinclude ")
 # what stands for a word in capitals
 STANDS_FOR = {"DEPLOYMENT": "examples/ping/ping.toml", "CERTIFICATE": "examples/ping/ping.cert.toml"}
+# how a fragment is compiled: by which program, with which header of Cyclone DDS and which others
+COMPILED = {"c": ("cc", "dds/dds.h", []), "cpp": ("c++", "ddscxx/dds/dds.hpp", ["chrono", "thread"])}
 # examples whose certificate is what `propose --thorough` prints
 PROPOSED = ["vehicle", "plant", "instrument", "robot"]
 PICTURES = {"docs/ping.svg": "ping"} | {f"examples/{name}/{name}.svg": name for name in PROPOSED}
@@ -124,6 +129,17 @@ def plain_lines(text):
     return [line for line in (re.sub(r"\s*#.*", "", line).rstrip() for line in text.splitlines()) if line]
 
 
+def fault_of_fragment(block):
+    """Lines that call DDS compile with Cyclone DDS's headers."""
+    compiler, header, more = COMPILED[block.language]
+    if shutil.which(compiler) is None or not (Path("/usr/include") / header).exists():
+        return Skipped(f"{block.language} of a document: no {compiler}, or no {header} of Cyclone DDS")
+    headers = "".join(f"#include <{name}>\n" for name in (header.removeprefix("ddscxx/"), *more))
+    words = [compiler, "-fsyntax-only", "-Wall", "-Wextra", "-Werror", "-Wno-unused-function", "-x", {"c": "c", "cpp": "c++"}[block.language], "-"]
+    given = run([*words, "-I/usr/include/ddscxx"], stdin=(headers + "\n".join(block.lines) + "\n").encode())
+    return None if given.status == 0 else str(given)
+
+
 def fault_of_c(block):
     """Lines of C stand in a program of docs/GUARD.md, which bridge/guard/test compiles and runs."""
     tried = {line.strip() for line in (ROOT / "docs/GUARD.md").read_text(encoding="utf-8").splitlines()}
@@ -151,12 +167,14 @@ def read_document(tally, room, document):
             tally.judge(str(block), fault_of_toml, block)
         elif block.lines[0].startswith("$ "):
             tally.judge(str(block), fault_of_session, room, block)
+        elif block.language in COMPILED and document == "docs/GUIDE.md":
+            tally.judge(str(block), fault_of_fragment, block)
         elif block.language == "c":
             tally.judge(str(block), fault_of_c, block)
         elif all(COMMAND.match(line) or NOT_RUN.match(line) for line in block.lines):
             run_commands(tally, room, block)
             last = block.lines[-1]
-        elif document != "docs/REAL-DDS.md":
+        elif document not in ON_CYCLONE:
             tally.judge(str(block), fault_of_output, room, block, last)
             last = None
 

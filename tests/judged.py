@@ -1,4 +1,4 @@
-"""A second reading of the answers of `ddscheck check`: the first condition of docs/FORMAT.md that fails, by sums of its own.
+"""A second reading of the answers of `ddscheck check`: the first condition of docs/numbers.md that fails, by sums of its own.
 
 Both files are read by Python's TOML parser, the deployment as tests/shown.py reads it. From the built program come, by `match`, which endpoints match, which
 tests/drawn.py decides a second time. tests/explained.py holds the built program against it.

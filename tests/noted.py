@@ -1,4 +1,4 @@
-"""A second reading of notes of `lint`: those on pairs of endpoints, on readers that stall, on writers that nobody hears and on paces, as docs/FORMAT.md defines them.
+"""A second reading of notes of `lint`: those on pairs of endpoints, on readers that stall, on writers that nobody hears and on paces, as docs/numbers.md defines them.
 
 A deployment is read as tests/judged.py reads it. tests/linted.py holds the built program against it.
 """

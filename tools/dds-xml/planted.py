@@ -1,7 +1,7 @@
-"""What some files of `cases` have to become: a reading of their lines by hand, beside docs/FORMAT.md and docs/REAL-DDS.md.
+"""What some files of `cases` have to become: a reading of their lines by hand, beside docs/FORMAT.md and docs/import.md.
 
 Each thing that a deployment can't say has its line and element here, below the heading that says what this means, and why it can't. The words that
-the import says then are those of docs/REAL-DDS.md; the paths are found by Python's reader of XML, and not by the import's.
+the import says then are those of docs/import.md; the paths are found by Python's reader of XML, and not by the import's.
 """
 
 from __future__ import annotations
