@@ -6,6 +6,7 @@ _ddscheck() {
     "check --format") COMPREPLY=($(compgen -W "text json" -- "$word")); return ;;
     "propose --format") COMPREPLY=($(compgen -W "text json" -- "$word")); return ;;
     "run --format") COMPREPLY=($(compgen -W "text json" -- "$word")); return ;;
+    "migrate --to") COMPREPLY=($(compgen -W "2 3 4" -- "$word")); return ;;
     "show --format") COMPREPLY=($(compgen -W "json dds-xml" -- "$word")); return ;;
     "refute --format") COMPREPLY=($(compgen -W "text json" -- "$word")); return ;;
     "replay --format") COMPREPLY=($(compgen -W "text json" -- "$word")); return ;;
@@ -24,7 +25,7 @@ _ddscheck() {
     check) options="--explain --format -h --help" ;;
     propose) options="--thorough --seconds --format -h --help" ;;
     run) options="--fates --writes --takes --idle-ok --explain --format -h --help" ;;
-    migrate) options="-h --help" ;;
+    migrate) options="--to -h --help" ;;
     show) options="--format -h --help" ;;
     draw) options="-h --help" ;;
     refute) options="--seconds --format -h --help" ;;

@@ -10,7 +10,7 @@ _ddscheck() {
             'check:Checks a certificate of a deployment'
             'propose:Looks for a certificate of a deployment'
             'run:Runs a deployment that a certificate shows to be safe'
-            'migrate:Prints a deployment file of version 1 as one of version 2'
+            'migrate:Prints a deployment file as one of a later version'
             'show:Prints a deployment as it was read, with every field'
             'draw:Prints a picture of a deployment, for Graphviz'
             'refute:Looks for a run of a deployment that loses a sample'
@@ -55,6 +55,7 @@ _ddscheck() {
                 '1:deployment:_files -g "*.toml"' \
                 '2:certificate:_files -g "*.toml"' ;;
             migrate) _arguments \
+                '--to[The version that it'\''s to have: 2, 3 or 4 \[default: 2\]]:VERSION:(2 3 4)' \
                 '-h[Print help]' \
                 '--help[Print help]' \
                 '1:deployment:_files -g "*.toml"' ;;
