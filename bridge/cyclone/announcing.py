@@ -7,6 +7,8 @@ import threading
 ALIVE, TO_PARTICIPANTS = 0x000100C2, 0x000100C7
 # the writers and readers of discovery that tell of writers, and those that tell of readers
 SECTIONS = {"writer": (0x000003C2, 0x000003C7), "reader": (0x000004C2, 0x000004C7)}
+# what an endpoint is, by whether its type has no keys
+ENTITIES = {("writer", False): 0x02, ("writer", True): 0x03, ("reader", False): 0x07, ("reader", True): 0x04}
 FIRST_PORT, OF_DOMAIN, OF_PARTICIPANT = 7410, 250, 2
 LISTENERS = 4
 # none of a vendor
@@ -36,10 +38,11 @@ def locator(port):
 
 
 class Participant:
-    """One with endpoints, each of which is a kind and what is said of it: `topic`, `type` and `name` are bytes or None, `partitions` is a list of bytes."""
+    """One with endpoints, each of which is a kind and what is said of it: `topic`, `type` and `name` are bytes or None, `partitions` is a list of bytes, and
+    `keyless` says that its type has no keys."""
 
-    def __init__(self, number, endpoints, name=None, properties=()):
-        self.prefix = VENDOR + struct.pack(">QH", 0x1122334455667788, number)
+    def __init__(self, number, endpoints, name=None, properties=(), vendor=VENDOR):
+        self.prefix = vendor + struct.pack(">QH", 0x1122334455667788, number)
         self._endpoints, self._name, self._properties = endpoints, name, properties
 
     def messages(self, port):
@@ -72,7 +75,7 @@ class Participant:
         return said
 
     def _endpoint(self, kind, at, end):
-        said = parameter(0x5A, self.prefix + struct.pack(">I", (at + 1) << 8 | (0x02 if kind == "writer" else 0x07)))
+        said = parameter(0x5A, self.prefix + struct.pack(">I", (at + 1) << 8 | ENTITIES[kind, bool(end.get("keyless"))]))
         for number, field in ((0x05, "topic"), (0x07, "type"), (0x62, "name")):
             if end.get(field) is not None:
                 said += parameter(number, text(end[field]))

@@ -2,211 +2,137 @@
 #include "fault.h"
 #include "json.h"
 #include "names.h"
+#include "order.h"
 
 #include <stdlib.h>
 #include <string.h>
 
-// ── an order that is the same each time
-
-static int by_text(const char *one, const char *other)
-{
-    // what has no name comes last
-    return one == NULL || other == NULL ? (one == NULL) - (other == NULL) : strcmp(one, other);
-}
-
-static int by_participant(const void *one, const void *other)
-{
-    const struct seen_participant *a = one, *b = other;
-    if (a->domain != b->domain) {
-        return a->domain < b->domain ? -1 : 1;
-    }
-    int order = by_text(a->name, b->name);
-    return order != 0 ? order : memcmp(&a->key, &b->key, sizeof a->key);
-}
-
-static int by_endpoint(const void *one, const void *other)
-{
-    const struct seen_endpoint *a = one, *b = other;
-    if (a->domain != b->domain) {
-        return a->domain < b->domain ? -1 : 1;
-    }
-    int order = by_text(a->name, b->name);
-    order = order != 0 ? order : strcmp(a->topic, b->topic);
-    return order != 0 ? order : memcmp(&a->key, &b->key, sizeof a->key);
-}
-
 // ── what changes
 
-// Lines about an entry. `close_notes` gives them.
-struct notes {
-    FILE *out;
-    char *text;
-    size_t size;
-};
-
-static void open_notes(struct notes *notes)
-{
-    notes->out = open_memstream(&notes->text, &notes->size);
-    if (notes->out == NULL) {
-        fail(STATUS_DDS, "memory ran out");
-    }
-}
-
-static char *close_notes(struct notes *notes)
-{
-    if (fclose(notes->out) != 0) {
-        fail(STATUS_DDS, "memory ran out");
-    }
-    return notes->text;
-}
-
 // Notes that a text is another one on the wire, where that is so.
-static void note_change(struct notes *notes, const char *what, const char *heard, const char *written)
+static void note_change(FILE *notes, const char *what, const char *heard, const char *written)
 {
     if (strcmp(heard, written) != 0) {
-        fprintf(notes->out, "# %s on the wire: ", what);
-        print_quoted(notes->out, heard);
-        fputc('\n', notes->out);
+        fprintf(notes, "# %s on the wire: ", what);
+        print_quoted(notes, heard);
+        fputc('\n', notes);
     }
 }
 
-// A name of a section for what was heard. The section keeps it.
-static const char *name_for(struct names *names, const char *heard, struct notes *notes)
+// Notes at the first of several that can't be told apart how many these are.
+static void note_alike(FILE *notes, int count)
 {
-    char *spelled = spell(heard, NAME_BYTES, MOST_NAME);
-    const char *found = add_name(names, spelled);
+    if (count > 1) {
+        fprintf(notes, "# this and the %d after it are announced alike, so nothing tells which is which\n", count - 1);
+    }
+}
+
+// A name of a section for what was heard: that itself, or where another one has it already, with the participant before it. The section keeps it.
+static const char *name_for(struct names *names, const char *heard, const char *participant, FILE *notes)
+{
+    char *spelled = spell(heard, NAME_BYTES, MOST_NAME), longer[2 * MOST_NAME + 2];
+    snprintf(longer, sizeof longer, "%s.%s", participant != NULL ? participant : spelled, spelled);
+    const char *found = add_name(names, spelled, participant != NULL ? longer : spelled);
     note_change(notes, "name", heard, found);
     free(spelled);
     return found;
 }
 
-static void tell_cut(struct captured *captured, const char *what, int count, int most)
-{
-    fprintf(stderr, "capture: of %d %s the file has room for %d; the others are left out\n", count, what, most);
-    captured->is_cut = true;
-}
-
 // ── the sections
 
 struct sections {
-    struct seen *seen;
+    const struct seen *seen;
     struct captured *captured;
     struct names participants, topics, writers, readers;
-    // the place of each participant that was heard, -1 where it has none
-    int *place;
-    // what was heard of each topic
-    const struct seen_endpoint *topic[MOST_ENDPOINTS];
+    // the places of the participants and topics that were heard
+    int *participant_place, *topic_place;
+    FILE *cuts;
 };
 
-static bool is_same(const dds_guid_t *one, const dds_guid_t *other)
+// How many in a row are alike from this one on, and 0 where the one before it is like it, too.
+static int alike_participants(const struct seen *seen, int first)
 {
-    return memcmp(one, other, sizeof *one) == 0;
-}
-
-// Whether it is the participant of an endpoint. Domains number theirs by themselves.
-static bool is_owner(const struct seen_participant *participant, const struct seen_endpoint *end)
-{
-    return participant->domain == end->domain && is_same(&participant->key, &end->participant);
-}
-
-static int owner_of(const struct seen *seen, const struct seen_endpoint *end)
-{
-    for (int at = 0; at < seen->participants; at++) {
-        if (is_owner(&seen->participant[at], end)) {
-            return at;
-        }
+    int count = 1;
+    if (first > 0 && are_participants_alike(&seen->participant[first - 1], &seen->participant[first])) {
+        return 0;
     }
-    return -1;
+    while (first + count < seen->participants && are_participants_alike(&seen->participant[first], &seen->participant[first + count])) {
+        count++;
+    }
+    return count;
 }
 
-// Adds the participants of which only endpoints were heard.
-static void add_silent_owners(struct seen *seen)
+static int alike_endpoints(const struct seen_participant *owner, const struct seen_endpoint *first)
 {
-    for (int at = 0; at < seen->endpoints; at++) {
-        const struct seen_endpoint *end = &seen->endpoint[at];
-        if (owner_of(seen, end) < 0) {
-            seen->participant = realloc(seen->participant, (size_t)(seen->participants + 1) * sizeof *seen->participant);
-            if (seen->participant == NULL) {
-                fail(STATUS_DDS, "memory ran out");
-            }
-            seen->participant[seen->participants++] = (struct seen_participant){.key = end->participant, .domain = end->domain};
+    int at = (int)(first - owner->endpoint), count = 1;
+    if (at > 0 && are_endpoints_alike(first - 1, first)) {
+        return 0;
+    }
+    while (at + count < owner->endpoints && are_endpoints_alike(first, first + count)) {
+        count++;
+    }
+    return count;
+}
+
+static void place_participants(struct sections *sections)
+{
+    struct captured *captured = sections->captured;
+    int unnamed = 0;
+    for (int at = 0; at < sections->seen->participants; at++) {
+        const struct seen_participant *heard = &sections->seen->participant[at];
+        if (!captured->choice.is_participant_kept[at]) {
+            continue;
         }
+        int place = captured->lists.participants++;
+        FILE *notes = open_text(&captured->participant_notes[place]);
+        char number[16];
+        snprintf(number, sizeof number, "p%d", unnamed + 1);
+        unnamed += heard->name == NULL;
+        const char *name = heard->name != NULL ? name_for(&sections->participants, heard->name, NULL, notes) : add_name(&sections->participants, number, number);
+        captured->lists.participant[place] = (struct participant){.name = name, .domain = heard->domain};
+        note_alike(notes, alike_participants(sections->seen, at));
+        close_text(notes);
+        sections->participant_place[at] = place;
     }
 }
 
-static bool has_endpoint(const struct seen *seen, const struct seen_participant *participant)
+static bool has_keys(const struct heard_topic *topic)
 {
-    for (int at = 0; at < seen->endpoints; at++) {
-        if (is_owner(participant, &seen->endpoint[at])) {
+    for (int at = 0; at < topic->endpoints; at++) {
+        if (topic->endpoint[at]->end->has_keys) {
             return true;
         }
     }
     return false;
 }
 
-static void place_participant(struct sections *sections, int number)
+static void place_topics(struct sections *sections)
 {
     struct captured *captured = sections->captured;
-    const struct seen_participant *heard = &sections->seen->participant[number];
-    int place = captured->lists.participants++;
-    struct notes notes;
-    open_notes(&notes);
-    char unnamed[16];
-    snprintf(unnamed, sizeof unnamed, "p%d", place + 1);
-    const char *name = heard->name != NULL ? name_for(&sections->participants, heard->name, &notes) : add_name(&sections->participants, unnamed);
-    captured->lists.participant[place] = (struct participant){.name = name, .domain = heard->domain};
-    captured->participant_notes[place] = close_notes(&notes);
-    sections->place[number] = place;
-}
-
-// All participants, or where they are too many first those with endpoints.
-static void place_participants(struct sections *sections)
-{
-    struct seen *seen = sections->seen;
-    struct captured *captured = sections->captured;
-    bool are_many = seen->participants > MOST_PARTICIPANTS;
-    sections->place = room((unsigned long)seen->participants, sizeof *sections->place);
-    for (int at = 0; at < seen->participants; at++) {
-        sections->place[at] = -1;
-        if (captured->lists.participants < MOST_PARTICIPANTS && (!are_many || has_endpoint(seen, &seen->participant[at]))) {
-            place_participant(sections, at);
+    for (int at = 0; at < captured->choice.topics; at++) {
+        const struct heard_topic *heard = &captured->choice.topic[at];
+        if (!heard->is_kept) {
+            continue;
         }
-    }
-    if (captured->lists.participants < seen->participants) {
-        tell_cut(captured, "participants", seen->participants, captured->lists.participants);
+        const struct seen_endpoint *end = heard->endpoint[0]->end;
+        int place = captured->lists.topics++;
+        FILE *notes = open_text(&captured->topic_notes[place]);
+        const char *name = name_for(&sections->topics, end->topic, NULL, notes);
+        char *type = spell(*end->type != '\0' ? end->type : "_", TYPE_BYTES, MOST_TYPE);
+        captured->lists.topic[place] = (struct topic){.name = name, .type = type, .keys = !has_keys(heard), .key = {"key"}};
+        note_change(notes, "type", end->type, type);
+        close_text(notes);
+        sections->topic_place[at] = place;
     }
 }
 
-// The place of an endpoint's topic, which is one of a name and a type: -1 where there is no room for it.
-static int place_topic(struct sections *sections, const struct seen_endpoint *end)
+static void place_partitions(const struct seen_endpoint *heard, struct policies *policies, struct sections *sections, FILE *notes)
 {
-    struct captured *captured = sections->captured;
-    for (int at = 0; at < captured->lists.topics; at++) {
-        if (strcmp(sections->topic[at]->topic, end->topic) == 0 && strcmp(sections->topic[at]->type, end->type) == 0) {
-            return at;
-        }
-    }
-    if (captured->lists.topics == MOST_ENDPOINTS) {
-        return -1;
-    }
-    int place = captured->lists.topics++;
-    struct topic *topic = &captured->lists.topic[place];
-    char *type = spell_type(end->type);
-    struct notes notes;
-    open_notes(&notes);
-    *topic = (struct topic){.name = name_for(&sections->topics, end->topic, &notes), .type = type, .keys = 1, .key = {"key"}};
-    note_change(&notes, "type", end->type, type);
-    captured->topic_notes[place] = close_notes(&notes);
-    sections->topic[place] = end;
-    return place;
-}
-
-static void place_partitions(const struct seen_endpoint *heard, struct policies *policies, struct captured *captured, struct notes *notes)
-{
-    for (uint32_t at = 0; at < heard->partitions; at++) {
+    for (int at = 0; at < heard->partitions; at++) {
         if (policies->partitions == MOST_PARTITIONS) {
-            fprintf(notes->out, "# on the wire it has %u partitions\n", heard->partitions);
-            tell_cut(captured, "partitions of an endpoint", (int)heard->partitions, MOST_PARTITIONS);
+            fprintf(notes, "# on the wire it has %d partitions\n", heard->partitions);
+            fprintf(sections->cuts, "the list of partitions of an endpoint is full: %d were heard, and a file has at most %d\n", heard->partitions,
+                    MOST_PARTITIONS);
             return;
         }
         char *name = spell(heard->partition[at], PARTITION_BYTES, MOST_NAME);
@@ -215,57 +141,58 @@ static void place_partitions(const struct seen_endpoint *heard, struct policies 
     }
 }
 
-// What an endpoint is called that has no name: by its participant and its topic, as far as there is room.
+// A name for an endpoint that has none: its participant and its topic, and where another one has that already its first partition, too, as far as there is room.
 static const char *name_by_topic(struct sections *sections, const struct endpoint *end, bool is_writer)
 {
     const struct deployment *lists = &sections->captured->lists;
-    char text[2 * MOST_NAME + 8];
-    int length = snprintf(text, sizeof text, "%s.%s", lists->participant[end->participant].name, lists->topic[end->topic].name);
-    int kept = length > MOST_NAME - 2 ? MOST_NAME - 2 : length;
-    snprintf(text + kept, sizeof text - (size_t)kept, "%s", is_writer ? ".w" : ".r");
-    return add_name(is_writer ? &sections->writers : &sections->readers, text);
+    const char *participant = lists->participant[end->participant].name, *topic = lists->topic[end->topic].name, *kind = is_writer ? ".w" : ".r";
+    char text[2 * MOST_NAME + 8], longer[3 * MOST_NAME + 8];
+    int length = snprintf(text, sizeof text, "%s.%s", participant, topic), kept = length > MOST_NAME - 2 ? MOST_NAME - 2 : length;
+    char *partition = spell(end->policies.partitions > 0 ? end->policies.partition[0] : "", NAME_BYTES, MOST_NAME);
+    snprintf(longer, sizeof longer, "%.*s%s%s%s", kept, text, *partition != '\0' ? "." : "", partition, kind);
+    snprintf(text + kept, sizeof text - (size_t)kept, "%s", kind);
+    free(partition);
+    return add_name(is_writer ? &sections->writers : &sections->readers, text, longer);
 }
 
-static void place_endpoint(struct sections *sections, const struct seen_endpoint *heard)
+static void place_endpoint(struct sections *sections, const struct heard_endpoint *one)
 {
     struct captured *captured = sections->captured;
     struct deployment *lists = &captured->lists;
-    int *count = heard->is_writer ? &lists->writers : &lists->readers;
-    int owner = sections->place[owner_of(sections->seen, heard)];
-    int topic = owner < 0 || *count == MOST_ENDPOINTS ? -1 : place_topic(sections, heard);
-    if (topic < 0) {
-        return;
-    }
-    struct endpoint *end = &(heard->is_writer ? lists->writer : lists->reader)[*count];
-    struct notes notes;
-    open_notes(&notes);
-    *end = (struct endpoint){.participant = owner, .topic = topic, .application = owner, .may_lose = !heard->is_writer, .policies = heard->policies};
-    end->name = heard->name != NULL ? name_for(heard->is_writer ? &sections->writers : &sections->readers, heard->name, &notes)
-                                    : name_by_topic(sections, end, heard->is_writer);
-    place_partitions(heard, &end->policies, captured, &notes);
-    (heard->is_writer ? captured->writer_notes : captured->reader_notes)[(*count)++] = close_notes(&notes);
+    const struct seen_endpoint *heard = one->end;
+    int owner = sections->participant_place[one->participant], place = heard->is_writer ? lists->writers++ : lists->readers++;
+    struct endpoint *end = heard->is_writer ? &lists->writer[place] : &lists->reader[place];
+    struct names *names = heard->is_writer ? &sections->writers : &sections->readers;
+    FILE *notes = open_text(heard->is_writer ? &captured->writer_notes[place] : &captured->reader_notes[place]);
+    *end = (struct endpoint){.participant = owner, .topic = sections->topic_place[one->topic], .application = owner, .may_lose = !heard->is_writer,
+                             .policies = heard->policies};
+    place_partitions(heard, &end->policies, sections, notes);
+    end->name = heard->name != NULL ? name_for(names, heard->name, lists->participant[owner].name, notes) : name_by_topic(sections, end, heard->is_writer);
+    note_alike(notes, alike_endpoints(&sections->seen->participant[one->participant], heard));
+    close_text(notes);
 }
 
-static void place_endpoints(struct sections *sections)
+// Tells which lists are full, and which topics aren't there for that.
+static void tell_cuts(const struct choice *choice, FILE *cuts)
 {
-    const struct seen *seen = sections->seen;
-    const struct deployment *lists = &sections->captured->lists;
-    int writers = 0;
-    for (int at = 0; at < seen->endpoints; at++) {
-        writers += seen->endpoint[at].is_writer;
-        place_endpoint(sections, &seen->endpoint[at]);
+    for (int list = 0; list < LISTS; list++) {
+        if (choice->is_full[list]) {
+            fprintf(cuts, "the list of %s is full: %d were heard, and a file has at most %d\n", LIST_NAME[list], choice->heard[list], LIST_MOST[list]);
+        }
     }
-    if (lists->writers < writers) {
-        tell_cut(sections->captured, "writers", writers, lists->writers);
+    if (choice->most_topics < MOST_ENDPOINTS) {
+        fprintf(cuts, "the file is full, which has at most %d bytes\n", MOST_TEXT);
     }
-    if (lists->readers < seen->endpoints - writers) {
-        tell_cut(sections->captured, "readers", seen->endpoints - writers, lists->readers);
+    if (choice->kept[TOPIC_LIST] < choice->topics) {
+        fprintf(cuts, "%d of %d topics are left out, those with the fewest endpoints; --topics, --exclude or fewer domains leave room for others\n",
+                choice->topics - choice->kept[TOPIC_LIST], choice->topics);
     }
 }
 
-struct captured *capture_of(struct seen *seen)
+static struct captured *empty_capture(const struct seen *seen, int most_topics)
 {
     struct captured *captured = room(1, sizeof *captured);
+    captured->choice = choice_of(seen, most_topics);
     captured->lists.participant = room(MOST_PARTICIPANTS, sizeof *captured->lists.participant);
     captured->lists.topic = room(MOST_ENDPOINTS, sizeof *captured->lists.topic);
     captured->lists.writer = room(MOST_ENDPOINTS, sizeof *captured->lists.writer);
@@ -274,16 +201,26 @@ struct captured *capture_of(struct seen *seen)
     captured->topic_notes = room(MOST_ENDPOINTS, sizeof *captured->topic_notes);
     captured->writer_notes = room(MOST_ENDPOINTS, sizeof *captured->writer_notes);
     captured->reader_notes = room(MOST_ENDPOINTS, sizeof *captured->reader_notes);
-    add_silent_owners(seen);
-    if (seen->participants > 0) {
-        qsort(seen->participant, (size_t)seen->participants, sizeof *seen->participant, by_participant);
-    }
-    if (seen->endpoints > 0) {
-        qsort(seen->endpoint, (size_t)seen->endpoints, sizeof *seen->endpoint, by_endpoint);
-    }
-    struct sections sections = {.seen = seen, .captured = captured};
+    return captured;
+}
+
+struct captured *capture_of(const struct seen *seen, int most_topics)
+{
+    struct captured *captured = empty_capture(seen, most_topics);
+    struct sections sections = {.seen = seen, .captured = captured, .cuts = open_text(&captured->cuts)};
+    sections.participant_place = room((unsigned long)seen->participants, sizeof *sections.participant_place);
+    sections.topic_place = room((unsigned long)captured->choice.topics, sizeof *sections.topic_place);
+    tell_cuts(&captured->choice, sections.cuts);
     place_participants(&sections);
-    place_endpoints(&sections);
-    free(sections.place);
+    place_topics(&sections);
+    for (int at = 0; at < captured->choice.endpoints; at++) {
+        const struct heard_endpoint *one = &captured->choice.endpoint[at];
+        if (captured->choice.topic[one->topic].is_kept) {
+            place_endpoint(&sections, one);
+        }
+    }
+    close_text(sections.cuts);
+    free(sections.participant_place);
+    free(sections.topic_place);
     return captured;
 }

@@ -66,8 +66,7 @@ static struct policies read_policies(const cJSON *entry)
     return found;
 }
 
-// Whether the depth and the limits go together (OMG DDS 1.4, clauses 2.2.3.18 and 2.2.3.19): an instance's limit is within that of all, and the depth within it.
-static bool is_consistent(const struct policies *policies)
+bool is_consistent(const struct policies *policies)
 {
     int each = policies->max_samples_per_instance, all = policies->max_samples;
     return each == UNLIMITED || ((all == UNLIMITED || each <= all) && (policies->history == 1 || policies->depth <= each));

@@ -97,6 +97,9 @@ bool is_free(const struct deployment *lists, int writer, int key);
 // A reader that may miss samples: a best-effort one, or one that may lose.
 bool is_watcher(const struct endpoint *reader);
 
+// Whether the depth and the limits go together (OMG DDS 1.4, clauses 2.2.3.18 and 2.2.3.19): an instance's limit is within that of all, and the depth within it.
+bool is_consistent(const struct policies *policies);
+
 // The limit for one instance of a reader, `UNLIMITED` where it has none.
 int instance_limit(const struct policies *policies);
 

@@ -30,6 +30,24 @@ void *room(unsigned long count, unsigned long size)
     return found;
 }
 
+FILE *open_text(char **text)
+{
+    // texts have no zero, so nobody asks how long they are
+    static size_t size;
+    FILE *found = open_memstream(text, &size);
+    if (found == NULL) {
+        fail(STATUS_DDS, "memory ran out");
+    }
+    return found;
+}
+
+void close_text(FILE *stream)
+{
+    if (fclose(stream) != 0) {
+        fail(STATUS_DDS, "memory ran out");
+    }
+}
+
 void guard_output(void)
 {
     signal(SIGPIPE, SIG_IGN);

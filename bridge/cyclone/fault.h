@@ -2,6 +2,8 @@
 #ifndef FAULT_H
 #define FAULT_H
 
+#include <stdio.h>
+
 enum { STATUS_YES = 0, STATUS_NO = 1, STATUS_FILE = 2, STATUS_DDS = 3, STATUS_USAGE = 4 };
 
 // Tells of a fault on standard error and ends the program with this status.
@@ -12,6 +14,10 @@ void guard_output(void);
 
 // Writes out what was printed. Gives the status, or that of a fault, after a line on standard error, where the output failed.
 int checked_output(int status);
+
+// A stream whose text the caller has once it is closed, or the end of the program.
+FILE *open_text(char **text);
+void close_text(FILE *stream);
 
 // Memory that is zero, or the end of the program.
 void *room(unsigned long count, unsigned long size);

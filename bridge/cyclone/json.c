@@ -10,12 +10,8 @@
 
 // ── the document
 
-static char *whole_file(const char *path, size_t *length)
+char *stream_bytes(FILE *file, const char *path, size_t *length)
 {
-    FILE *file = fopen(path, "rb");
-    if (file == NULL) {
-        fail(STATUS_FILE, "%s does not open: %s", path, strerror(errno));
-    }
     char *bytes = NULL;
     size_t space = 0;
     *length = 0;
@@ -94,8 +90,12 @@ static uint64_t fingerprint_of(const char *bytes, size_t length)
 
 const cJSON *read_document(const char *path, uint64_t *fingerprint)
 {
+    FILE *file = fopen(path, "rb");
+    if (file == NULL) {
+        fail(STATUS_FILE, "%s does not open: %s", path, strerror(errno));
+    }
     size_t length;
-    char *bytes = whole_file(path, &length);
+    char *bytes = stream_bytes(file, path, &length);
     const cJSON *document;
     const char *why;
     if (!parse_document(bytes, length, &document, &why)) {

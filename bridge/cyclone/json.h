@@ -6,6 +6,7 @@
 #include <stdbool.h>
 #include <stddef.h>
 #include <stdint.h>
+#include <stdio.h>
 
 enum { MOST_NAME = 64, MOST_TYPE = 256 };
 // The longest document of a deployment file of 1,048,576 bytes has about half as many bytes, and a quarter as many values.
@@ -13,6 +14,9 @@ enum { MOST_BYTES = 16777216, MOST_VALUES = 1000000 };
 
 // A document of at most so many bytes and values, with nothing after it. Its texts live as long as the program.
 const cJSON *read_document(const char *path, uint64_t *fingerprint);
+
+// All bytes of a stream, which is closed then, and one byte more of room.
+char *stream_bytes(FILE *file, const char *path, size_t *length);
 
 // The same of bytes at hand, after which there is one byte more of room. False where they are no document; `why` then says in what way.
 bool parse_document(char *bytes, size_t length, const cJSON **document, const char **why);

@@ -28,7 +28,8 @@ static const char *ros_part(const char *type)
     return is_last && type[length - 1] == '_' ? found : NULL;
 }
 
-char *spell_type(const char *type)
+// The name with `/` for `::` and without what ROS 2 adds. The caller frees it.
+static char *plain_type(const char *type)
 {
     const char *part = ros_part(type);
     size_t length = strlen(type), written = 0;
@@ -46,9 +47,16 @@ char *spell_type(const char *type)
     }
     // the `_` at the end goes with `dds_`
     found[part != NULL ? written - 1 : written] = '\0';
-    char *spelled = spell(*found != '\0' ? found : "_", NAME_BYTES, MOST_TYPE);
-    free(found);
-    return spelled;
+    return found;
+}
+
+bool is_same_type(const char *one, const char *other)
+{
+    char *plain = plain_type(one), *plain_other = plain_type(other);
+    bool is_same = strcmp(plain, plain_other) == 0;
+    free(plain);
+    free(plain_other);
+    return is_same;
 }
 
 static bool is_there(const struct names *names, const char *name)
@@ -61,12 +69,16 @@ static bool is_there(const struct names *names, const char *name)
     return false;
 }
 
-const char *add_name(struct names *names, const char *text)
+const char *add_name(struct names *names, const char *text, const char *longer)
 {
     char name[MOST_NAME + 1];
     const char *wanted = *text != '\0' ? text : "_";
+    snprintf(name, sizeof name, "%s", wanted);
+    if (is_there(names, name) && *longer != '\0') {
+        wanted = longer;
+        snprintf(name, sizeof name, "%s", wanted);
+    }
     int length = (int)strnlen(wanted, MOST_NAME);
-    snprintf(name, sizeof name, "%.*s", length, wanted);
     for (int number = 2; is_there(names, name); number++) {
         char end[16];
         int more = snprintf(end, sizeof end, "-%d", number), kept = length + more > MOST_NAME ? MOST_NAME - more : length;

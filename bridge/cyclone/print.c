@@ -1,44 +1,26 @@
 #include "print.h"
 #include "fault.h"
 #include "matching.h"
+#include "names.h"
+#include "policy.h"
 
-#include <inttypes.h>
 #include <stdio.h>
 #include <stdlib.h>
 #include <string.h>
 
-// What is printed: with comments or without, and so many connections and endpoints at most.
+// What is printed: with comments or without, and so many connections at most.
 struct form {
+    const struct printing *printing;
     bool has_comments;
-    int connections, writers, readers;
+    int connections, pairs;
 };
 
-static const char *const WRITER_NOTE = "# not announced: history, depth, resource limits, keys\n";
-static const char *const READER_NOTE = "# not announced: history, depth, resource limits, filter, keys\n";
-
-static void print_word(FILE *out, const char *field, const char *const *words, int value, int absent)
-{
-    if (value != absent) {
-        fprintf(out, "%s = \"%s\"\n", field, words[value]);
-    }
-}
+// ── policies
 
 static void print_true(FILE *out, const char *field, bool value)
 {
     if (value) {
         fprintf(out, "%s = true\n", field);
-    }
-}
-
-static void print_span(FILE *out, const char *field, int64_t value, int64_t absent)
-{
-    if (value == absent) {
-        return;
-    }
-    if (value == FOREVER) {
-        fprintf(out, "%s = \"infinite\"\n", field);
-    } else {
-        fprintf(out, "%s = %" PRId64 "\n", field, value);
     }
 }
 
@@ -52,22 +34,27 @@ static void print_partitions(FILE *out, const struct policies *policies)
     }
 }
 
-// The policies that discovery announces, where they aren't the defaults of the file.
-static void print_policies(FILE *out, const struct policies *policies, bool is_writer)
+// The policies that aren't the defaults of the file, and all that discovery doesn't tell.
+static void print_policies(FILE *out, const struct policies *policies, bool is_writer, const struct form *form)
 {
-    print_word(out, "durability", DURABILITY, policies->durability, 0);
-    print_word(out, "access_scope", ACCESS_SCOPE, policies->access_scope, 0);
-    print_true(out, "coherent", policies->coherent);
-    print_true(out, "ordered", policies->ordered);
-    print_span(out, "deadline", policies->deadline, FOREVER);
-    print_span(out, "latency_budget", policies->latency_budget, 0);
-    print_word(out, "ownership", OWNERSHIP, policies->ownership, 0);
-    print_word(out, "liveliness", LIVELINESS, policies->liveliness, 0);
-    print_span(out, "lease", policies->lease, FOREVER);
-    print_word(out, "reliability", RELIABILITY, policies->reliability, is_writer);
-    print_word(out, "destination_order", DESTINATION_ORDER, policies->destination_order, 0);
+    const struct assumption *assumption = form->printing->assumption;
+    struct policies usual = default_policies(is_writer), filled = assumption != NULL ? assumed_policies(policies, assumption) : *policies;
+    for (int policy = 0; policy < POLICIES; policy++) {
+        int64_t told = policy_value(policies, policy), value = policy_value(&filled, policy);
+        if (told == policy_value(&usual, policy)) {
+            continue;
+        }
+        fprintf(out, "%s = ", POLICY_NAME[policy]);
+        print_value(out, policy, value);
+        if (told != value && form->has_comments) {
+            fprintf(out, " # not announced; the default of %s", assumption->name);
+        }
+        fputc('\n', out);
+    }
     print_partitions(out, policies);
 }
+
+// ── sections
 
 static void print_participants(FILE *out, const struct captured *captured, const struct form *form)
 {
@@ -78,27 +65,55 @@ static void print_participants(FILE *out, const struct captured *captured, const
     }
 }
 
+// A topic without key fields has one instance.
+static void print_keys(FILE *out, const struct topic *topic, const struct form *form)
+{
+    if (topic->keys == 0 && form->printing->assumption == NULL) {
+        fputs("keys = [\"?\"]\n", out);
+    } else if (!form->has_comments) {
+        fprintf(out, "keys = [\"%s\"]\n", topic->key[0]);
+    } else {
+        fprintf(out, "keys = [\"%s\"] # %s\n", topic->key[0],
+                topic->keys > 0 ? "its type has no key fields, so it has one instance" : "not announced; write a name for each instance in its place");
+    }
+}
+
 static void print_topics(FILE *out, const struct captured *captured, const struct form *form)
 {
     for (int at = 0; at < captured->lists.topics; at++) {
         const struct topic *one = &captured->lists.topic[at];
         const char *notes = form->has_comments ? captured->topic_notes[at] : "";
-        fprintf(out, "\n%s[[topics]]\nname = \"%s\"\ntype = \"%s\"\nkeys = [\"%s\"]\n", notes, one->name, one->type, one->key[0]);
+        fprintf(out, "\n%s[[topics]]\nname = \"%s\"\ntype = \"%s\"\n", notes, one->name, one->type);
+        print_keys(out, one, form);
+    }
+}
+
+// A filter goes by keys, so there is none where there are no keys.
+static void print_filter(FILE *out, const struct topic *topic, const struct form *form)
+{
+    if (topic->keys > 0) {
+        return;
+    }
+    if (form->printing->assumption == NULL) {
+        fputs("filter = \"?\"\n", out);
+    } else if (form->has_comments) {
+        fprintf(out, "# filter: none, which isn't announced but the default of %s\n", form->printing->assumption->name);
     }
 }
 
 static void print_endpoints(FILE *out, const struct captured *captured, const struct form *form, bool is_writer)
 {
     const struct deployment *lists = &captured->lists;
-    for (int at = 0; at < (is_writer ? form->writers : form->readers); at++) {
+    for (int at = 0; at < (is_writer ? lists->writers : lists->readers); at++) {
         const struct endpoint *one = is_writer ? &lists->writer[at] : &lists->reader[at];
-        if (form->has_comments) {
-            fprintf(out, "\n%s%s", (is_writer ? captured->writer_notes : captured->reader_notes)[at], is_writer ? WRITER_NOTE : READER_NOTE);
+        const char *notes = !form->has_comments ? "" : is_writer ? captured->writer_notes[at] : captured->reader_notes[at];
+        fprintf(out, "\n%s[[%s]]\nname = \"%s\"\nparticipant = \"%s\"\ntopic = \"%s\"\n", notes, is_writer ? "writers" : "readers", one->name,
+                lists->participant[one->participant].name, lists->topic[one->topic].name);
+        if (!is_writer) {
+            print_filter(out, &lists->topic[one->topic], form);
         }
-        fprintf(out, "%s[[%s]]\nname = \"%s\"\nparticipant = \"%s\"\ntopic = \"%s\"\n", form->has_comments ? "" : "\n", is_writer ? "writers" : "readers",
-                one->name, lists->participant[one->participant].name, lists->topic[one->topic].name);
         print_true(out, "may_lose", one->may_lose);
-        print_policies(out, &one->policies, is_writer);
+        print_policies(out, &one->policies, is_writer, form);
     }
 }
 
@@ -116,104 +131,176 @@ static void print_owned(FILE *out, const char *field, const struct endpoint *end
     fputs("]\n", out);
 }
 
-static void print_applications(FILE *out, const struct deployment *lists, const struct form *form)
+static void print_applications(FILE *out, const struct deployment *lists)
 {
     for (int at = 0; at < lists->participants; at++) {
         const char *name = lists->participant[at].name;
         fprintf(out, "\n[[applications]]\nname = \"%s\"\nparticipant = \"%s\"\n", name, name);
-        print_owned(out, "writers", lists->writer, form->writers, at);
-        print_owned(out, "readers", lists->reader, form->readers, at);
+        print_owned(out, "writers", lists->writer, lists->writers, at);
+        print_owned(out, "readers", lists->reader, lists->readers, at);
     }
 }
 
-static void print_rules(FILE *out, const struct deployment *lists, const struct form *form)
+static void print_rules(FILE *out, const struct deployment *lists)
 {
-    for (int at = 0; at < form->writers; at++) {
+    for (int at = 0; at < lists->writers; at++) {
         const struct endpoint *one = &lists->writer[at];
         fprintf(out, "\n[[rules]]\nname = \"%s\"\napplication = \"%s\"\neach = true\nwrites = [{ writer = \"%s\", count = 1 }]\nstart = \"unlimited\"\n", one->name,
                 lists->participant[one->participant].name, one->name);
     }
 }
 
-// Prints the pairs that match, as many as the form allows, in one list, which has to stand before all tables. Gives how many there are.
-static int print_connections(FILE *out, const struct deployment *lists, const struct form *form)
+// Prints the pairs that match, as many as the form allows, in one list, which has to stand before all tables, and counts all of them.
+static void print_connections(FILE *out, const struct deployment *lists, struct form *form)
 {
-    int count = 0;
-    for (int at = 0; at < form->writers * form->readers; at++) {
-        const struct endpoint *writer = &lists->writer[at / form->readers], *reader = &lists->reader[at % form->readers];
-        if (do_match(lists, writer, reader) && count++ < form->connections) {
-            fprintf(out, "%s  { writer = \"%s\", reader = \"%s\" },\n", count == 1 ? "connections = [\n" : "", writer->name, reader->name);
+    form->pairs = 0;
+    for (int at = 0; at < lists->writers * lists->readers; at++) {
+        const struct endpoint *writer = &lists->writer[at / lists->readers], *reader = &lists->reader[at % lists->readers];
+        if (do_match(lists, writer, reader) && form->pairs++ < form->connections) {
+            fprintf(out, "%s  { writer = \"%s\", reader = \"%s\" },\n", form->pairs == 1 ? "connections = [\n" : "", writer->name, reader->name);
         }
     }
-    if (count > 0 && form->connections > 0) {
+    if (form->pairs > 0 && form->connections > 0) {
         fputs("]\n", out);
     }
-    return count;
 }
 
-// A text in this form. Gives how many pairs match in it.
-static int print_form(const struct captured *captured, const char *heading, const struct form *form, char **text, size_t *size)
+// ── the heading
+
+static void print_patterns(FILE *out, const char *what, const struct patterns *patterns)
 {
-    FILE *out = open_memstream(text, size);
-    if (out == NULL) {
-        fail(STATUS_DDS, "memory ran out");
+    for (int at = 0; at < patterns->count; at++) {
+        fputs(at == 0 ? what : ", ", out);
+        print_quoted(out, patterns->pattern[at]);
     }
-    fprintf(out, "%sversion = 3\n", heading);
-    int pairs = print_connections(out, &captured->lists, form);
+    if (patterns->count > 0) {
+        fputc('\n', out);
+    }
+}
+
+// Each of the topics that there is no room for.
+static void print_left(FILE *out, const struct choice *choice)
+{
+    for (int at = 0; at < choice->topics; at++) {
+        const struct heard_topic *topic = &choice->topic[at];
+        if (!topic->is_kept) {
+            fputs("#   ", out);
+            print_quoted(out, topic->endpoint[0]->end->topic);
+            fprintf(out, " (writers: %d, readers: %d)\n", topic->writers, topic->endpoints - topic->writers);
+        }
+    }
+}
+
+// Says of a file in which something isn't what that is.
+static void print_cuts(FILE *out, const struct captured *captured, const struct form *form)
+{
+    fputs("# INCOMPLETE: this isn't the whole system, and no command reads the file as long as the entry `incomplete` stands here\n", out);
+    for (const char *line = captured->cuts; *line != '\0'; line += strcspn(line, "\n") + 1) {
+        fprintf(out, "# %.*s\n", (int)strcspn(line, "\n"), line);
+    }
+    if (form->connections < form->pairs) {
+        fprintf(out, "# the file is full, so of %d connections it has %d\n", form->pairs, form->connections);
+    }
+    if (form->has_comments) {
+        print_left(out, &captured->choice);
+    }
+}
+
+static bool is_incomplete(const struct captured *captured, const struct form *form)
+{
+    return *captured->cuts != '\0' || form->connections < form->pairs;
+}
+
+// Whether a `"?"` stands for something.
+static bool has_untold(const struct deployment *lists)
+{
+    bool found = false;
+    for (int at = 0; at < lists->topics; at++) {
+        found = found || lists->topic[at].keys == 0;
+    }
+    for (int at = 0; at < lists->writers + lists->readers; at++) {
+        const struct endpoint *one = at < lists->writers ? &lists->writer[at] : &lists->reader[at - lists->writers];
+        found = found || one->policies.history == UNTOLD || one->policies.max_samples == UNTOLD;
+    }
+    return found;
+}
+
+static void print_heading(FILE *out, const struct captured *captured, const struct form *form)
+{
+    const struct printing *printing = form->printing;
+    if (is_incomplete(captured, form)) {
+        print_cuts(out, captured, form);
+    }
+    fputs("# captured by bridge/cyclone; the connections are the pairs whose policies match\n", out);
+    if (printing->assumption != NULL) {
+        fprintf(out, "# what discovery doesn't tell is assumed to be as %s has it by default\n", printing->assumption->name);
+    } else if (has_untold(&captured->lists)) {
+        fputs("# \"?\" stands for what discovery doesn't tell: no command reads the file before something else stands there\n", out);
+    }
+    print_patterns(out, "# only topics that match ", &printing->asked->topics);
+    print_patterns(out, "# without topics that match ", &printing->asked->excluded);
+    if (printing->unasked > 0) {
+        fputs("# without what each node of ROS 2 has: its parameter services, rt/rosout and rt/parameter_events\n", out);
+    }
+    fprintf(out, "%sversion = 3\n", is_incomplete(captured, form) ? "incomplete = true\n" : "");
+}
+
+// ── the text
+
+// A text in this form, which then knows how many pairs match.
+static char *form_text(const struct captured *captured, struct form *form)
+{
+    char *text, *connections;
+    FILE *list = open_text(&connections);
+    print_connections(list, &captured->lists, form);
+    close_text(list);
+    FILE *out = open_text(&text);
+    print_heading(out, captured, form);
+    fputs(connections, out);
+    free(connections);
     print_participants(out, captured, form);
     print_topics(out, captured, form);
     print_endpoints(out, captured, form, true);
     print_endpoints(out, captured, form, false);
-    print_applications(out, &captured->lists, form);
-    print_rules(out, &captured->lists, form);
-    if (fclose(out) != 0) {
-        fail(STATUS_DDS, "memory ran out");
-    }
-    return pairs;
+    print_applications(out, &captured->lists);
+    print_rules(out, &captured->lists);
+    close_text(out);
+    return text;
 }
 
-// Leaves out what makes a text of this size too long: first comments, then connections, then a quarter of the endpoints.
-static void shorten(struct form *form, int pairs, size_t size)
+// Leaves out what makes a text of this size too long: first comments, then connections.
+static void shorten(struct form *form, size_t size)
 {
     if (form->has_comments) {
         form->has_comments = false;
-    } else if (form->connections > 0) {
-        // about as many as the text is too long by, and some more, so that it ends soon
-        int left = form->connections < pairs ? form->connections : pairs, fitting = (int)((double)left * MOST_TEXT / (double)size) - left / 64 - 1;
-        form->connections = fitting > 0 ? fitting : 0;
-    } else {
-        form->writers -= (form->writers + 3) / 4;
-        form->readers -= (form->readers + 3) / 4;
-    }
-}
-
-static void tell_shortened(struct captured *captured, const struct form *form, int pairs)
-{
-    if (form->has_comments) {
         return;
     }
-    captured->is_cut = true;
-    fprintf(stderr, "capture: a file has at most %d bytes, so comments are left out\n", MOST_TEXT);
-    if (form->connections < pairs) {
-        fprintf(stderr, "capture: of %d connections the file has room for %d; the others are left out\n", pairs, form->connections);
-    }
-    if (form->writers < captured->lists.writers || form->readers < captured->lists.readers) {
-        fprintf(stderr, "capture: the file has room for %d writers and %d readers; the others are left out\n", form->writers, form->readers);
-    }
+    // about as many as the text is too long by, and some more, so that it ends soon
+    int left = form->connections < form->pairs ? form->connections : form->pairs, fitting = (int)((double)left * MOST_TEXT / (double)size) - left / 64 - 1;
+    form->connections = fitting > 0 ? fitting : 0;
 }
 
-char *deployment_text(struct captured *captured, const char *heading)
+char *deployment_text(struct captured *captured, const struct printing *printing)
 {
-    struct form form = {.has_comments = true, .connections = MOST_ENDPOINTS * MOST_ENDPOINTS, .writers = captured->lists.writers,
-                        .readers = captured->lists.readers};
-    char *text;
-    size_t size;
-    int pairs = print_form(captured, heading, &form, &text, &size);
-    while (size > MOST_TEXT) {
-        shorten(&form, pairs, size);
+    struct form form = {.printing = printing, .has_comments = true, .connections = MOST_ENDPOINTS * MOST_ENDPOINTS};
+    char *text = form_text(captured, &form);
+    size_t size = strlen(text);
+    while (size > MOST_TEXT && (form.has_comments || form.connections > 0)) {
+        shorten(&form, size);
         free(text);
-        pairs = print_form(captured, heading, &form, &text, &size);
+        text = form_text(captured, &form);
+        size = strlen(text);
     }
-    tell_shortened(captured, &form, pairs);
+    if (size > MOST_TEXT) {
+        free(text);
+        return NULL;
+    }
+    if (!form.has_comments) {
+        fprintf(stderr, "capture: a file has at most %d bytes, so comments are left out\n", MOST_TEXT);
+    }
+    if (form.connections < form.pairs) {
+        fprintf(stderr, "capture: the file is full, so of %d connections it has %d\n", form.pairs, form.connections);
+    }
+    captured->is_incomplete = is_incomplete(captured, &form);
     return text;
 }

@@ -2,13 +2,19 @@
 #ifndef PRINT_H
 #define PRINT_H
 
+#include "assume.h"
 #include "captured.h"
 
-// The greatest file.
-enum { MOST_TEXT = 1048576 };
+// What was asked for, what stands for what discovery doesn't tell, `"?"` where that is NULL, and how many endpoints each node of ROS 2 has were left out.
+struct printing {
+    const struct asked *asked;
+    const struct assumption *assumption;
+    int unasked;
+};
 
-// The text of a file of version 3: with an application for each participant that has endpoints, a free rule for each writer, and as connections the pairs that match. Where it
-// would be too long its comments are left out, then connections and then endpoints, which is said on standard error. The caller frees it.
-char *deployment_text(struct captured *captured, const char *heading);
+// The text of a file of version 3: with an application for each participant, a free rule for each writer, and as connections the pairs that match. Where it would be
+// too long its comments are left out, and then connections, which is said on standard error; NULL where even that isn't enough. Where something but comments isn't
+// there, it is a file that no command reads. The caller frees it.
+char *deployment_text(struct captured *captured, const struct printing *printing);
 
 #endif

@@ -1,8 +1,8 @@
 #include "seen.h"
 #include "change.h"
 #include "fault.h"
+#include "policy.h"
 
-#include <fnmatch.h>
 #include <signal.h>
 #include <stdlib.h>
 #include <string.h>
@@ -43,8 +43,7 @@ static char *copy_of(const char *text)
 // What isn't announced stays as the default of its kind of endpoint.
 static struct policies policies_of(const dds_qos_t *qos, bool is_writer)
 {
-    struct policies found = {.deadline = FOREVER, .lease = FOREVER, .reliability = is_writer, .depth = 1, .max_samples = UNLIMITED, .max_instances = UNLIMITED,
-                             .max_samples_per_instance = UNLIMITED};
+    struct policies found = default_policies(is_writer);
     dds_durability_kind_t durability;
     dds_presentation_access_scope_kind_t scope;
     dds_ownership_kind_t ownership;
@@ -73,6 +72,36 @@ static struct policies policies_of(const dds_qos_t *qos, bool is_writer)
         found.destination_order = (int)order;
     }
     return found;
+}
+
+static bool is_count(int number)
+{
+    return number >= 1 || number == UNLIMITED;
+}
+
+// Cyclone announces history and limits that aren't its defaults. Other vendors may: what isn't Cyclone's default was announced, and all else is untold, as is what no
+// endpoint can have.
+static void add_cache(struct policies *found, const dds_qos_t *qos, const dds_guid_t *key)
+{
+    static const uint8_t CYCLONE[] = {0x01, 0x10};
+    bool is_cyclone = memcmp(key->v, CYCLONE, sizeof CYCLONE) == 0;
+    struct policies told = *found;
+    dds_history_kind_t history = DDS_HISTORY_KEEP_LAST;
+    bool has_history = dds_qget_history(qos, &history, &told.depth);
+    told.history = (int)history;
+    told.depth = told.history == DDS_HISTORY_KEEP_LAST ? told.depth : 1;
+    bool has_limits = dds_qget_resource_limits(qos, &told.max_samples, &told.max_instances, &told.max_samples_per_instance);
+    has_history = has_history && (is_cyclone || told.history != found->history || told.depth != found->depth);
+    has_limits = has_limits && (is_cyclone || told.max_samples != UNLIMITED || told.max_instances != UNLIMITED || told.max_samples_per_instance != UNLIMITED);
+    bool are_counts = told.depth >= 1 && is_count(told.max_samples) && is_count(told.max_instances) && is_count(told.max_samples_per_instance);
+    bool is_possible = are_counts && is_consistent(&told);
+    if (!has_history || !is_possible) {
+        told.history = told.depth = UNTOLD;
+    }
+    if (!has_limits || !is_possible) {
+        told.max_samples = told.max_instances = told.max_samples_per_instance = UNTOLD;
+    }
+    *found = told;
 }
 
 // The name that goes along with an entity, NULL where there is none.
@@ -105,6 +134,37 @@ static void add_participant(struct seen *seen, uint32_t domain, const dds_builti
     seen->participant[seen->participants++] = (struct seen_participant){.key = heard->key, .domain = domain, .name = participant_name(heard->qos)};
 }
 
+static int by_text(const void *one, const void *other)
+{
+    return strcmp(*(char *const *)one, *(char *const *)other);
+}
+
+// The partitions, without those that come again. No partition and one without a name are the same.
+static void add_partitions(struct seen_endpoint *found, const dds_qos_t *qos)
+{
+    uint32_t count = 0;
+    dds_qget_partition(qos, &count, &found->partition);
+    if (count > 0) {
+        qsort(found->partition, count, sizeof *found->partition, by_text);
+    }
+    for (uint32_t at = 0; at < count; at++) {
+        if (found->partitions == 0 || strcmp(found->partition[found->partitions - 1], found->partition[at]) != 0) {
+            found->partition[found->partitions++] = found->partition[at];
+        }
+    }
+    if (found->partitions == 1 && *found->partition[0] == '\0') {
+        found->partitions = 0;
+    }
+}
+
+// Whether the type has keys, which the last byte of a GUID tells (DDSI-RTPS 2.5, clause 9.3.1.2).
+static bool has_keys(const dds_guid_t *key)
+{
+    enum { KIND = 0x3f, WRITER_WITHOUT = 0x03, READER_WITHOUT = 0x04 };
+    int kind = key->v[sizeof key->v - 1] & KIND;
+    return kind != WRITER_WITHOUT && kind != READER_WITHOUT;
+}
+
 static void add_endpoint(struct seen *seen, uint32_t domain, bool is_writer, const dds_builtintopic_endpoint_t *heard)
 {
     seen->endpoint = one_more(seen->endpoint, seen->endpoints, sizeof *seen->endpoint);
@@ -114,22 +174,14 @@ static void add_endpoint(struct seen *seen, uint32_t domain, bool is_writer, con
         .participant = heard->participant_key,
         .domain = domain,
         .is_writer = is_writer,
+        .has_keys = has_keys(&heard->key),
         .topic = copy_of(heard->topic_name),
         .type = copy_of(heard->type_name),
         .name = entity_name(heard->qos),
         .policies = policies_of(heard->qos, is_writer),
     };
-    dds_qget_partition(heard->qos, &found->partitions, &found->partition);
-}
-
-static bool is_asked_for(const struct listening *listening, const char *topic)
-{
-    for (int at = 0; at < listening->patterns; at++) {
-        if (fnmatch(listening->pattern[at], topic, 0) == 0) {
-            return true;
-        }
-    }
-    return listening->patterns == 0;
+    add_cache(&found->policies, heard->qos, &heard->key);
+    add_partitions(found, heard->qos);
 }
 
 enum kind { PARTICIPANTS, WRITERS, READERS };
@@ -147,7 +199,7 @@ static bool is_own(const struct ear *ear, const dds_guid_t *key)
     return memcmp(&ear->self, key, sizeof *key) == 0;
 }
 
-static void note(struct seen *seen, const struct listening *listening, const struct ear *ear, const void *sample, const dds_sample_info_t *about)
+static void note(struct seen *seen, struct asked *asked, const struct ear *ear, const void *sample, const dds_sample_info_t *about)
 {
     bool is_there = about->instance_state == DDS_IST_ALIVE;
     if (!about->valid_data) {
@@ -160,7 +212,11 @@ static void note(struct seen *seen, const struct listening *listening, const str
         }
     } else {
         const dds_builtintopic_endpoint_t *heard = sample;
-        if (is_own(ear, &heard->participant_key) || !is_asked_for(listening, heard->topic_name)) {
+        if (is_own(ear, &heard->participant_key)) {
+            return;
+        }
+        asked->is_ros = asked->is_ros || is_of_ros(heard->topic_name);
+        if (!is_by_pattern(asked, heard->topic_name)) {
             return;
         }
         if (is_there) {
@@ -171,7 +227,7 @@ static void note(struct seen *seen, const struct listening *listening, const str
     }
 }
 
-static void take_all(struct seen *seen, const struct listening *listening, const struct ear *ear)
+static void take_all(struct seen *seen, struct asked *asked, const struct ear *ear)
 {
     void *sample[AT_ONCE];
     dds_sample_info_t about[AT_ONCE];
@@ -180,7 +236,7 @@ static void take_all(struct seen *seen, const struct listening *listening, const
         memset(sample, 0, sizeof sample);
         count = dds_take(ear->reader, sample, about, AT_ONCE, AT_ONCE);
         for (int at = 0; at < count; at++) {
-            note(seen, listening, ear, sample[at], &about[at]);
+            note(seen, asked, ear, sample[at], &about[at]);
         }
         if (count > 0) {
             dds_return_loan(ear->reader, sample, count);
@@ -207,16 +263,29 @@ static void open_ears(uint32_t domain, struct ear *ears)
     }
 }
 
-struct seen *listen_to(const struct listening *listening)
+// Leaves out what isn't asked for of a system of ROS 2, which is known once all was heard.
+static void leave_unasked(struct seen *seen, const struct asked *asked)
 {
-    int count = listening->domains * (READERS + 1);
+    int kept = 0;
+    for (int at = 0; at < seen->endpoints; at++) {
+        if (is_asked_for(asked, seen->endpoint[at].topic)) {
+            seen->endpoint[kept++] = seen->endpoint[at];
+        }
+    }
+    seen->unasked = seen->endpoints - kept;
+    seen->endpoints = kept;
+}
+
+struct seen *listen_to(struct asked *asked, int64_t nanoseconds)
+{
+    int count = asked->domains * (READERS + 1);
     struct ear *ears = room((unsigned long)count, sizeof *ears);
     signal(SIGINT, interrupt);
     signal(SIGTERM, interrupt);
-    for (int at = 0; at < listening->domains; at++) {
-        open_ears(listening->domain[at], &ears[at * (READERS + 1)]);
+    for (int at = 0; at < asked->domains; at++) {
+        open_ears(asked->domain[at], &ears[at * (READERS + 1)]);
     }
-    int64_t until = now() + listening->nanoseconds;
+    int64_t until = now() + nanoseconds;
     while (now() < until && !is_interrupted) {
         sleep_for(20000000);
     }
@@ -225,8 +294,9 @@ struct seen *listen_to(const struct listening *listening)
     signal(SIGTERM, SIG_DFL);
     struct seen *seen = room(1, sizeof *seen);
     for (int at = 0; at < count; at++) {
-        take_all(seen, listening, &ears[at]);
+        take_all(seen, asked, &ears[at]);
     }
+    leave_unasked(seen, asked);
     free(ears);
     return seen;
 }

@@ -2,44 +2,43 @@
 #ifndef SEEN_H
 #define SEEN_H
 
+#include "asked.h"
 #include "deployment.h"
 
 #include <dds/dds.h>
+
+struct seen_endpoint;
 
 struct seen_participant {
     dds_guid_t key;
     uint32_t domain;
     // that of its process where it has none, and NULL where that isn't known
     char *name;
+    // its endpoints, once they are in order
+    int endpoints;
+    const struct seen_endpoint *endpoint;
 };
 
 struct seen_endpoint {
     dds_guid_t key, participant;
     uint32_t domain;
-    bool is_writer;
+    bool is_writer, has_keys;
     // the name is NULL where it has none
     char *topic, *type, *name;
-    // without partitions, which stand below as they were sent
+    // without partitions, which stand below, each once and in order
     struct policies policies;
-    uint32_t partitions;
+    int partitions;
     char **partition;
 };
 
+// `left` counts the endpoints that were there before the end, and `unasked` those that each node of ROS 2 has, where these don't count.
 struct seen {
-    int participants, endpoints, left;
+    int participants, endpoints, left, unasked;
     struct seen_participant *participant;
     struct seen_endpoint *endpoint;
 };
 
-// Which domains are listened to, for how long, and endpoints of which topics count: all where there is no pattern.
-struct listening {
-    int domains, patterns;
-    const uint32_t *domain;
-    const char *const *pattern;
-    int64_t nanoseconds;
-};
-
-// Listens, until the time is over or the user interrupts it, and gives what is there at the end. `left` counts the endpoints that were there before.
-struct seen *listen_to(const struct listening *listening);
+// Listens, until the time is over or the user interrupts it, and gives what is there at the end. Where a topic of ROS 2 was heard, that is noted in what is asked for.
+struct seen *listen_to(struct asked *asked, int64_t nanoseconds);
 
 #endif
