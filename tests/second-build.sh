@@ -38,6 +38,7 @@ compile() {
     done
     cd "$room/ddscheck" || return 1
     "$kit/bin/rattle" build --crate-name ddscheck src/main.rt --extern "std=$kit/rlibs/std.rlib" -L "dependency=$kit/rlibs" \
+        --extern "dds_options=$here/crates/dds_options/out/rlib/dds_options.rlib" \
         --extern "dds_answers=$here/crates/dds_answers/out/rlib/dds_answers.rlib" \
         --extern "dds_tool=$here/crates/dds_tool/out/rlib/dds_tool.rlib" "$@" --antt-project "$kit/rattle/logic/antt-project.json" \
         --logic-built "$kit/logic_built" --links ddscheck= --toolchain "$kit/toolchain" --backend llvm -o "$room/ddscheck.o"
