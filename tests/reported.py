@@ -1,0 +1,442 @@
+"""What is wrong with a page of `tools/report`, by what the program prints and the documents say.
+
+`tests/reports.py` uses it. Limits are also those of tests/shown.py.
+"""
+import hashlib
+import json
+import re
+import shutil
+import sys
+from itertools import takewhile
+from pathlib import Path
+
+sys.dont_write_bytecode = True
+from harness import ROOT, Skipped, ddscheck, run  # noqa: E402
+from paged import rows_of  # noqa: E402
+from shown import lists_of  # noqa: E402
+
+SECTIONS = [
+    "evidence",
+    "reason",
+    "run",
+    "proved",
+    "premises",
+    "room",
+    "notes",
+    "matches",
+    "endpoints",
+    "picture",
+    "trace",
+    "words",
+    "unchecked",
+]
+
+
+# What each page owes
+
+
+def fault_of_tidy(text):
+    """What Debian's `tidy` says of a page."""
+    if shutil.which("tidy") is None:
+        return Skipped("tidy, which checks HTML, isn't installed")
+    given = run(["tidy", "-q", "-e"], stdin=text.encode())
+    return None if given.status == 0 and not given.err else given.err[:300]
+
+
+def fault_of_form(page):
+    """What is wrong with a page for those who don't see it: headings, names, links; or what it loads."""
+    levels = [int(node.tag[1]) for node in page.all("h1", "h2", "h3")]
+    ids = [node.attributes["id"] for node in page.every() if "id" in node.attributes]
+    links = [node.attributes["href"] for node in page.all("a") if "href" in node.attributes]
+    forbidden = [node.tag for node in page.all("script", "link", "iframe", "img", "object", "embed", "base", "form")]
+    tables = [table for table in page.all("table")]
+    faults = {
+        "headings": levels.count(1) != 1 or any(after > before + 1 for before, after in zip(levels, levels[1:])),
+        "ids": len(set(ids)) != len(ids),
+        "links": any(not link.startswith("#") or link[1:] not in ids for link in links),
+        "what is loaded": forbidden or re.search(r"url\(|@import", " ".join(style.text for style in page.all("style"))),
+        "handlers": [name for node in page.every() for name in node.attributes if name.startswith("on")],
+        "captions": any(not next(table.all("caption"), None) for table in tables),
+        "scopes": any(
+            cell.attributes.get("scope") not in ("row", "col") for table in tables for cell in table.all("th")
+        ),
+        "pictures": any(
+            not svg.attributes.get("aria-label") and not next(svg.all("title"), None) for svg in page.all("svg")
+        ),
+        "language": next(page.all("html")).attributes.get("lang") != "en",
+    }
+    return ", ".join(what for what, is_wrong in faults.items() if is_wrong) or None
+
+
+def fault_of_order(page, optional):
+    """What is wrong with the sections: each is there in its order, and what was not checked is the last."""
+    found = [node.attributes["id"] for node in page.all("section")]
+    left_out = {"reason", "run", "trace"} - set(optional)
+    owed = [name for name in SECTIONS if name not in left_out]
+    return None if found == owed else f"sections {found} in place of {owed}"
+
+
+# The program's answers
+
+
+class Answer:
+    """What the program prints as text of a deployment and a certificate."""
+
+    def __init__(self, deployment, certificate, allow=None):
+        self.lists = lists_of(Path(deployment))
+        self.check = ddscheck("check", deployment, certificate, "--explain").out.splitlines()
+        self.document = json.loads(ddscheck("check", deployment, certificate, "--format", "json").out)
+        self.findings = json.loads(ddscheck("lint", deployment, certificate, "--format", "json").out)["findings"]
+        self.needs = json.loads(ddscheck("limits", deployment, "--seconds", "2", "--format", "json").out)["needs"]
+        self.matches = ddscheck("match", deployment).out.splitlines()
+        self.allowed = allow.split(",") if allow else []
+
+    @property
+    def is_yes(self):
+        return self.check[0] == "yes"
+
+    def keys_of(self, end):
+        reader = next((reader for reader in self.lists["readers"] if reader["name"] == end), None)
+        if reader:
+            return reader["filter"]
+        writer = next(writer for writer in self.lists["writers"] if writer["name"] == end)
+        return next(topic["keys"] for topic in self.lists["topics"] if topic["name"] == writer["topic"])
+
+    def watchers(self):
+        return {r["name"] for r in self.lists["readers"] if r["reliability"] == "BEST_EFFORT" or r.get("may_lose")}
+
+    def limit(self, end, key):
+        """The limit of a key, or of all keys where it's none, by the second reading."""
+        found = next(e for e in self.lists["readers"] + self.lists["writers"] if e["name"] == end)
+        named = (
+            "max_samples" if key is None else "depth" if found["history"] == "KEEP_LAST" else "max_samples_per_instance"
+        )
+        return None if found[named] == "unlimited" else (named, found[named])
+
+    def bounds(self):
+        """Each number by endpoint and key: the certificate's bound of a strict reader, else that of `limits`."""
+        found = {}
+        for need in self.needs:
+            end = need["subject"].get("reader") or need["subject"]["writer"]
+            found["writer" in need["subject"], end, need["subject"].get("key")] = need["bound"]
+        if self.is_yes:
+            for entry in self.document["bounds"] + self.document["totals"]:
+                found[False, entry["reader"], entry.get("key")] = entry["bound"]
+        return {where: bound for where, bound in found.items() if where[0] or where[1] not in self.watchers()}
+
+
+def keys_in(cell, end, answer):
+    """The keys that a cell stands for."""
+    if cell == "all keys":
+        return [None]
+    return answer.keys_of(end) if cell.startswith("each of all ") else cell.split(", ")
+
+
+def found_bounds(page, answer):
+    """The rows of the table of limits: each endpoint and key with its bound, its limit and the room that is left."""
+    for table in page.by_id("room").of_class("room"):
+        for end, keys, limit, bound, left, _, by in rows_of(table):
+            number, _, most = bound.partition(" of ")
+            kind = " writer of " in end
+            for key in keys_in(keys, end.split(" ")[0], answer):
+                yield (kind, end.split(" ")[0], key), (
+                    number.replace(",", ""),
+                    limit,
+                    int(most.replace(",", "")),
+                    left.replace(",", ""),
+                    by,
+                )
+
+
+def fault_of_bounds(page, answer):
+    """What is wrong with the bounds: each stands beside its limit, tightest first, and is the program's."""
+    found, bounds = dict(found_bounds(page, answer)), answer.bounds()
+    owed = {where: bound for where, bound in bounds.items() if answer.limit(where[1], where[2])}
+    if set(found) != set(owed):
+        return f"limits of {sorted(set(found) ^ set(owed), key=str)[:4]}"
+    entries = answer.document["bounds"] + answer.document["totals"] if answer.is_yes else []
+    certified = {(False, entry["reader"], entry.get("key")) for entry in entries}
+    for where, (number, named, most, left, by) in found.items():
+        if (number, (named, most)) != (str(owed[where]), answer.limit(*where[1:])):
+            return f"{where}: {number} of {named} {most}, not {owed[where]} of {answer.limit(*where[1:])}"
+        if isinstance(owed[where], int) and left != str(most - owed[where]) and left != f"{owed[where] - most} too few":
+            return f"{where}: {left} left"
+        if by != ("certificate" if where in certified else "limits"):
+            return f"{where}: by {by}"
+    ratios = [int(number) / most if number.isdigit() else float("inf") for number, _, most, *_ in found.values()]
+    return None if ratios == sorted(ratios, reverse=True) else f"not the tightest first: {ratios[:9]}"
+
+
+def owed_of_room(rows, high, is_yes):
+    """What the words about room have to say of the rows of a table; nothing where that's of no form here."""
+    limits = f"{len(rows)} limit{'s' * (len(rows) > 1)}"
+    if not is_yes:
+        cut = sum(row[3].startswith("unknown") for row in rows)
+        more = f", and the search for {cut} was cut off" if cut else ""
+        return f"Not proved. ddscheck limits finds {high or 'none'} of {limits} too low{more}."
+    full = sum(row[4] == "0" for row in rows)
+    return f"0 to spare at {full} of {limits}: that's enough as long as every premise holds." if full else ""
+
+
+def fault_of_room(page, answer):
+    """What is wrong with the words about room: a number above its limit is called that, and what is full suffices."""
+    table = next(iter(page.by_id("room").of_class("room")), None)
+    if table is None:
+        return None
+    subjects = [need["subject"] for need in answer.needs if need.get("limit", {}).get("too_low")]
+    too_low = {(subject.get("reader") or subject["writer"], subject.get("key")) for subject in subjects}
+    rows, high = rows_of(table), 0
+    for end, keys, _, _, _, least, by in rows:
+        is_high = (end.split(" ")[0], keys_in(keys, end.split(" ")[0], answer)[0]) in too_low
+        is_number = least.partition(",")[0].isdigit()
+        if least.endswith(", above the limit") != (is_high and is_number and by == "limits") or "too low" in least:
+            return f"{end} {keys}: {least}"
+        high += is_high
+    said, asked = page.by_id("room").of_class("lead")[0].words, page.of_class("answers")[0].words
+    if not said.startswith(owed_of_room(rows, high, answer.is_yes)) or said not in asked:
+        return said
+    caption = next(table.all("caption")).words
+    is_ordered = len({row[3] for row in rows}) > 1 and len({ratio_of(row[3]) for row in rows}) > 1
+    return None if caption.endswith(", tightest first") == is_ordered else caption
+
+
+def ratio_of(told):
+    number, _, most = told.replace(",", "").partition(" of ")
+    return int(number) / int(most) if number.isdigit() else float("inf")
+
+
+def fault_of_unlimited(page, answer):
+    """What is wrong with the readers that have no limit, and with the watchers."""
+    tables = {table.all("caption").__next__().words: rows_of(table) for table in page.by_id("room").all("table")}
+    watchers = next((rows for caption, rows in tables.items() if caption.startswith("Watchers")), [])
+    if {row[0] for row in watchers} != answer.watchers():
+        return f"watchers {watchers}"
+    unlimited = next((rows for caption, rows in tables.items() if caption.startswith("Strict readers without")), [])
+    bounds = answer.bounds()
+    limited = {end for is_writer, end, key in bounds if not is_writer and answer.limit(end, key)}
+    free = {end for is_writer, end, key in bounds if not is_writer} - limited
+    if not free <= {row[0].split(" ")[0] for row in unlimited}:
+        return f"unlimited {unlimited}, not {free}"
+    for end, keys, certified, least, *_ in unlimited:
+        end, shown = end.split(" ")[0], least if certified == "–" else certified
+        if any(str(bounds[False, end, key]) != shown.replace(",", "") for key in keys_in(keys, end, answer)):
+            return f"{end} {keys}: {shown}"
+    return None
+
+
+def fault_of_verdict(page, answer):
+    """What is wrong with the verdict, the reason of a no, and the premises of a yes."""
+    verdict = page.of_class("verdict")[0].words
+    shown = "No The run below keeps the rules and loses a sample: " if page.by_id("run") else "No Condition"
+    if not verdict.startswith("Yes In no run" if answer.is_yes else shown):
+        return verdict
+    count = sum(state_owed(finding, answer.allowed) == "open" for finding in answer.findings)
+    notes = f"{count:,} open note{'s' * (count != 1)} to decide before signing."
+    if (notes in verdict) != (answer.is_yes and count > 0):
+        return f"{verdict}, not {notes}"
+    asked = page.of_class("answers")[0].words
+    begin = "No" if answer.is_yes else "Yes: " if page.by_id("run") else "This certificate doesn't show that none can"
+    if not asked.startswith(f"Can a strict reader lose a sample? {begin}"):
+        return asked
+    premises = [line.removeprefix("premise ") for line in answer.check if line.startswith("premise ")]
+    shown = [entry.words for node in page.by_id("premises").of_class("terms") for entry in node.all("li")]
+    if shown != premises:
+        return f"premises {shown}, not {premises}"
+    if answer.is_yes:
+        return None
+    reason, (first, because, *terms) = page.by_id("reason"), answer.check
+    _, number, name, *subject = first.split(" ")
+    said = reason.of_class("lead")[0].words
+    shown = [
+        reason.of_class("because")[0].words,
+        *(entry.words for node in reason.of_class("terms") for entry in node.all("li")),
+    ]
+    if said != f"Condition {number}, {name}, fails at {' '.join(subject)}.":
+        return f"{said}, not {first}"
+    # by docs/numbers.md
+    if ("so no certificate helps" in reason.words) != (int(number) in (*range(10, 21), 24, 25)):
+        return f"whether a certificate helps at {number}"
+    return None if shown == [because.replace("`", ""), *(term.strip() for term in terms)] else f"reason {shown}"
+
+
+def state_owed(finding, allowed):
+    if finding["level"] == "error":
+        return "error"
+    return "allowed" if {finding["name"], f"{finding['name']}:{finding['subject']}"} & set(allowed) else "open"
+
+
+def fault_of_notes(page, answer):
+    """What is wrong with the notes: each is there with its state and its place."""
+    rows = [row for table in page.by_id("notes").all("table") for row in rows_of(table)]
+    for finding in answer.findings:
+        state, line = state_owed(finding, answer.allowed), f"line {finding['place']['line']}, column"
+        message = " ".join(finding["message"].replace("`", "").split())
+        is_there = any(
+            row[0] == state and line in row[1] and (message in row[2] or "and so on" in row[2]) for row in rows
+        )
+        if not is_there:
+            return f"{state} {message}"
+    folded = sum("and so on" in row[2] for row in rows)
+    return (
+        None if folded or len(rows) == len(answer.findings) else f"{len(rows)} rows for {len(answer.findings)} findings"
+    )
+
+
+def fault_of_terms(page, answer):
+    """What is wrong with the terms of errors: those of the reason stand there alone, and all others where they are."""
+    reason = [] if answer.is_yes else [term.strip() for term in answer.check[2:]]
+    rows = [row for table in page.by_id("notes").all("table") for body in table.all("tbody") for row in body.all("tr")]
+    for finding in answer.findings:
+        message = " ".join(finding["message"].replace("`", "").split())
+        row = next((row for row in rows if list(row.all("td"))[1].words.startswith(message)), None)
+        details = [" ".join(detail.replace("`", "").split()) for detail in finding["explanation"]["details"]]
+        if row is not None and details:
+            is_left_out = finding["explanation"]["details"] == reason
+            shown = [entry.words for entry in row.all("li")]
+            if shown != ([] if is_left_out else details) or ("those of the reason." in row.words) != is_left_out:
+                return row.words
+    return None
+
+
+def fault_of_words(page):
+    """What is wrong with the glossary: it explains what a newcomer asks for, in its document's words."""
+    entries = [entry.words for entry in page.by_id("words").all("li")]
+    told = plain((ROOT / "docs/GLOSSARY.md").read_text(encoding="utf-8"))
+    other = [entry for entry in entries if entry not in told]
+    said = " ".join(entries)
+    asked = ("Certificate:", "weights", "Row:", "Opening:", "Budget:", "firing:", "Permit:", "Watcher:")
+    missing = [word for word in asked if word not in said]
+    return f"{other} {missing}" if other or missing or list(page.by_id("words").all("a")) else None
+
+
+def fault_of_matches(page, answer):
+    """What is wrong with the matrices: a mark where the program says `match`, and the reason elsewhere."""
+    found = {}
+    for table in page.by_id("matches").of_class("matrix"):
+        heads = [cell.words for cell in next(table.all("thead"), table).all("th")]
+        for writer, *cells in rows_of(table) if next(table.all("thead"), None) else ():
+            found |= {(writer, reader): cell for reader, cell in zip(heads, cells)}
+    for line in answer.matches:
+        word, writer, reader, *reason = line.split(" ")
+        cell = found.get((writer, reader), "")
+        if cell and cell != ("● match" if word == "match" else reason[0]):
+            return f"{line}: {cell}"
+        if (
+            word == "none"
+            and reason[0] == "policies"
+            and f"{writer} → {reader}: policies {reason[1]}" not in page.by_id("matches").words
+        ):
+            return f"{line} isn't explained"
+    marked = sum(cell == "● match" for cell in found.values())
+    is_wide = next(page.by_id("matches").of_class("wide").__iter__(), None) is not None
+    return (
+        None if is_wide or marked == sum(line.startswith("match ") for line in answer.matches) else f"{marked} matches"
+    )
+
+
+def fault_of_endpoints(page, answer):
+    """What is wrong with the endpoints: each has its policies as `show` prints them, and as many matches as `match`."""
+    table = next(iter(page.by_id("endpoints").of_class("ends")), None)
+    found = {row[0]: row[1:] for row in rows_of(table)} if table else {}
+    matches = [line.split(" ")[1:3] for line in answer.matches if line.startswith("match ")]
+    for kind in ("writer", "reader"):
+        for end in answer.lists[f"{kind}s"]:
+            reliability, durability, history, *limits, more, matched = found.pop(
+                f"{end['name']} {kind} of {end['topic']}"
+            )
+            depth = f" {end['depth']:,}" if end["history"] == "KEEP_LAST" else ""
+            owed = [end[f"max_{what}"] for what in ("samples", "instances", "samples_per_instance")]
+            is_same = [reliability, durability, history] == [
+                end["reliability"],
+                end["durability"],
+                end["history"] + depth,
+            ] and limits == [f"{limit:,}" if isinstance(limit, int) else limit for limit in owed]
+            side = ("writer", "reader").index(kind)
+            if not is_same or matched != str(sum(pair[side] == end["name"] for pair in matches)):
+                return f"{end['name']}: {limits} {more} {matched}"
+            if ("partitions " in more, "may_lose" in more) != (bool(end["partitions"]), bool(end.get("may_lose"))):
+                return f"{end['name']}: {more}"
+    return f"{list(found)} are no endpoints" if found else None
+
+
+# What the documents say
+
+
+def plain(text):
+    """Markdown as words."""
+    text = re.sub(r"\[((?:[^\[\]]|\[[^\]]*\])*)\]\([^)]*\)", r"\1", text)
+    return " ".join(re.sub(r"[`*]", "", text).split())
+
+
+def bullets_of(page, heading):
+    """The entries of the list below a heading of a document."""
+    lines = (ROOT / page).read_text(encoding="utf-8").splitlines()
+    below = list(takewhile(lambda line: not line.startswith("#"), lines[lines.index(heading) + 1 :]))
+    first = next(at for at, line in enumerate(below) if line.startswith("- "))
+    block = "\n".join(takewhile(lambda line: line.startswith(("- ", "  ")), below[first:]))
+    return [plain(entry) for entry in re.split(r"^- ", block, flags=re.MULTILINE)[1:]]
+
+
+def fault_of_unchecked(page):
+    """What is missing of what a report never leaves out."""
+    unchecked = page.by_id("unchecked")
+    found = [entry.words for entry in unchecked.all("li")]
+    other = ["That propose "]
+    other += [] if page.by_id("run") else ["That refute "]
+    other += [] if page.by_id("trace") else ["That conform "]
+    owed = bullets_of("docs/DEFINITIONS.md", "### The premises")
+    owed += sorted(
+        bullets_of("docs/DEFINITIONS.md", "## What is not proved"), key=lambda entry: entry.startswith(tuple(other))
+    )
+    owed += bullets_of("SECURITY.md", "## What you trust")
+    if found != owed or len(owed) < 15:
+        return f"{[entry for entry in owed if entry not in found][:2]} or another order"
+    folds = list(unchecked.all("details"))
+    folded = [entry.words for fold in folds for entry in fold.all("li")]
+    if len(folded) != len(other) or any(not entry.startswith(tuple(other)) for entry in folded):
+        return f"{folded} can be folded"
+    if any("open" not in fold.attributes for fold in folds):
+        return "a closed fold, which isn't printed"
+    said = plain((ROOT / "README.md").read_text(encoding="utf-8"))
+    outside = next(p.words for p in page.by_id("unchecked").all("p") if p.words.startswith("It doesn't say"))
+    promise = page.of_class("verdict")[0].words.removeprefix("Yes ")
+    return (
+        None
+        if outside in said and (promise.startswith("No") or promise.split(".")[0] in said)
+        else "README says other words"
+    )
+
+
+# Runs and files
+
+
+def fault_of_steps(page, drawn, events):
+    """What is wrong with a chart: it has the shapes of `tools/sequence` and a sentence a row, the last one a loss."""
+    chart = page.by_id("run").of_class("chart")[0]
+    shapes = [node.attributes["class"] for node in chart.all("g")]
+    if shapes != re.findall(r'<g class="([^"]*)"', drawn):
+        return f"shapes {shapes[:5]}"
+    steps = [entry.words for entry in page.by_id("run").of_class("steps")[0].all("li")]
+    if len(steps) != len(re.findall(r'<text [^>]*class="line"', drawn)):
+        return f"{len(steps)} steps"
+    loss = events.read_text(encoding="utf-8").splitlines()[0].split(" ")[3]
+    said = {"Overwrote": "which is lost", "Lost": "gives up"}.get(loss, f"is rejected by {loss}")
+    return None if said in steps[-1] else steps[-1]
+
+
+def fault_of_evidence(page, files, program):
+    """What is wrong with the checksums of files and program, and of the sources where a stamp names the program."""
+    facts = [node.words for node in page.by_id("evidence").all("dt", "dd")]
+    found = dict(zip(facts[::2], facts[1::2]))
+    for role, path in files.items():
+        digest = hashlib.sha256(Path(path).read_bytes()).hexdigest()
+        if found[role] != f"{path} SHA-256 {digest}":
+            return f"{role}: {found[role]}"
+    own = hashlib.sha256(Path(program).read_bytes()).hexdigest()
+    stamps = [ROOT / "crates/ddscheck/out/ddscheck.sources", ROOT / "dist/ddscheck.sources"]
+    lines = [stamp.read_text().splitlines() for stamp in stamps if stamp.exists()]
+    sources = next((stamp[0] for stamp in lines if stamp[1] == own), None)
+    if found["Program"] != f"{ddscheck('--version').out.strip()} SHA-256 {own}":
+        return found["Program"]
+    said = found["Checksum of its sources"]
+    return None if said == sources or not sources and said.startswith("not known") else f"sources {said}, not {sources}"
