@@ -1,4 +1,4 @@
-"""A deployment file of an XML file: what `import.py` runs."""
+"""A deployment file of XML files: what `import.py` runs."""
 
 from __future__ import annotations
 
@@ -11,17 +11,17 @@ from enum import IntEnum
 
 from model import Deployment
 from names import is_name
-from notes import Harm, Notes
+from notes import MAX_PATH, Harm, Notes
 from profiles import Profiles
-from reading import Element, Refused, parse, printable, quoted, read_bytes
+from reading import MAX_BYTES, MAX_FILES, Element, Refused, Spent, parse, printable, quoted, read_bytes
 from systems import System
 from unread import add_unread
 from vendors import Endpoints, add_fast_dds, add_profiles
 from writing import deployment_text
 
 DESCRIPTION = """\
-Prints a deployment file made of FILE, which is OMG DDS-XML, a file of RTI Connext's QoS profiles, or one of
-Fast DDS's profiles; - is standard input.
+Prints a deployment file made of all FILEs together, each of which is OMG DDS-XML, a file of RTI Connext's QoS
+profiles, or one of Fast DDS's profiles; - is standard input. What one of them names may stand in any other.
 
 A file with writers and readers gives these, with their participants, topics and applications. One with
 profiles alone gives a writer for each QoS of a writer and a reader for each QoS of a reader:
@@ -31,11 +31,11 @@ profiles alone gives a writer for each QoS of a writer and a reader for each QoS
   Fast DDS          on the topic that the profile names, else on the one of the profile's name
 
 What isn't imported, or has another name in the deployment, is listed on standard error, with its line and path,
-below a heading for each kind that there is, in this order:
+below a heading for each kind that there is, in this order. Where there are several files, each line names its own.
 
 {headings}"""
 EPILOG = """\
-Status: 0 written; 2 the file is refused, and a line says why; 3 a file, the output or memory failed; 4 a fault of
+Status: 0 written; 2 a file is refused, and a line says why; 3 a file, the output or memory failed; 4 a fault of
 usage; 5 written, but something is lost: an endpoint, a profile that one is based on, the value of a field, or what
 has a name that isn't known and may be a misspelt one of these."""
 
@@ -60,25 +60,46 @@ class Converted:
     has_losses: bool
 
 
-def convert(data: bytes, topic: str | None = None) -> Converted:
-    """What a file becomes; with a topic all that its profiles stand for is on that one. Raises `Refused`."""
-    root = parse(data)
-    if root.tag not in ("dds", "profiles"):
-        raise Refused(f"line {root.line}: the outermost element is {printable(root.tag)}, which is neither dds nor profiles")
+def parse_file(data: bytes, spent: Spent) -> Element:
+    """The outermost element of the next file. Raises `Refused` with the place of that."""
+    place = spent.files
+    try:
+        root = parse(data, spent)
+        if root.tag not in ("dds", "profiles"):
+            raise Refused(f"line {root.line}: the outermost element is {printable(root.tag)}, which is neither dds nor profiles")
+    except Refused as why:
+        raise Refused(str(why), place) from None
     root.is_read = True
-    notes = Notes()
+    return root
+
+
+def join(roots: list[Element]) -> Element:
+    """An element with what is in all files, as if they were one. The outermost elements of Fast DDS are in it themselves."""
+    if len(roots) == 1:
+        return roots[0]
+    children = [child for root in roots for child in ([root] if root.tag == "profiles" else root.children)]
+    return Element("dds", {}, 0, None, children=children)
+
+
+def convert(files: list[tuple[str, bytes]], topic: str | None = None) -> Converted:
+    """What files become, by their names and bytes; with a topic all that their profiles stand for is on that one. Raises `Refused`."""
+    spent = Spent()
+    roots = [parse_file(data, spent) for _, data in files]
+    root = join(roots)
+    notes = Notes([name for name, _ in files])
     deployment = Deployment(notes)
     profiles = Profiles(root, notes)
     system = System(root, profiles, deployment)
     system.read()
     if system.names_endpoints:
         if topic:
-            notes.add(root, "it has endpoints, so --topic isn't used", Harm.NONE)
+            notes.add(roots[0], "it has endpoints, so --topic isn't used", Harm.NONE)
     else:
         add_what_profiles_say(root, profiles, Endpoints(deployment, system.topics, topic))
     if not deployment.participants and not deployment.topics:
-        raise Refused("it has no participant, no topic, and no profile of a writer or reader")
-    add_unread(root, notes)
+        raise Refused(f"{'it has' if len(files) == 1 else 'they have'} no participant, no topic, and no profile of a writer or reader")
+    for one in roots:
+        add_unread(one, notes)
     return Converted(deployment, deployment_text(deployment), notes.lines(), notes.have_losses())
 
 
@@ -108,8 +129,13 @@ def arguments(words: list[str]) -> argparse.Namespace:
     parser = Parser(prog="import.py", description=described, epilog=EPILOG, formatter_class=form, allow_abbrev=False)
     topic = "put all that profiles stand for on this topic, so that `ddscheck match` says which go together"
     parser.add_argument("--topic", metavar="NAME", help=topic, action=StoreOnce)
-    parser.add_argument("file", metavar="FILE")
+    parser.add_argument("files", metavar="FILE", nargs="+")
     found = parser.parse_args(words)
+    if len(found.files) > MAX_FILES:
+        parser.error(f"at most {MAX_FILES} files can be given")
+    for place, file in enumerate(found.files):
+        if file in found.files[:place]:
+            parser.error(f"{quoted(file)} is given twice")
     if found.topic is not None and not is_name(found.topic):
         parser.error(f"{quoted(found.topic)} can't be the name of a topic")
     return found
@@ -142,17 +168,21 @@ def write(text: str) -> str | None:
 def main(words: list[str]) -> Status:
     found = arguments(words)
     gc.disable()  # the tree is one large cycle that lives to the end, and looking for garbage takes half of the time
-    name = printable(found.file, 200)
+    names = [printable(file, MAX_PATH) for file in found.files]
+    files: list[tuple[str, bytes]] = []
     try:
-        converted = convert(read_bytes(found.file), found.topic)
+        for file in found.files:
+            files.append((file, read_bytes(file, MAX_BYTES - sum(len(data) for _, data in files))))
+        converted = convert(files, found.topic)
     except Refused as why:
-        say(f"{name}: {why}")
+        at = why.file if why.file is not None else len(files)
+        say(f"{names[at] if at < len(names) else ', '.join(names)}: {why}")
         return Status.REFUSED
     except OSError as why:
-        say(f"{name}: {why.strerror}")
+        say(f"{names[len(files)]}: {why.strerror}")
         return Status.FAILED
     except MemoryError:
-        say(f"{name}: memory ran out")
+        say(f"{', '.join(names)}: memory ran out")
         return Status.FAILED
     failed = write(converted.text)
     if failed:

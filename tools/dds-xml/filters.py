@@ -1,11 +1,11 @@
-"""Content filters by the key alone, as `key = 'a' OR key = %0`."""
+"""Content filters by the key field alone, as `key = 'a' OR key = %0` where that's its name."""
 
 from __future__ import annotations
 
 import re
 from enum import Enum, auto
 
-TOKEN = re.compile(r"[ \t\r\n]*(?:(key|OR)\b|'([^']*)'|%([0-9]{1,2})|([=()])|$)", re.IGNORECASE)
+TOKEN = re.compile(r"[ \t\r\n]*(?:([A-Za-z_][A-Za-z0-9_]*)\b|'([^']*)'|%([0-9]{1,2})|([=()])|$)")
 LITERAL = re.compile(r"'([^']*)'")
 
 
@@ -23,11 +23,11 @@ Token = tuple[Kind, str]
 SIGNS = {"=": Kind.EQUALS, "(": Kind.OPEN, ")": Kind.CLOSE}
 
 
-def token_of(found: re.Match[str], parameters: list[str]) -> Token | None:
+def token_of(found: re.Match[str], field: str, parameters: list[str]) -> Token | None:
     word, literal, number, sign = found.groups()
     if word:
         is_or = word.upper() == "OR"
-        return (Kind.OR, "") if is_or else (Kind.KEY, "") if word == "key" else None
+        return (Kind.OR, "") if is_or else (Kind.KEY, "") if word == field else None
     if number:
         named = LITERAL.fullmatch(parameters[int(number)]) if int(number) < len(parameters) else None
         return (Kind.LITERAL, named[1]) if named else None
@@ -36,13 +36,13 @@ def token_of(found: re.Match[str], parameters: list[str]) -> Token | None:
     return (Kind.END, "") if literal is None else (Kind.LITERAL, literal)
 
 
-def tokens_of(expression: str, parameters: list[str]) -> list[Token] | None:
+def tokens_of(expression: str, field: str, parameters: list[str]) -> list[Token] | None:
     """The tokens to the end, or `None` where a text is none. A parameter is the literal that it stands for, and is never read as more."""
     tokens: list[Token] = []
     at = 0
     while not tokens or tokens[-1][0] is not Kind.END:
         found = TOKEN.match(expression, at)
-        token = token_of(found, parameters) if found else None
+        token = token_of(found, field, parameters) if found else None
         if token is None:
             return None
         tokens.append(token)
@@ -50,9 +50,9 @@ def tokens_of(expression: str, parameters: list[str]) -> list[Token] | None:
     return tokens
 
 
-def keys_of(expression: str, parameters: list[str]) -> list[str] | None:
-    """The keys that a filter names, or `None` where it isn't one by the key alone. An empty literal is no key and names none."""
-    tokens = tokens_of(expression, parameters)
+def keys_of(expression: str, field: str, parameters: list[str]) -> list[str] | None:
+    """The keys that a filter names, or `None` where it isn't one by this field alone. An empty literal is no key and names none."""
+    tokens = tokens_of(expression, field, parameters)
     if tokens is None:
         return None
     keys: list[str] = []

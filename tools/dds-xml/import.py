@@ -1,5 +1,5 @@
 #!/usr/bin/env python3
-"""Makes a deployment file of DDS-XML, or of a vendor's profiles: `import.py FILE.xml > deployment.toml`. `--help` says how."""
+"""Makes a deployment file of DDS-XML, or of a vendor's profiles: `import.py FILE.xml .. > deployment.toml`. `--help` says how."""
 
 import sys
 

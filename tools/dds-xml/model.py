@@ -29,6 +29,8 @@ class Topic:
     type: str
     keys: list[str]
     are_keys_known: bool
+    # the one field of its type that is the key, where the file has one
+    key_field: str | None = None
 
 
 @dataclass(eq=False)

@@ -154,7 +154,7 @@ def imported(data: bytes) -> tuple[Converted | None, str | None]:
     began = time.thread_time()
     converted, fault = None, None
     try:
-        converted = convert(data)
+        converted = convert([("seed", data)])
         fault = fault_of(converted)
     except Refused as why:
         fault = None if LINE.fullmatch(str(why)) else f"the refusal is no line: {str(why)!r}"

@@ -345,9 +345,131 @@ NO_ENDPOINT = Reading(
     },
 )
 
+BUILT_IN_UNKNOWN = "the profile 'TEXT' is built in at RTI Connext, and this program doesn't know its values"
+KEEP_ALL_RELIABLE = {"reliability": "RELIABLE", "history": "KEEP_ALL"}
+
+
+def make_of_profile(name: str, side: str, **policies: str | int) -> dict:
+    """The endpoint that a profile stands for, on the topic of its name."""
+    return {"name": f"{name}_{side[0]}", "participant": side, "topic": name} | policies
+
+
+BUILT_IN = Reading(
+    {
+        "participants": [{"name": "writers", "domain": 0}, {"name": "readers", "domain": 0}],
+        "topics": [
+            {"name": name, "type": "Type", "keys": ["key"]}
+            for name in ("Strict", "Last", "Best", "Latched", "Common", "Snippets", "Deep", "OverDeep", "Unknown", "Misspelt")
+        ],
+        # a writer is RELIABLE by default
+        "writers": [
+            make_of_profile("Strict", "writers", history="KEEP_ALL"),
+            make_of_profile("Last", "writers"),
+            make_of_profile("Best", "writers", reliability="BEST_EFFORT"),
+            make_of_profile("Latched", "writers", durability="TRANSIENT_LOCAL"),
+            make_of_profile("Common", "writers", ownership="EXCLUSIVE"),
+            make_of_profile("Snippets", "writers", history="KEEP_ALL"),
+            make_of_profile("Deep", "writers", depth=9),
+            make_of_profile("OverDeep", "writers", depth=9),
+            make_of_profile("Unknown", "writers"),
+            make_of_profile("Misspelt", "writers"),
+        ],
+        "readers": [
+            make_of_profile("Strict", "readers", **KEEP_ALL_RELIABLE),
+            make_of_profile("Last", "readers", reliability="RELIABLE", depth=8),
+            make_of_profile("Best", "readers"),
+            make_of_profile("Latched", "readers", durability="TRANSIENT_LOCAL", reliability="RELIABLE"),
+            make_of_profile("Snippets", "readers", **KEEP_ALL_RELIABLE),
+            make_of_profile("OverDeep", "readers", reliability="RELIABLE"),
+        ],
+        "applications": [
+            {"name": "writers", "participant": "writers", "writers": [
+                f"{name}_w" for name in ("Strict", "Last", "Best", "Latched", "Common", "Snippets", "Deep", "OverDeep", "Unknown", "Misspelt")]},
+            {"name": "readers", "participant": "readers", "readers": [
+                f"{name}_r" for name in ("Strict", "Last", "Best", "Latched", "Snippets", "OverDeep")]},
+        ],
+    },
+    {
+        LOST: [
+            # Connext has the depth 1 by default, and whether this profile says so isn't known
+            Left(21, "qos_profile", "whether 'TEXT' has a depth of its own over DEPTH isn't known", {"TEXT": "Generic.KeepLastReliable", "DEPTH": 9}),
+            Left(27, "qos_profile", BUILT_IN_UNKNOWN, {"TEXT": "BuiltinQosLib::Pattern.Event", "RTI": "RTI"}),
+            # it's of another library
+            Left(28, "qos_profile", BUILT_IN_UNKNOWN, {"TEXT": "BuiltinQosSnippetLib::Generic.StrictReliable", "RTI": "RTI"}),
+        ],
+    },
+)
+
+GATE_READERS = ("by_field", "by_two", "by_other", "by_both", "by_capitals", "by_half", "by_none", "by_unknown")
+GATE_TOPICS = {"by_half": "pair", "by_none": "plain", "by_unknown": "lost"}
+GATE_FILTERS = {"by_field": {"filter": ["south"]}, "by_two": {"filter": ["south", "north"]}}
+KEY_FIELD = Reading(
+    {
+        "participants": [{"name": "hall", "domain": 1}],
+        "topics": [
+            {"name": name, "type": type_name, "keys": ["north", "south"]}
+            for name, type_name in (("gate", "Gate"), ("pair", "Pair"), ("plain", "Plain"), ("lost", "Lost"))
+        ],
+        "readers": [
+            {"name": name, "participant": "hall", "topic": GATE_TOPICS.get(name, "gate")} | GATE_FILTERS.get(name, {}) for name in GATE_READERS
+        ],
+        "applications": [{"name": "hall", "participant": "hall", "readers": list(GATE_READERS)}],
+    },
+    {
+        # `id` of the base is the key of Gate; SQL's fields have their capitals; Pair has two keys, Plain none, and of Lost they aren't known
+        LOST: [Left(line, "content_filter", FILTER) for line in range(26, 32)],
+        HARMLESS: [
+            Left(line, "struct", "its members (COUNT) aren't imported: a sample of a deployment has a key and bytes", {"COUNT": count})
+            for line, count in ((7, 1), (9, 1))
+        ],
+    },
+)
+
+REFUSED_LIMITS = (
+    "its max_samples LIMIT is below its max_instances COUNT times its max_samples_per_instance EACH, and Fast DDS makes no such endpoint of a type "
+    "with a key"
+)
+OTHERWISE = Reading(
+    {
+        "participants": [{"name": "writers", "domain": 0}, {"name": "readers", "domain": 0}],
+        "topics": [{"name": name, "type": "Type", "keys": ["key"]} for name in ("shared", "copied", "keyless", "Kept", "Patient")],
+        # of Fast DDS: its own default durability and limits
+        "writers": [
+            make_of_profile("shared", "writers", durability="TRANSIENT_LOCAL", **FAST_DDS_LIMITS | {"max_samples": 3999}),
+            make_of_profile("Kept", "writers"),
+            make_of_profile("Patient", "writers"),
+        ],
+        "readers": [
+            make_of_profile("copied", "readers", **FAST_DDS_LIMITS | {"max_samples": 4000}),
+            make_of_profile("keyless", "readers", **FAST_DDS_LIMITS | {"max_samples": 3999}),
+        ],
+        "applications": [
+            {"name": "writers", "participant": "writers", "writers": ["shared_w", "Kept_w", "Patient_w"]},
+            {"name": "readers", "participant": "readers", "readers": ["copied_r", "keyless_r"]},
+        ],
+    },
+    {
+        UNTRUE: [
+            Left(7, "durability_service", ELEMENT),
+            Left(8, "protocol", ELEMENT),
+            Left(9, "writer_resource_limits", ELEMENT),
+            Left(10, "transfer_mode", ELEMENT),
+            # 10 times 400 is 4000, so one sample is missing; `copied` has just enough, and `keyless` has no key
+            Left(21, "data_writer", REFUSED_LIMITS, {"LIMIT": 3999, "COUNT": 10, "EACH": 400, "DDS": "DDS"}),
+            Left(22, "extra_samples", ELEMENT),
+            Left(24, "durabilityService", ELEMENT),
+            Left(25, "data_sharing", ELEMENT),
+            Left(26, "disablePositiveAcks", ELEMENT),
+            Left(28, "historyMemoryPolicy", ELEMENT),
+        ],
+        HARMLESS: [Left(15, "protocol", ELEMENT), Left(16, "writer_resource_limits", ELEMENT), Left(32, "data_sharing", ELEMENT)],
+    },
+)
+
 READINGS = {
     "hostile.xml": HOSTILE, "foreign.xml": FOREIGN, "misspelt.xml": MISSPELT, "dropping.xml": DROPPING, "any_topic.xml": ANY_TOPIC,
     "lossy_fast_dds.xml": LOSSY_FAST_DDS, "no_endpoint.xml": NO_ENDPOINT,
+    "built_in.xml": BUILT_IN, "key_field.xml": KEY_FIELD, "otherwise.xml": OTHERWISE,
 }
 
 

@@ -7,6 +7,7 @@ import re
 from collections.abc import Iterator
 from dataclasses import dataclass
 
+from built_in import LIBRARIES, built_in_profile
 from notes import Harm, Notes
 from policies import OMG, Settings, Side, read_policies
 from reading import Element, Refused, quoted
@@ -17,8 +18,6 @@ MAX_PATTERN = 256
 MAX_WORK = 80_000
 ENTITIES = {side.entity for side in Side} | {side.group for side in Side}
 BASES = {"base_name", "base_profile_name"}
-# The libraries that RTI Connext has built in, whose values no file has.
-BUILT_IN = ("BuiltinQosLib", "BuiltinQosLibExp", "BuiltinQosSnippetLib")
 WILDCARD = re.compile(r"\[(.)[^\]]*\]|[*?]", re.DOTALL)
 
 
@@ -76,6 +75,7 @@ class Profiles:
     def __init__(self, root: Element, notes: Notes) -> None:
         self.notes = notes
         self.all: dict[str, Profile] = {}
+        self._built_in: dict[str, Profile | None] = {}
         self._work = Work()
         self.filters = TopicFilters(self._work)
         for library in root.elements("qos_library"):
@@ -89,6 +89,7 @@ class Profiles:
         name = element.attribute("name") or ""
         key = f"{library}::{name}"
         if key in self.all:
+            self.notes.refuse_twice("profile", key, self.all[key].element, element)
             self.notes.leave_out(element, f"a profile {quoted(key)} stands above, and is the one that holds")
         else:
             self.all[key] = Profile(library, name, element, len(self.all))
@@ -96,12 +97,20 @@ class Profiles:
     def _find(self, base: str, library: str | None, element: Element) -> Profile | None:
         """The profile of a name, which without a library is one of the same library."""
         key = base if "::" in base or library is None else f"{library}::{base}"
-        found = self.all.get(key)
+        found = self.all.get(key) or self._find_built_in(key)
         if found is None:
-            built_in = base.split("::")[0] in BUILT_IN
-            why = "is built in at RTI Connext, and its values aren't in this file" if built_in else "isn't in this file"
+            is_built_in = key.split("::")[0] in LIBRARIES
+            why = "is built in at RTI Connext, and this program doesn't know its values" if is_built_in else self.notes.absent()
             self.notes.add(element, f"the profile {quoted(base)} {why}", Harm.LOST)
         return found
+
+    def _find_built_in(self, key: str) -> Profile | None:
+        """A profile that RTI Connext has built in, of those whose values are known."""
+        if key not in self._built_in:
+            library, _, name = key.partition("::")
+            element = built_in_profile(library, name)
+            self._built_in[key] = Profile(library, name, element, -1) if element else None
+        return self._built_in[key]
 
     def names_base(self, element: Element) -> bool:
         """Whether an element says what it inherits, if only by a name that isn't in the file."""
@@ -141,7 +150,9 @@ class Profiles:
             elif len(above) >= MAX_STEPS:
                 self.notes.add(element, f"it inherits in more than {MAX_STEPS} steps, and {quoted(base.name)} isn't followed", Harm.LOST)
             else:
-                found |= self.settings(base.element, entity, base.library, topic, (*above, element))
+                inherited = self.settings(base.element, entity, base.library, topic, (*above, element))
+                self._report_open_depth(element, base, found, inherited)
+                found |= inherited
         if element.tag == "qos_profile":
             for own in self.selected(element, entity, topic):
                 found |= self.settings(own, entity, library, topic, (*above, element))
@@ -154,6 +165,11 @@ class Profiles:
             is_wrong = bool(above) and above[-1].tag == entity
             self.notes.add(element, f"a {entity} inherits nothing from it", Harm.LOST if is_wrong else Harm.NONE)
         return found
+
+    def _report_open_depth(self, element: Element, base: Profile, found: Settings, inherited: Settings) -> None:
+        """Notes where a built-in profile with KEEP_LAST follows a depth: whether it sets one over that, its table doesn't know."""
+        if base.place < 0 and inherited.get("history") == "KEEP_LAST" and "depth" not in inherited and found.get("depth", 1) != 1:
+            self.notes.add(element, f"whether {quoted(base.name)} has a depth of its own over {found['depth']} isn't known", Harm.LOST)
 
     def sources(self, element: Element, entity: str, library: str | None, above: tuple[Element, ...] = ()) -> Iterator[Element]:
         """The elements of an entity that a profile has, its own first and then those that it inherits."""

@@ -1,4 +1,4 @@
-"""Reads an XML file, within limits of size, depth and form, as a tree of elements with their lines."""
+"""Reads XML files, within limits of size, depth and form, as trees of elements with their files and lines."""
 
 from __future__ import annotations
 
@@ -8,7 +8,9 @@ import sys
 from dataclasses import dataclass, field
 from xml.parsers import expat
 
+# The limits of bytes, elements and tags are those of all files together.
 MAX_BYTES = 16 * 1024 * 1024
+MAX_FILES = 64
 MAX_LEVELS = 64
 # Of every deployment that ddscheck shows as DDS-XML there are fewer of both.
 MAX_ELEMENTS = 65_536
@@ -27,17 +29,22 @@ LATIN_1_NAMES = {"iso-8859-1", "latin-1", "latin1"}
 
 
 class Refused(Exception):
-    """Why a file isn't imported, in one line."""
+    """Why files aren't imported, in one line, and which one is at fault, by its place, where it's one alone."""
+
+    def __init__(self, why: str, file: int | None = None) -> None:
+        super().__init__(why)
+        self.file = file
 
 
 @dataclass(slots=True, eq=False)
 class Element:
-    """An element with its line. What was read of it is marked, so that the rest can be reported."""
+    """An element with its line, and the place of its file among those that were given. What was read of it is marked, so that the rest can be reported."""
 
     tag: str
     attributes: dict[str, str]
     line: int
     parent: Element | None
+    file: int = 0
     text: str = ""
     children: list[Element] = field(default_factory=list)
     is_read: bool = False
@@ -82,17 +89,17 @@ def quoted(text: str) -> str:
     return f"'{printable(text)}'"
 
 
-def read_bytes(path: str) -> bytes:
-    """The bytes of a file, or of standard input for `-`. Raises `OSError`, and `Refused` past 16 MiB."""
+def read_bytes(path: str, most: int = MAX_BYTES) -> bytes:
+    """The bytes of a file, or of standard input for `-`. Raises `OSError`, and `Refused` past what is left of 16 MiB."""
     if path == "-" and sys.stdin is None:
         raise OSError(errno.EBADF, "standard input is closed")
     if path == "-":
-        data = sys.stdin.buffer.read(MAX_BYTES + 1)
+        data = sys.stdin.buffer.read(most + 1)
     else:
         with open(path, "rb") as file:
-            data = file.read(MAX_BYTES + 1)
-    if len(data) > MAX_BYTES:
-        raise Refused(f"it has more than {MAX_BYTES} bytes")
+            data = file.read(most + 1)
+    if len(data) > most:
+        raise Refused(f"{'it has' if most == MAX_BYTES else 'the files up to it have'} more than {MAX_BYTES} bytes")
     return data
 
 
@@ -116,10 +123,24 @@ def as_utf_8(data: bytes) -> bytes:
     return data
 
 
-def refuse_bombs(data: bytes) -> None:
+@dataclass
+class Spent:
+    """How much the files so far have of what is limited for all of them together."""
+
+    files: int = 0
+    tags: int = 0
+    elements: int = 0
+
+    def holder(self) -> str:
+        """Who has more than there may be."""
+        return "it has" if self.files == 0 else "the files up to it have"
+
+
+def refuse_bombs(data: bytes, spent: Spent) -> None:
     """Refuses a document with more tags, or longer ones, than are read in time and memory."""
-    if data.count(b"<") > MAX_TAGS:
-        raise Refused(f"it has more than {MAX_TAGS} tags")
+    spent.tags += data.count(b"<")
+    if spent.tags > MAX_TAGS:
+        raise Refused(f"{spent.holder()} more than {MAX_TAGS} tags")
     at = 0
     while at >= 0:
         after = data.find(b"<", at + 1)
@@ -131,7 +152,7 @@ def refuse_bombs(data: bytes) -> None:
 class Builder:
     """Makes the tree of what the parser meets."""
 
-    def __init__(self) -> None:
+    def __init__(self, spent: Spent) -> None:
         self.parser = expat.ParserCreate("utf-8")
         self.parser.buffer_text = True
         self.parser.StartElementHandler = self.start
@@ -140,7 +161,7 @@ class Builder:
         self.parser.StartDoctypeDeclHandler = self.refuse
         self.parser.EntityDeclHandler = self.refuse
         self.root: Element | None = None
-        self.count = 0
+        self.spent = spent
         self.open: list[Element] = []
         self.texts: list[list[str]] = []
 
@@ -148,12 +169,12 @@ class Builder:
         line = self.parser.CurrentLineNumber
         if len(self.open) == MAX_LEVELS:
             raise Refused(f"line {line}: elements are nested more than {MAX_LEVELS} deep")
-        self.count += 1
-        if self.count > MAX_ELEMENTS:
-            raise Refused(f"line {line}: it has more than {MAX_ELEMENTS} elements")
+        self.spent.elements += 1
+        if self.spent.elements > MAX_ELEMENTS:
+            raise Refused(f"line {line}: {self.spent.holder()} more than {MAX_ELEMENTS} elements")
         if len(attributes) > MAX_ATTRIBUTES:
             raise Refused(f"line {line}: an element has more than {MAX_ATTRIBUTES} attributes")
-        element = Element(tag.rpartition(":")[2], attributes, line, self.open[-1] if self.open else None)
+        element = Element(tag.rpartition(":")[2], attributes, line, self.open[-1] if self.open else None, self.spent.files)
         if self.open:
             self.open[-1].children.append(element)
         else:
@@ -172,14 +193,15 @@ class Builder:
         raise Refused(f"line {self.parser.CurrentLineNumber}: it has a document type, and entities aren't read")
 
 
-def parse(data: bytes) -> Element:
-    """The outermost element. Raises `Refused` where the bytes aren't an XML document within the limits."""
+def parse(data: bytes, spent: Spent) -> Element:
+    """The outermost element. Raises `Refused` where the bytes aren't an XML document within what the files before it leave of the limits."""
     data = as_utf_8(data)
-    refuse_bombs(data)
-    builder = Builder()
+    refuse_bombs(data, spent)
+    builder = Builder(spent)
     try:
         builder.parser.Parse(data, True)
     except expat.ExpatError as fault:
         raise Refused(f"line {fault.lineno}: it isn't XML: {expat.ErrorString(fault.code)}") from None
     assert builder.root is not None
+    spent.files += 1
     return builder.root

@@ -13,14 +13,17 @@ from reading import Element, quoted
 
 # The members that a sample of a deployment has.
 MEMBERS = {("key", "string"), ("data", "byte")}
+TRUE = ("true", "1")
 
 
 @dataclass(eq=False)
 class Type:
-    """A struct: the name that a topic of it has, and its keys where the file lists them."""
+    """A struct: the name that a topic of it has, its keys where a file lists them, and the scope and element where it stands."""
 
     name: str
     keys: list[str] | None
+    scope: str = ""
+    element: Element | None = None
 
 
 @dataclass(eq=False)
@@ -28,6 +31,7 @@ class Contents:
     """A participant with the endpoints of its publishers and subscribers, by the names of these. Under no name are those that it has itself."""
 
     participant: Participant
+    element: Element
     groups: dict[tuple[Side, str | None], list[Endpoint]] = field(default_factory=dict)
 
     def endpoints(self) -> list[Endpoint]:
@@ -55,9 +59,10 @@ class Types:
         for struct in element.elements("struct"):
             name = struct.attribute("name") or ""
             if scope + name in self.all:
+                self._notes.refuse_twice("type", scope + name, self.all[scope + name].element, struct)
                 self._notes.leave_out(struct, "a type of this name stands above, and is the one that holds")
                 continue
-            self.all[scope + name] = Type(name if keys else scope + name, keys)
+            self.all[scope + name] = Type(name if keys else scope + name, keys, scope, struct)
             self._report_members(struct)
         for module in element.elements("module"):
             self.read(module, f"{scope}{module.attribute('name') or ''}::", True)
@@ -72,6 +77,26 @@ class Types:
             texts = [(one, one.attribute("name") or "") for one in enum.elements("enumerator")]
             found = distinct_keys(self._notes, texts)
         return found or None
+
+    def key_field(self, found: Type) -> str | None:
+        """The one field that is the key, its own or inherited; `None` where there are several or none, or where a base isn't in the file."""
+        fields: list[str] = []
+        passed: list[Type] = []
+        while found.element is not None and found not in passed:
+            passed.append(found)
+            members = [one for one in found.element.children if one.tag == "member"]
+            fields += [one.attributes.get("name", "") for one in members if one.attributes.get("key") in TRUE]
+            base = found.element.attribute("baseType")
+            if base is None:
+                return fields[0] if len(fields) == 1 else None
+            found = self._find_base(base, found.scope) or Type(base, None)
+        return None
+
+    def _find_base(self, name: str, scope: str) -> Type | None:
+        """The struct of this name in a scope or those around it."""
+        while scope and scope + name not in self.all:
+            scope = "".join(f"{module}::" for module in scope.split("::")[:-2])
+        return self.all.get(scope + name.removeprefix("::"))
 
     def _report_members(self, struct: Element) -> None:
         strange = 0
@@ -97,6 +122,7 @@ class System:
         self.topics: dict[str, Topic] = {}
         self._domains: dict[str, Element] = {}
         self._libraries: dict[str, Contents] = {}
+        self._applications: dict[str, Element] = {}
         self._all: list[tuple[Element, Contents]] = []
         self._claims: list[Claim] = []
         self._places: dict[Endpoint, int] = {}
@@ -112,6 +138,8 @@ class System:
                 self._read_participant(element, f"{library.attribute('name')}::{element.attributes.get('name')}")
         for library in self.root.elements("application_library"):
             for element in library.elements("application"):
+                key = f"{library.attribute('name')}::{element.attributes.get('name')}"
+                self.notes.refuse_twice("application", key, self._applications.setdefault(key, element), element)
                 self._read_application(element)
         self._report_defaults()
         self._give_owners()
@@ -125,6 +153,7 @@ class System:
                 domain.attribute("domain_id")
                 key = f"{library.attribute('name')}::{domain.attribute('name')}"
                 if key in self._domains:
+                    self.notes.refuse_twice("domain", key, self._domains[key], domain)
                     self.notes.add(domain, f"a domain {quoted(key)} stands above, and is the one that holds", Harm.LOST)
                 self._domains.setdefault(key, domain)
                 self._read_topics(domain)
@@ -150,13 +179,14 @@ class System:
             return
         if not topic.are_keys_known:
             self.notes.add(element, "its keys aren't in this file: write a name for each value of its key fields", Harm.OPEN)
+        topic.key_field = self.types.key_field(found)
         self.topics[name] = topic
 
     def _find_type(self, element: Element, name: str) -> Type:
         """The type of this name, or one without keys where the file has none."""
         found = self.types.all.get(name)
         if found is None and self.types.all:
-            self.notes.add(element, f"the type {quoted(name)} isn't in this file", Harm.LOST)
+            self.notes.add(element, f"the type {quoted(name)} {self.notes.absent()}", Harm.LOST)
         return found or Type(name or "Type", None)
 
     # Participants and endpoints
@@ -166,7 +196,7 @@ class System:
         if text is None and reference in self._domains:
             text = self._domains[reference].attributes.get("domain_id")
         if text is None and reference and reference not in self._domains:
-            self.notes.add(element, f"the domain {quoted(reference)} isn't in this file, and became 0", Harm.LOST)
+            self.notes.add(element, f"the domain {quoted(reference)} {self.notes.absent()}, and became 0", Harm.LOST)
             return 0
         if text is None:
             self.notes.add(element, "its domain has no number in this file, and became 0", Harm.OPEN)
@@ -184,12 +214,13 @@ class System:
             return None
         if element.attribute("base_name"):
             self.notes.add(element, f"what it inherits from {quoted(element.attributes['base_name'])} isn't imported", Harm.LOST)
-        contents = Contents(participant)
+        contents = Contents(participant, element)
         self._read_topics(element)
         self._read_groups(element, contents, "publisher", "data_writer", Side.WRITER)
         self._read_groups(element, contents, "subscriber", "data_reader", Side.READER)
         self._all.append((element, contents))
         if key in self._libraries:
+            self.notes.refuse_twice("participant", key, self._libraries[key].element, element)
             self.notes.add(element, f"a participant {quoted(key)} stands above, and is the one that applications mean", Harm.OPEN)
         elif key is not None:
             self._libraries[key] = contents
@@ -250,8 +281,10 @@ class System:
             expressions = [inner.value() for inner in one.elements("expression")]
             lists = one.elements("expression_parameters", "parameter_list")
             parameters = [inner.value() for several in lists for inner in several.elements("param", "element")]
-            keys = filters.keys_of(expressions[0], parameters) if len(expressions) == 1 else None
-            if keys is None or not set(keys) <= set(reader.topic.keys) or not reader.topic.are_keys_known or reader.filter is not None:
+            field = reader.topic.key_field
+            is_one = len(expressions) == 1 and field is not None and reader.filter is None
+            keys = filters.keys_of(expressions[0], field, parameters) if is_one else None
+            if keys is None or not set(keys) <= set(reader.topic.keys) or not reader.topic.are_keys_known:
                 self.notes.add(one, "it isn't one filter by keys of the topic alone, and isn't imported", Harm.LOST)
             else:
                 reader.filter = list(dict.fromkeys(keys))

@@ -6,7 +6,7 @@ import re
 from collections.abc import Iterator
 
 from notes import Harm, Notes
-from policies import FAST_DDS_PLACES, INFINITE, INFINITE_NANOSECONDS, INFINITE_SECONDS, OMG_PLACES, ZERO, Side, plain
+from policies import FAST_DDS_PLACES, INFINITE, INFINITE_NANOSECONDS, INFINITE_SECONDS, OMG_PLACES, UNLIMITED, ZERO, Side, plain
 from profiles import BASES, ENTITIES
 from reading import BLANKS, Element, printable, quoted
 
@@ -25,9 +25,11 @@ POLICIES = {write_as_omg(tag) for tag in OMG_PLACES | FAST_DDS_PLACES}
 ENDLESS = frozenset(INFINITE | {str(number) for number in (INFINITE_SECONDS, *INFINITE_NANOSECONDS)})
 INSTANT = frozenset(ZERO | {"0"})
 NEVER = frozenset(("false", "FALSE", "BOOLEAN_FALSE", "0"))
+UNLIMITED_RETRIES = frozenset(UNLIMITED)
+OFF = frozenset(("OFF",))
 ALWAYS_RISKY: frozenset[str] = frozenset()
-# What can drop samples that a reader should get, or keep two endpoints from matching, wherever it stands; but not where it has no other texts than
-# those beside it.
+# What can drop samples that a reader should get, keep two endpoints from matching, or means something else at each vendor, wherever it stands; but
+# not where it has no other texts than those beside it.
 RISKS: dict[str, frozenset[str]] = {
     "time_based_filter": INSTANT,
     "lifespan": ENDLESS,
@@ -39,7 +41,20 @@ RISKS: dict[str, frozenset[str]] = {
     "autopurge_unregistered_instances_delay": ENDLESS,
     "disable_positive_acks": NEVER,
     "inactivate_nonprogressing_readers": NEVER,
-    "max_heartbeat_retries": ALWAYS_RISKY,
+    # after so many heartbeats without an answer a reader isn't waited for any more
+    "max_heartbeat_retries": UNLIMITED_RETRIES,
+    # OMG and Connext have it for the service that keeps TRANSIENT samples, Cyclone DDS also for what a late reader gets of TRANSIENT_LOCAL
+    "durability_service": ALWAYS_RISKY,
+    # whether a sample that's larger than the first ones has room in Fast DDS
+    "history_memory_policy": ALWAYS_RISKY,
+    # samples stay in the writer's memory, which it writes anew when its pool is used up, taken or not
+    "data_sharing": OFF,
+    "transfer_mode": ALWAYS_RISKY,
+    # samples on loan take room that a deployment counts as free
+    "max_outstanding_reads": ALWAYS_RISKY,
+    "outstanding_reads_allocation": ALWAYS_RISKY,
+    "writer_loaned_sample_allocation": ALWAYS_RISKY,
+    "extra_samples": ALWAYS_RISKY,
     "ownership_strength": ALWAYS_RISKY,
     "reader_resource_limits": ALWAYS_RISKY,
     "multi_channel": ALWAYS_RISKY,
@@ -55,19 +70,19 @@ RISKS: dict[str, frozenset[str]] = {
 }
 # What drops nothing and changes no match, as long as no risk is in it: of OMG DDS-XML, of RTI Connext, and of Fast DDS, whose capitals are `_` here.
 OMG_HARMLESS = """
-    user_data topic_data group_data entity_factory transport_priority durability_service writer_data_lifecycle reader_data_lifecycle max_blocking_time
+    user_data topic_data group_data entity_factory transport_priority writer_data_lifecycle reader_data_lifecycle max_blocking_time
     domain_participant_qos domain_participant_factory_qos topic_qos types
 """
 RTI_HARMLESS = """
     participant_qos participant_factory_qos memory_management property service transport_selection unicast multicast protocol publish_mode batch
-    writer_resource_limits publication_name subscription_name entity_name topic_query_dispatch transfer_mode type_support data_tag
+    writer_resource_limits publication_name subscription_name entity_name topic_query_dispatch type_support data_tag
     asynchronous_publisher exclusive_area acknowledgment_kind instance_state_consistency_kind assertions_per_lease_duration direct_communication
     writer_depth storage_settings refilter scope source_timestamp_tolerance drop_incomplete_coherent_set initial_samples initial_instances
     instance_hash_buckets
 """
 FAST_DDS_HARMLESS = """
-    transport_descriptors log library_settings domainparticipant_factory rtps announcement_period allocated_samples extra_samples publish_mode
-    disable_heartbeat_piggyback data_sharing history_memory_policy times unicast_locator_list multicast_locator_list external_unicast_locators
+    transport_descriptors log library_settings domainparticipant_factory rtps announcement_period allocated_samples publish_mode
+    disable_heartbeat_piggyback times unicast_locator_list multicast_locator_list external_unicast_locators
     ignore_non_matching_locators properties_policy user_defined_id entity_id throughput_controller expects_inline_qos
 """
 HARMLESS = frozenset((OMG_HARMLESS + RTI_HARMLESS + FAST_DDS_HARMLESS).split())

@@ -12,7 +12,7 @@ from dataclasses import dataclass
 from model import MAX_DOMAIN, Application, Deployment, Topic
 from names import type_like
 from notes import Harm
-from policies import FAST_DDS, OMG, BadValue, Dialect, Settings, Side, read_policies, whole_number
+from policies import FAST_DDS, FAST_DDS_LIMITS, OMG, BadValue, Dialect, Settings, Side, read_policies, whole_number
 from profiles import Profile, Profiles, parts_of, topic_of
 from reading import Element, printable, quoted
 
@@ -151,6 +151,14 @@ def fast_dds_settings(element: Element, endpoints: Endpoints) -> Settings:
     return found
 
 
+def report_refused_limits(element: Element, settings: Settings, endpoints: Endpoints) -> None:
+    """Notes limits with which Fast DDS makes no endpoint of a type with a key: `check_allocation_consistency` of its endpoints."""
+    most, instances, of_each = (settings[limit] for limit in ("max_samples", "max_instances", "max_samples_per_instance"))
+    if "unlimited" not in (most, instances, of_each) and most < instances * of_each:
+        why = f"its max_samples {most} is below its max_instances {instances} times its max_samples_per_instance {of_each}"
+        endpoints.notes.add(element, f"{why}, and Fast DDS makes no such endpoint of a type with a key", Harm.UNTRUE)
+
+
 def read_domains(participant: Element, endpoints: Endpoints) -> list[Domain]:
     """The domains that a participant's profile names."""
     found = []
@@ -182,13 +190,16 @@ def fast_dds_domain(holders: list[Element], endpoints: Endpoints) -> int:
 
 def add_fast_dds(holders: list[Element], endpoints: Endpoints) -> None:
     endpoints.domain = fast_dds_domain(holders, endpoints)
-    standing: set[tuple[Side, str]] = set()
+    standing: dict[tuple[Side, str], Element] = {}
     for element in (one for holder in holders for one in holder.elements(*FAST_DDS_SIDES)):
         side = FAST_DDS_SIDES[element.tag]
         name = element.attribute("profile_name") or element.tag
         if (side, name) in standing:
+            endpoints.notes.refuse_twice("profile", name, standing[side, name], element)
             endpoints.notes.add(element, f"a profile {quoted(name)} stands above too, and became another endpoint", Harm.NONE)
-        standing.add((side, name))
+        standing.setdefault((side, name), element)
         topic = fast_dds_topic(element, name)
         settings = fast_dds_settings(element, endpoints)
+        if topic.keys is None and settings.keys() & FAST_DDS_LIMITS.keys():
+            report_refused_limits(element, FAST_DDS_LIMITS | settings, endpoints)
         endpoints.add(element, side, [f"{name}_{side.letter}"], topic, settings, FAST_DDS)
