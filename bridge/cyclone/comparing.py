@@ -231,6 +231,10 @@ def assumed_by(word, name, values, found):
 # ── against a file
 
 
+# a topic of the robot that one writer latches
+STATUS = "rt/navigate_to_pose/_action/status"
+
+
 def against(room, runs):
     path, lists = shown(EXAMPLES / "robot" / "robot.toml", room)
     tag = f"test{os.getpid()}-against"
@@ -242,7 +246,7 @@ def against(room, runs):
     yield "against: as a document", [] if (out, said, status) == ('{"answer":"yes","differences":[]}\n', "", 0) else [out, said, str(status)]
     yield from against_others(room, lists, listen)
     yield from against_bad(room)
-    text = capture_all(has_endpoints(12), 3, "--tag", tag)[0]
+    text = capture_all(has_endpoints(len(lists["writers"] + lists["readers"])), 3, "--tag", tag)[0]
     file = read(text, room)[1]
     out, said, status = listen(file, "")
     yield "against: its own capture", [] if (out, said, status) == ("", "", 0) else [out, said, str(status)]
@@ -292,22 +296,22 @@ def renamed(lists):
 def against_others(room, lists, listen):
     first, of_all = lists["readers"][0], {one["name"]: one for one in lists["writers"] + lists["readers"]}
     missing = {"domain": 0, "kind": "reader", "participant": first["participant"], "topic": first["topic"]}
-    extra = {"difference": "extra", "domain": 0, "kind": "writer", "name": "map_w", "participant": of_all["map_w"]["participant"], "topic": "rt/map"}
+    extra = {"difference": "extra", "domain": 0, "kind": "writer", "name": "status_w", "participant": of_all["status_w"]["participant"], "topic": STATUS}
     values = {"durability": "VOLATILE", "deadline": 500_000_000, "liveliness": "MANUAL_BY_TOPIC", "depth": 3, "max_samples": 7, "partitions": ["a", "b"], "coherent": True}
     told = {"durability": "TRANSIENT_LOCAL", "deadline": "infinite", "liveliness": "AUTOMATIC", "depth": 1, "max_samples": "unlimited", "partitions": [], "coherent": False}
     ranks = ["durability", "coherent", "deadline", "liveliness", "depth", "max_samples", "partitions"]
-    differing = [{"difference": "differs", "file": values[one], "kind": "writer", "name": "map_w", "system": told[one], "what": one} for one in ranks]
+    differing = [{"difference": "differs", "file": values[one], "kind": "writer", "name": "status_w", "system": told[one], "what": one} for one in ranks]
     typed = copy.deepcopy(lists)
-    typed["topics"] = [one | {"type": "nav_msgs/msg/Path" if one["name"] == "rt/map" else one["type"].replace("::dds_::", "/").replace("::", "/").rstrip("_")}
+    typed["topics"] = [one | {"type": "nav_msgs/msg/Path" if one["name"] == STATUS else one["type"].replace("::dds_::", "/").replace("::", "/").rstrip("_")}
                        for one in typed["topics"]]
     for what, document, wanted, words in (
         ("what isn't there", with_one_more(lists), [{"difference": "missing", "name": "more_r"} | missing], []),
-        ("what isn't in the file", without(lists, "map_w"), [extra], []),
-        ("each policy", changed(lists, "map_w", **values), differing, []),
-        ("types, also as ROS 2 has them", typed, [{"difference": "differs", "file": "nav_msgs/msg/Path", "kind": "topic", "name": "rt/map",
-                                                   "system": "nav_msgs::msg::dds_::OccupancyGrid_", "what": "type"}], []),
+        ("what isn't in the file", without(lists, "status_w"), [extra], []),
+        ("each policy", changed(lists, "status_w", **values), differing, []),
+        ("types, also as ROS 2 has them", typed, [{"difference": "differs", "file": "nav_msgs/msg/Path", "kind": "topic", "name": STATUS,
+                                                   "system": "action_msgs::msg::dds_::GoalStatusArray_", "what": "type"}], []),
         ("other names", renamed(lists), [], []),
-        ("what isn't asked for", changed(without(lists, "odom_w"), "map_w", depth=3), [], ["--exclude", "rt/map", "--exclude", "rt/odom"]),
+        ("what isn't asked for", changed(without(lists, "odom_w"), "status_w", depth=3), [], ["--exclude", STATUS, "--exclude", "rt/odom"]),
         ("another domain", with_one_more(lists), [], ["--domain", "7"]),
     ):
         file = room / "against.json"
