@@ -2,8 +2,8 @@
 """Looks up the names of the sources in docs/numbers.md, and follows the links of all documents.
 
 docs/numbers.md has a heading for each condition, note, fault, loss and refusal that the sources know, in their order, and none for anything else; what has a
-number says it. The conditions are also those of tests/judged.py. Then each link in a document leads to a file that's there, and to a heading of it. The last line is
-'N passed, M failed'; the status is 1 if one failed.
+number says it. The conditions are also those of tests/judged.py. Then each link in a document leads to a file that's there, and to a heading of it, and each path that a
+document names is there. The last line is 'N passed, M failed'; the status is 1 if one failed.
 """
 import re
 import sys
@@ -23,6 +23,8 @@ SECTIONS = {
     "Losses": [("dds_base/src/sample.rt", "Rejection"), ("dds_search/src/loss.rt", "Loss")],
     "Refused events": [("dds_base/src/events.rt", "Refusal")],
 }
+# a path that a document names, by the folder that it begins with; what is built isn't part of the sources
+PATH = re.compile(r"`(?:\./)?((?:tests|tools|crates|bridge|docs|bench|examples|include|\.ci)/[\w./-]+)")
 # cases that stand for those of another enum, or are no word that is printed
 INSIDE = {"Rejected", "Usage", "Deployment", "Certificate", "Events", "Trace"}
 
@@ -107,7 +109,7 @@ def fault_of_link(document, link):
 
 def documents():
     """The documents that users and developers read."""
-    pages = [*ROOT.glob("*.md"), *(ROOT / "docs").rglob("*.md"), *(ROOT / "examples").rglob("*.md")]
+    pages = [*ROOT.glob("*.md"), *(page for folder in ("docs", "examples", ".github") for page in (ROOT / folder).rglob("*.md"))]
     return sorted(str(page.relative_to(ROOT)) for page in pages)
 
 
@@ -129,11 +131,19 @@ def follow_links(tally, document):
             tally.judge(f"{document}: {link}", fault_of_link, document, link)
 
 
+def find_paths(tally, document):
+    """Looks for the files and folders that a document names."""
+    for path in PATH.findall(plain(read(document))):
+        if "/out/" not in path:
+            tally.check((ROOT / path).exists(), f"{document}: {path}", "no such file")
+
+
 def main():
     tally = Tally()
     tally.attempt(PAGE, read_page, tally)
     for document in documents():
         tally.attempt(document, follow_links, tally, document)
+        tally.attempt(document, find_paths, tally, document)
     return tally.finish()
 
 

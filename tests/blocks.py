@@ -1,5 +1,6 @@
 #!/usr/bin/env python3
-"""Runs what the documents print: README, GUIDE, FORMAT, numbers, GUARD, HOSTILE, run-on-dds, capture, import, examples/README and the pages of the commands.
+"""Runs what the documents print: README, GUIDE, FORMAT, numbers, GUARD, HOSTILE, run-on-dds, capture, import, ros-trace, report, ci, examples/README and the pages of the
+commands.
 
   tests/blocks.py
 
@@ -24,8 +25,11 @@ from harness import PROGRAM, ROOT, Skipped, Tally, ddscheck, need_program, run  
 
 # pages whose output comes of Cyclone DDS: of these the tests of bridge/cyclone run what isn't run here
 ON_CYCLONE = ["docs/run-on-dds.md", "docs/capture.md"]
-DOCUMENTS = ["README.md", "docs/GUIDE.md", "docs/FORMAT.md", "docs/numbers.md", "docs/GUARD.md", "docs/HOSTILE.md", "examples/README.md", "docs/import.md", *ON_CYCLONE]
+DOCUMENTS = ["README.md", "docs/GUIDE.md", "docs/FORMAT.md", "docs/numbers.md", "docs/GUARD.md", "docs/HOSTILE.md", "examples/README.md", "docs/import.md", "docs/ros-trace.md",
+             "docs/report.md", "docs/ci.md", *ON_CYCLONE]
 DOCUMENTS += sorted(str(page.relative_to(ROOT)) for page in (ROOT / "docs/commands").glob("*.md"))
+# blocks of docs/ci.md that tests/continuous.py tries
+IN_CI = {"yaml", "cmake", "sh"}
 COMMAND = re.compile(r"(?:\./)?ddscheck |cp examples/|(?:bench|tests|tools)/")
 # builds and tests are no commands to try within a test, and what needs Cyclone DDS doesn't run here
 NOT_RUN = re.compile(r"\./test$|\./ddscheck --build$|bridge/|make -C bridge/|\(cd crates/dds_guard_c && rt lib\)$|cc -Iinclude ")
@@ -165,6 +169,8 @@ def read_document(tally, room, document):
             continue
         if block.language == "toml":
             tally.judge(str(block), fault_of_toml, block)
+        elif document == "docs/ci.md" and block.language in IN_CI:
+            continue
         elif block.lines[0].startswith("$ "):
             tally.judge(str(block), fault_of_session, room, block)
         elif block.language in COMPILED and document == "docs/GUIDE.md":

@@ -8,6 +8,7 @@ The last line is 'N passed, M failed'; the status is 1 if one failed.
 """
 import gzip
 import os
+import re
 import shutil
 import sys
 import tarfile
@@ -25,8 +26,21 @@ FILES = {
     "usr/share/bash-completion/completions/ddscheck": ROOT / "docs/completions/ddscheck.bash",
     "usr/share/zsh/vendor-completions/_ddscheck": ROOT / "docs/completions/ddscheck.zsh",
     "usr/share/fish/vendor_completions.d/ddscheck.fish": ROOT / "docs/completions/ddscheck.fish",
+    "usr/share/cmake/ddscheck/DdscheckAddTest.cmake": ROOT / "cmake/DdscheckAddTest.cmake",
+    "usr/share/cmake/ddscheck/ddscheck-config.cmake": ROOT / "cmake/ddscheck-config.cmake",
 }
-PACKED = {"usr/share/man/man1/ddscheck.1.gz": ROOT / "docs/man/ddscheck.1", f"{DOCUMENTS}/changelog.gz": ROOT / "CHANGELOG.md"}
+PACKED = {f"usr/share/man/man1/{page.name}.gz": page for page in (ROOT / "docs/man").iterdir()}
+PACKED[f"{DOCUMENTS}/changelog.gz"] = ROOT / "CHANGELOG.md"
+# the tools beside the program: where they lie, the script to which each command is a link, the record of the program, and how the tools find it
+SHARE = "usr/share/ddscheck"
+SCRIPTS = {"ddscheck-report": "tools/report", "ddscheck-import": "tools/dds-xml/import.py", "ddscheck-ros-trace": "tools/ros-trace/ros-trace"}
+RECORD = f"{SHARE}/dist/ddscheck.sources"
+LINKS = {f"usr/bin/{name}": f"../share/ddscheck/{script}" for name, script in SCRIPTS.items()} | {f"{SHARE}/ddscheck": "../../bin/ddscheck"}
+PROGRAMS = {"usr/bin/ddscheck", f"{SHARE}/tools/sequence", *(f"{SHARE}/{script}" for script in SCRIPTS.values())}
+# what only tests have use for
+FOR_TESTS = {f"tools/dds-xml/{name}.py" for name in ("export", "hostile", "mutate", "planted")} | {"tools/ros-trace/made.py"}
+# the tools that make deployments, each with a text of which it makes one, and the options for that
+MAKERS = {"ddscheck-import": ["tools/dds-xml/cases/talker.xml"], "ddscheck-ros-trace": ["--assume", "ros2", "tools/ros-trace/talker.txt"]}
 
 
 def out_of(words, **how):
@@ -43,6 +57,13 @@ def documents():
         folder = name.split("/")[0]
         if (folder == name and name.endswith(".md")) or (folder in ("docs", "examples") and name.split("/")[1] not in ("man", "completions")):
             yield name
+
+
+def tool_files():
+    """What the tools beside the program are made of and read."""
+    parts = ["tools/report", "tools/sequence", "README.md", "SECURITY.md", "docs/DEFINITIONS.md", "docs/GLOSSARY.md", "docs/numbers.md", SCRIPTS["ddscheck-ros-trace"]]
+    modules = out_of(["git", "-C", ROOT, "ls-files", "tools/reporting", ":(glob)tools/dds-xml/*.py", ":(glob)tools/ros-trace/*.py"])
+    return [*parts, *(name for name in modules.splitlines() if name not in FOR_TESTS)]
 
 
 def refuse(tally, room):
@@ -77,11 +98,14 @@ def compare_files(tally, root):
         tally.check((root / name).read_bytes() == path.read_bytes(), f"{name} is the tree's")
     for name, path in PACKED.items():
         tally.check(gzip.decompress((root / name).read_bytes()) == path.read_bytes(), f"{name} is the tree's")
-    names = set(documents())
-    for name in sorted(names):
-        tally.check((root / DOCUMENTS / name).is_file() and (root / DOCUMENTS / name).read_bytes() == (ROOT / name).read_bytes(), f"{name} is the tree's")
+    copied = {f"{DOCUMENTS}/{name}": name for name in documents()} | {f"{SHARE}/{name}": name for name in tool_files()}
+    for path, name in sorted(copied.items()):
+        tally.check((root / path).is_file() and (root / path).read_bytes() == (ROOT / name).read_bytes(), f"{path} is the tree's")
+    for link, target in LINKS.items():
+        tally.check((root / link).is_symlink() and os.readlink(root / link) == target, f"{link} leads to {target}")
     every = {str(path.relative_to(root)) for path in root.rglob("*") if path.is_file()}
-    tally.check(every == {*FILES, *PACKED, *(f"{DOCUMENTS}/{name}" for name in names)}, "no other file", sorted(every)[:80])
+    owed = {*FILES, *PACKED, *copied, RECORD, *LINKS}
+    tally.check(every == owed, "no other file", sorted(every ^ owed)[:80])
 
 
 def compare_entries(tally, package, room):
@@ -90,9 +114,11 @@ def compare_entries(tally, package, room):
     seconds = int(out_of(["git", "-C", ROOT, "log", "-1", "--format=%ct"]))
     with tarfile.open(room / "tar") as entries:
         for entry in entries:
-            may = 0o755 if entry.isdir() or entry.name == "./usr/bin/ddscheck" else 0o644
+            name = entry.name.removeprefix("./")
+            may = 0o777 if name in LINKS else 0o755 if entry.isdir() or name in PROGRAMS else 0o644
             found = (entry.uname, entry.gname, entry.uid, entry.gid, entry.mode, int(entry.mtime))
-            tally.check(found == ("root", "root", 0, 0, may, seconds) and (entry.isdir() or entry.isreg()), f"the entry {entry.name}", found)
+            is_kind = entry.issym() if name in LINKS else entry.isdir() or entry.isreg()
+            tally.check(found == ("root", "root", 0, 0, may, seconds) and is_kind, f"the entry {entry.name}", found)
 
 
 def archive_of(package):
@@ -109,6 +135,38 @@ def answer(tally, root):
     for certificate in sorted(examples.rglob("*.cert.toml")):
         given = run([program, "check", certificate.with_name(certificate.name.replace(".cert", "")), certificate], seconds=SECONDS)
         tally.check(given.status == 0 and given.out.startswith("yes\n"), f"check of {certificate.name}", given)
+
+
+def make_report(tally, root):
+    """The unpacked tool makes a report by the unpacked program, whose sources it knows, from any folder."""
+    examples = root / DOCUMENTS / "examples/ping"
+    environment = {name: value for name, value in os.environ.items() if name != "DDSCHECK"}
+    given = run([root / "usr/bin/ddscheck-report", examples / "ping.toml", examples / "ping.cert.toml"], cwd="/", env=environment)
+    sources = (root / RECORD).read_text(encoding="utf-8").splitlines()[0]
+    tally.check((given.status, given.err) == (0, "") and sources in given.out, "a report by the package", given)
+
+
+def make_deployments(tally, root, room):
+    """The unpacked tools make what those of the tree make, which the unpacked program reads, also through a link and from another folder."""
+    for name, (*options, text) in MAKERS.items():
+        (room / name).symlink_to(root / "usr/bin" / name)
+        given, owed = run([room / name, *options, ROOT / text], cwd="/"), run([ROOT / SCRIPTS[name], *options, ROOT / text])
+        tally.check((given.status, given.out) == (0, owed.out) and "version = " in owed.out, f"{name} of {text}", given)
+        (room / "made.toml").write_text(given.out, encoding="utf-8")
+        given = run([root / "usr/bin/ddscheck", "match", room / "made.toml"])
+        tally.check(given.status == 0, f"match of what {name} makes", given)
+
+
+def compare_pages(tally):
+    """The man pages of the tools have the options and statuses of their help, and no others."""
+    for name, script in SCRIPTS.items():
+        page = re.sub(r"\\f[BIR]", " ", (ROOT / f"docs/man/{name}.1").read_text(encoding="utf-8")).replace("\\", "")
+        told, owed = page.split(".SH OPTIONS")[1], run([ROOT / script, "--help"]).out
+        tags = "\n".join(re.findall(r"^\.TP\n(.*)", told, re.M))
+        options = [set(re.findall(r"(?<![\w-])--[a-z]+", part)) for part in (tags, re.split("options:", owed, flags=re.IGNORECASE)[-1])]
+        statuses = [set(found) for found in (re.findall(r"^(\d)$", told, re.M), re.findall(r"(?:Status:|;|^ )\s+(\d)\s", owed, re.M))]
+        tally.check(options[0] == options[1] and len(options[0]) > 1, f"the options of {name}", options)
+        tally.check(statuses[0] == statuses[1] and len(statuses[0]) > 3, f"the statuses of {name}", statuses)
 
 
 def install(tally, package, room):
@@ -149,6 +207,8 @@ def make(tally, room):
     compare_files(tally, room / "unpacked")
     compare_entries(tally, first, room)
     answer(tally, room / "unpacked")
+    make_report(tally, room / "unpacked")
+    make_deployments(tally, room / "unpacked", room)
     install(tally, first, room)
 
 
@@ -158,6 +218,7 @@ def main():
     with tempfile.TemporaryDirectory() as name:
         room = Path(name)
         refuse(tally, room)
+        compare_pages(tally)
         if shutil.which("dpkg-deb") is None or shutil.which("dpkg") is None:
             tally.skip("dpkg and dpkg-deb, which pack and install Debian packages, aren't installed", 3)
         else:

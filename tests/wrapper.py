@@ -25,6 +25,7 @@ TOOLS = ["awk", "cat", "chmod", "cp", "find", "grep", "gzip", "head", "id", "ins
 # `rt ci` makes the program of the sources that it finds; `rt try` answers by the words after `--`. Where the file `slow` is there, both wait, and note their process.
 RT = r"""#!/bin/sh
 here=${0%/*}
+[ "$1" != version ] || exec cat "$here/kit"
 echo "$1" >>"$here/calls"
 [ ! -e "$here/slow" ] || { echo $$ >"$here/slow" && mkdir -p "$TMPDIR/rt-own" && exec sleep 60; }
 case $1 in
@@ -61,13 +62,17 @@ class Tree:
         shutil.copy(ROOT / "ddscheck", self.script)
         self.write("crates.txt", "# the crates\nbase:\nfirst_answer: base\nddscheck: base first_answer\ntests: ddscheck base\n")
         self.write("HANDLES", "Handles allowed: none.\n")
+        self.write("toolchain.txt", "kit-1 logic 1\n")
         for name, text in (("base/src/lib.rt", "b1"), ("first_answer/src/main.rt", "f1"), ("ddscheck/src/main.rt", "d1"), ("tests/src/lib.rt", "t1")):
             self.write(f"crates/{name}", text)
         self.write("crates/base/specs/Lib.antt", "specs")
-        for name in ("man/ddscheck.1", "completions/ddscheck.bash", "completions/ddscheck.zsh", "completions/ddscheck.fish"):
+        for name in ("man/ddscheck-check.1", "man/ddscheck-tool.1", "man/ddscheck.1", "commands/README.md", "commands/check.md"):
+            self.write(f"docs/{name}", name)
+        for name in ("completions/ddscheck.bash", "completions/ddscheck.zsh", "completions/ddscheck.fish"):
             self.write(f"docs/{name}", name)
         self.write("d.toml", "a deployment")
         self.write("c.toml", "a certificate")
+        (self.tools / "kit").write_text("kit-1 logic 1\n")
         (self.tools / "rt").write_text(RT)
         (self.tools / "rt").chmod(0o755)
         for tool in TOOLS:
@@ -101,7 +106,7 @@ class Tree:
         """Packs the built program as tools/release does, and removes what was built."""
         self.build()
         self.write("tools/release", (ROOT / "tools/release").read_text())
-        made = run([shutil.which("sh"), self.top / "tools/release"], cwd=self.top, env=self.environment() | {"PATH": os.environ["PATH"]}, seconds=30)
+        made = run([shutil.which("sh"), self.top / "tools/release"], cwd=self.top, env=self.environment() | {"PATH": f"{self.tools}:{os.environ['PATH']}"}, seconds=30)
         assert made.status == 0, made
         shutil.rmtree(self.top / "crates/ddscheck/out")
         self.calls()
@@ -199,6 +204,22 @@ def take_over(tree, tally):
     taken = tree.ask("--build")
     tally.check((taken.status, tree.calls()) == (0, ["ci"]), "not where a source was written since the gate began, whatever its time", taken)
     tally.check(is_answer_of(tree.ask(*CHECK), "d1", "b2"), "then it is built")
+
+
+def keep_to_the_toolchain(tree, tally):
+    """`--build` goes by the logic of the toolchain that toolchain.txt names alone, also where a program is there. The kit's name may be another."""
+    for built in (False, True):
+        (tree.tools / "kit").write_text("kit-1 logic 2\n")
+        given = tree.ask("--build")
+        is_told = is_failure(given, "toolchain.txt names kit-1 logic 1, and rt gives kit-1 logic 2")
+        tally.check(is_told and tree.calls() == [], f"another logic, with a program: {built}", given)
+        (tree.tools / "kit").write_text("kit-2 logic 1\n")
+        tally.check(tree.ask("--build").status == 0 and tree.calls() == ([] if built else ["ci"]), "another kit with the logic that is named")
+    (tree.tools / "kit").unlink()
+    tally.check(is_failure(tree.ask("--build"), "rt gives no version"), "a toolchain without a version")
+    (tree.top / "toolchain.txt").unlink()
+    tally.check(is_failure(tree.ask("--build"), "toolchain.txt can't be read"), "a tree that names no toolchain")
+    tally.check(tree.ask(*CHECK).status == 0, "which the program doesn't need to answer")
 
 
 def say_what_needs_a_build(tree, tally):
@@ -344,6 +365,7 @@ def install(tree, tally):
     places = {
         "bin/ddscheck": "crates/ddscheck/out/ddscheck",
         "share/man/man1/ddscheck.1": "docs/man/ddscheck.1",
+        "share/man/man1/ddscheck-check.1": "docs/man/ddscheck-check.1",
         "share/bash-completion/completions/ddscheck": "docs/completions/ddscheck.bash",
         "share/zsh/site-functions/_ddscheck": "docs/completions/ddscheck.zsh",
         "share/fish/vendor_completions.d/ddscheck.fish": "docs/completions/ddscheck.fish",
@@ -506,7 +528,7 @@ def lack_execution(tree, tally):
 
 
 CASES = [
-    build_and_answer, follow_sources, edit_during_build, take_over, say_what_needs_a_build, fail_by_devices, write_nothing, follow_links, lack_tools,
+    build_and_answer, follow_sources, edit_during_build, take_over, keep_to_the_toolchain, say_what_needs_a_build, fail_by_devices, write_nothing, follow_links, lack_tools,
     end_by_signals, install, name_the_commit, answer_by_release, keep_others_out, end_beside, lack_execution,
 ]
 

@@ -1,10 +1,11 @@
 #!/usr/bin/env python3
-"""Makes the completions for bash, zsh and fish and the man page from the program's own help.
+"""Makes the completions for bash, zsh and fish from the program's own help, and the manual pages from that and docs/commands.
 
-  tools/completions.py           # writes docs/completions/ddscheck.{bash,zsh,fish} and docs/man/ddscheck.1
+  tools/completions.py           # writes docs/completions/ddscheck.{bash,zsh,fish}, docs/man/ddscheck.1, docs/man/ddscheck-COMMAND.1 and docs/man/ddscheck-TOOL.1
   tools/completions.py --check   # prints which of these files fall behind; the last line is 'N passed, M failed'
 
-The help is read from tests/commands/help.txt, which tests/commands.py holds equal to what the program prints.
+The help is read from tests/commands/help.txt, which tests/commands.py holds equal to what the program prints. tools/manual_pages.py makes the manual pages, and
+tools/tool_pages.py has those of the tools beside the program.
 """
 import re
 import sys
@@ -15,6 +16,8 @@ sys.dont_write_bytecode = True
 sys.path.insert(0, str(Path(__file__).resolve().parent.parent / "tests"))
 from commands import cases  # noqa: E402
 from harness import ROOT, Tally  # noqa: E402
+from manual_pages import code, item, manual, top_manual  # noqa: E402
+from tool_pages import TOOLS, tool_manual  # noqa: E402
 
 
 @dataclass
@@ -180,50 +183,33 @@ def fish(all_commands, options):
     return text
 
 
-def roff(text):
-    return text.replace("\\", "\\e").replace("-", "\\-")
-
-
-def man_options(options):
+def manual_options(options):
+    """The options of a manual page."""
     text = ""
     for option in options:
-        names = ", ".join(f"\\fB{roff(name)}\\fR" for name in (option.short, option.long) if name)
+        names = ", ".join(f"\\fB{code(name)}\\fR" for name in (option.short, option.long) if name)
         value = f" \\fI{option.value}\\fR" if option.value else ""
-        text += f".TP\n{names}{value}\n{roff(option.about)}\n"
+        text += item(names + value, option.about)
     return text
 
 
-def man(all_commands, options, about):
-    text = f""".\\" The man page of ddscheck, made by tools/completions.py from the program's help.
-.TH DDSCHECK 1
-.SH NAME
-ddscheck \\- {roff(about)}
-.SH SYNOPSIS
-"""
-    text += "".join(f".B {roff(command.usage)}\n.br\n" for command in all_commands if command.usage)
-    text += ".SH OPTIONS\n" + man_options(options) + ".SH COMMANDS\n"
-    for command in all_commands:
-        text += f".SS {command.name}\n{roff(command.about)}.\n"
-        for name, meaning in command.files:
-            text += f".TP\n\\fI{name}\\fR\n{roff(meaning)}\n"
-        text += man_options(command.options)
-    return text + """.SH EXIT STATUS
-.TP
-0
-yes
-.TP
-1
-no
-.TP
-2
-a fault of a file
-.TP
-3
-memory, a file, an output or a run failed
-.TP
-4
-a fault of usage
-"""
+def manuals(all_commands, options, about):
+    """The manual pages: of each command, and of the program."""
+    named = [command for command in all_commands if command.usage]
+    found = {"docs/man/ddscheck.1": top_manual(about, [(command.name, command.about) for command in named], manual_options(options))}
+    for command in named:
+        files = "".join(item(f"\\fI{name}\\fR", meaning) for name, meaning in command.files)
+        found[f"docs/man/ddscheck-{command.name}.1"] = manual(command.name, files + manual_options(command.options))
+    return found
+
+
+def tool_manuals():
+    """The manual pages of the tools beside the program."""
+    return {f"docs/man/{name}.1": tool_manual(name, manual_options(options_of(tool))) for name, tool in TOOLS.items()}
+
+
+def options_of(tool):
+    return [Option("-h", "--help", "", "Print help"), *(Option("", *option) for option in tool.options)]
 
 
 def pages():
@@ -233,8 +219,7 @@ def pages():
         "docs/completions/ddscheck.bash": bash(all_commands, options),
         "docs/completions/ddscheck.zsh": zsh(all_commands, options),
         "docs/completions/ddscheck.fish": fish(all_commands, options),
-        "docs/man/ddscheck.1": man(all_commands, options, about),
-    }
+    } | manuals(all_commands, options, about) | tool_manuals()
 
 
 def main(words):
@@ -242,7 +227,7 @@ def main(words):
     for name, text in pages().items():
         path = ROOT / name
         if words == ["--check"]:
-            tally.check(path.exists() and path.read_text() == text, f"{name} falls behind the program's help: run tools/completions.py")
+            tally.check(path.exists() and path.read_text() == text, f"{name} falls behind the help, docs/commands or tools/tool_pages.py: run tools/completions.py")
         else:
             path.parent.mkdir(parents=True, exist_ok=True)
             path.write_text(text)
