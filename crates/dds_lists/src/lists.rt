@@ -11,11 +11,22 @@ use dds_base::{
 use dds_qos::{ReaderQos, WriterQos};
 use std::alloc::Global;
 
+/// When a participant comes. Once there, it stays.
+#[derive(Clone, Copy, Debug, PartialEq, Eq)]
+pub enum Joins {
+    /// Before the first write: its endpoints and those that they match know of one another by then.
+    Before,
+    /// At any time, once.
+    Any,
+}
+
 /// A domain participant. Endpoints talk where their participants are in one domain.
 #[derive(Drop)]
 pub struct Participant {
     /// 0 to 2,147,483,647.
     pub domain: u32,
+    /// When it comes.
+    pub joins: Joins,
 }
 
 /// A keyed topic: a name, the name of its type, and the names of its instances' keys, 1 to 64 of them.
