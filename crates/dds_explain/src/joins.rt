@@ -82,7 +82,8 @@ fn unfit_key(plan: &Plan, writer: WriterNo, key: KeyNo) -> Option<KeyNo>
 fn first_unfit(plan: &Plan, writer: WriterNo) -> Option<KeyNo>
     ensures { result ≡ first_unfit (network_of plan.now) writer }
 {
-    if writer_limits(plan, writer).max_samples_per_instance.is_none() {
+    let limit = writer_limits(plan, writer).max_samples_per_instance;
+    if limit.is_none() {
         return None;
     }
     first_below(
@@ -95,13 +96,7 @@ fn first_unfit(plan: &Plan, writer: WriterNo) -> Option<KeyNo>
 }
 
 /// A writer's limit by name, which is less than all that it ever writes.
-fn history_line(
-    alloc: Global,
-    writer: &str,
-    policy: &str,
-    limit: &str,
-    what: &str,
-) -> TextResult
+fn history_line(alloc: Global, writer: &str, policy: &str, limit: &str, what: &str) -> TextResult
     ensures { IfOk result (λ text. string_bytes text ≡ history_line writer.now policy.now limit.now what.now) }
 {
     format!(in alloc;
@@ -114,10 +109,7 @@ fn history_line(
 fn unfit_key_lines(alloc: Global, plan: &Plan, writer: WriterNo, key: KeyNo) -> TextResult
     ensures { IfOk result (λ text. string_bytes text ≡ unfit_key_lines plan.now writer key) }
 {
-    let limit = limit_text(
-        alloc,
-        writer_limits(plan, writer).max_samples_per_instance,
-    )?;
+    let limit = limit_text(alloc, writer_limits(plan, writer).max_samples_per_instance)?;
     let name = writer_key(plan.lists(), writer, key);
     let what = format!(in alloc; " of {name}")?;
     let line = history_line(

@@ -13,11 +13,7 @@ use dds_check::joins::{late_history, late_volatile};
 use dds_conditions::{readers_of, writers_of};
 use dds_match::Plan;
 
-fn push_late_volatile_of(
-    nos: &mut Vec<No>,
-    plan: &Plan,
-    writer: WriterNo,
-) -> Result<(), NoMemory>
+fn push_late_volatile_of(nos: &mut Vec<No>, plan: &Plan, writer: WriterNo) -> Result<(), NoMemory>
     requires { writer < (network_of plan.now).writers }
     ensures { OnOk result (nos.new.items ≡ nos.old.items
         ++ those_below (network_of plan.now).readers (late_volatile (network_of plan.now) writer)) }
