@@ -39,11 +39,18 @@ history_line writer policy limit what =
     codes "because " ++ (writer ++ (codes " keeps what it wrote for readers that come late, and its " ++ (policy ++ (codes " " ++ (limit
     ++ (codes " is less than all that it ever writes" ++ (what ++ codes "\n")))))))
 
--- max_samples_per_instance, and how often the key is ever written, if there is such a number
+-- the words that a line has of a key
+abbrev pub of_key : List ℕ → List ℕ
+of_key key = codes " of " ++ key
+
+-- max_samples_per_instance, which is less than all that the writer ever writes of a key
+abbrev pub unfit_key_line : Lists → ℕ → ℕ → List ℕ
+unfit_key_line d w k =
+    history_line (writer_name d w) (codes "max_samples_per_instance") (limit_text ((network_of d).writer_limits w).max_samples_per_instance) (of_key (writer_key d w k))
+
+-- the same with how often the key is ever written, if there is such a number
 abbrev pub unfit_key_lines : Lists → ℕ → ℕ → List ℕ
-unfit_key_lines d w k =
-    history_line (writer_name d w) (codes "max_samples_per_instance") (limit_text ((network_of d).writer_limits w).max_samples_per_instance) (codes " of " ++ writer_key d w k)
-    ++ number_line (codes "writes") (writes_at_all (network_of d) w k) (codes " in all")
+unfit_key_lines d w k = unfit_key_line d w k ++ number_line (codes "writes") (writes_at_all (network_of d) w k) (codes " in all")
 
 -- max_samples, and how much is ever written, if there is such a number
 abbrev pub unfit_lines : Lists → ℕ → List ℕ

@@ -5,8 +5,8 @@ ghost use Rattle.dds_base.specs.Grid.{most_keys};
 ghost use Rattle.dds_match.specs.Plan.{network_of};
 ghost use Rattle.dds_check.specs.Joins.{written_in_all};
 ghost use Rattle.dds_explain.specs.Joins.{first_unfit, history_line, history_lines, late_history_lines};
-ghost use Rattle.dds_explain.specs.Joins.{late_volatile_line, unfit_key, unfit_key_lines, unfit_lines, volatile_line};
-ghost use Rattle.dds_explain.specs.Joins.{volatile_name};
+ghost use Rattle.dds_explain.specs.Joins.{late_volatile_line, of_key, unfit_key, unfit_key_line, unfit_key_lines};
+ghost use Rattle.dds_explain.specs.Joins.{unfit_lines, volatile_line, volatile_name};
 
 use crate::limits::number_line;
 use crate::pieces::{limit_text, writer_limits};
@@ -105,20 +105,33 @@ fn history_line(alloc: Global, writer: &str, policy: &str, limit: &str, what: &s
     )
 }
 
-/// The `max_samples_per_instance` of a writer, and how often the key is ever written there, if there is such a number.
-fn unfit_key_lines(alloc: Global, plan: &Plan, writer: WriterNo, key: KeyNo) -> TextResult
-    ensures { IfOk result (λ text. string_bytes text ≡ unfit_key_lines plan.now writer key) }
+/// The words that a line has of a key.
+fn of_key(alloc: Global, key: &str) -> TextResult
+    ensures { IfOk result (λ text. string_bytes text ≡ of_key key.now) }
+{
+    format!(in alloc; " of {key}")
+}
+
+/// The `max_samples_per_instance` of a writer, which is less than all that it ever writes of a key.
+fn unfit_key_line(alloc: Global, plan: &Plan, writer: WriterNo, key: KeyNo) -> TextResult
+    ensures { IfOk result (λ text. string_bytes text ≡ unfit_key_line plan.now writer key) }
 {
     let limit = limit_text(alloc, writer_limits(plan, writer).max_samples_per_instance)?;
-    let name = writer_key(plan.lists(), writer, key);
-    let what = format!(in alloc; " of {name}")?;
-    let line = history_line(
+    let what = of_key(alloc, writer_key(plan.lists(), writer, key))?;
+    history_line(
         alloc,
         writer_name(plan.lists(), writer),
         "max_samples_per_instance",
         limit.as_str(),
         what.as_str(),
-    )?;
+    )
+}
+
+/// The same with how often the key is ever written there, if there is such a number.
+fn unfit_key_lines(alloc: Global, plan: &Plan, writer: WriterNo, key: KeyNo) -> TextResult
+    ensures { IfOk result (λ text. string_bytes text ≡ unfit_key_lines plan.now writer key) }
+{
+    let line = unfit_key_line(alloc, plan, writer, key)?;
     let writes = number_line(alloc, "writes", writes_at_all(plan, writer, key), " in all")?;
     format!(in alloc; "{line}{writes}")
 }

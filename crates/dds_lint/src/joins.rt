@@ -13,27 +13,17 @@ use dds_check::joins::{late_history, late_volatile};
 use dds_conditions::{readers_of, writers_of};
 use dds_match::Plan;
 
-fn push_late_volatile_of(nos: &mut Vec<No>, plan: &Plan, writer: WriterNo) -> Result<(), NoMemory>
-    requires { writer < (network_of plan.now).writers }
-    ensures { OnOk result (nos.new.items ≡ nos.old.items
-        ++ those_below (network_of plan.now).readers (late_volatile (network_of plan.now) writer)) }
-{
-    push_below(
-        nos,
-        readers_of(plan),
-        |r|
-            requires { r < (network_of plan.now).readers }
-            ensures { result ≡ late_volatile (network_of plan.entry.now) writer r }
-        { late_volatile(plan, writer, ReaderNo::new(r)) },
-    )
-}
-
 fn push_late_volatile(nos: &mut Vec<No>, plan: &Plan) -> Result<(), NoMemory>
     ensures { OnOk result (nos.new.items ≡ nos.old.items
         ++ every_pair (network_of plan.now) (late_volatile (network_of plan.now))) }
 {
     for w in 0..writers_of(plan) {
-        push_late_volatile_of(nos, plan, WriterNo::new(w))?;
+        let writer = WriterNo::new(w);
+        push_below(
+            nos,
+            readers_of(plan),
+            |r| late_volatile(plan, writer, ReaderNo::new(r)),
+        )?;
     }
     Ok(())
 }
