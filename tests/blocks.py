@@ -39,6 +39,7 @@ STANDS_FOR = {"DEPLOYMENT": "examples/ping/ping.toml", "CERTIFICATE": "examples/
 COMPILED = {"c": ("cc", "dds/dds.h", []), "cpp": ("c++", "ddscxx/dds/dds.hpp", ["chrono", "thread"])}
 # examples whose certificate is what `propose --thorough` prints
 PROPOSED = ["vehicle", "plant", "instrument", "robot"]
+PATTERNS = [path for path in sorted((ROOT / "examples/patterns").glob("*.toml")) if not path.name.endswith(".cert.toml")]
 PICTURES = {"docs/ping.svg": "ping"} | {f"examples/{name}/{name}.svg": name for name in PROPOSED}
 
 
@@ -200,6 +201,9 @@ def fault_of_pattern(path, folder):
     needs, safe, proposed = (ddscheck(*words, path) for words in (["limits"], ["refute"], ["propose", "--thorough"]))
     if (needs.status, safe.out) != (0, "safe\n") or "too low" in needs.out:
         return f"{needs} {safe}"
+    beside = path.with_suffix(".cert.toml")
+    if beside.exists() and beside.read_text(encoding="utf-8") != proposed.out:
+        return f"another certificate than {beside.name} is proposed"
     certificate = Path(folder) / f"{path.stem}.cert.toml"
     certificate.write_text(proposed.out, encoding="utf-8")
     checked = ddscheck("check", path, certificate)
@@ -231,7 +235,7 @@ def main():
         room = Room(name)
         for document in DOCUMENTS:
             tally.attempt(document, read_document, tally, room, document)
-        for path in sorted((ROOT / "examples/patterns").glob("*.toml")):
+        for path in PATTERNS:
             tally.judge(f"the pattern {path.stem}", fault_of_pattern, path, name)
     for name in PROPOSED:
         tally.judge(f"the certificate of {name}", fault_of_certificate, name)
