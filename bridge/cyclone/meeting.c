@@ -223,6 +223,23 @@ static bool are_silent(const struct meeting *meeting, int64_t since)
     return found;
 }
 
+// Whether each process that was heard here has matched in the other direction too.
+static bool all_can_hear(const struct meeting *meeting)
+{
+    return dds_get_matched_subscriptions(meeting->writer, NULL, 0) >= dds_get_matched_publications(meeting->reader, NULL, 0);
+}
+
+// Says for the last time that all have ended here, so that each process hears it before this one leaves: one that came late may have matched only by half.
+static void take_leave(struct meeting *meeting)
+{
+    int64_t until = now() + DDS_SECS(2);
+    while (!all_can_hear(meeting) && now() < until) {
+        sleep_for(look_of(meeting));
+    }
+    say(meeting);
+    dds_wait_for_acks(meeting->writer, DDS_SECS(2));
+}
+
 bool part(struct meeting *meeting, int64_t until, int64_t silence)
 {
     const struct deployment *lists = meeting->system->lists;
@@ -241,7 +258,7 @@ bool part(struct meeting *meeting, int64_t until, int64_t silence)
         sleep_for(look_of(meeting));
     }
     if (!meeting->is_alone) {
-        dds_wait_for_acks(meeting->writer, DDS_SECS(2));
+        take_leave(meeting);
     }
     return true;
 }
