@@ -37,6 +37,7 @@ NOT_RUN = re.compile(r"\./test$|\./ddscheck --build$|bridge/|make -C bridge/|\(c
 STANDS_FOR = {"DEPLOYMENT": "examples/ping/ping.toml", "CERTIFICATE": "examples/ping/ping.cert.toml"}
 # how a fragment is compiled: by which program, with which header of Cyclone DDS and which others
 COMPILED = {"c": ("cc", "dds/dds.h", []), "cpp": ("c++", "ddscxx/dds/dds.hpp", ["chrono", "thread"])}
+CALL_CYCLONE = ["docs/GUIDE.md", "docs/run-on-dds.md"]
 # examples whose certificate is what `propose --thorough` prints
 PROPOSED = ["vehicle", "plant", "instrument", "robot"]
 PATTERNS = [path for path in sorted((ROOT / "examples/patterns").glob("*.toml")) if not path.name.endswith(".cert.toml")]
@@ -174,7 +175,7 @@ def read_document(tally, room, document):
             continue
         elif block.lines[0].startswith("$ "):
             tally.judge(str(block), fault_of_session, room, block)
-        elif block.language in COMPILED and document == "docs/GUIDE.md":
+        elif block.language in COMPILED and document in CALL_CYCLONE:
             tally.judge(str(block), fault_of_fragment, block)
         elif block.language == "c":
             tally.judge(str(block), fault_of_c, block)
