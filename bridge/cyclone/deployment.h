@@ -42,11 +42,12 @@ struct topic {
     const char *key[MOST_KEYS];
 };
 
-// A writer or a reader. Of a reader `hears` says which keys of the topic its filter lets pass, and `may_lose` whether it wants the newest samples alone.
+// A writer or a reader. Of a reader `hears` says which keys of the topic its filter lets pass, and `may_lose` whether it wants the newest samples alone. Of a writer that
+// was captured `hands_over_less` says whether late readers get less than it keeps.
 struct endpoint {
     const char *name;
     int participant, topic, application;
-    bool hears[MOST_KEYS], has_filter, may_lose;
+    bool hears[MOST_KEYS], has_filter, may_lose, hands_over_less;
     struct policies policies;
 };
 

@@ -70,7 +70,8 @@ static void note_pair(struct form *form, const struct endpoint *writer, const st
     if (reader->policies.reliability == 0) {
         return;
     }
-    bool is_handed = writer->policies.durability > 0 && reader->policies.durability > 0 && !may_be_full(&writer->policies);
+    bool are_durable = writer->policies.durability > 0 && reader->policies.durability > 0;
+    bool is_handed = are_durable && !writer->hands_over_less && !may_be_full(&writer->policies);
     int ends[] = {writer->participant, reader->participant};
     for (int at = 0; at < 2; at++) {
         form->is_relied_on[ends[at]] = true;
