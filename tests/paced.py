@@ -1,5 +1,4 @@
-"""Drawn deployments of version 4, whose rules write by the clock and whose readers take soon, each with a certificate that's near what its rows show. Some of their
-participants come at any time.
+"""Drawn deployments of version 4, whose rules write by the clock and whose readers take soon, each with a certificate that's near what its rows show.
 
 tests/explained.py holds what `check --explain` says of them to its second reading, and tests/linted.py what `lint` finds to what `check` says.
 """
@@ -30,27 +29,13 @@ def toml(sections):
     return "".join(f"{name} = [{entries}\n]\n" for name, entries in zip(sections, lists))
 
 
-def drawn_participant(draw, name):
-    joins = draw.choice(["any", "any", "before", None, None])
-    return {"name": name, "domain": 0} | ({"joins": joins} if joins else {})
-
-
-def drawn_writer(draw, name, participant, topic, durable):
-    """A writer, which keeps what it wrote for readers to come where its topic is durable."""
+def drawn_writer(draw, name, participant, topic):
     writer = {"name": name, "participant": participant, "topic": topic}
-    if durable:
-        writer["durability"] = draw.choice(["TRANSIENT_LOCAL", "TRANSIENT_LOCAL", "TRANSIENT", "PERSISTENT"])
-    if draw.random() < 0.3:
-        limits = draw.choice(["max_samples", "max_samples_per_instance", None, None])
-        return writer | {"history": "KEEP_ALL"} | ({limits: draw.randint(1, 6)} if limits else {})
-    return writer | {"depth": draw.randint(1, 9)}
+    return writer | ({"history": "KEEP_ALL"} if draw.random() < 0.3 else {"depth": draw.randint(1, 9)})
 
 
-def drawn_reader(draw, name, participant, topic, durable):
-    """A reader, which mostly asks for what was written before it came where its topic is durable."""
+def drawn_reader(draw, name, participant, topic):
     reader = {"name": name, "participant": participant, "topic": topic, "reliability": "RELIABLE"}
-    if durable and draw.random() < 0.85:
-        reader["durability"] = "TRANSIENT_LOCAL"
     if draw.random() < 0.1:
         reader["may_lose"] = True
     if draw.random() < 0.3:
@@ -82,19 +67,30 @@ def drawn_rule(draw, name, writer, keys, readers):
     return rule
 
 
+def join_late(draw, found):
+    """Lets participants join at any time. Most endpoints are durable then, and some writers that keep all have a limit."""
+    for participant in found["participants"]:
+        participant["joins"] = draw.choice(["any", "any", "before"])
+    for end in (*found["writers"], *found["readers"]):
+        if draw.random() < 0.95:
+            end["durability"] = "TRANSIENT_LOCAL"
+    for writer in found["writers"]:
+        if writer.get("history") == "KEEP_ALL":
+            writer |= draw.choice([{}, {"max_samples": draw.randint(1, 9)}, {"max_samples_per_instance": draw.randint(1, 6)}])
+
+
 def drawn_deployment(draw):
     keys = {topic: ["k", "l"][: draw.choice([1, 1, 2])] for topic in ["t", "u"][: draw.randint(1, 2)]}
     places = [(draw.choice("pq"), draw.choice(list(keys))) for _ in range(draw.randint(2, 5))]
     cut = draw.randint(1, len(places) - 1)
-    durable = {topic: draw.random() < 0.6 for topic in keys}
-    writers = [drawn_writer(draw, f"w{n}", place, topic, durable[topic]) for n, (place, topic) in enumerate(places[:cut])]
-    readers = [drawn_reader(draw, f"r{n}", place, topic, durable[topic]) for n, (place, topic) in enumerate(places[cut:])]
+    writers = [drawn_writer(draw, f"w{n}", *place) for n, place in enumerate(places[:cut])]
+    readers = [drawn_reader(draw, f"r{n}", *place) for n, place in enumerate(places[cut:])]
     applications = []
     for place in "pq":
         owned = {field: [one["name"] for one in ends if one["participant"] == place] for field, ends in (("writers", writers), ("readers", readers))}
         applications.append({"name": f"a_{place}", "participant": place} | owned)
-    return {
-        "participants": [drawn_participant(draw, name) for name in "pq"],
+    found = {
+        "participants": [{"name": "p", "domain": 0}, {"name": "q", "domain": 0}],
         "topics": [{"name": name, "type": "T", "keys": names} for name, names in keys.items()],
         "writers": writers,
         "readers": readers,
@@ -102,6 +98,9 @@ def drawn_deployment(draw):
         "rules": [drawn_rule(draw, f"u{n}", draw.choice(writers), keys, readers) for n in range(draw.randint(1, 4))],
         "connections": [{"writer": w["name"], "reader": r["name"]} for w in writers for r in readers if w["topic"] == r["topic"]],
     }
+    if draw.random() < 0.3:
+        join_late(draw, found)
+    return found
 
 
 def drawn_row(draw, name, case):
