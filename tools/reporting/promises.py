@@ -98,7 +98,8 @@ def premises_in_short(answers, system):
     rules = rules_in_short(system)
     timed = plural(len(clocks), "premise") + " on clocks hold" if clocks else "no clock is relied on"
     applications = plural(len(system.lists["applications"]), "application")
-    return f"The pairs match before the first write and stay, {applications} keep {rules}, and {timed}."
+    late = f", but for {plural(len(system.late), 'late participant')}," if system.late else ""
+    return f"The pairs match before the first write{late} and stay, {applications} keep {rules}, and {timed}."
 
 
 def strict_readers(system):
@@ -130,9 +131,18 @@ def write_proved(answers, system):
     )
 
 
+def late_participants(system, pairs):
+    """Which participants nobody waits for, and how many pairs they have."""
+    if not system.late:
+        return None
+    said = f"{plural(len(pairs), 'other pair')} may match at any time, since these participants come when they like: "
+    return tag("p", said, names(system.late), ".")
+
+
 def write_premises(answers, system):
     clocks = answers.premises
-    matched = sum(pair["matches"] for pair in answers.match["pairs"])
+    matched = [(pair["writer"], pair["reader"]) for pair in answers.match["pairs"] if pair["matches"]]
+    late = [pair for pair in matched if system.is_late(*pair)]
     timed = [
         tag("p", "The clock bounds what is written only as long as these hold:"),
         items([quote(line) for line in clocks], style="terms"),
@@ -151,7 +161,7 @@ def write_premises(answers, system):
         tag("h3", "Endpoints match in time"),
         tag(
             "p",
-            f"{plural(matched, 'pair')} (",
+            f"{plural(len(matched) - len(late), 'pair')} (",
             tag("a", "who matches", href="#matches"),
             ") have matched, at both ends, before the first write, and stay. No application restarts. ",
             tag("a", "The endpoints", href="#endpoints"),
@@ -159,6 +169,7 @@ def write_premises(answers, system):
             tag("code", "current_count"),
             " of each one's status has to be.",
         ),
+        late_participants(system, late),
         tag("h3", "Applications keep their rules"),
         rule_table(system),
         tag("h3", "Clocks"),

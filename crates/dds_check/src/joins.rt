@@ -1,11 +1,9 @@
 //! Numbers 27 and 28: a strict reader that may come after its writer's first write is handed what was written before.
 ghost use Rattle.std.specs.Prelude.{◌≡◌, ◌<◌, ◌^◌, ◌&&◌};
-ghost use Rattle.dds_base.specs.Grid.{most_keys};
 ghost use Rattle.dds_match.specs.Plan.{network_of};
 ghost use Rattle.dds_runs.specs.First.{first_below};
 ghost use Rattle.dds_check.specs.Joins.{follows_late, instances_fit, is_followed_late, joins_no};
 ghost use Rattle.dds_check.specs.Joins.{late_history, late_volatile, samples_fit, written_in_all};
-ghost use Rattle.dds_check.specs.Limits.{is_finite_within};
 ghost use Rattle.dds_check.specs.Pairs.{first_pair};
 ghost use Rattle.dds_check.specs.Permits.{AreAtMost, ShowsPermits};
 
@@ -47,10 +45,7 @@ fn first_volatile_of(plan: &Plan, writer: WriterNo) -> Option<No>
 {
     first_below(
         readers_of(plan),
-        |r|
-            requires { r < (network_of plan.now).readers }
-            ensures { result ≡ late_volatile (network_of plan.entry.now) writer r }
-        { late_volatile(plan, writer, ReaderNo::new(r)) },
+        |r| late_volatile(plan, writer, ReaderNo::new(r)),
     )
 }
 
@@ -59,14 +54,12 @@ fn first_late_volatile(plan: &Plan) -> Option<No>
 {
     first_below(
         writers_of(plan),
-        |w|
-            requires { w < (network_of plan.now).writers }
-            ensures { result ≡ first_below (network_of plan.entry.now).readers (late_volatile (network_of plan.entry.now) w) }
-        { first_volatile_of(plan, WriterNo::new(w)) },
+        |w| first_volatile_of(plan, WriterNo::new(w)),
     )
 }
 
 /// Whether a strict reader matches the writer, which may write before they know of one another.
+#[tactic(auto, using(crate::proofs::AnyBelow::any_laws))]
 pub fn is_followed_late(plan: &Plan, writer: WriterNo) -> bool
     requires { writer < (network_of plan.now).writers }
     ensures { result ≡ is_followed_late (network_of plan.now) writer }
@@ -90,10 +83,7 @@ pub fn instances_fit(plan: &Plan, permits: &[Option<u64>; KEYS], writer: WriterN
     limit.is_none()
         || all_below(
             KEYS,
-            |k|
-                requires { k < most_keys }
-                ensures { result ≡ is_finite_within (network_of plan.entry.now) writer k limit }
-            { is_finite_within(plan, permits, writer, KeyNo::new(k), limit) },
+            |k| is_finite_within(plan, permits, writer, KeyNo::new(k), limit),
         )
 }
 
@@ -143,23 +133,13 @@ pub fn late_history(plan: &Plan, writer: WriterNo) -> Option<No>
     let lacks = plan.writer_limits(writer).keep_last.is_none()
         && is_followed_late(plan, writer)
         && !history_fits(plan, writer);
-    refusal_if(
-        lacks,
-        Number::LateHistory,
-        Subject::Writer(writer),
-    )
+    refusal_if(lacks, Number::LateHistory, Subject::Writer(writer))
 }
 
 fn first_late_history(plan: &Plan) -> Option<No>
     ensures { result ≡ first_below (network_of plan.now).writers (late_history (network_of plan.now)) }
 {
-    first_below(
-        writers_of(plan),
-        |w|
-            requires { w < (network_of plan.now).writers }
-            ensures { result ≡ late_history (network_of plan.entry.now) w }
-        { late_history(plan, WriterNo::new(w)) },
-    )
+    first_below(writers_of(plan), |w| late_history(plan, WriterNo::new(w)))
 }
 
 /// The first pair of a writer and a strict reader that may know of one another only after a write and of which one is

@@ -56,8 +56,8 @@ fn first_structure_no(plan: &Plan) -> Option<No>
     joins_no(plan)
 }
 
-/// The first condition that fails of those that no certificate can change: numbers 10 to 20, 24, 25, 27 and 28. Where there is
-/// one no certificate is accepted.
+/// The first condition that fails of those that no certificate can change: numbers 10 to 20, 24, 25, 27 and 28. Where
+/// there is one no certificate is accepted.
 pub fn structure_no(plan: &Plan) -> Option<No>
     ensures no { result ≡ structure_no plan.now }
     ensures always { IfSome result (λ no. (cert : CertificateLists) → first_no plan.now cert ≢ None) }

@@ -1,5 +1,5 @@
-//! Why number 27 refuses a strict reader that may come after its writer's first write, and 28 a writer that keeps what it
-//! wrote for such readers.
+//! Why number 27 refuses a strict reader that may come after its writer's first write, and 28 a writer that keeps what
+//! it wrote for such readers.
 ghost use Rattle.std.specs.Prelude.{◌≡◌, ◌<◌, IfOk, string_bytes};
 ghost use Rattle.dds_base.specs.Grid.{most_keys};
 ghost use Rattle.dds_match.specs.Plan.{network_of};

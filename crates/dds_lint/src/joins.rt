@@ -1,5 +1,5 @@
-//! Numbers 27 and 28: the strict readers that may come after their writers' first writes and aren't handed what was written
-//! before.
+//! Numbers 27 and 28: the strict readers that may come after their writers' first writes and aren't handed what was
+//! written before.
 ghost use Rattle.std.specs.Prelude.{◌≡◌, ◌++◌, ◌<◌, OnOk};
 ghost use Rattle.dds_match.specs.Plan.{network_of};
 ghost use Rattle.dds_check.specs.Joins.{late_history, late_volatile};

@@ -67,9 +67,9 @@ pub fn timed()
     ensures deployment { DeploymentRuns }
 {}
 
-/// Without its joins a run in which participants come at any time is a run of the network, so what's promised of all its
-/// runs holds. Where a certificate is accepted, a strict reader that may come after its writer's first write is handed
-/// what was written before: both are durable, and the writer has room for all that it ever writes.
+/// Without its joins a run in which participants come at any time is a run of the network, so what's promised of all
+/// its runs holds. Where a certificate is accepted, a strict reader that may come after its writer's first write is
+/// handed what was written before: both are durable, and the writer has room for all that it ever writes.
 pub fn joins()
     ensures runs { JoinedRuns }
     ensures pairs { EarlyPairs }
