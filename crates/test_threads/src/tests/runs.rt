@@ -83,7 +83,7 @@ pub(crate) fn run_through<R: Threads + Wait + Clock + Sync, G: Gate>(
     requires gauge { length checked.plan.applications.entries ≤ gauge.now.apps }
     requires seats { AreOwners gauge.now (length checked.plan.applications.entries) seats.items }
 {
-    match run_peers(rt, alloc, checked, apps, fates, gate, gauge, seats, limits) {
+    match run_peers(rt, alloc, checked, apps, fates, gate, gauge, seats, delays, limits) {
         Ok(
             Outcome {
                 apps,
