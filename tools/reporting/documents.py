@@ -8,6 +8,7 @@ import re
 from .asking import ROOT, Fault
 from .markup import items, join, tag
 
+FENCED = re.compile(r"^```.*?^```$", re.DOTALL | re.MULTILINE)
 INLINE = re.compile(r"`([^`]+)`|\[((?:[^\[\]]|\[[^\]]*\])*)\]\([^)]*\)|\*\*(.+?)\*\*|\*(.+?)\*")
 
 
@@ -47,10 +48,16 @@ def words(text):
     return join(parts, text[at:])
 
 
+@functools.cache
 def blocks(text):
     """The paragraphs and lists of a text, without fenced blocks and the sentences that lead to them."""
-    text = re.sub(r"[^.\n]*(?:\n[^.\n]+)*:\n\n```.*?^```|^```.*?^```", "", text, flags=re.DOTALL | re.MULTILINE)
-    return [block for block in re.split(r"\n{2,}", text.strip()) if block]
+    found = []
+    for at, piece in enumerate(FENCED.split(text)):
+        if at and found and found[-1].endswith(":"):
+            before, dot, _ = found.pop().rpartition(".")
+            found += [before + dot] if dot else []
+        found += [block for block in re.split(r"\n{2,}", piece.strip()) if block]
+    return found
 
 
 def entries(block):
