@@ -8,6 +8,7 @@ import re
 from .asking import ROOT, Fault
 from .markup import items, join, tag
 
+SEE = re.compile(r"\s+See\s+\[[^\]]*\]\([^)]*\)\.")
 FENCED = re.compile(r"^```.*?^```$", re.DOTALL | re.MULTILINE)
 INLINE = re.compile(r"`([^`]+)`|\[((?:[^\[\]]|\[[^\]]*\])*)\]\([^)]*\)|\*\*(.+?)\*\*|\*(.+?)\*")
 
@@ -73,9 +74,9 @@ def rendered(block):
 
 
 def text(page, heading):
-    """All that stands below a heading, but for the parts with headings of their own."""
+    """All that stands below a heading, but for the parts with headings of their own, and what only names a link."""
     own = re.split(r"^#+ ", part(page, heading), flags=re.MULTILINE)[0]
-    return join([rendered(block) for block in blocks(own)])
+    return join([rendered(block) for block in blocks(SEE.sub("", own))])
 
 
 def list_of(page, heading):
@@ -84,6 +85,14 @@ def list_of(page, heading):
     if not found:
         raise Fault(f"{page} has no list below {heading}, whose words belong into a report")
     return [words(entry) for entry in found]
+
+
+def entry_that_begins(page, heading, begin):
+    """The entry of that list that begins with these words."""
+    found = next((entry for entry in list_of(page, heading) if entry.startswith(begin)), None)
+    if found is None:
+        raise Fault(f"{page} has no entry that begins with {begin!r}, whose words belong into a report")
+    return found
 
 
 def block_that_begins(page, heading, begin):

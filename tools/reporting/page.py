@@ -19,6 +19,10 @@ from .unchecked import write_unchecked
 STYLE = Path(__file__).resolve().parent / "report.css"
 # nothing is loaded and no script runs, whatever a name says
 POLICY = "default-src 'none'; style-src 'unsafe-inline'"
+ABOUT = (
+    "Report of ddscheck, which checks that the HISTORY depths and RESOURCE_LIMITS of a DDS system leave room for "
+    "each sample that mustn't get lost"
+)
 # as many threads as parts are written side by side
 MOST_PARTS = 16
 
@@ -44,8 +48,8 @@ def write_head(answers, title):
 
 def write_header(answers, request, loss):
     """The question of the page and the verdict."""
-    asked = join("Do the limits of ", name(Path(request.deployment).name), " suffice?")
-    return tag("header", tag("p", "Report of ddscheck", _class="soft"), tag("h1", asked), write_verdict(answers, loss))
+    asked = join("Are the limits in ", name(Path(request.deployment).name), " high enough?")
+    return tag("header", tag("p", ABOUT, _class="soft"), tag("h1", asked), write_verdict(answers, loss))
 
 
 def write_parts(answers, system, request, found):
@@ -81,6 +85,6 @@ def write_parts(answers, system, request, found):
 
 def write_page(answers, system, request, found):
     """The whole page. `found` has the files, the program's origin, and the date with its source."""
-    head = write_head(answers, f"do the limits of {Path(request.deployment).name} suffice?")
+    head = write_head(answers, f"are the limits in {Path(request.deployment).name} high enough?")
     body = tag("body", write_parts(answers, system, request, found), write_signature())
     return "<!DOCTYPE html>\n" + tag("html", head, "\n", body, lang="en") + "\n"
