@@ -174,8 +174,17 @@ def owed_of_room(rows, high, is_yes):
         cut = sum(row[3].startswith("unknown") for row in rows)
         more = f", and the search for {cut} was cut off" if cut else ""
         return f"Not proved. ddscheck limits finds {high or 'none'} of {limits} too low{more}."
-    full = sum(row[4] == "0" for row in rows)
-    return f"0 to spare at {full} of {limits}: that's enough as long as every premise holds." if full else ""
+    full = list(dict.fromkeys(row[0].split(" ")[0] for row in rows if row[4] == "0"))
+    if full:
+        count = sum(row[4] == "0" for row in rows)
+        more = f" and {len(full) - 3} more" if len(full) > 3 else ""
+        where = f" ({', '.join(full[:3])}{more})" if count < len(rows) else ""
+        return f"No room to spare at {count} of {limits}{where}: that's enough as long as every premise holds."
+    left = [int(row[4].replace(",", "")) for row in rows if row[4].replace(",", "").isdigit()]
+    if len(left) < len(rows):
+        return "Not known for each limit: the search was cut off."
+    least = f"{min(left):,} sample{'s' * (min(left) != 1)}"
+    return f"Room for {least} or more at each of {limits}. It's tightest at {rows[0][0].split(' ')[0]}: {rows[0][3]}."
 
 
 def fault_of_room(page, answer):
@@ -193,8 +202,9 @@ def fault_of_room(page, answer):
             return f"{end} {keys}: {least}"
         high += is_high
     said, asked = page.by_id("room").of_class("lead")[0].words, page.of_class("answers")[0].words
-    if not said.startswith(owed_of_room(rows, high, answer.is_yes)) or said not in asked:
-        return said
+    owed = owed_of_room(rows, high, answer.is_yes)
+    if said != owed or said not in asked:
+        return f"{said}, not {owed}"
     caption = next(table.all("caption")).words
     is_ordered = len({row[3] for row in rows}) > 1 and len({ratio_of(row[3]) for row in rows}) > 1
     return None if caption.endswith(", tightest first") == is_ordered else caption
@@ -231,7 +241,7 @@ def fault_of_verdict(page, answer):
     if not verdict.startswith("Yes In no run" if answer.is_yes else shown):
         return verdict
     count = sum(state_owed(finding, answer.allowed) == "open" for finding in answer.findings)
-    notes = f"{count:,} open note{'s' * (count != 1)} to decide before signing."
+    notes = f"{count:,} open note{'s' * (count != 1)} to decide on before signing."
     if (notes in verdict) != (answer.is_yes and count > 0):
         return f"{verdict}, not {notes}"
     asked = page.of_class("answers")[0].words
@@ -293,7 +303,7 @@ def fault_of_terms(page, answer):
         if row is not None and details:
             is_left_out = finding["explanation"]["details"] == reason
             shown = [entry.words for entry in row.all("li")]
-            if shown != ([] if is_left_out else details) or ("those of the reason." in row.words) != is_left_out:
+            if shown != ([] if is_left_out else details) or ("stand with the reason." in row.words) != is_left_out:
                 return row.words
     return None
 
@@ -304,7 +314,7 @@ def fault_of_words(page):
     told = plain((ROOT / "docs/GLOSSARY.md").read_text(encoding="utf-8"))
     other = [entry for entry in entries if entry not in told]
     said = " ".join(entries)
-    asked = ("Certificate:", "weights", "Row:", "Opening:", "Budget:", "firing:", "Permit:", "Watcher:")
+    asked = ("Certificate:", "weights", "Row:", "Opening:", "Budget:", "firing:", "Permit:", "Watcher:", "Cap:", "Lag:")
     missing = [word for word in asked if word not in said]
     return f"{other} {missing}" if other or missing or list(page.by_id("words").all("a")) else None
 
@@ -341,19 +351,14 @@ def fault_of_endpoints(page, answer):
     matches = [line.split(" ")[1:3] for line in answer.matches if line.startswith("match ")]
     for kind in ("writer", "reader"):
         for end in answer.lists[f"{kind}s"]:
-            reliability, durability, history, *limits, more, matched = found.pop(
-                f"{end['name']} {kind} of {end['topic']}"
-            )
+            *policies, more, matched = found.pop(f"{end['name']} {kind} of {end['topic']}")
             depth = f" {end['depth']:,}" if end["history"] == "KEEP_LAST" else ""
-            owed = [end[f"max_{what}"] for what in ("samples", "instances", "samples_per_instance")]
-            is_same = [reliability, durability, history] == [
-                end["reliability"],
-                end["durability"],
-                end["history"] + depth,
-            ] and limits == [f"{limit:,}" if isinstance(limit, int) else limit for limit in owed]
+            limits = {name: end[name] for name in ("max_samples", "max_instances", "max_samples_per_instance")}
+            finite = "; ".join(f"{name} {most:,}" for name, most in limits.items() if most != "unlimited")
+            owed = [end["reliability"], end["durability"], end["history"] + depth, finite or "–"]
             side = ("writer", "reader").index(kind)
-            if not is_same or matched != str(sum(pair[side] == end["name"] for pair in matches)):
-                return f"{end['name']}: {limits} {more} {matched}"
+            if policies != owed or matched != str(sum(pair[side] == end["name"] for pair in matches)):
+                return f"{end['name']}: {policies} {more} {matched}"
             if ("partitions " in more, "may_lose" in more) != (bool(end["partitions"]), bool(end.get("may_lose"))):
                 return f"{end['name']}: {more}"
     return f"{list(found)} are no endpoints" if found else None

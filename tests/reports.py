@@ -48,7 +48,7 @@ ENVIRONMENT = os.environ | {"DDSCHECK": str(PROGRAM)}
 EXAMPLE, EXAMPLE_OF = ROOT / "examples/vehicle/report.html", "examples/vehicle/vehicle"
 DATE = "2026-11-30"
 DATA = commands.DATA
-MOST_BYTES, MOST_SECONDS, MOST_PAGES = 5_000_000, 30, 6
+MOST_BYTES, MOST_SECONDS, MOST_PAGES = 5_000_000, 30, 8
 
 
 def report(*words, **how):
@@ -164,7 +164,7 @@ LOST = {
     "vehicle": "frames_r rejects the 3rd of front, as it has room for 2",
     "plant": "orders_r rejects the 3rd of mill, as it has room for 1",
     "instrument": "blocks_r rejects the 13th of ch0, as it has room for 8",
-    "robot": "cmd_vel_r overwrites an untaken sample of all, as it keeps 10",
+    "robot": "goal_r overwrites an untaken sample of all, as it keeps 10",
 }
 
 
@@ -517,16 +517,16 @@ def rules(tally):
     premises = page_of(f"{ROOT}/{EXAMPLE_OF}.toml", f"{ROOT}/{EXAMPLE_OF}.cert.toml")[0].by_id("premises")
     table = premises.of_class("rules")[0]
     heads = [cell.words for head in table.all("thead") for cell in head.all("th")]
-    owed = ["Application and rule", "After it takes", "It may write", "First writes, without a take"]
+    owed = ["Application and rule", "After it takes", "It may write", "Without a take"]
     tally.check(heads == owed, "heads of the rules", heads)
     tally.check(rows_of(table) == RULES, "rules", rows_of(table))
     said = premises.of_class("lead")[0].words
-    tally.check("6 applications keep 6 rules, 8 with their keys, and" in said, "how many rules", said)
+    tally.check("6 applications keep 6 rules (8 counted by key), and" in said, "how many rules", said)
 
 
 # what is said of a participant that comes at any time, and of the pair that nobody waits for
 LATE = [
-    "match before the first write, but for 1 late participant, and stay",
+    "match before the first write, but for those of 1 late participant, and stay matched",
     "0 pairs (who matches) have matched, at both ends, before the first write",
     "1 other pair may match at any time, since these participants come when they like: nav.",
 ]
@@ -543,15 +543,15 @@ def late(tally):
 # endpoints with all that a row may have, as the files have them
 ENDPOINTS = {
     ("examples/plant/plant", 0): {
-        "orders_r reader of orders": "RELIABLE VOLATILE KEEP_ALL unlimited 2 1 partitions cell/1 1",
+        "orders_r reader of orders": "RELIABLE VOLATILE KEEP_ALL max_instances 2; max_samples_per_instance 1 partitions cell/1 1",
     },
     ("examples/vehicle/vehicle", 0): {
-        "used_w writer of used": "RELIABLE VOLATILE KEEP_ALL unlimited unlimited unlimited – 2",
-        "camera_used_r reader of used": "RELIABLE VOLATILE KEEP_ALL unlimited unlimited 2 filter front 1",
-        "dashboard_r reader of objects": "BEST_EFFORT VOLATILE KEEP_LAST 1 unlimited unlimited unlimited – 1",
+        "used_w writer of used": "RELIABLE VOLATILE KEEP_ALL – – 2",
+        "camera_used_r reader of used": "RELIABLE VOLATILE KEEP_ALL max_samples_per_instance 2 filter front 1",
+        "dashboard_r reader of objects": "BEST_EFFORT VOLATILE KEEP_LAST 1 – – 1",
     },
     ("tests/commands/data/paces/taken_within_99_ms", 0): {
-        "r reader of t": "RELIABLE VOLATILE KEEP_LAST 10 unlimited unlimited unlimited taken_within 0.099 s 1",
+        "r reader of t": "RELIABLE VOLATILE KEEP_LAST 10 – taken_within 0.099 s 1",
     },
 }
 

@@ -4,7 +4,6 @@ import json
 import os
 import shlex
 import subprocess
-from concurrent.futures import ThreadPoolExecutor
 from pathlib import Path
 
 ROOT = Path(__file__).resolve().parent.parent.parent
@@ -79,35 +78,45 @@ class Program:
             raise Fault(f"{self.words[0]} {words[0]} printed no JSON document") from error
 
 
-class Answers:
-    """All that the program says of the files. `deployment` has what `show` prints."""
+def answer(name):
+    """An answer of the program, waited for where it's first used; `None` if nobody asked."""
 
-    def __init__(self, program, request):
+    def wait(answers):
+        asked = answers.asked.get(name)
+        return None if asked is None else asked.result()
+
+    return property(wait)
+
+
+class Answers:
+    """All that the program says of the files. `deployment` has what `show` prints.
+
+    The commands run side by side, and what a page has of one is written while others still run.
+    """
+
+    deployment, check, lint, match = answer("show"), answer("check"), answer("lint"), answer("match")
+    limits, picture, replay, conform = answer("limits"), answer("draw"), answer("replay"), answer("conform")
+
+    def __init__(self, program, request, threads):
         files = request.deployment, request.certificate
         allowed = ["--allow", request.allow] if request.allow is not None else []
-        with ThreadPoolExecutor() as threads:
-            asked = {
-                "deployment": threads.submit(program.document, "show", files[0]),
-                "check": threads.submit(program.document, "check", *files, "--explain"),
-                "lint": threads.submit(program.document, "lint", *files, "--deny", "all", *allowed),
-                "match": threads.submit(program.document, "match", files[0]),
-                "limits": threads.submit(
-                    program.document, "limits", files[0], "--explain", "--seconds", str(request.seconds)
-                ),
-            }
-            if request.run is not None:
-                asked["replay"] = threads.submit(program.document, "replay", files[0], request.run)
-            if request.trace is not None:
-                asked["conform"] = threads.submit(program.document, "conform", files[0], request.trace)
-            # `check` comes first, so a fault of a file is the one that it names
-            found = {"check": asked.pop("check").result()}
-            # what a refused certificate claims stands in no picture
-            drawn = files if found["check"]["answer"] == "yes" else files[:1]
-            asked["picture"] = threads.submit(program.text, "draw", *drawn)
-            found |= {name: answer.result() for name, answer in asked.items()}
-        self.deployment, self.check, self.lint = found["deployment"], found["check"], found["lint"]
-        self.match, self.limits, self.picture = found["match"], found["limits"], found["picture"]
-        self.replay, self.conform = found.get("replay"), found.get("conform")
+        self.asked = {}
+
+        def ask(command, *words):
+            self.asked[command] = threads.submit(program.document, command, *words)
+
+        ask("show", files[0])
+        ask("check", *files, "--explain")
+        ask("lint", *files, "--deny", "all", *allowed)
+        ask("match", files[0])
+        ask("limits", files[0], "--explain", "--seconds", str(request.seconds))
+        if request.run is not None:
+            ask("replay", files[0], request.run)
+        if request.trace is not None:
+            ask("conform", files[0], request.trace)
+        # `check` comes first, so a fault of a file is the one that it names; and what a refused certificate claims
+        # stands in no picture
+        self.asked["draw"] = threads.submit(program.text, "draw", *(files if self.is_yes else files[:1]))
 
     @property
     def is_yes(self):

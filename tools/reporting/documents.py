@@ -8,6 +8,8 @@ import re
 from .asking import ROOT, Fault
 from .markup import items, join, tag
 
+SEE = re.compile(r"\s+See\s+\[[^\]]*\]\([^)]*\)\.")
+FENCED = re.compile(r"^```.*?^```$", re.DOTALL | re.MULTILINE)
 INLINE = re.compile(r"`([^`]+)`|\[((?:[^\[\]]|\[[^\]]*\])*)\]\([^)]*\)|\*\*(.+?)\*\*|\*(.+?)\*")
 
 
@@ -47,10 +49,16 @@ def words(text):
     return join(parts, text[at:])
 
 
+@functools.cache
 def blocks(text):
     """The paragraphs and lists of a text, without fenced blocks and the sentences that lead to them."""
-    text = re.sub(r"[^.\n]*(?:\n[^.\n]+)*:\n\n```.*?^```|^```.*?^```", "", text, flags=re.DOTALL | re.MULTILINE)
-    return [block for block in re.split(r"\n{2,}", text.strip()) if block]
+    found = []
+    for at, piece in enumerate(FENCED.split(text)):
+        if at and found and found[-1].endswith(":"):
+            before, dot, _ = found.pop().rpartition(".")
+            found += [before + dot] if dot else []
+        found += [block for block in re.split(r"\n{2,}", piece.strip()) if block]
+    return found
 
 
 def entries(block):
@@ -66,9 +74,9 @@ def rendered(block):
 
 
 def text(page, heading):
-    """All that stands below a heading, but for the parts with headings of their own."""
+    """All that stands below a heading, but for the parts with headings of their own, and what only names a link."""
     own = re.split(r"^#+ ", part(page, heading), flags=re.MULTILINE)[0]
-    return join([rendered(block) for block in blocks(own)])
+    return join([rendered(block) for block in blocks(SEE.sub("", own))])
 
 
 def list_of(page, heading):
@@ -77,6 +85,14 @@ def list_of(page, heading):
     if not found:
         raise Fault(f"{page} has no list below {heading}, whose words belong into a report")
     return [words(entry) for entry in found]
+
+
+def entry_that_begins(page, heading, begin):
+    """The entry of that list that begins with these words."""
+    found = next((entry for entry in list_of(page, heading) if entry.startswith(begin)), None)
+    if found is None:
+        raise Fault(f"{page} has no entry that begins with {begin!r}, whose words belong into a report")
+    return found
 
 
 def block_that_begins(page, heading, begin):

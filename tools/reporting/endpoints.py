@@ -1,4 +1,4 @@
-"""The endpoints with their policies, to compare with the plant, and how many others each of them matches."""
+"""The endpoints with their policies, to compare with the running system, and how many others each of them matches."""
 from collections import Counter
 
 from .markup import join, name, section, table, tag
@@ -21,12 +21,13 @@ DEFAULTS = {
 }
 DURATIONS = ("deadline", "latency_budget", "lease")
 TOLD = (
-    "As the file has them, with DDS's defaults for what it leaves out. Compare them with the plant's. Matches is how "
-    "many readers a writer matches, and how many writers a reader. That's what "
+    "As the file has them, with DDS's defaults for what it leaves out; compare them with the running system. Resource "
+    "limits that aren't named are unlimited. Matches is how many readers a writer matches, or how many writers a "
+    "reader does. That's what "
 )
 TOLD_OF_STATUS = (
     " of its PUBLICATION_MATCHED or SUBSCRIPTION_MATCHED status (OMG DDS 1.4, 2.2.4.1) has to be before the first "
-    "write: with fewer the premise doesn't hold yet, and with more an endpoint is there that the file doesn't have."
+    "write. With fewer, the premise doesn't hold yet; with more, there's an endpoint that the file doesn't have."
 )
 
 
@@ -36,6 +37,11 @@ def list_of(texts):
     # DDS has a partition without a name
     shown = [[", " if at else None, name(text or '""')] for at, text in enumerate(texts[:MOST_NAMES])]
     return join(shown, f" and {more:,} more" if more > 0 else None)
+
+
+def in_a_row(found):
+    """What was found, with semicolons between; a dash where that's nothing."""
+    return join([["; " if at else None, one] for at, one in enumerate(found)]) or "–"
 
 
 def more_of(end, topic_keys):
@@ -53,11 +59,7 @@ def more_of(end, topic_keys):
         if value != default:
             is_time = policy in DURATIONS and isinstance(value, int)
             found.append(policy if value is True else f"{policy} {nanoseconds(value) if is_time else value}")
-    return join([["; " if at else None, one] for at, one in enumerate(found)]) or "–"
-
-
-def number(limit):
-    return f"{limit:,}" if isinstance(limit, int) else limit
+    return in_a_row(found)
 
 
 def row_of(kind, end, matched, system):
@@ -67,7 +69,7 @@ def row_of(kind, end, matched, system):
         end["reliability"],
         end["durability"],
         end["history"] + depth,
-        *(number(end[limit]) for limit in LIMITS),
+        in_a_row([f"{limit} {end[limit]:,}" for limit in LIMITS if end[limit] != "unlimited"]),
         more_of(end, system.ends.keys[end["topic"]]),
         f"{matched[kind, end['name']]:,}",
     )
@@ -78,8 +80,8 @@ def write_endpoints(answers, system):
     matched = Counter((kind, pair[kind]) for pair in pairs for kind in ("writer", "reader"))
     ends = [("writer", end) for end in system.writers.values()] + [("reader", end) for end in system.readers.values()]
     rows = [row_of(kind, end, matched, system) for kind, end in ends]
-    limits = [(limit, "number") for limit in LIMITS]
-    heads = ["Endpoint", "Reliability", "Durability", "History", *limits, "More", ("Matches", "number")]
+    history = ("History", "nowrap")
+    heads = ["Endpoint", "Reliability", "Durability", history, "Resource limits", "More", ("Matches", "number")]
     return section(
         "endpoints",
         "Endpoints and their policies",

@@ -15,6 +15,9 @@ TERMS = (
     "Certificate",
     "Row",
     "Budget",
+    "Pace",
+    "Cap",
+    "Lag",
 )
 
 

@@ -6,6 +6,8 @@ import unicodedata
 PLAIN = "\n\t"
 HIDDEN = ("Cc", "Cf", "Cs", "Co", "Cn", "Zl", "Zp")
 JOINER, VARIATION = "\u200d", "\ufe0f"
+# how long a name may be that a narrow column of paper has to have in one line
+MOST_WHOLE = 28
 VOID = ("meta", "br", "col", "hr")
 
 
@@ -56,8 +58,8 @@ def tag(element, *children, **attributes):
 
 
 def name(text):
-    """A name of a file or of a deployment, whose direction changes nothing beside it."""
-    return tag("bdi", text, _class="name")
+    """A name of a file or of a deployment, whose direction changes nothing beside it. On paper a long one may break."""
+    return tag("bdi", text, _class="name long" if len(str(text)) > MOST_WHOLE else "name")
 
 
 def quote(text):

@@ -30,7 +30,7 @@ def cell(reason):
 
 def title_of(topic):
     return join(
-        name(topic.name), tag("span", " type ", name(topic.type), f", {plural(len(topic.keys), 'key')}", _class="soft")
+        name(topic.name), tag("span", ": type ", name(topic.type), f", {plural(len(topic.keys), 'key')}", _class="soft")
     )
 
 
@@ -108,7 +108,7 @@ def mismatch_list(topics, offers):
     """Each pair of one topic that doesn't match, with the policies, domains or partitions that keep it apart."""
     pairs = [(topic, *pair) for topic in topics for pair in topic.mismatches()]
     if not pairs:
-        return tag("p", "Of each topic, every writer matches every reader.") if topics else None
+        return tag("p", "In each topic, every writer matches every reader.") if topics else None
     entries = []
     for topic, writer, reader in pairs[: LONGEST * 5]:
         reason = topic.reason(writer, reader)

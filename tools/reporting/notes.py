@@ -56,7 +56,7 @@ def place_of(finding, request):
 def details_of(explained, terms):
     """The details of a finding. Terms that the reason above has already aren't repeated."""
     if terms and explained["details"] == terms:
-        return tag("p", "Its terms are those of ", tag("a", "the reason", href="#reason"), ".")
+        return tag("p", "Its terms stand with ", tag("a", "the reason", href="#reason"), ".")
     return items([quote(detail) for detail in explained["details"]], style="terms")
 
 
@@ -105,7 +105,7 @@ def write_notes(answers, request):
     given = (
         join("--allow was given as ", tag("code", tag("bdi", request.allow)), ".")
         if request.allow is not None
-        else "No note was allowed: --allow wasn't given."
+        else "--allow wasn't given."
     )
     told = join(
         f"{plural(answers.lint['errors'], 'error')}, {plural(answers.lint['notes'], 'note')}: ",

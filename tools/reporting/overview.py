@@ -35,7 +35,7 @@ def notes_to_decide(answers):
     """The open notes of a yes, if there are any."""
     opened, _ = counts_of(answers)
     link = tag("a", plural(opened, "open note"), href="#notes")
-    return tag("p", link, " to decide before signing.") if opened else None
+    return tag("p", link, " to decide on before signing.") if opened else None
 
 
 def refusal(answers, loss):
@@ -50,7 +50,7 @@ def write_verdict(answers, loss):
     """The banner. `loss` has what a run loses at a strict reader, in words."""
     if answers.is_yes:
         but = [tag("p", tag("strong", "But "), quote(message), ".") for message in hollow_notes(answers)]
-        said = [tag("p", "Yes", _class="word"), tag("div", tag("p", PROMISE + "."), but, notes_to_decide(answers))]
+        said = [tag("p", "Yes", _class="word"), tag("div", tag("p", PROMISE), but, notes_to_decide(answers))]
     else:
         said = [tag("p", "No", _class="word"), refusal(answers, loss)]
     return tag("div", said, _class=f"verdict {'yes' if answers.is_yes else 'no'}", role="note", aria_label="Verdict")
@@ -60,7 +60,7 @@ def safe_in_short(answers, loss):
     if answers.is_yes and hollow_notes(answers):
         return "No, but that's about nothing: see the notes."
     if answers.is_yes:
-        return "No: proved for every run that keeps the premises."
+        return "No: that's proved for every run in which the premises hold."
     if loss:
         return join("Yes: ", loss, " in ", tag("a", "a run that keeps the rules", href="#run"), ".")
     return join(
@@ -75,12 +75,16 @@ def safe_in_short(answers, loss):
 
 def uncovered_in_short(answers, system):
     opened, allowed = counts_of(answers)
-    return join(
-        f"{plural(len(system.watchers), 'watcher')}, {plural(opened, 'open note')}, {allowed} allowed; ",
-        "delivery, delays, restarts, and ",
-        tag("a", "more", href="#unchecked"),
-        ".",
-    )
+    watchers = len(system.watchers)
+    counted = [
+        f"what {plural(watchers, 'watcher')} miss{'es' * (watchers == 1)}" if watchers else None,
+        plural(opened, "open note") if opened else None,
+        plural(allowed, "allowed note") if allowed else None,
+        "whether samples arrive and how soon",
+        "restarts",
+    ]
+    said = ", ".join(filter(None, counted))
+    return join(said[0].upper() + said[1:], ", and ", tag("a", "more", href="#unchecked"), ".")
 
 
 def write_answers(answers, system, room, loss):
@@ -145,12 +149,14 @@ def write_reason(answers):
     """Of a no the reason with its terms, and what the condition means."""
     first, *terms = answers.reasons
     means = meaning(answers.check["name"])
+    words_link = tag("a", "the words of this page", href="#words")
     return section(
         "reason",
         "Why the answer is no",
         tag("p", condition_of(answers), _class="lead"),
         tag("p", quote(first), _class="because"),
         items([quote(term.strip()) for term in terms], style="terms"),
+        tag("p", "Rows, permits and the opening are explained with ", words_link, "."),
         tag("h3", "What that means") if means else None,
         tag("div", means, _class="meaning") if means else None,
         helpless(answers),

@@ -1,4 +1,5 @@
 """A report as one HTML file."""
+from concurrent.futures import ThreadPoolExecutor
 from pathlib import Path
 
 from .endpoints import write_endpoints
@@ -18,6 +19,12 @@ from .unchecked import write_unchecked
 STYLE = Path(__file__).resolve().parent / "report.css"
 # nothing is loaded and no script runs, whatever a name says
 POLICY = "default-src 'none'; style-src 'unsafe-inline'"
+ABOUT = (
+    "Report of ddscheck, which checks that the HISTORY depths and RESOURCE_LIMITS of a DDS system leave room for "
+    "each sample that mustn't get lost"
+)
+# as many threads as parts are written side by side
+MOST_PARTS = 16
 
 
 def write_signature():
@@ -25,45 +32,59 @@ def write_signature():
     return tag("footer", items(["Reviewed by", "Role", "Date", "Signature"], style="signature"))
 
 
-def sections_of(answers, system, request, evidence, run):
-    """The sections in their order; what was not checked always comes, and comes last."""
-    room = Room(answers, system)
-    return [
-        write_answers(answers, system, room, loss_in_words(run)),
-        evidence,
-        None if answers.is_yes else write_reason(answers),
-        None if run is None else write_run(run, answers, system, request),
-        write_proved(answers, system),
-        write_premises(answers, system),
-        write_room(room, answers),
-        write_notes(answers, request),
-        write_matches(answers, system),
-        write_endpoints(answers, system),
-        write_picture(answers, system),
-        None if answers.conform is None else write_trace(answers, system, request),
-        write_glossary(),
-        write_unchecked(answers),
-    ]
-
-
-def write_page(answers, system, request, found):
-    """The whole page. `found` has the files, the program's origin, and the date with its source."""
-    title = join("Do the limits of ", name(Path(request.deployment).name), " suffice?")
-    head = tag(
+def write_head(answers, title):
+    """What isn't shown: the style, and the title of the window."""
+    style = STYLE.read_text(encoding="utf-8") + ("" if answers.replay is None else chart_style())
+    return tag(
         "head",
         tag("meta", charset="utf-8"),
         tag("meta", name="viewport", content="width=device-width, initial-scale=1"),
         tag("meta", http_equiv="Content-Security-Policy", content=POLICY),
         tag("meta", name="color-scheme", content="light dark"),
-        tag(
-            "title",
-            f"{'Yes' if answers.is_yes else 'No'}: do the limits of {Path(request.deployment).name} suffice?",
-        ),
-        tag("style", Markup(STYLE.read_text(encoding="utf-8") + ("" if answers.replay is None else chart_style()))),
+        tag("title", f"{'Yes' if answers.is_yes else 'No'}: {title}"),
+        tag("style", Markup(style)),
     )
+
+
+def write_header(answers, request, loss):
+    """The question of the page and the verdict."""
+    asked = join("Are the limits in ", name(Path(request.deployment).name), " high enough?")
+    return tag("header", tag("p", ABOUT, _class="soft"), tag("h1", asked), write_verdict(answers, loss))
+
+
+def write_parts(answers, system, request, found):
+    """The header, and the sections in their order; what was not checked always comes, and comes last.
+
+    Each is written as soon as the answers that it needs are there, so that none waits for the slowest command in vain.
+    """
     run = read_run(answers, system)
-    verdict = write_verdict(answers, loss_in_words(run))
-    header = tag("header", tag("p", "Report of ddscheck", _class="soft"), tag("h1", title), verdict)
-    evidence = write_evidence(request, *found)
-    main = tag("main", *sections_of(answers, system, request, evidence, run))
-    return "<!DOCTYPE html>\n" + tag("html", head, "\n", tag("body", header, main, write_signature()), lang="en") + "\n"
+    loss = loss_in_words(run)
+    with ThreadPoolExecutor(MOST_PARTS) as threads:
+        begin = threads.submit
+        room = begin(Room, answers, system)
+        parts = [
+            begin(write_header, answers, request, loss),
+            begin(lambda: write_answers(answers, system, room.result(), loss)),
+            begin(write_evidence, request, *found),
+            None if answers.is_yes else begin(write_reason, answers),
+            None if run is None else begin(write_run, run, answers, system, request),
+            begin(write_proved, answers, system),
+            begin(write_premises, answers, system),
+            begin(lambda: write_room(room.result(), answers)),
+            begin(write_notes, answers, request),
+            begin(write_matches, answers, system),
+            begin(write_endpoints, answers, system),
+            begin(write_picture, answers, system),
+            None if answers.conform is None else begin(write_trace, answers, system, request),
+            begin(write_glossary),
+            begin(write_unchecked, answers),
+        ]
+        header, *sections = [part and part.result() for part in parts]
+    return [header, tag("main", sections)]
+
+
+def write_page(answers, system, request, found):
+    """The whole page. `found` has the files, the program's origin, and the date with its source."""
+    head = write_head(answers, f"are the limits in {Path(request.deployment).name} high enough?")
+    body = tag("body", write_parts(answers, system, request, found), write_signature())
+    return "<!DOCTYPE html>\n" + tag("html", head, "\n", body, lang="en") + "\n"

@@ -1,16 +1,29 @@
 """What is proved, and under which premises: those of every yes, and this deployment's rules and clocks."""
 import re
 
-from .documents import blocks, subsections, words
+from .documents import blocks, entry_that_begins, subsections, words
 from .markup import facts, items, join, name, names, plural, quote, section, table, tag
 
 # the sentence of README's "What a yes says"
-PROMISE = (
-    "In no run does a strict reader lose a sample, whatever the order of writes, takes, losses, repeats and "
-    "reorderings, and no reader exceeds its bound"
+PROMISE = join(
+    "In no run does a ",
+    tag("a", "strict", href="#words"),
+    " reader lose a sample, and no reader exceeds its ",
+    tag("a", "bound", href="#words"),
+    ", whatever the order of writes and takes, and whichever packets the network loses, repeats or reorders.",
 )
 PROMISED = "## What a yes is a yes for"
 PREMISES = "The premises"
+GENERAL = "docs/DEFINITIONS.md", f"### {PREMISES}"
+RULES = (
+    "Each time an application has taken what the second column says, it may write what the third one says. "
+    "The last column says how often it may write that without having taken anything."
+)
+TIMES = (
+    "A rule writes at most once in each period, and two turns may be nearer than that by the jitter. How soon a sample "
+    "is taken counts from its write: delivery, what's sent again, waiting, and the difference of two hosts' clocks "
+    "are part of it. Nobody computes these times: measure them, or read them off a schedule."
+)
 # how many names may stand in a sentence
 MOST_NAMES = 12
 
@@ -71,12 +84,10 @@ def rule_table(system):
     idle = [application["name"] for application in system.lists["applications"] if application["name"] not in ruled]
     no_rule = tag("span", " has no rule", _class="soft")
     rows += [(join(name(one), no_rule), "–", "nothing", "–") for one in idle] if rows else []
-    heads = ["Application and rule", "After it takes", "It may write", "First writes, without a take"]
-    return (
-        table("The rules that the applications have to keep", heads, rows, "rules")
-        if rows
-        else tag("p", "The file has no rules, so nothing is ever written.")
-    )
+    if not rows:
+        return tag("p", "The file has no rules, so nothing is ever written.")
+    heads = ["Application and rule", "After it takes", "It may write", "Without a take"]
+    return join(tag("p", RULES), table("The rules that the applications have to keep", heads, rows, "rules"))
 
 
 def keys_in_short(rule, keys, system):
@@ -89,28 +100,30 @@ def keys_in_short(rule, keys, system):
 
 def rules_in_short(system):
     """How many rules there are, as the file has them and with their keys."""
-    count, with_keys = len(list(folded_rules(system.lists["rules"]))), len(system.lists["rules"])
-    return plural(count, "rule") + (f", {with_keys:,} with their keys" if with_keys > count else "")
+    count, by_key = len(list(folded_rules(system.lists["rules"]))), len(system.lists["rules"])
+    return plural(count, "rule") + (f" ({by_key:,} counted by key)" if by_key > count else "")
 
 
 def premises_in_short(answers, system):
-    clocks = answers.premises
-    rules = rules_in_short(system)
-    timed = plural(len(clocks), "premise") + " on clocks hold" if clocks else "no clock is relied on"
+    clocks = len(answers.premises)
+    pairs = plural(sum(pair["matches"] for pair in answers.match["pairs"]), "pair")
     applications = plural(len(system.lists["applications"]), "application")
-    late = f", but for {plural(len(system.late), 'late participant')}," if system.late else ""
-    return f"The pairs match before the first write{late} and stay, {applications} keep {rules}, and {timed}."
+    late = f", but for those of {plural(len(system.late), 'late participant')}," if system.late else ""
+    timed = f"{plural(clocks, 'premise')} on clocks hold{'s' * (clocks == 1)}" if clocks else "no clock is relied on"
+    return (
+        f"{pairs} match before the first write{late} and stay matched, nothing restarts, the network forges nothing, "
+        f"{applications} keep {rules_in_short(system)}, and {timed}."
+    )
 
 
 def strict_readers(system):
     """Of which readers the sentence speaks."""
-    strict = len(system.readers) - len(system.watchers)
-    said = f"Strict is each reader that isn't a watcher, {strict} of {plural(len(system.readers), 'reader')} here"
-    if not system.watchers:
-        return tag("p", f"{said}: none may lose a sample.")
-    if len(system.watchers) > MOST_NAMES:
-        return tag("p", f"{said}. The ", tag("a", "watchers", href="#watchers"), " may lose samples.")
-    return tag("p", f"{said}. These may lose samples: ", names(system.watchers), ".")
+    every, watchers = len(system.readers), len(system.watchers)
+    if not watchers:
+        return tag("p", f"Each of {plural(every, 'reader')} is strict: none may lose a sample.")
+    counted = tag("a", plural(watchers, "watcher"), href="#watchers")
+    listed = join(": ", names(system.watchers)) if watchers <= MOST_NAMES else None
+    return tag("p", f"{every - watchers} of {every} readers are strict; ", counted, " may lose samples", listed, ".")
 
 
 def write_proved(answers, system):
@@ -119,14 +132,14 @@ def write_proved(answers, system):
         return section(
             "proved",
             "What is proved",
-            tag("p", "Of the bounds of this deployment nothing is proved: the answer is no.", _class="lead"),
+            tag("p", "Nothing is proved about the bounds of this deployment: the answer is no.", _class="lead"),
         )
     return section(
         "proved",
         "What is proved",
-        tag("blockquote", tag("p", PROMISE + ".")),
+        tag("blockquote", tag("p", PROMISE)),
         strict_readers(system),
-        tag("p", "That's proved for every run of this deployment that keeps the premises below. In detail:"),
+        tag("p", "It's proved for every run of this deployment in which the premises below hold. In detail:"),
         facts(promises(), "promises"),
     )
 
@@ -139,19 +152,20 @@ def late_participants(system, pairs):
     return tag("p", said, names(system.late), ".")
 
 
-def write_premises(answers, system):
+def clock_premises(answers):
+    """What a yes takes for granted of clocks, and how these times count."""
     clocks = answers.premises
+    if clocks:
+        terms = items([quote(line) for line in clocks], style="terms")
+        return join(tag("p", "The answer relies on clocks, so it holds only as long as:"), terms, tag("p", TIMES))
+    if answers.is_yes:
+        return tag("p", "The answer relies on no clock: neither on how often rules write nor on how soon readers take.")
+    return tag("p", "A yes would list here what it takes for granted about clocks.")
+
+
+def write_premises(answers, system):
     matched = [(pair["writer"], pair["reader"]) for pair in answers.match["pairs"] if pair["matches"]]
     late = [pair for pair in matched if system.is_late(*pair)]
-    timed = [
-        tag("p", "The clock bounds what is written only as long as these hold:"),
-        items([quote(line) for line in clocks], style="terms"),
-    ]
-    no_clock = (
-        "The answer relies on no clock: no rule's pace and no reader's time to take."
-        if answers.is_yes
-        else "A yes would name what it takes for granted of clocks here."
-    )
     return section(
         "premises",
         "Under which premises",
@@ -163,16 +177,17 @@ def write_premises(answers, system):
             "p",
             f"{plural(len(matched) - len(late), 'pair')} (",
             tag("a", "who matches", href="#matches"),
-            ") have matched, at both ends, before the first write, and stay. No application restarts. ",
-            tag("a", "The endpoints", href="#endpoints"),
-            " have what ",
+            ") have matched, at both ends, before the first write, and stay matched. No application restarts. ",
+            tag("a", "The table of endpoints", href="#endpoints"),
+            " has the ",
             tag("code", "current_count"),
-            " of each one's status has to be.",
+            " that the status of each has to show by then.",
         ),
         late_participants(system, late),
+        tag("h3", "Network and memory"),
+        tag("p", entry_that_begins(*GENERAL, "The network "), " ", entry_that_begins(*GENERAL, "A step ")),
         tag("h3", "Applications keep their rules"),
         rule_table(system),
         tag("h3", "Clocks"),
-        timed if clocks else tag("p", no_clock),
-        tag("p", "The premises of every yes stand under ", tag("a", "what was not checked", href="#unchecked"), "."),
+        clock_premises(answers),
     )

@@ -4,6 +4,8 @@ from dataclasses import dataclass, field
 from .markup import facts, join, name, names, plural, quote, section, table, tag
 
 MOST_REASONS = 200
+# how many endpoints a sentence names
+MOST_ENDS = 3
 NUMBERLESS = {"unbounded": "no number is enough", "unknown": "not known: the search was cut off"}
 
 
@@ -122,6 +124,12 @@ class Room:
         more = f", and the search for {unknown} was cut off" if unknown else ""
         return join(tag("code", "ddscheck limits"), f" finds {too_low or 'none'} of {count} too low{more}.")
 
+    def full_ends(self):
+        """The first endpoints that have no room left, and how many more there are."""
+        ends = list(dict.fromkeys(row.end for row in self.limited if row.left == 0))
+        more = f" and {len(ends) - MOST_ENDS:,} more" if len(ends) > MOST_ENDS else None
+        return join(names(ends[:MOST_ENDS]), more)
+
     def in_short(self):
         """The room that is left in one sentence."""
         count = plural(len(self.limited), "limit")
@@ -131,10 +139,16 @@ class Room:
         if not self.is_yes:
             return join("Not proved. ", self.found_too_low(count))
         if full:
-            return f"0 to spare at {full} of {count}: that's enough as long as every premise holds."
-        if self.limited[0].left is None:
+            where = join(" (", self.full_ends(), ")") if full < len(self.limited) else None
+            return join(
+                f"No room to spare at {full} of {count}", where, ": that's enough as long as every premise holds."
+            )
+        tightest = self.limited[0]
+        if tightest.left is None:
             return "Not known for each limit: the search was cut off."
-        return f"At least {plural(min(row.left for row in self.limited), 'sample')} at each of {count}."
+        least = plural(min(row.left for row in self.limited), "sample")
+        told = f": {number_of(tightest.bound)} of {tightest.limit[1]:,}."
+        return join(f"Room for {least} or more at each of {count}. It's tightest at ", name(tightest.end), told)
 
 
 def subject_of(row, system):
@@ -194,12 +208,12 @@ def caption_of(room):
 def limited_table(room):
     heads = [
         "Endpoint",
-        "Of",
+        "Key",
         "Limit",
-        ("Bound beside it", "nowrap"),
+        ("Bound and limit", "nowrap"),
         ("Room left", "number"),
-        ("Least shown", "number"),
-        "By",
+        ("Least bound", "number"),
+        "Bound from",
     ]
     rows = [
         (
@@ -227,7 +241,7 @@ def unlimited_table(room):
         )
         for row in room.unlimited
     ]
-    heads = ["Reader", "Of", ("Bound of the certificate", "number"), ("Least shown", "number"), "Because"]
+    heads = ["Reader", "Key", ("Bound", "number"), ("Least bound", "number"), "Because"]
     return table("Strict readers without a limit of samples", heads, rows) if rows else None
 
 
@@ -276,14 +290,28 @@ def reasons_of(answers):
     )
 
 
+def beside_the_table(room):
+    """What the table of limits doesn't have: limits of keys, and writers that keep all."""
+    ends = [*room.system.readers.values(), *room.system.writers.values()]
+    keys = "A yes also says that each max_instances has room for every key that can come."
+    writers = (
+        "KEEP_ALL writers aren't in the table: a write at a full one waits or is refused, and nothing is lost. "
+        "How many samples they store isn't checked."
+    )
+    has_keys = any(end["max_instances"] != "unlimited" for end in ends)
+    has_writers = any(writer["history"] == "KEEP_ALL" for writer in room.system.writers.values())
+    told = [keys if has_keys else None, writers if has_writers else None]
+    return tag("p", " ".join(filter(None, told))) if any(told) else None
+
+
 def write_room(room, answers):
     told = [
         (
             "Bound",
-            "the most unread samples there ever are, by the certificate; "
-            "for a writer, and where the certificate names none, what limits prints",
+            "the most unread samples that the reader ever holds, as the certificate shows, or as ddscheck limits does "
+            "where the certificate has none; of a KEEP_LAST writer, the depth that's enough",
         ),
-        ("Least shown", "the least number that weights show to be enough, as limits prints it; a limit needs no more"),
+        ("Least bound", "the least that ddscheck limits finds: a limit of so many is enough"),
     ]
     return section(
         "room",
@@ -298,9 +326,10 @@ def write_room(room, answers):
         )
         if room.needs_are_cut
         else None,
+        beside_the_table(room),
         reasons_of(answers),
         tag("h3", "What is unlimited"),
-        unlimited_table(room) or tag("p", "No strict reader that a sample can reach is without a limit."),
+        unlimited_table(room) or tag("p", "Nothing: each strict reader that a sample can reach has a limit."),
         tag("p", "No sample can come to ", names(room.unheard), ".") if room.unheard else None,
         tag("h3", "Watchers", id="watchers"),
         watcher_table(room) or tag("p", "There are none: no reader may lose a sample."),
