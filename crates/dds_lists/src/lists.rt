@@ -14,7 +14,8 @@ use std::alloc::Global;
 /// When a participant comes. Once there, it stays.
 #[derive(Clone, Copy, Debug, PartialEq, Eq)]
 pub enum Joins {
-    /// Before the first write: its endpoints and those that they match know of one another by then.
+    /// Before the first write. By then its endpoints, and those that they match at other such participants, know of one
+    /// another.
     Before,
     /// At any time, once.
     Any,
