@@ -37,8 +37,10 @@ NOT_RUN = re.compile(r"\./test$|\./ddscheck --build$|bridge/|make -C bridge/|\(c
 STANDS_FOR = {"DEPLOYMENT": "examples/ping/ping.toml", "CERTIFICATE": "examples/ping/ping.cert.toml"}
 # how a fragment is compiled: by which program, with which header of Cyclone DDS and which others
 COMPILED = {"c": ("cc", "dds/dds.h", []), "cpp": ("c++", "ddscxx/dds/dds.hpp", ["chrono", "thread"])}
+CALL_CYCLONE = ["docs/GUIDE.md", "docs/run-on-dds.md"]
 # examples whose certificate is what `propose --thorough` prints
 PROPOSED = ["vehicle", "plant", "instrument", "robot"]
+PATTERNS = [path for path in sorted((ROOT / "examples/patterns").glob("*.toml")) if not path.name.endswith(".cert.toml")]
 PICTURES = {"docs/ping.svg": "ping"} | {f"examples/{name}/{name}.svg": name for name in PROPOSED}
 
 
@@ -173,7 +175,7 @@ def read_document(tally, room, document):
             continue
         elif block.lines[0].startswith("$ "):
             tally.judge(str(block), fault_of_session, room, block)
-        elif block.language in COMPILED and document == "docs/GUIDE.md":
+        elif block.language in COMPILED and document in CALL_CYCLONE:
             tally.judge(str(block), fault_of_fragment, block)
         elif block.language == "c":
             tally.judge(str(block), fault_of_c, block)
@@ -200,6 +202,9 @@ def fault_of_pattern(path, folder):
     needs, safe, proposed = (ddscheck(*words, path) for words in (["limits"], ["refute"], ["propose", "--thorough"]))
     if (needs.status, safe.out) != (0, "safe\n") or "too low" in needs.out:
         return f"{needs} {safe}"
+    beside = path.with_suffix(".cert.toml")
+    if beside.exists() and beside.read_text(encoding="utf-8") != proposed.out:
+        return f"another certificate than {beside.name} is proposed"
     certificate = Path(folder) / f"{path.stem}.cert.toml"
     certificate.write_text(proposed.out, encoding="utf-8")
     checked = ddscheck("check", path, certificate)
@@ -231,7 +236,7 @@ def main():
         room = Room(name)
         for document in DOCUMENTS:
             tally.attempt(document, read_document, tally, room, document)
-        for path in sorted((ROOT / "examples/patterns").glob("*.toml")):
+        for path in PATTERNS:
             tally.judge(f"the pattern {path.stem}", fault_of_pattern, path, name)
     for name in PROPOSED:
         tally.judge(f"the certificate of {name}", fault_of_certificate, name)

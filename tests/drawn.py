@@ -166,6 +166,8 @@ def participant_of(participant, lists, claims):
 
     yield 1, "cluster", f"cluster participant {participant['name']}"
     yield 2, "label", f"{participant['name']}, domain {participant['domain']}"
+    if "joins" in participant:
+        yield 2, "style", "dashed"
     for application in own("applications"):
         yield from application_of(application, lists["rules"])
     for writer in own("writers"):

@@ -130,6 +130,17 @@ def depth_lines(case, writer, reader, key):
     return lines
 
 
+def volatile_line(case, writer, reader):
+    volatile = writer if case.writers[writer]["durability"] == "VOLATILE" else reader
+    return f"{writer} may write before {reader} matches it, and {volatile}'s durability is VOLATILE"
+
+
+def history_lines(case, writer):
+    policy, limit, key, number = case.history_over(writer)
+    less = f"its {policy} {limit} is less than all that it ever writes" + (f" of {key}" if key else "")
+    return [f"{writer} keeps what it wrote for readers that come late, and {less}"] + ([] if number is None else [f"writes {number} in all"])
+
+
 def row_lines(case, number, row, *words):
     if number == 30:
         reader, key = words
@@ -233,6 +244,10 @@ def refusal_lines(case, number, words):
         return filter_lines(case, *words)
     if number == 26:
         return depth_lines(case, *words)
+    if number == 27:
+        return [volatile_line(case, *words)]
+    if number == 28:
+        return history_lines(case, *words)
     if number in (30, 31, 32):
         return row_lines(case, number, *words)
     return unshown_lines(case, *words)

@@ -66,28 +66,40 @@ def keyed_certificate(topics=ENDPOINTS):
     return "\n".join(["version=2", f'rows=[{{name="r",samples={of_readers},takes={of_readers},permits={permits}}}]', f"bounds={inline(bounds)}"]) + "\n"
 
 
-def paced_topic(endpoints=180):
-    """One topic of 64 keys that so many KEEP_LAST writers write and as many readers hear, each in time, with as many paced rules and writes as there may be. A writer has a
-    cap, a lag and no bound at each reader for each key: all are above its depth, and all that it ever writes of a key is within it. More endpoints don't fit the file, with
-    a connection for each pair."""
+def crossed_topic(endpoints, head, writer, reader, rule_fields):
+    """One topic of 64 keys that so many writers write and as many readers hear, with as many rules and writes as there may be, and a connection for each pair."""
     names = short_names(endpoints)
     written = names[: rules_of(ENDPOINTS) * PER_RULE]
     rules = [
-        f'{{name="e{at}",application="a",each=true,start=1,period=1000000,writes={inline(f"""{{writer="{w}",count=1}}""" for w in written[at * PER_RULE : (at + 1) * PER_RULE])}}}'
+        f'{{name="e{at}",application="a",each=true,{rule_fields},writes={inline(f"""{{writer="{w}",count=1}}""" for w in written[at * PER_RULE : (at + 1) * PER_RULE])}}}'
         for at in range(rules_of(ENDPOINTS))
     ]
     sections = {
         "topics": [f'{{name="t",type="t",keys={quoted(KEYS)}}}'],
-        "writers": [f'{{name="{w}",participant="p",topic="t",history="KEEP_LAST",depth=1}}' for w in names],
-        "readers": [
-            f'{{name="{r}",participant="p",topic="t",reliability="RELIABLE",history="KEEP_ALL",taken_within=10000000,available_within=5000000}}' for r in names
-        ],
+        "writers": [f'{{name="{w}",participant="p",topic="t",{writer}}}' for w in names],
+        "readers": [f'{{name="{r}",participant="p",topic="t",reliability="RELIABLE",{reader}}}' for r in names],
         "applications": [f'{{name="a",participant="p",writers={quoted(names)},readers={quoted(names)}}}'],
         "rules": rules,
         "connections": [f'{{writer="{w}",reader="{r}"}}' for w in names for r in names],
     }
-    lines = ["version=4", HEAD] + [f"{name}={inline(entries)}" for name, entries in sections.items()]
+    lines = ["version=4", head] + [f"{name}={inline(entries)}" for name, entries in sections.items()]
     return "\n".join(lines) + "\n"
+
+
+def paced_topic(endpoints=180):
+    """A topic of KEEP_LAST writers, whose readers hear each in time, and whose rules are paced. A writer has a cap, a lag and no bound at each reader for each key: all are
+    above its depth, and all that it ever writes of a key is within it. More endpoints don't fit the file."""
+    reader = 'history="KEEP_ALL",taken_within=10000000,available_within=5000000'
+    return crossed_topic(endpoints, HEAD, 'history="KEEP_LAST",depth=1', reader, "start=1,period=1000000")
+
+
+def joined_topic(endpoints=180):
+    """A topic whose writers and readers are in a participant that comes at any time. Each writer keeps all for each reader, and all that it ever writes is just within its
+    limits: one sample of each key."""
+    head = HEAD.replace("domain=0", 'domain=0,joins="any"')
+    durable = 'durability="TRANSIENT_LOCAL",history="KEEP_ALL"'
+    limits = f"max_samples={len(KEYS)},max_samples_per_instance=1"
+    return crossed_topic(endpoints, head, f"{durable},{limits}", durable, "start=1")
 
 
 def patterned_deployment():

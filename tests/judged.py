@@ -11,7 +11,8 @@ import shown  # noqa: E402
 NAMES = {
     10: "IntendedNotMatched", 11: "UnintendedMatch", 12: "WriterKeepsLast", 14: "Exclusive", 15: "SourceOrder", 16: "OrderedOrCoherent",
     17: "WriterBestEffort", 20: "ReaderInstances", 21: "NoBound", 22: "BoundOverInstanceLimit", 23: "BoundOverSamples", 24: "WriterInstances",
-    25: "KeepLastFilter", 26: "WriterDepth", 30: "TakeRaises", 31: "RuleRaises", 32: "WriteRaises", 33: "BoundNotShown",
+    25: "KeepLastFilter", 26: "WriterDepth", 27: "LateVolatile", 28: "LateHistory", 30: "TakeRaises", 31: "RuleRaises", 32: "WriteRaises",
+    33: "BoundNotShown",
 }
 
 
@@ -34,6 +35,7 @@ class Case:
         self.connected = {(c["writer"], c["reader"]) for c in self.lists["connections"]}
         said = shown.document_of(deployment)
         self.paces = {rule["name"]: (rule["period"], rule.get("jitter", 0)) for rule in said.get("rules", []) if "period" in rule}
+        self.joins = {p["name"]: p.get("joins", "before") for p in said.get("participants", [])}
         self.spans = {field: {r["name"]: r[field] for r in said.get("readers", []) if field in r} for field in ("taken_within", "available_within")}
         self.reasons, self.matched = {}, set()
         for line in shown.answer_of(["match", deployment])[0].splitlines():
@@ -98,6 +100,11 @@ class Case:
         """Whether the writer may drop what the reader may not lose."""
         return self.keeps_last(writer) and (writer, reader) in self.matched and not self.is_watcher(reader)
 
+    def is_late(self, writer, reader):
+        """Whether the reader may not lose anything and the writer may write before they know of one another: the participant of one may come at any time."""
+        homes = self.writers[writer]["participant"], self.readers[reader]["participant"]
+        return (writer, reader) in self.matched and not self.is_watcher(reader) and "any" in [self.joins[home] for home in homes]
+
     def is_free(self, writer, key):
         """Whether some rule lets the writer write the key without a permit, at any time."""
         return any(rule["start"] == "unlimited" and (x["writer"], x["key"]) == (writer, key) for rule in self.lists["rules"] for x in rule["writes"])
@@ -160,6 +167,16 @@ class Case:
         """How often a key is ever written at a writer; `None` where it's free or a rule with takes writes it."""
         writing = [rule for rule in self.lists["rules"] if any((x["writer"], x["key"]) == (writer, key) for x in rule["writes"])]
         return None if self.is_free(writer, key) or any(rule["takes"] for rule in writing) else self.opening(writer, key)
+
+    def history_over(self, writer):
+        """The first limit of a writer that is less than all that it ever writes: its name, its number, the key if it's the limit of one, and how much is ever
+        written, `None` where there's no such number. `None` where both limits are enough."""
+        one, each = self.writers[writer], {key: self.writes_at_all(writer, key) for key in self.writer_keys[writer]}
+        sums = [("max_samples", None, None if None in each.values() else sum(each.values()))]
+        for policy, key, number in [("max_samples_per_instance", key, number) for key, number in each.items()] + sums:
+            if one[policy] != "unlimited" and (number is None or number > one[policy]):
+                return policy, one[policy], key, number
+        return None
 
     def depths(self, writer, reader, key):
         """What the depth of a KEEP_LAST writer is compared with, by name."""
@@ -259,6 +276,14 @@ def failing_depths(case):
                 yield 26, [w, r, key]
 
 
+def failing_joins(case):
+    """Numbers 27 and 28: a reader that loses nothing and may come late is handed what was written before."""
+    late = [pair for pair in case.pairs() if case.is_late(*pair)]
+    yield from ((27, (w, r)) for w, r in late if "VOLATILE" in (case.writers[w]["durability"], case.readers[r]["durability"]))
+    kept = {w for w, _ in late if not case.keeps_last(w)}
+    yield from ((28, [w]) for w in case.writers if w in kept and case.history_over(w))
+
+
 def raising_rule(case, row, rule):
     return rule["takes"] and weighed(case, row, rule["writes"], "writer", "permits") > weighed(case, row, rule["takes"], "reader", "takes")
 
@@ -287,7 +312,7 @@ def failing_claims(case):
 
 def refusal_of(case):
     """The first condition that fails, `None` where the certificate is accepted."""
-    for part in (failing_pairs, failing_profile, failing_limits, failing_depths, failing_rows, failing_claims):
+    for part in (failing_pairs, failing_profile, failing_limits, failing_depths, failing_joins, failing_rows, failing_claims):
         for number, words in part(case):
             return number, list(words)
     return None

@@ -67,6 +67,18 @@ def drawn_rule(draw, name, writer, keys, readers):
     return rule
 
 
+def join_late(draw, found):
+    """Lets participants join at any time. Most endpoints are durable then, and some writers that keep all have a limit."""
+    for participant in found["participants"]:
+        participant["joins"] = draw.choice(["any", "any", "before"])
+    for end in (*found["writers"], *found["readers"]):
+        if draw.random() < 0.95:
+            end["durability"] = "TRANSIENT_LOCAL"
+    for writer in found["writers"]:
+        if writer.get("history") == "KEEP_ALL":
+            writer |= draw.choice([{}, {"max_samples": draw.randint(1, 9)}, {"max_samples_per_instance": draw.randint(1, 6)}])
+
+
 def drawn_deployment(draw):
     keys = {topic: ["k", "l"][: draw.choice([1, 1, 2])] for topic in ["t", "u"][: draw.randint(1, 2)]}
     places = [(draw.choice("pq"), draw.choice(list(keys))) for _ in range(draw.randint(2, 5))]
@@ -77,7 +89,7 @@ def drawn_deployment(draw):
     for place in "pq":
         owned = {field: [one["name"] for one in ends if one["participant"] == place] for field, ends in (("writers", writers), ("readers", readers))}
         applications.append({"name": f"a_{place}", "participant": place} | owned)
-    return {
+    found = {
         "participants": [{"name": "p", "domain": 0}, {"name": "q", "domain": 0}],
         "topics": [{"name": name, "type": "T", "keys": names} for name, names in keys.items()],
         "writers": writers,
@@ -86,6 +98,9 @@ def drawn_deployment(draw):
         "rules": [drawn_rule(draw, f"u{n}", draw.choice(writers), keys, readers) for n in range(draw.randint(1, 4))],
         "connections": [{"writer": w["name"], "reader": r["name"]} for w in writers for r in readers if w["topic"] == r["topic"]],
     }
+    if draw.random() < 0.3:
+        join_late(draw, found)
+    return found
 
 
 def drawn_row(draw, name, case):

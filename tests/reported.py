@@ -264,7 +264,7 @@ def fault_of_verdict(page, answer):
     if said != f"Condition {number}, {name}, fails at {' '.join(subject)}.":
         return f"{said}, not {first}"
     # by docs/numbers.md
-    if ("so no certificate helps" in reason.words) != (int(number) in (*range(10, 21), 24, 25)):
+    if ("so no certificate helps" in reason.words) != (int(number) in (*range(10, 21), 24, 25, 27, 28)):
         return f"whether a certificate helps at {number}"
     return None if shown == [because.replace("`", ""), *(term.strip() for term in terms)] else f"reason {shown}"
 

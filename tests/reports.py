@@ -73,7 +73,7 @@ def pairs():
         found[certificate.with_name(certificate.name.replace(".cert", "")), certificate] = None
     for name in ("vehicle", "plant", "instrument", "robot"):
         found[ROOT / f"examples/{name}/unsafe.toml", ROOT / f"examples/{name}/{name}.cert.toml"] = None
-    for case in commands.cases(("check", "explain", "paces", "robot", "version_2", "version_3", "watchers")):
+    for case in commands.cases(("check", "explain", "joins", "paces", "robot", "version_2", "version_3", "watchers")):
         files = [word for word in case.words[1:] if not word.startswith("--")]
         if (
             case.words[0] == "check"
@@ -524,6 +524,22 @@ def rules(tally):
     tally.check("6 applications keep 6 rules (8 counted by key), and" in said, "how many rules", said)
 
 
+# what is said of a participant that comes at any time, and of the pair that nobody waits for
+LATE = [
+    "match before the first write, but for those of 1 late participant, and stay matched",
+    "0 pairs (who matches) have matched, at both ends, before the first write",
+    "1 other pair may match at any time, since these participants come when they like: nav.",
+]
+
+
+def late(tally):
+    """The participants that come at any time are among the premises."""
+    pattern = ROOT / "examples/patterns/latched"
+    premises = page_of(f"{pattern}.toml", f"{pattern}.cert.toml")[0].by_id("premises").words
+    for said in LATE:
+        tally.check(said in premises, f"late participants: {said}", premises)
+
+
 # endpoints with all that a row may have, as the files have them
 ENDPOINTS = {
     ("examples/plant/plant", 0): {
@@ -711,7 +727,7 @@ def main(words):
     tally = Tally()
     tally.judge(str(EXAMPLE.relative_to(ROOT)), fault_of_example)
     contrast(tally)
-    for part in (allow, rules, endpoints, refused_picture):
+    for part in (allow, rules, late, endpoints, refused_picture):
         tally.attempt(part.__name__, part, tally)
     for part in (pictures, runs, traces, evidence, odd_names, odd_answers, refuse, without_graphviz, sizes, browse):
         with tempfile.TemporaryDirectory() as room:

@@ -79,6 +79,12 @@ def reader_of(entry, keys, version):
     return endpoint(entry, "BEST_EFFORT", **more)
 
 
+def participant_of(entry):
+    """All fields of a participant. That it's there before the first write isn't said."""
+    joins = {"joins": "any"} if entry.get("joins", "before") == "any" else {}
+    return {"name": entry["name"], "domain": entry["domain"]} | joins
+
+
 def document_of(path):
     """The document of a file, as Python reads TOML."""
     return tomllib.loads(path.read_bytes().decode("utf-8-sig"))
@@ -98,7 +104,7 @@ def lists_of(path):
         for a in found.get("applications", [])
     ]
     return {
-        "participants": [{"name": p["name"], "domain": p["domain"]} for p in found.get("participants", [])],
+        "participants": [participant_of(p) for p in found.get("participants", [])],
         "topics": topics,
         "writers": writers,
         "readers": readers,

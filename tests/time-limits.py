@@ -53,11 +53,12 @@ INPUTS = {
     "crowd": lambda: (inputs.crowded_pair(65535), "", ""),
     "backward": lambda: (*inputs.backward_rules(), ""),
     "paced": lambda: (inputs.paced_topic(), "version = 1\n", ""),
+    "joined": lambda: (inputs.joined_topic(), "version = 1\n", ""),
     "patterns": lambda: (inputs.patterned_deployment(), "version = 1\n", ""),
 }
 # words on the files d, c and e of each input
 LARGEST = {
-    "check": ("check d c", ("largest", "keyed", "paced", "patterns")),
+    "check": ("check d c", ("largest", "keyed", "paced", "joined", "patterns")),
     "check --explain": ("check d c --explain", ("largest", "keyed", "backward")),
     "match": ("match d --format json", ("largest", "keyed", "paced", "patterns")),
     "propose": ("propose d", ("largest", "keyed", "ring")),

@@ -165,9 +165,12 @@ static void place_endpoint(struct sections *sections, const struct heard_endpoin
     struct names *names = heard->is_writer ? &sections->writers : &sections->readers;
     FILE *notes = open_text(heard->is_writer ? &captured->writer_notes[place] : &captured->reader_notes[place]);
     *end = (struct endpoint){.participant = owner, .topic = sections->topic_place[one->topic], .application = owner, .may_lose = !heard->is_writer,
-                             .policies = heard->policies};
+                             .hands_over_less = heard->hands_over_less, .policies = heard->policies};
     place_partitions(heard, &end->policies, sections, notes);
     end->name = heard->name != NULL ? name_for(names, heard->name, lists->participant[owner].name, notes) : name_by_topic(sections, end, heard->is_writer);
+    if (heard->hands_over_less) {
+        fputs("# its DURABILITY_SERVICE hands a late reader less than it keeps\n", notes);
+    }
     note_alike(notes, alike_endpoints(&sections->seen->participant[one->participant], heard));
     close_text(notes);
 }

@@ -11,6 +11,7 @@ const char *const LIVELINESS[] = {"AUTOMATIC", "MANUAL_BY_PARTICIPANT", "MANUAL_
 const char *const RELIABILITY[] = {"BEST_EFFORT", "RELIABLE", NULL};
 const char *const DESTINATION_ORDER[] = {"BY_RECEPTION_TIMESTAMP", "BY_SOURCE_TIMESTAMP", NULL};
 const char *const HISTORY[] = {"KEEP_LAST", "KEEP_ALL", NULL};
+const char *const JOINS[] = {"before", "any", NULL};
 
 // A list of at most so many entries.
 static const cJSON *short_list(const cJSON *entry, const char *name, int most)
@@ -102,6 +103,11 @@ bool is_free(const struct deployment *lists, int writer, int key)
     return false;
 }
 
+bool is_late_pair(const struct deployment *lists, int writer, int reader)
+{
+    return lists->participant[lists->writer[writer].participant].may_be_late || lists->participant[lists->reader[reader].participant].may_be_late;
+}
+
 bool is_watcher(const struct endpoint *reader)
 {
     return reader->policies.reliability == 0 || reader->may_lose;
@@ -172,8 +178,12 @@ static void read_participants(struct reading *reading)
     const cJSON *entries = short_list(reading->all, "participants", MOST_PARTICIPANTS), *entry;
     found->participant = room(size_of(entries), sizeof *found->participant);
     cJSON_ArrayForEach(entry, entries) {
-        found->participant[found->participants++] =
-            (struct participant){.name = new_name(&reading->participants, entry), .domain = (uint32_t)number(entry, "domain", 0, INT32_MAX)};
+        found->participant[found->participants++] = (struct participant){
+            .name = new_name(&reading->participants, entry),
+            .domain = (uint32_t)number(entry, "domain", 0, INT32_MAX),
+            // only version 4 of the file tells of it
+            .may_be_late = word_or_absent(entry, "joins", JOINS) == 1,
+        };
     }
 }
 

@@ -13,6 +13,8 @@ enum { MOST_KEYS = 64, MOST_PORTIONS = 16, MOST_PARTITIONS = 16, MOST_COUNT = 65
 // The words of each policy, in the order of DDS, which is that of Cyclone's numbers too. The last one is NULL.
 extern const char *const DURABILITY[], *const ACCESS_SCOPE[], *const OWNERSHIP[], *const LIVELINESS[], *const RELIABILITY[], *const DESTINATION_ORDER[],
     *const HISTORY[];
+// When a participant comes: before the first write, or at any time.
+extern const char *const JOINS[];
 
 // What stands for "unlimited" and for "infinite".
 #define UNLIMITED (-1)
@@ -30,6 +32,8 @@ struct policies {
 struct participant {
     const char *name;
     uint32_t domain;
+    // whether it may come at any time, so that nobody waits for it, nor it for others
+    bool may_be_late;
 };
 
 struct topic {
@@ -38,11 +42,12 @@ struct topic {
     const char *key[MOST_KEYS];
 };
 
-// A writer or a reader. Of a reader `hears` says which keys of the topic its filter lets pass, and `may_lose` whether it wants the newest samples alone.
+// A writer or a reader. Of a reader `hears` says which keys of the topic its filter lets pass, and `may_lose` whether it wants the newest samples alone. Of a writer that
+// was captured `hands_over_less` says whether late readers get less than it keeps.
 struct endpoint {
     const char *name;
     int participant, topic, application;
-    bool hears[MOST_KEYS], has_filter, may_lose;
+    bool hears[MOST_KEYS], has_filter, may_lose, hands_over_less;
     struct policies policies;
 };
 
@@ -93,6 +98,9 @@ int key_named(const struct topic *topic, const char *name);
 // Whether a rule writes the key at the writer, and whether a free rule does, so that no write of it uses a permit.
 bool rule_writes(const struct rule *rule, int writer, int key);
 bool is_free(const struct deployment *lists, int writer, int key);
+
+// Whether a writer and a reader may know of one another only after a write, since the participant of one of them may be late.
+bool is_late_pair(const struct deployment *lists, int writer, int reader);
 
 // A reader that may miss samples: a best-effort one, or one that may lose.
 bool is_watcher(const struct endpoint *reader);

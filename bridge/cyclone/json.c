@@ -208,6 +208,11 @@ int word(const cJSON *entry, const char *name, const char *const *words)
     fail(STATUS_FILE, "%s is none of its words", name);
 }
 
+int word_or_absent(const cJSON *entry, const char *name, const char *const *words)
+{
+    return field_or_absent(entry, name) == NULL ? 0 : word(entry, name, words);
+}
+
 const char *name_in(const cJSON *entry, const char *name)
 {
     return name_of(field(entry, name), name);

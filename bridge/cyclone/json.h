@@ -38,6 +38,9 @@ int64_t number_or(const cJSON *entry, const char *name, const char *text, int64_
 // The place of a text among words that end with NULL.
 int word(const cJSON *entry, const char *name, const char *const *words);
 
+// The same, 0 where the field isn't there.
+int word_or_absent(const cJSON *entry, const char *name, const char *const *words);
+
 // A name of 1 to 64 bytes, as a field and as an element of a list.
 const char *name_in(const cJSON *entry, const char *name);
 const char *name_of(const cJSON *value, const char *what);

@@ -103,6 +103,13 @@ struct meeting *open_meeting(struct cyclone *system)
     return meeting;
 }
 
+// Whether a participant has come to this stage, or isn't waited for there: before the first write, nobody waits for one that may be late.
+static bool has_come(const struct meeting *meeting, int participant, enum stage stage)
+{
+    bool is_awaited = stage == STAGE_ENDED || !meeting->system->lists->participant[participant].may_be_late;
+    return !is_awaited || meeting->stage[participant] >= stage;
+}
+
 // Whether all participants have come to this stage, by what they have said so far.
 static bool have_come(struct meeting *meeting, enum stage stage)
 {
@@ -122,7 +129,7 @@ static bool have_come(struct meeting *meeting, enum stage stage)
         }
     }
     for (int p = 0; p < lists->participants; p++) {
-        if (meeting->stage[p] < stage) {
+        if (!has_come(meeting, p, stage)) {
             return false;
         }
     }
@@ -141,7 +148,7 @@ static bool all_met(const struct cyclone *system, bool tell)
     bool all = true;
     for (int at = 0; at < system->lists->connections; at++) {
         const struct connection *pair = &system->lists->connection[at];
-        if (!has_met(system, pair)) {
+        if (!is_late_pair(system->lists, pair->writer, pair->reader) && !has_met(system, pair)) {
             all = false;
             if (!tell) {
                 return false;
@@ -150,6 +157,17 @@ static bool all_met(const struct cyclone *system, bool tell)
         }
     }
     return all;
+}
+
+// Whether all participants of this process may be late, so that it waits for nobody.
+static bool may_be_late(const struct cyclone *system)
+{
+    for (int at = 0; at < system->lists->participants; at++) {
+        if (system->is_here[at] && !system->lists->participant[at].may_be_late) {
+            return false;
+        }
+    }
+    return true;
 }
 
 bool meet(struct meeting *meeting, int64_t until)
@@ -162,7 +180,7 @@ bool meet(struct meeting *meeting, int64_t until)
         sleep_for(look_of(meeting));
     }
     say_now(meeting, STAGE_MATCHED);
-    while (!have_come(meeting, STAGE_MATCHED)) {
+    while (!may_be_late(meeting->system) && !have_come(meeting, STAGE_MATCHED)) {
         if (now() >= until) {
             fprintf(stderr, "run-on-cyclone: not all participants have come; all processes of a run have the same document and tag\n");
             return false;
@@ -185,18 +203,41 @@ static void wait_for_acks(const struct cyclone *system, int64_t until)
     }
 }
 
+// Whether a participant may still come, and never was heard of.
+static bool is_to_come(const struct meeting *meeting, int participant)
+{
+    return meeting->system->lists->participant[participant].may_be_late && meeting->stage[participant] == STAGE_AWAY;
+}
+
 // Reports the participants that haven't ended and weren't heard of since a time. True where there are some.
 static bool are_silent(const struct meeting *meeting, int64_t since)
 {
     const struct deployment *lists = meeting->system->lists;
     bool found = false;
     for (int at = 0; at < lists->participants; at++) {
-        if (meeting->stage[at] < STAGE_ENDED && meeting->heard[at] < since) {
+        if (meeting->stage[at] < STAGE_ENDED && !is_to_come(meeting, at) && meeting->heard[at] < since) {
             fprintf(stderr, "run-on-cyclone: participant %s is silent and waited for no longer\n", lists->participant[at].name);
             found = true;
         }
     }
     return found;
+}
+
+// Whether each process that was heard here has matched in the other direction too.
+static bool all_can_hear(const struct meeting *meeting)
+{
+    return dds_get_matched_subscriptions(meeting->writer, NULL, 0) >= dds_get_matched_publications(meeting->reader, NULL, 0);
+}
+
+// Says for the last time that all have ended here, so that each process hears it before this one leaves: one that came late may have matched only by half.
+static void take_leave(struct meeting *meeting)
+{
+    int64_t until = now() + DDS_SECS(2);
+    while (!all_can_hear(meeting) && now() < until) {
+        sleep_for(look_of(meeting));
+    }
+    say(meeting);
+    dds_wait_for_acks(meeting->writer, DDS_SECS(2));
 }
 
 bool part(struct meeting *meeting, int64_t until, int64_t silence)
@@ -217,7 +258,7 @@ bool part(struct meeting *meeting, int64_t until, int64_t silence)
         sleep_for(look_of(meeting));
     }
     if (!meeting->is_alone) {
-        dds_wait_for_acks(meeting->writer, DDS_SECS(2));
+        take_leave(meeting);
     }
     return true;
 }

@@ -22,10 +22,11 @@ struct meeting {
 struct meeting *open_meeting(struct cyclone *system);
 
 // Waits until all intended pairs with an endpoint here have matched, and all other processes say the same. What is missing is told where time runs out: false.
+// Participants that may be late aren't waited for, nor are their pairs, and a process that has no others doesn't wait.
 bool meet(struct meeting *meeting, int64_t until);
 
 // Says that all applications here have ended, and waits until those of the others have, or time runs out. A process that isn't heard of for so long is waited for
-// no longer: false, after a line of it.
+// no longer: false, after a line of it. One that may still come isn't silent.
 bool part(struct meeting *meeting, int64_t until, int64_t silence);
 
 #endif

@@ -8,11 +8,13 @@
 #include <stdlib.h>
 #include <string.h>
 
-// What is printed: with comments or without, and so many connections at most.
+// What is printed: with comments or without, and so many connections at most. The pairs that match are counted with the connections, which also tell of each
+// participant whether a reliable reader of it or of its writers is matched, and whether one of them would miss what was written before the two have matched.
 struct form {
     const struct printing *printing;
     bool has_comments;
     int connections, pairs;
+    bool is_relied_on[MOST_PARTICIPANTS], has_to_be_early[MOST_PARTICIPANTS];
 };
 
 // ── policies
@@ -54,6 +56,29 @@ static void print_policies(FILE *out, const struct policies *policies, bool is_w
     print_partitions(out, policies);
 }
 
+// ── who may come late
+
+// Whether a writer could have to refuse what it writes, since it keeps all for readers that come late.
+static bool may_be_full(const struct policies *writer)
+{
+    return writer->history == 1 && (writer->max_samples > 0 || writer->max_samples_per_instance > 0);
+}
+
+// Notes what a pair that matches says of its participants.
+static void note_pair(struct form *form, const struct endpoint *writer, const struct endpoint *reader)
+{
+    if (reader->policies.reliability == 0) {
+        return;
+    }
+    bool are_durable = writer->policies.durability > 0 && reader->policies.durability > 0;
+    bool is_handed = are_durable && !writer->hands_over_less && !may_be_full(&writer->policies);
+    int ends[] = {writer->participant, reader->participant};
+    for (int at = 0; at < 2; at++) {
+        form->is_relied_on[ends[at]] = true;
+        form->has_to_be_early[ends[at]] = form->has_to_be_early[ends[at]] || !is_handed;
+    }
+}
+
 // ── sections
 
 static void print_participants(FILE *out, const struct captured *captured, const struct form *form)
@@ -62,6 +87,9 @@ static void print_participants(FILE *out, const struct captured *captured, const
         const struct participant *one = &captured->lists.participant[at];
         const char *notes = form->has_comments ? captured->participant_notes[at] : "";
         fprintf(out, "\n%s[[participants]]\nname = \"%s\"\ndomain = %u\n", notes, one->name, one->domain);
+        if (form->has_comments && form->is_relied_on[at] && !form->has_to_be_early[at]) {
+            fputs("# joins = \"any\" # in version 4, if it may come at any time: its reliable pairs are TRANSIENT_LOCAL\n", out);
+        }
     }
 }
 
@@ -156,7 +184,11 @@ static void print_connections(FILE *out, const struct deployment *lists, struct 
     form->pairs = 0;
     for (int at = 0; at < lists->writers * lists->readers; at++) {
         const struct endpoint *writer = &lists->writer[at / lists->readers], *reader = &lists->reader[at % lists->readers];
-        if (do_match(lists, writer, reader) && form->pairs++ < form->connections) {
+        if (!do_match(lists, writer, reader)) {
+            continue;
+        }
+        note_pair(form, writer, reader);
+        if (form->pairs++ < form->connections) {
             fprintf(out, "%s  { writer = \"%s\", reader = \"%s\" },\n", form->pairs == 1 ? "connections = [\n" : "", writer->name, reader->name);
         }
     }

@@ -27,6 +27,10 @@ dds_qos_t *endpoint_qos(const struct endpoint *end, bool is_writer)
     dds_qset_destination_order(qos, (dds_destination_order_kind_t)p->destination_order);
     dds_qset_history(qos, (dds_history_kind_t)p->history, p->depth);
     dds_qset_resource_limits(qos, p->max_samples, p->max_instances, p->max_samples_per_instance);
+    if (is_writer && p->durability > 0) {
+        // what a late reader gets Cyclone takes from here, and by default that's the last sample of a key
+        dds_qset_durability_service(qos, 0, (dds_history_kind_t)p->history, p->depth, p->max_samples, p->max_instances, p->max_samples_per_instance);
+    }
     if (is_writer) {
         // an instance that ends with its writer isn't disposed, so its unread samples stay what they are
         dds_qset_writer_data_lifecycle(qos, false);

@@ -79,12 +79,18 @@ static bool is_count(int number)
     return number >= 1 || number == UNLIMITED;
 }
 
+// Whether an endpoint is one of Cyclone, by its vendor's number.
+static bool is_of_cyclone(const dds_guid_t *key)
+{
+    static const uint8_t CYCLONE[] = {0x01, 0x10};
+    return memcmp(key->v, CYCLONE, sizeof CYCLONE) == 0;
+}
+
 // Cyclone announces history and limits that aren't its defaults. Other vendors may: what isn't Cyclone's default was announced, and all else is untold, as is what no
 // endpoint can have.
 static void add_cache(struct policies *found, const dds_qos_t *qos, const dds_guid_t *key)
 {
-    static const uint8_t CYCLONE[] = {0x01, 0x10};
-    bool is_cyclone = memcmp(key->v, CYCLONE, sizeof CYCLONE) == 0;
+    bool is_cyclone = is_of_cyclone(key);
     struct policies told = *found;
     dds_history_kind_t history = DDS_HISTORY_KEEP_LAST;
     bool has_history = dds_qget_history(qos, &history, &told.depth);
@@ -102,6 +108,18 @@ static void add_cache(struct policies *found, const dds_qos_t *qos, const dds_gu
         told.max_samples = told.max_instances = told.max_samples_per_instance = UNTOLD;
     }
     *found = told;
+}
+
+// Whether late readers get less than a writer keeps. Cyclone goes by DURABILITY_SERVICE; of other vendors that isn't known.
+static bool hands_over_less(const struct seen_endpoint *writer, const dds_qos_t *qos)
+{
+    const struct policies *p = &writer->policies;
+    dds_history_kind_t kind = DDS_HISTORY_KEEP_LAST;
+    int32_t depth = 1;
+    if (!writer->is_writer || p->durability == 0 || !is_of_cyclone(&writer->key) || !dds_qget_durability_service(qos, NULL, &kind, &depth, NULL, NULL, NULL)) {
+        return false;
+    }
+    return kind == DDS_HISTORY_KEEP_LAST && (p->history == DDS_HISTORY_KEEP_ALL || depth < p->depth);
 }
 
 // The name that goes along with an entity, NULL where there is none.
@@ -181,6 +199,7 @@ static void add_endpoint(struct seen *seen, uint32_t domain, bool is_writer, con
         .policies = policies_of(heard->qos, is_writer),
     };
     add_cache(&found->policies, heard->qos, &heard->key);
+    found->hands_over_less = hands_over_less(found, heard->qos);
     add_partitions(found, heard->qos);
 }
 

@@ -22,7 +22,8 @@ struct seen_participant {
 struct seen_endpoint {
     dds_guid_t key, participant;
     uint32_t domain;
-    bool is_writer, has_keys;
+    // of a writer `hands_over_less` says that late readers get less than it keeps, by its DURABILITY_SERVICE, as far as that's known
+    bool is_writer, has_keys, hands_over_less;
     // the name is NULL where it has none
     char *topic, *type, *name;
     // without partitions, which stand below, each once and in order

@@ -96,8 +96,10 @@ def reader_of(one, keys):
 def participant_of(one, lists, keys):
     here = [writer_of(w) for w in lists["writers"] if w["participant"] == one["name"]]
     here += [reader_of(r, keys[r["topic"]]) for r in lists["readers"] if r["participant"] == one["name"]]
+    joins = f'      <!-- joins = "{one["joins"]}" -->\n' if "joins" in one else ""
     return (
-        f'    <domain_participant name="{one["name"]}" domain_ref="domains::topics" domain_id="{one["domain"]}">\n' + "".join(here) + "    </domain_participant>\n"
+        f'    <domain_participant name="{one["name"]}" domain_ref="domains::topics" domain_id="{one["domain"]}">\n' + joins + "".join(here)
+        + "    </domain_participant>\n"
     )
 
 

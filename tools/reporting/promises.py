@@ -108,9 +108,10 @@ def premises_in_short(answers, system):
     clocks = len(answers.premises)
     pairs = plural(sum(pair["matches"] for pair in answers.match["pairs"]), "pair")
     applications = plural(len(system.lists["applications"]), "application")
+    late = f", but for those of {plural(len(system.late), 'late participant')}," if system.late else ""
     timed = f"{plural(clocks, 'premise')} on clocks hold{'s' * (clocks == 1)}" if clocks else "no clock is relied on"
     return (
-        f"{pairs} match before the first write and stay matched, nothing restarts, the network forges nothing, "
+        f"{pairs} match before the first write{late} and stay matched, nothing restarts, the network forges nothing, "
         f"{applications} keep {rules_in_short(system)}, and {timed}."
     )
 
@@ -143,6 +144,14 @@ def write_proved(answers, system):
     )
 
 
+def late_participants(system, pairs):
+    """Which participants nobody waits for, and how many pairs they have."""
+    if not system.late:
+        return None
+    said = f"{plural(len(pairs), 'other pair')} may match at any time, since these participants come when they like: "
+    return tag("p", said, names(system.late), ".")
+
+
 def clock_premises(answers):
     """What a yes takes for granted of clocks, and how these times count."""
     clocks = answers.premises
@@ -155,7 +164,8 @@ def clock_premises(answers):
 
 
 def write_premises(answers, system):
-    matched = sum(pair["matches"] for pair in answers.match["pairs"])
+    matched = [(pair["writer"], pair["reader"]) for pair in answers.match["pairs"] if pair["matches"]]
+    late = [pair for pair in matched if system.is_late(*pair)]
     return section(
         "premises",
         "Under which premises",
@@ -165,7 +175,7 @@ def write_premises(answers, system):
         tag("h3", "Endpoints match in time"),
         tag(
             "p",
-            f"{plural(matched, 'pair')} (",
+            f"{plural(len(matched) - len(late), 'pair')} (",
             tag("a", "who matches", href="#matches"),
             ") have matched, at both ends, before the first write, and stay matched. No application restarts. ",
             tag("a", "The table of endpoints", href="#endpoints"),
@@ -173,6 +183,7 @@ def write_premises(answers, system):
             tag("code", "current_count"),
             " that the status of each has to show by then.",
         ),
+        late_participants(system, late),
         tag("h3", "Network and memory"),
         tag("p", entry_that_begins(*GENERAL, "The network "), " ", entry_that_begins(*GENERAL, "A step ")),
         tag("h3", "Applications keep their rules"),

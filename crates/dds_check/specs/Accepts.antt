@@ -8,6 +8,7 @@ use Rattle.dds_runs.specs.First.{◌orElse◌}
 use Rattle.dds_check.specs.Pairs.{pairs_no}
 use Rattle.dds_check.specs.Profile.{profile_no}
 use Rattle.dds_check.specs.Limits.{limits_no}
+use Rattle.dds_check.specs.Joins.{joins_no}
 use Rattle.dds_check.specs.Rows.{rows_no}
 use Rattle.dds_check.specs.Shown.{shown_no}
 
@@ -17,5 +18,6 @@ first_no d cert =
     pairs_no (network_of d)
     orElse profile_no d
     orElse limits_no (network_of d) cert
+    orElse joins_no (network_of d)
     orElse rows_no (network_of d) cert.rows
     orElse shown_no (network_of d) cert

@@ -3,6 +3,7 @@ pub mod Pairs
 pub mod Profile
 pub mod Tables
 pub mod Limits
+pub mod Joins
 pub mod Permits
 pub mod Rows
 pub mod Spreads

@@ -9,6 +9,7 @@ ghost use Rattle.dds_check.specs.Accepts.{first_no};
 ghost use Rattle.dds_runs.specs.Certified.{Safe};
 ghost use Rattle.dds_check.specs.Tables.{HasFewRows};
 
+use crate::joins::joins_no;
 use crate::limits::limits_no;
 use crate::pairs::pairs_no;
 use crate::profile::profile_no;
@@ -30,6 +31,9 @@ fn first_no(plan: &Plan, certificate: &Certificate) -> Option<No>
         return Some(no);
     }
     if let Some(no) = limits_no(plan, certificate) {
+        return Some(no);
+    }
+    if let Some(no) = joins_no(plan) {
         return Some(no);
     }
     if let Some(no) = rows_no(plan, certificate) {

@@ -63,7 +63,8 @@ fn add_rule_at(plan: &Plan, u: RuleNo, cells: &mut [Option<u64>; KEYS], writer: 
 /// How many samples of each key all rules ever permit to write at the writer, at most 2^44, in one walk over the rules.
 /// `None` where firings permit more. What may be written without a permit doesn't count.
 pub fn permits_of(plan: &Plan, writer: WriterNo) -> [Option<u64>; KEYS]
-    ensures { ShowsPermits (network_of plan.now) writer result }
+    ensures shows { ShowsPermits (network_of plan.now) writer result }
+    ensures small { AreAtMost (2 ^ 44) result }
 {
     let mut cells = [Some(0); KEYS];
     for u in 0..rules_of(plan) {
@@ -73,7 +74,7 @@ pub fn permits_of(plan: &Plan, writer: WriterNo) -> [Option<u64>; KEYS]
 }
 
 /// Whether a number is there and not above a limit.
-fn is_within(permits: Option<u64>, limit: Option<u32>) -> bool
+pub(crate) fn is_within(permits: Option<u64>, limit: Option<u32>) -> bool
     ensures { result ≡ is_within permits limit }
 {
     match permits {

@@ -9,7 +9,7 @@ ghost use Rattle.dds_check.specs.Accepts.{first_no};
 ghost use Rattle.dds_claims.specs.Claims.{IsShown, shows, structure_no};
 
 use dds_check::{
-    No, first_keep_last_filter, first_reader_instances, first_writer_instances, pairs_no,
+    No, first_keep_last_filter, first_reader_instances, first_writer_instances, joins_no, pairs_no,
     profile_no, rows_no, shown_no,
 };
 use dds_match::Plan;
@@ -50,11 +50,14 @@ fn first_structure_no(plan: &Plan) -> Option<No>
     if let Some(no) = first_writer_instances(plan) {
         return Some(no);
     }
-    first_keep_last_filter(plan)
+    if let Some(no) = first_keep_last_filter(plan) {
+        return Some(no);
+    }
+    joins_no(plan)
 }
 
-/// The first condition that fails of those that no certificate can change: numbers 10 to 20, 24 and 25. Where there is
-/// one no certificate is accepted.
+/// The first condition that fails of those that no certificate can change: numbers 10 to 20, 24, 25, 27 and 28. Where
+/// there is one no certificate is accepted.
 pub fn structure_no(plan: &Plan) -> Option<No>
     ensures no { result ≡ structure_no plan.now }
     ensures always { IfSome result (λ no. (cert : CertificateLists) → first_no plan.now cert ≢ None) }

@@ -18,6 +18,7 @@ use Rattle.dds_lists.specs.Lists.{Participant, Topic, Writer, Reader, Applicatio
 use Rattle.dds_deploy.specs.Entries.{one_more}
 use Rattle.dds_deploy.specs.Versions.{since_third, since_fourth}
 use Rattle.dds_deploy.specs.Policies.{consistent, endpoint_keys}
+use Rattle.dds_deploy.specs.Participants.{participant, participant_fields, participant_keys}
 use Rattle.dds_deploy.specs.Topics.{a_type_name, is_type_byte, is_type_name, topic_fields, topic, topic_keys}
 use Rattle.dds_deploy.specs.Readers.{reader, reader_fields, reader_keys}
 use Rattle.dds_deploy.specs.Starts.{a_start, some_times, start_field}
@@ -137,6 +138,14 @@ one_name k name names h = by (bytes_eq k name) (list_any (bytes_eq k) names) h
     by true b e = refl
     by false b e = e
 
+-- the keys of a participant before version 4, and in it
+
+abbrev named_keys : List (List ℕ)
+named_keys = codes "name" ∷ codes "domain" ∷ []
+
+abbrev joining_keys : List (List ℕ)
+joining_keys = codes "joins" ∷ named_keys
+
 -- the keys of a reader in versions 1 and 2, in version 3, and in version 4
 
 abbrev first_keys : List (List ℕ)
@@ -212,6 +221,12 @@ module _ (v w : ℕ) (from : 1 ≤ v) (up : v ≤ w) where
   -- the later version is the first only if both are
   both_first : (w == 1) ≡ true → (v == 1) ≡ true
   both_first e = let one = eqb-true w 1 e in eq-eqb v 1 (omega (arith, one))
+
+  participant_keys_later : AreAmong (participant_keys v) (participant_keys w)
+  participant_keys_later = names_later (since_fourth v) (since_fourth w) (since_later 4) joining_keys named_keys named_keys (λ k h. one_name k (codes "joins") named_keys h) (λ k h. h)
+
+  pub participant_later : (before : Listed Participant) (path : List ℕ) (d : Data) → Keeps (participant v before path d) (participant w before path d)
+  participant_later = one_more_later (participant_keys v) (participant_keys w) participant_keys_later (λ _. participant_fields) (λ _. participant_fields) (λ s path ms x e. e)
 
   a_type_name_later : (path : List ℕ) (d : Data) → Keeps (a_type_name v path d) (a_type_name w path d)
   unfolding a_type_name

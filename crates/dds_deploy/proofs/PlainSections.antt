@@ -26,7 +26,7 @@ use Rattle.dds_lists.specs.Lists.{Participant, Topic, Writer, Reader, Applicatio
 use Rattle.dds_deploy.specs.Each.{EachRule, share, each_takes, each_writes, each_rule}
 use Rattle.dds_deploy.specs.Policies.{policies, timing, presentation, durability, access_scope, coherent, ordered, duration, deadline, latency_budget, delivery, ownership, liveliness, liveliness_kind, lease, reliability, destination_order, history, history_kind, depth, resource_limits, max_samples, max_instances, max_samples_per_instance, partition, partition_list, partitions, policy_keys, endpoint_keys, consistent}
 use Rattle.dds_deploy.specs.Entries.{one_more}
-use Rattle.dds_deploy.specs.Participants.{participant, participant_keys, participant_fields, participants}
+use Rattle.dds_deploy.specs.Participants.{joins, participant, participant_keys, participant_fields, participants}
 use Rattle.dds_deploy.specs.Topics.{key, keys, topic, topic_keys, topic_fields, topics}
 use Rattle.dds_deploy.specs.Writers.{writer, writer_fields, writers}
 use Rattle.dds_deploy.specs.Readers.{filter_key, filter, taking, reader, reader_fields, reader_keys, readers}
@@ -57,15 +57,22 @@ one_more_plain keys fields before h = record {
       entry_plain keys path d ms.0 ms.1 (h path ms.0 y.0 y.1 (field_plain (new_name_plain _) path _ name.1));
 }
 
-participant_fields_plain : (path : List ℕ) (ms : Members) (p : Participant) → participant_fields path ms ≡ Ok p → IsPlainAt 2 ms (codes "domain")
-unfolding participant_fields
-participant_fields_plain path ms p e = let domain = bind_ok _ _ p e in field_plain (number_plain _ _) path _ domain.1
+participant_fields_plain : (path : List ℕ) (ms : Members) (p : Participant) → participant_fields path ms ≡ Ok p → IsPlainAt 2 ms (codes "domain") × IsPlainAt 2 ms (codes "joins")
+unfolding participant_fields joins
+participant_fields_plain path ms p e =
+    let domain = bind_ok _ _ p e in
+    let comes = bind_ok (joins path ms) _ p domain.2 in
+    (field_plain (number_plain _ _) path _ domain.1, optional_plain (word_plain _) _ path _ comes.1)
 
-participant_plain : (before : Listed Participant) → ReadsPlain 3 (participant before)
-participant_plain before = one_more_plain participant_keys (λ _. participant_fields) before (λ path ms p e name. (name, (participant_fields_plain path ms p e, tt)))
+participant_plain : (v : ℕ) (before : Listed Participant) → ReadsPlain 3 (participant v before)
+participant_plain v before = one_more_plain (participant_keys v) (λ _. participant_fields) before (λ path ms p e name. let f = participant_fields_plain path ms p e in by (IsPlainAt 2 ms) (f.1, (name, (f.0, tt))) (since_fourth v))
+  where
+    by : (P : List ℕ → Type 0) → AllByRecursion P (codes "joins" ∷ codes "name" ∷ codes "domain" ∷ []) → (b : Bool) → AllByRecursion P (cond b (codes "joins" ∷ codes "name" ∷ codes "domain" ∷ []) (codes "name" ∷ codes "domain" ∷ []))
+    by P all true = all
+    by P all false = all.1
 
-participants_plain : (ms : Members) (ps : Listed Participant) → participants ms ≡ Ok ps → IsPlainAt 4 ms (codes "participants")
-participants_plain ms ps e = section_plain 64 nothing participant_plain ps e
+participants_plain : (v : ℕ) (ms : Members) (ps : Listed Participant) → participants v ms ≡ Ok ps → IsPlainAt 4 ms (codes "participants")
+participants_plain v ms ps e = section_plain 64 nothing (participant_plain v) ps e
 
 key_plain : (before : List (List ℕ)) → ReadsPlain 1 (key before)
 unfolding key
@@ -394,11 +401,11 @@ endpoints_plain : (v : ℕ) (ms : Members) (x : Listed Participant × Listed Top
     → IsPlainAt 4 ms (codes "participants") × IsPlainAt 4 ms (codes "topics") × IsPlainAt 4 ms (codes "writers") × IsPlainAt 4 ms (codes "readers")
 unfolding endpoints
 endpoints_plain v ms x e =
-    let ps = bind_ok (participants ms) _ x e in
+    let ps = bind_ok (participants v ms) _ x e in
     let ts = bind_ok (topics v ms) _ x ps.2 in
     let ws = bind_ok (writers ps.0 ts.0 ms) _ x ts.2 in
     let rs = bind_ok (readers v ps.0 ts.0 ms) _ x ws.2 in
-    (participants_plain ms ps.0 ps.1, topics_plain v ms ts.0 ts.1, writers_plain ps.0 ts.0 ms ws.0 ws.1, readers_plain v ps.0 ts.0 ms rs.0 rs.1)
+    (participants_plain v ms ps.0 ps.1, topics_plain v ms ts.0 ts.1, writers_plain ps.0 ts.0 ms ws.0 ws.1, readers_plain v ps.0 ts.0 ms rs.0 rs.1)
 
 -- a document that was read as a deployment is at most 4 deep, and no date stands in it
 deployment_plain : (newest : ℕ) (ms : Members) (d : Lists) → deployment newest ms ≡ Ok d → HasPlain 4 ms

@@ -25,7 +25,7 @@ head newest ms = do
 -- the participants, topics and endpoints
 unfoldable pub endpoints : ℕ → Members → Read (Listed Participant × Listed Topic × Listed Writer × Listed Reader)
 endpoints v ms = do
-  ps ← participants ms
+  ps ← participants v ms
   ts ← topics v ms
   ws ← writers ps ts ms
   rs ← readers v ps ts ms

@@ -2,6 +2,8 @@
 use Rattle.std.specs.Prelude.{codes, ℕ, List, [], ◌++◌, ◌==◌, flat_map, length, slice_get, Option, if◌then◌else◌}
 use Rattle.std.specs.Fmt.{decimal}
 use Rattle.std.specs.Option.{option_map_or}
+use Rattle.dds_lists.specs.declared.lists.Joins.{Joins}
+use Rattle.dds_lists.specs.declared.lists.Joins.TheVariants.{Before, Any}
 use Rattle.dds_lists.specs.Lists.{Application, Lists, Participant, Reader, Rule, Writer}
 use Rattle.dds_weights.specs.Lists.{Certificate}
 use Rattle.dds_text.specs.Names.{name_at}
@@ -51,13 +53,18 @@ participant_members d c p =
     each_below (length d.applications.entries) (application_at d p)
     ++ (each_below (length d.writers.entries) (writer_at d p) ++ each_below (length d.readers.entries) (reader_at d c p))
 
+-- the border of a participant: dashed where it may come at any time
+abbrev pub border : Joins → List ℕ
+border Before = []
+border Any = codes "    style=dashed;\n"
+
 -- the cluster of the participant with this number
 unfoldable pub participant_cluster : Lists → Option Certificate → ℕ → Participant → List ℕ
 participant_cluster d c p x =
     codes "  subgraph \"cluster participant "
     ++ (name_at d.participants.names p
     ++ (codes "\" {\n    label=\""
-    ++ (name_at d.participants.names p ++ (codes ", domain " ++ (decimal x.domain ++ (codes "\";\n" ++ (participant_members d c p ++ codes "  }\n")))))))
+    ++ (name_at d.participants.names p ++ (codes ", domain " ++ (decimal x.domain ++ (codes "\";\n" ++ (border x.joins ++ (participant_members d c p ++ codes "  }\n"))))))))
 
 -- the cluster of the participant with this number, if it is there
 abbrev pub participant_at : Lists → Option Certificate → ℕ → List ℕ

@@ -3,13 +3,13 @@ ghost use Rattle.std.specs.Prelude.{◌≡◌, ◌<◌, IfOk, length, option_map
 ghost use Rattle.dds_lists.specs.Views.{application_view, participant_view};
 ghost use Rattle.dds_text.specs.Texts.{each_below};
 ghost use Rattle.dds_weights.specs.Views.{certificate_view};
-ghost use Rattle.dds_draw.specs.Clusters.{application_at, application_cluster, application_members, endpoint_name};
-ghost use Rattle.dds_draw.specs.Clusters.{participant_cluster, participant_clusters, participant_members, reader_at};
-ghost use Rattle.dds_draw.specs.Clusters.{rule_at, writer_at};
+ghost use Rattle.dds_draw.specs.Clusters.{application_at, application_cluster, application_members, border};
+ghost use Rattle.dds_draw.specs.Clusters.{endpoint_name, participant_cluster, participant_clusters};
+ghost use Rattle.dds_draw.specs.Clusters.{participant_members, reader_at, rule_at, writer_at};
 
 use crate::nodes::{reader_node, rule_node, writer_node};
 use dds_base::{AppNo, ParticipantNo, ReaderNo, RuleNo, WriterNo};
-use dds_lists::{Application, Deployment, Participant};
+use dds_lists::{Application, Deployment, Joins, Participant};
 use dds_text::names::name_at;
 use dds_text::texts::{TextResult, text_below, text_of_endpoints};
 use dds_weights::Certificate;
@@ -198,6 +198,16 @@ fn participant_members(
     format!(in alloc; "{applications}{writers}{readers}")
 }
 
+/// The border of a participant: dashed where it may come at any time.
+fn border(joins: Joins) -> &'static str
+    ensures { result.now ≡ border joins }
+{
+    match joins {
+        Joins::Before => "",
+        Joins::Any => "    style=dashed;\n",
+    }
+}
+
 /// The cluster of a participant.
 fn participant_cluster(
     alloc: Global,
@@ -213,9 +223,11 @@ fn participant_cluster(
 {
     let name = name_at(lists.participant_names(), number.number());
     let domain = x.domain;
+    let border = border(x.joins);
     let members = participant_members(alloc, lists, certificate, number)?;
     format!(in alloc;
-        "  subgraph \"cluster participant {name}\" {{\n    label=\"{name}, domain {domain}\";\n{members}  }}\n"
+        "  subgraph \"cluster participant {name}\" {{\n    label=\"{name}, domain {domain}\";\n\
+         {border}{members}  }}\n"
     )
 }
 

@@ -10,12 +10,12 @@ use dds_text::texts::TextResult;
 use dds_weights::Certificate;
 use std::alloc::Global;
 
-/// A deployment as a document in DOT, which Graphviz renders: `dot -Tsvg`. Each participant is a cluster, and in it
-/// each of its applications with the names of its writers and readers and with its rules. Writers and readers have
-/// their topics and limits in their labels, and readers also what the certificate shows of them, where one is given.
-/// Edges lead from readers over rules to writers, with counts of samples and keys, and from writers to the readers that
-/// match or that a connection names (OMG DDS 1.4, clause 2.2.3); where only one of the two holds, the edge is red and
-/// says so. `NoMemory` is the only error.
+/// A deployment as a document in DOT, which Graphviz renders: `dot -Tsvg`. Each participant is a cluster, with a dashed
+/// border where it may come at any time, and in it each of its applications with the names of its writers and readers
+/// and with its rules. Writers and readers have their topics and limits in their labels, and readers also what the
+/// certificate shows of them, where one is given. Edges lead from readers over rules to writers, with counts of samples
+/// and keys, and from writers to the readers that match or that a connection names (OMG DDS 1.4, clause 2.2.3); where
+/// only one of the two holds, the edge is red and says so. `NoMemory` is the only error.
 pub fn drawing(alloc: Global, plan: &Plan, certificate: Option<&Certificate>) -> TextResult
     ensures { IfOk result
         (λ text. string_bytes text ≡ drawing plan.now (option_map (λ c. certificate_view c.now) certificate.entry)) }

@@ -4,9 +4,10 @@ use Rattle.dds_lists.specs.Lists.{Lists}
 use Rattle.dds_weights.specs.Lists.{Certificate}
 use Rattle.dds_check.specs.declared.verdict.No.{No}
 use Rattle.dds_check.specs.declared.verdict.Number.{Number}
-use Rattle.dds_check.specs.declared.verdict.Number.TheVariants.{IntendedNotMatched, UnintendedMatch, WriterKeepsLast, Exclusive, SourceOrder, OrderedOrCoherent, WriterBestEffort, ReaderInstances, NoBound, BoundOverInstanceLimit, BoundOverSamples, WriterInstances, KeepLastFilter, WriterDepth, TakeRaises, RuleRaises, WriteRaises, BoundNotShown}
+use Rattle.dds_check.specs.declared.verdict.Number.TheVariants.{IntendedNotMatched, UnintendedMatch, WriterKeepsLast, Exclusive, SourceOrder, OrderedOrCoherent, WriterBestEffort, ReaderInstances, NoBound, BoundOverInstanceLimit, BoundOverSamples, WriterInstances, KeepLastFilter, WriterDepth, LateVolatile, LateHistory, TakeRaises, RuleRaises, WriteRaises, BoundNotShown}
 use Rattle.dds_check.specs.declared.verdict.Subject.{Subject}
 use Rattle.dds_check.specs.declared.verdict.Subject.TheVariants as subject
+use Rattle.dds_explain.specs.Joins.{late_volatile_line, late_history_lines}
 use Rattle.dds_explain.specs.Limits.{reader_instances_lines, writer_instances_lines, no_bound_line, no_total_lines, bound_over_lines, samples_over_lines, keep_last_filter_lines, writer_depth_lines}
 use Rattle.dds_explain.specs.Margin.{margin_lines}
 use Rattle.dds_explain.specs.Pairs.{not_matched_lines, not_intended_line}
@@ -20,6 +21,7 @@ abbrev pub pair_reason : Lists → Number → ℕ → ℕ → List ℕ
 pair_reason d IntendedNotMatched w r = not_matched_lines d w r
 pair_reason d UnintendedMatch w r = not_intended_line d w r
 pair_reason d KeepLastFilter w r = keep_last_filter_lines d w r
+pair_reason d LateVolatile w r = late_volatile_line d w r
 pair_reason d _ w r = []
 
 -- why a key of a pair is refused
@@ -51,6 +53,7 @@ writer_reason d WriterKeepsLast w = keeps_last_line (writer_name d w)
 writer_reason d Exclusive w = exclusive_line (writer_name d w)
 writer_reason d WriterBestEffort w = best_effort_line (writer_name d w)
 writer_reason d WriterInstances w = writer_instances_lines d w
+writer_reason d LateHistory w = late_history_lines d w
 writer_reason d _ w = []
 
 -- why a row is refused, of which a take raises the sum

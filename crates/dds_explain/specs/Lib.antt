@@ -7,6 +7,7 @@ pub mod Places
 pub mod Pairs
 pub mod Policies
 pub mod Limits
+pub mod Joins
 pub mod Rows
 pub mod Shown
 pub mod Margin

@@ -130,7 +130,7 @@ abbrev pub given_bound_line : List ℕ → Option ℕ → List ℕ
 given_bound_line key (Some n) = codes "  bound " ++ (key ++ (codes " " ++ (decimal n ++ codes "\n")))
 given_bound_line key None = []
 
--- a number that bounds what a reader lacks in a line of its own, if there is one
+-- a number in a line of its own, if there is one
 abbrev pub number_line : List ℕ → Option ℕ → List ℕ → List ℕ
 number_line before (Some n) after = codes "  " ++ (before ++ (codes " " ++ (decimal n ++ (after ++ codes "\n"))))
 number_line before None after = []

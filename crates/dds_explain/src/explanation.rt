@@ -5,6 +5,7 @@ ghost use Rattle.dds_explain.specs.Explanation.{instance_reason, margins, pair_k
 ghost use Rattle.dds_explain.specs.Explanation.{reason, reason_of, rule_reason, take_reason, write_reason};
 ghost use Rattle.dds_explain.specs.Explanation.{writer_reason};
 
+use crate::joins::{late_history_lines, late_volatile_line};
 use crate::limits::{
     bound_over_lines, keep_last_filter_lines, no_bound_line, no_total_lines,
     reader_instances_lines, samples_over_lines, writer_depth_lines, writer_instances_lines,
@@ -38,6 +39,7 @@ fn pair_reason(
         Number::IntendedNotMatched => not_matched_lines(alloc, plan, writer, reader),
         Number::UnintendedMatch => not_intended_line(alloc, plan, writer, reader),
         Number::KeepLastFilter => keep_last_filter_lines(alloc, plan, writer, reader),
+        Number::LateVolatile => late_volatile_line(alloc, plan, writer, reader),
         _ => Ok(String::new(alloc)),
     }
 }
@@ -114,6 +116,7 @@ fn writer_reason(alloc: Global, plan: &Plan, number: Number, writer: WriterNo) -
         Number::Exclusive => exclusive_line(alloc, writer_name(plan.lists(), writer)),
         Number::WriterBestEffort => best_effort_line(alloc, writer_name(plan.lists(), writer)),
         Number::WriterInstances => writer_instances_lines(alloc, plan, writer),
+        Number::LateHistory => late_history_lines(alloc, plan, writer),
         _ => Ok(String::new(alloc)),
     }
 }

@@ -4,6 +4,7 @@
 
 mod budgets;
 mod explanation;
+mod joins;
 mod limits;
 mod margin;
 mod paces;

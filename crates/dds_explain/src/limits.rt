@@ -397,8 +397,13 @@ fn given_bound_line(alloc: Global, key: &str, bound: Option<u32>) -> TextResult
     }
 }
 
-/// A number that bounds what a reader lacks in a line of its own, if there is one.
-fn number_line(alloc: Global, before: &str, number: Option<u128>, after: &str) -> TextResult
+/// A number in a line of its own, if there is one.
+pub(crate) fn number_line(
+    alloc: Global,
+    before: &str,
+    number: Option<u128>,
+    after: &str,
+) -> TextResult
     ensures { IfOk result (λ text. string_bytes text ≡ number_line before.now number after.now) }
 {
     match number {

@@ -61,7 +61,7 @@ static CERTIFICATE: [Part; 3] = [
     },
 ];
 
-static PARTICIPANT: [Field; 2] = [
+static PARTICIPANT: [Field; 3] = [
     Field {
         key: "name",
         takes: Takes::NewName(Named::Participants),
@@ -76,6 +76,12 @@ static PARTICIPANT: [Field; 2] = [
         },
         need: Need::Always,
         since: 1,
+    },
+    Field {
+        key: "joins",
+        takes: Takes::Word(&["before", "any"]),
+        need: Need::Never,
+        since: 4,
     },
 ];
 

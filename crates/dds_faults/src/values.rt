@@ -296,14 +296,21 @@ fn check_number(
     }
 }
 
-// A help for a word whose letters are of another case.
-fn help_with_case(alloc: Global, word: &str, text: &str) -> Result<Option<String>, NoMemory> {
-    let (right, given) = (in_capitals(alloc, word)?, in_capitals(alloc, text)?);
-    if right.as_str() == given.as_str() {
-        Ok(Some(format!(in alloc; "in small letters: \"{word}\"")?))
-    } else {
-        Ok(None)
+// A help for one of these words whose letters are of another case.
+fn help_with_case(alloc: Global, words: &[&str], text: &str) -> Result<Option<String>, NoMemory> {
+    let given = in_capitals(alloc, text)?;
+    for word in words {
+        let right = in_capitals(alloc, word)?;
+        if right.as_str() == given.as_str() {
+            let case = if right.as_str() == *word {
+                "in capitals"
+            } else {
+                "in small letters"
+            };
+            return Ok(Some(format!(in alloc; "{case}: \"{word}\"")?));
+        }
     }
+    Ok(None)
 }
 
 // A whole number, or a word in its place.
@@ -321,11 +328,16 @@ fn check_number_or(
         Some(text) if text == word => Ok(()),
         Some(text) => {
             let shown = quoted(walk.alloc, text)?;
-            let help = help_with_case(walk.alloc, word, text)?;
+            let help = help_with_case(walk.alloc, &[word], text)?;
             tell_range(walk, faults, expected, at, shown.as_str(), help)
         }
         None => check_number(walk, faults, low, high, expected, at, value),
     }
+}
+
+// Whether words are in small letters; those of DDS's policies are in capitals.
+fn are_small(words: &[&str]) -> bool {
+    words.iter().all(|word| word.as_bytes().iter().all(|b| b.is_ascii_lowercase()))
 }
 
 // A help for a word that isn't one of these.
@@ -344,10 +356,11 @@ fn help_with_choice(
     if let Some(help) = help_with_default(alloc, spot.entry, key, capitals)? {
         return Ok(Some(help));
     }
-    match words.iter().find(|word| **word == capitals) {
-        Some(word) => Ok(Some(format!(in alloc; "in capitals: \"{word}\"")?)),
-        None => help_with_words(walk, faults, capitals, words, "\"", all),
+    if let Some(help) = help_with_case(alloc, words, text)? {
+        return Ok(Some(help));
     }
+    let given = if are_small(words) { text } else { capitals };
+    help_with_words(walk, faults, given, words, "\"", all)
 }
 
 fn check_word(

@@ -8,6 +8,8 @@ use crate::linting::{Files, Judged};
 use crate::spot::Spot;
 use crate::words::{first_line, later_lines};
 use dds_base::{KeyNo, NoMemory, ReaderNo, RuleNo, WriterNo};
+use dds_check::joins::instances_fit;
+use dds_check::permits::permits_of;
 use dds_check::{No, Number, Subject};
 use dds_explain::reason;
 use dds_match::{Plan, WhyNot};
@@ -42,6 +44,10 @@ fn cure(number: Number) -> &'static str {
         Number::KeepLastFilter =>
             "let the reader take these keys, or let it lose samples with `may_lose = true`",
         Number::WriterDepth => "`ddscheck limits` prints how deep the writer has to be",
+        Number::LateVolatile =>
+            "set `durability = \"TRANSIENT_LOCAL\"` at both, or let both join before the first write",
+        Number::LateHistory =>
+            "raise the limit, set `history = \"KEEP_LAST\"`, or let both join before the first write",
         Number::TakeRaises | Number::RuleRaises | Number::WriteRaises =>
             "`ddscheck propose --thorough` finds weights where there are some",
         Number::BoundNotShown => "`ddscheck limits` prints the least bound that weights show",
@@ -94,8 +100,26 @@ fn field(number: Number) -> &'static str {
         Number::BoundOverSamples => "max_samples",
         Number::KeepLastFilter => "filter",
         Number::WriterDepth => "depth",
+        Number::LateVolatile => "durability",
         _ => "name",
     }
+}
+
+/// The place of a field of an endpoint or a rule in the deployment.
+fn in_field(
+    alloc: Global,
+    files: &Files,
+    section: &str,
+    place: usize,
+    field: &str,
+) -> Result<Spotted, NoMemory> {
+    let path = format!(in alloc; "{section}[{place}]")?;
+    let spot = files.deployment.field_spot(alloc, path.as_str(), field)?;
+    Ok(Spotted {
+        role: Role::Deployment,
+        path,
+        spot,
+    })
 }
 
 /// The place of an endpoint or a rule in the deployment.
@@ -106,15 +130,7 @@ fn in_deployment(
     place: usize,
     number: Number,
 ) -> Result<Spotted, NoMemory> {
-    let path = format!(in alloc; "{section}[{place}]")?;
-    let spot = files
-        .deployment
-        .field_spot(alloc, path.as_str(), field(number))?;
-    Ok(Spotted {
-        role: Role::Deployment,
-        path,
-        spot,
-    })
+    in_field(alloc, files, section, place, field(number))
 }
 
 /// The place of an entry in the certificate, if there is one.
@@ -137,7 +153,7 @@ fn in_certificate(
     })
 }
 
-/// The place of a pair: of 25 its reader, else its writer.
+/// The place of a pair: of 25 and 27 its reader, else its writer.
 fn pair_place(
     alloc: Global,
     files: &Files,
@@ -146,7 +162,7 @@ fn pair_place(
     reader: ReaderNo,
 ) -> Result<Spotted, NoMemory> {
     match number {
-        Number::KeepLastFilter => {
+        Number::KeepLastFilter | Number::LateVolatile => {
             in_deployment(alloc, files, "readers", reader.number(), number)
         }
         _ => in_deployment(alloc, files, "writers", writer.number(), number),
@@ -230,6 +246,31 @@ fn reader_place(
     }
 }
 
+/// The limit of a writer that is less than all that it ever writes: that of a key where it is, else that of all keys.
+fn history_field(plan: &Plan, writer: WriterNo) -> &'static str {
+    let is_there = writer.number() < plan.lists().writers();
+    if is_there && !instances_fit(plan, &permits_of(plan, writer), writer) {
+        "max_samples_per_instance"
+    } else {
+        "max_samples"
+    }
+}
+
+/// The place of a writer: of 28 that of the limit.
+fn writer_place(
+    alloc: Global,
+    files: &Files,
+    judged: &Judged,
+    number: Number,
+    writer: WriterNo,
+) -> Result<Spotted, NoMemory> {
+    let field = match number {
+        Number::LateHistory => history_field(judged.plan, writer),
+        _ => field(number),
+    };
+    in_field(alloc, files, "writers", writer.number(), field)
+}
+
 /// The place in the file of the entry that a rule comes from.
 pub(crate) fn rule_entry(judged: &Judged, rule: RuleNo) -> usize {
     match judged.plan.lists().rule_origin(rule) {
@@ -255,9 +296,7 @@ fn place_of(
             instance_place(alloc, files, judged, number, reader, key)
         }
         Subject::Reader(reader) => reader_place(alloc, files, judged, number, reader),
-        Subject::Writer(writer) => {
-            in_deployment(alloc, files, "writers", writer.number(), number)
-        }
+        Subject::Writer(writer) => writer_place(alloc, files, judged, number, writer),
         Subject::RowInstance { row, .. }
         | Subject::RowRule { row, .. }
         | Subject::RowWriterKey { row, .. } => in_certificate(alloc, files, "rows", row),

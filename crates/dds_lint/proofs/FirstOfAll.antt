@@ -10,12 +10,13 @@ use Rattle.dds_runs.specs.First.{◌orElse◌, first_below}
 use Rattle.dds_runs.specs.Accepted.{row_of}
 use Rattle.dds_check.specs.declared.verdict.No.{No}
 use Rattle.dds_check.specs.Accepts.{first_no}
+use Rattle.dds_check.specs.Joins.{late_volatile, late_history, joins_no}
 use Rattle.dds_check.specs.Limits.{of_strict, reader_instances, no_bound, no_total, no_bounds, reader_bound_over, bound_over, samples_over, writer_instances, keep_last_filter, writer_depth, pair_depth, limits_no}
 use Rattle.dds_check.specs.Pairs.{not_matched, not_intended, first_pair, pairs_no}
 use Rattle.dds_check.specs.Profile.{first_outside, profile_no}
 use Rattle.dds_check.specs.Rows.{take_raises, row_take_raises, rule_raises, row_rule_raises, write_raises, row_write_raises, rows_no}
 use Rattle.dds_check.specs.Shown.{shown_no}
-use Rattle.dds_lint.specs.Conditions.{every_pair, pairs_nos, every_outside, profile_nos, if_strict, no_bounds_nos, bounds_over_nos, depth_nos, bounds_nos, depths_nos, limits_nos, row_take_nos, row_rule_nos, row_write_nos, rows_nos, shown_nos, all_nos}
+use Rattle.dds_lint.specs.Conditions.{every_pair, pairs_nos, every_outside, profile_nos, if_strict, no_bounds_nos, bounds_over_nos, depth_nos, bounds_nos, depths_nos, limits_nos, joins_nos, row_take_nos, row_rule_nos, row_write_nos, rows_nos, shown_nos, all_nos}
 use Rattle.dds_lint.specs.Every.{every_below, those_below}
 use Rattle.dds_lint.proofs.EveryLaws.{orElse_assoc, first_of_both, first_of_one, first_every, first_those, first_every_in}
 
@@ -72,6 +73,10 @@ limits_first net cert =
     both _ _ _ _ (both _ _ _ _ (both _ _ _ _ (first_those net.readers (of_strict net (reader_instances net))) (bounds_first net cert)) written) (depths_first net cert)
     ∙ simp orElse_assoc
 
+pub joins_first : (net : Network) → slice_get (joins_nos net) 0 ≡ joins_no net
+unfolding joins_no
+joins_first net = both _ _ _ _ (pair_first net (late_volatile net)) (first_those net.writers (late_history net))
+
 pub rows_first : (net : Network) (rows : List lists.Row) → slice_get (rows_nos net rows) 0 ≡ rows_no net rows
 unfolding rows_no
 rows_first net rows =
@@ -89,4 +94,8 @@ shown_first net cert = both _ _ _ _ (first_those _ _) (first_those _ _)
 -- the first of every condition that fails
 pub first_of_all : (d : Lists) (cert : lists.Certificate) → slice_get (all_nos d cert) 0 ≡ first_no d cert
 unfolding all_nos first_no
-first_of_all d cert = five _ _ _ _ _ _ _ _ _ _ (pairs_first (network_of d)) (profile_first d) (limits_first (network_of d) cert) (rows_first (network_of d) cert.rows) (shown_first (network_of d) cert)
+first_of_all d cert =
+    both _ _ _ _
+    (five _ _ _ _ _ _ _ _ _ _ (pairs_first (network_of d)) (profile_first d) (limits_first (network_of d) cert) (joins_first (network_of d)) (rows_first (network_of d) cert.rows))
+    (shown_first (network_of d) cert)
+    ∙ simp orElse_assoc

@@ -11,6 +11,7 @@ use Rattle.dds_weights.specs.declared.certificate.Bound.{Bound}
 use Rattle.dds_weights.specs.declared.certificate.Total.{Total}
 use Rattle.dds_runs.specs.Accepted.{row_of}
 use Rattle.dds_check.specs.declared.verdict.No.{No}
+use Rattle.dds_check.specs.Joins.{late_volatile, late_history}
 use Rattle.dds_check.specs.Limits.{of_strict, reader_instances, no_bound, no_total, bound_over, samples_over, writer_instances, keep_last_filter, writer_depth}
 use Rattle.dds_check.specs.Pairs.{not_matched, not_intended}
 use Rattle.dds_check.specs.Profile.{writer_outside, reader_outside}
@@ -77,6 +78,10 @@ depths_nos net cert = every_below net.writers (depth_nos net cert.bounds cert.to
 abbrev pub limits_nos : Network → lists.Certificate → List No
 limits_nos net cert = instances_nos net ++ bounds_nos net cert ++ written_nos net ++ depths_nos net cert
 
+-- 27 and 28, which ask no certificate
+abbrev pub joins_nos : Network → List No
+joins_nos net = every_pair net (late_volatile net) ++ those_below net.writers (late_history net)
+
 -- 30 by a row
 abbrev pub row_take_nos : Network → lists.Row → ℕ → List No
 row_take_nos net row n = every_below net.readers (λ r. those_below net.keys (take_raises net (row_of row) n r))
@@ -100,8 +105,8 @@ shown_nos net cert = those_in cert.bounds (bound_not_shown net cert.rows) ++ tho
 -- every condition that fails
 unfoldable pub all_nos : Lists → lists.Certificate → List No
 all_nos d cert =
-    pairs_nos (network_of d) ++ profile_nos d ++ limits_nos (network_of d) cert ++ rows_nos (network_of d) cert.rows ++ shown_nos (network_of d) cert
+    pairs_nos (network_of d) ++ profile_nos d ++ limits_nos (network_of d) cert ++ joins_nos (network_of d) ++ rows_nos (network_of d) cert.rows ++ shown_nos (network_of d) cert
 
 -- every condition that fails and that asks no certificate
 unfoldable pub bare_nos : Lists → List No
-bare_nos d = pairs_nos (network_of d) ++ profile_nos d ++ instances_nos (network_of d) ++ written_nos (network_of d)
+bare_nos d = pairs_nos (network_of d) ++ profile_nos d ++ instances_nos (network_of d) ++ written_nos (network_of d) ++ joins_nos (network_of d)

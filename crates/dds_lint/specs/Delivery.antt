@@ -9,7 +9,7 @@ use Rattle.dds_qos.specs.declared.policies.Durability.{Durability}
 use Rattle.dds_qos.specs.declared.policies.Durability.TheVariants.{Volatile, TransientLocal, Transient, Persistent}
 use Rattle.dds_lists.specs.Lists.{Lists, Reader, Writer}
 use Rattle.dds_match.specs.Matching.{why_not}
-use Rattle.dds_match.specs.Network.{Network, is_written, matched_readers}
+use Rattle.dds_match.specs.Network.{Network, is_late, is_written, matched_readers}
 use Rattle.dds_match.specs.Plan.{network_of}
 use Rattle.dds_match.specs.declared.matching.WhyNot.{WhyNot}
 use Rattle.dds_match.specs.declared.matching.WhyNot.TheVariants.{OtherDomain, OtherTopic, Partitions, Policies}
@@ -73,9 +73,11 @@ is_lasting_writer d w = option_map_or (λ (x : Writer). not (is_volatile x.qos.o
 abbrev pub is_latched : Lists → ℕ → Bool
 is_latched d w = is_lasting_writer d w && ends_at (network_of d) w
 
--- the reader matches the writer, must lose nothing, and yet asks for nothing that was written before it came
+-- the reader matches the writer, must lose nothing, and yet asks for nothing that was written before it came; neither may come at any time, for 27 refuses
+-- such a pair
 abbrev pub misses_history : Lists → ℕ → ℕ → Bool
-misses_history d w r = (network_of d).matched w r && (not ((network_of d).watcher r) && is_volatile_reader d r)
+misses_history d w r =
+    (network_of d).matched w r && (not ((network_of d).watcher r) && (is_volatile_reader d r && not (is_late (network_of d) w r)))
 
 -- the reader gets nothing of a latched writer if it comes late
 abbrev pub comes_late : Lists → ℕ → ℕ → Bool

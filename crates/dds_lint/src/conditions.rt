@@ -7,6 +7,7 @@ ghost use Rattle.dds_check.specs.Accepts.{first_no};
 ghost use Rattle.dds_check.specs.Tables.{HasFewRows};
 ghost use Rattle.dds_lint.specs.Conditions.{all_nos, bare_nos, limits_nos};
 
+use crate::joins::push_joins;
 use crate::limits::{push_bounds, push_depths, push_instances, push_written};
 use crate::pairs::push_pairs;
 use crate::profile::push_profile;
@@ -42,6 +43,7 @@ fn push_all(
     push_pairs(nos, plan)?;
     push_profile(nos, plan)?;
     push_limits(nos, plan, certificate)?;
+    push_joins(nos, plan)?;
     push_rows(nos, alloc, plan, certificate)?;
     push_shown(nos, plan, certificate)
 }
@@ -69,11 +71,13 @@ fn push_bare(nos: &mut Vec<No>, plan: &Plan) -> Result<(), NoMemory>
     push_pairs(nos, plan)?;
     push_profile(nos, plan)?;
     push_instances(nos, plan)?;
-    push_written(nos, plan)
+    push_written(nos, plan)?;
+    push_joins(nos, plan)
 }
 
-/// Every condition that fails for a plan and that asks no certificate: numbers 10 to 17, 20, 24 and 25, in this order
-/// and then in file order. No certificate is accepted for the plan where there is one. `NoMemory` is the only error.
+/// Every condition that fails for a plan and that asks no certificate: numbers 10 to 17, 20, 24, 25, 27 and 28, in this
+/// order and then in file order. No certificate is accepted for the plan where there is one. `NoMemory` is the only
+/// error.
 pub fn bare_nos(alloc: Global, plan: &Plan) -> Result<Vec<No>, NoMemory>
     ensures { IfOk result (λ nos. nos.items ≡ bare_nos plan.now) }
 {

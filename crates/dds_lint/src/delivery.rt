@@ -120,9 +120,15 @@ pub(crate) fn is_latched(plan: &Plan, writer: WriterNo) -> bool
     is_lasting_writer(plan, writer) && ends_at(plan, writer)
 }
 
-/// Whether a reader matches a writer, must lose nothing, and yet asks for nothing that was written before it came.
+/// Whether a reader matches a writer, must lose nothing, and yet asks for nothing that was written before it came. If
+/// one of them may come at any time, the checker refuses the pair instead.
 pub(crate) fn misses_history(plan: &Plan, writer: WriterNo, reader: ReaderNo) -> bool
+    requires writer { writer < (network_of plan.now).writers }
+    requires reader { reader < (network_of plan.now).readers }
     ensures { result ≡ misses_history plan.now writer reader }
 {
-    plan.matched(writer, reader) && !plan.watcher(reader) && is_volatile_reader(plan, reader)
+    plan.matched(writer, reader)
+        && !plan.watcher(reader)
+        && is_volatile_reader(plan, reader)
+        && !plan.is_late(writer, reader)
 }

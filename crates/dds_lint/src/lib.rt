@@ -6,6 +6,7 @@ mod conditions;
 mod delivery;
 pub mod endless;
 mod every;
+mod joins;
 mod limits;
 mod live;
 pub mod notes;

@@ -89,7 +89,7 @@ pub enum Note {
     /// The writer keeps all within a limit, and waits for the reader where that is slow.
     HeldUp { writer: WriterNo, reader: ReaderNo },
     /// The writer keeps what it wrote for readers to come, and its rules end; but the reader asks for nothing that was
-    /// written before it came.
+    /// written before it came. Of a pair one of which may come at any time, which is refused, nothing is said.
     LateReader { reader: ReaderNo, writer: WriterNo },
 }
 
@@ -363,7 +363,9 @@ fn held_up(plan: &Plan, writer: WriterNo, reader: ReaderNo) -> Option<Note>
 
 /// The note of a reader that comes late, where it's known whether the writer is latched.
 fn late_reader(plan: &Plan, latched: bool, writer: WriterNo, reader: ReaderNo) -> Option<Note>
-    requires { latched ≡ is_latched plan.now writer }
+    requires latched { latched ≡ is_latched plan.now writer }
+    requires writer { writer < (network_of plan.now).writers }
+    requires reader { reader < (network_of plan.now).readers }
     ensures { result ≡ late_reader plan.now writer reader }
 {
     note_if(

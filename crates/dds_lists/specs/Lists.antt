@@ -7,11 +7,14 @@ use Rattle.dds_qos.specs.declared.policies.ReaderQos.{ReaderQos}
 use Rattle.dds_base.specs.Section.{Listed}
 use Rattle.dds_qos.specs.declared.profile.Profile.{Profile}
 use Rattle.dds_qos.specs.declared.profile.Profile.TheVariants.{ReliableKeepAll, AnyWriter}
+use Rattle.dds_lists.specs.declared.lists.Joins.{Joins}
 use Rattle.dds_lists.specs.declared.lists.Origin.{Origin}
 use Rattle.dds_lists.specs.declared.lists.Pace.{Pace}
 
 pub record Participant : Type 0 where
   pub domain : ℕ
+  -- when it comes
+  pub joins : Joins
 
 pub record Topic : Type 0 where
   pub type_name : List ℕ

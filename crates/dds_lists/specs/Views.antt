@@ -12,7 +12,7 @@ use Rattle.dds_lists.specs.declared.lists.Rules.{Rules as CodeRules}
 use Rattle.dds_lists.specs.Lists.{Participant, Topic, Writer, Reader, Application, Rule, Rules, Lists}
 
 abbrev pub participant_view : CodeParticipant → Participant
-participant_view p = record { domain = p.domain }
+participant_view p = record { domain = p.domain; joins = p.joins }
 
 abbrev pub topic_view : CodeTopic → Topic
 topic_view t = record { type_name = string_bytes t.type_name; keys = t.keys }

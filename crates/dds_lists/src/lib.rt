@@ -6,4 +6,6 @@ pub mod deployment;
 pub mod lists;
 
 pub use deployment::Deployment;
-pub use lists::{Application, Origin, Pace, Participant, Reader, Rule, Rules, Topic, Writer};
+pub use lists::{
+    Application, Joins, Origin, Pace, Participant, Reader, Rule, Rules, Topic, Writer,
+};

@@ -11,11 +11,23 @@ use dds_base::{
 use dds_qos::{ReaderQos, WriterQos};
 use std::alloc::Global;
 
+/// When a participant comes. Once there, it stays.
+#[derive(Clone, Copy, Debug, PartialEq, Eq)]
+pub enum Joins {
+    /// Before the first write. By then its endpoints, and those that they match at other such participants, know of one
+    /// another.
+    Before,
+    /// At any time, once.
+    Any,
+}
+
 /// A domain participant. Endpoints talk where their participants are in one domain.
 #[derive(Drop)]
 pub struct Participant {
     /// 0 to 2,147,483,647.
     pub domain: u32,
+    /// When it comes.
+    pub joins: Joins,
 }
 
 /// A keyed topic: a name, the name of its type, and the names of its instances' keys, 1 to 64 of them.

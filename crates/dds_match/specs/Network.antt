@@ -1,5 +1,5 @@
 -- All that runs see of a plan: which endpoints match, filters, limits, rules, as functions of their numbers.
-use Rattle.std.specs.Prelude.{◌≡◌, ℕ, ◌+◌, ◌*◌, ◌<◌, ◌≤◌, Bool, true, false, not, ◌&&◌, ◌==◌, List, Option, Some, None, is_none, [], ◌∷◌, if◌then◌else◌, filter}
+use Rattle.std.specs.Prelude.{◌≡◌, ℕ, ◌+◌, ◌*◌, ◌<◌, ◌≤◌, Bool, true, false, not, ◌&&◌, ◌||◌, ◌==◌, List, Option, Some, None, is_none, [], ◌∷◌, if◌then◌else◌, filter}
 use Rattle.std.specs.List.{list_any, range_with_len}
 use Rattle.std.specs.Option.{option_map_or}
 use Rattle.dds_base.specs.Sums.{total, In, any_below}
@@ -28,6 +28,15 @@ pub record Network : Type 0 where
   pub rule : ℕ → Rule
   -- the key may be written at the writer without a permit, at any time
   pub free : ℕ → ℕ → Bool
+  -- the participant of a writer, and of a reader
+  pub writer_home : ℕ → ℕ
+  pub reader_home : ℕ → ℕ
+  -- the participant may come at any time; any other is there before the first write
+  pub joins : ℕ → Bool
+  -- the durability of a writer, or of a reader, is more than VOLATILE: what was written before the two knew of one another reaches the reader too
+  -- (DDS 1.4, clause 2.2.3.4)
+  pub durable_writer : ℕ → Bool
+  pub durable_reader : ℕ → Bool
   -- by writer, reader and key: at most how many samples of the key, written there, the reader may have yet to take: a write that would make it more
   -- has to wait. None where nothing bounds them
   pub cap : ℕ → ℕ → ℕ → Option ℕ
@@ -77,6 +86,10 @@ matched_writers net r = filter (λ w. net.matched w r) (range_with_len 0 net.wri
 -- the reader matches the writer and is strict: the writer waits for what it acknowledges
 abbrev pub follows : Network → ℕ → ℕ → Bool
 follows net w r = net.matched w r && not (net.watcher r)
+
+-- the writer may write before it and the reader know of one another: the participant of one of them may come at any time
+abbrev pub is_late : Network → ℕ → ℕ → Bool
+is_late net w r = net.joins (net.writer_home w) || net.joins (net.reader_home r)
 
 -- the count of an endpoint and key in a rule's list, 0 where it isn't named
 abbrev pub named : List (Portion ℕ) → ℕ → ℕ → ℕ

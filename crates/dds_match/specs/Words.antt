@@ -1,11 +1,15 @@
 -- The words on a plan.
-use Rattle.std.specs.Prelude.{is_none, ℕ, Bool, false, ◌&&◌, ◌||◌, ◌==◌, nat_lt, None, List, [], filter, length, slice_get, unwrap_or}
+use Rattle.std.specs.Prelude.{is_none, ℕ, Bool, false, true, ◌&&◌, ◌||◌, ◌==◌, nat_lt, None, List, [], filter, length, slice_get, unwrap_or}
 use Rattle.std.specs.List.{list_any, range_with_len}
 use Rattle.std.specs.Option.{option_map_or}
 use Rattle.dds_qos.specs.Profile.{is_best_effort}
 use Rattle.dds_base.specs.Pairs.{stands}
 use Rattle.dds_base.specs.Sums.{any_below}
-use Rattle.dds_lists.specs.Lists.{Writer, Reader, Rule, Lists}
+use Rattle.dds_qos.specs.declared.policies.Durability.{Durability}
+use Rattle.dds_qos.specs.declared.policies.Durability.TheVariants.{Volatile, TransientLocal, Transient, Persistent}
+use Rattle.dds_lists.specs.declared.lists.Joins.{Joins}
+use Rattle.dds_lists.specs.declared.lists.Joins.TheVariants.{Before, Any}
+use Rattle.dds_lists.specs.Lists.{Participant, Writer, Reader, Rule, Lists}
 use Rattle.dds_lists.specs.WellFormed.{filter_at, writer_key_count}
 use Rattle.dds_match.specs.Matching.{why_not}
 use Rattle.dds_match.specs.Network.{is_named}
@@ -45,6 +49,36 @@ frees u w k = u.free && is_named u.writes w k
 -- some free rule names the pair
 abbrev pub is_free : Lists → ℕ → ℕ → Bool
 is_free d w k = any_below (length d.rules.entries) (λ u. frees (rule_of d u) w k)
+
+-- the participant of a writer, and of a reader
+abbrev pub writer_home : Lists → ℕ → ℕ
+writer_home d w = option_map_or (λ (x : Writer). x.participant) (slice_get d.writers.entries w) 0
+
+abbrev pub reader_home : Lists → ℕ → ℕ
+reader_home d r = option_map_or (λ (x : Reader). x.participant) (slice_get d.readers.entries r) 0
+
+-- the participant may come at any time
+abbrev pub is_any : Joins → Bool
+is_any Before = false
+is_any Any = true
+
+-- there is such a participant, and it may come at any time
+abbrev pub joins : Lists → ℕ → Bool
+joins d p = option_map_or (λ (x : Participant). is_any x.joins) (slice_get d.participants.entries p) false
+
+-- what is written lasts longer than its writer's matches (DDS 1.4, clause 2.2.3.4)
+abbrev pub is_durable : Durability → Bool
+is_durable Volatile = false
+is_durable TransientLocal = true
+is_durable Transient = true
+is_durable Persistent = true
+
+-- there is such a writer, or reader, and its durability is more than VOLATILE
+abbrev pub durable_writer : Lists → ℕ → Bool
+durable_writer d w = option_map_or (λ (x : Writer). is_durable x.qos.offered.durability) (slice_get d.writers.entries w) false
+
+abbrev pub durable_reader : Lists → ℕ → Bool
+durable_reader d r = option_map_or (λ (x : Reader). is_durable x.qos.requested.durability) (slice_get d.readers.entries r) false
 
 -- the writer is the participant's
 abbrev pub is_writer_of : Lists → ℕ → ℕ → Bool

@@ -1,4 +1,5 @@
 pub mod CircleLists
+pub mod SeatDelays
 pub mod ListLaws
 pub mod Owners
 pub mod SeatLaws

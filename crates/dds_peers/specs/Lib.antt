@@ -1,2 +1,3 @@
+pub mod Delays
 pub mod RunFault
 pub mod Steady

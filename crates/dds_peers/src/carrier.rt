@@ -43,6 +43,13 @@ impl<N: Name> Carrier<N> {
         }
     }
 
+    /// The place of its seat, after those of the applications.
+    pub(crate) fn number(&self) -> usize
+        ensures { result ≡ self.now.seat.number }
+    {
+        self.seat.number()
+    }
+
     /// Whether it has met a full journal.
     pub(crate) fn is_full(&self) -> bool
         ensures { result ≡ self.now.is_full }

@@ -9,6 +9,7 @@
 
 mod carrier;
 mod circle;
+mod delays;
 mod gauges;
 mod run;
 mod settling;
@@ -17,6 +18,7 @@ mod threads;
 
 pub use dds_apps::{Act, App, AppEnd, Diary, Gate, Limits};
 pub use dds_options::Fates;
+pub use delays::draw_delays;
 pub use gauges::gauge_of;
 pub use run::{Outcome, RunFault, run_peers};
 pub use steady::Steady;

@@ -289,6 +289,8 @@ fn run_all<A: App + Send, R: Threads + Wait + Clock + Sync, G: Gate>(
 /// Runs each application and each participant of a checked deployment in a thread of its own: the applications' threads
 /// are joined, the book is stopped, the participants' are joined. The seats belong to the gauge's owners, in the
 /// order of the plan's applications, and each of their counts is 0; others may read the gauge while the run goes on.
+/// The thread of a seat first waits as many milliseconds as stand at its place in `delays`, none if there's no such
+/// place.
 ///
 /// With `Ok` the applications come back in order: at each place is the one that was given there, by its identity. The
 /// journal is a journal of the plan, so all that the checker promises of a run holds of it: no reliable reader
@@ -304,6 +306,7 @@ pub fn run_peers<R: Threads + Wait + Clock + Sync, G: Gate>(
     gate: &G,
     gauge: &Gauge,
     seats: Vec<GaugeSeat>,
+    delays: &[u16],
     limits: Limits,
 ) -> Result<Outcome<Box<dyn App + Send>>, RunFault<Box<dyn App + Send>>>
     requires gauge { length checked.plan.applications.entries ≤ gauge.now.apps }
@@ -331,6 +334,7 @@ pub fn run_peers<R: Threads + Wait + Clock + Sync, G: Gate>(
         gauge,
         gate,
         fates,
+        delays,
         limits,
     };
     run_all(rt, alloc, checked, apps, seats, shared)

@@ -5,6 +5,7 @@ ghost use Rattle.std.specs.Vec.{vec_len, vec_capacity};
 ghost use Rattle.dds_apps.specs.Kept.{IsKept};
 
 use crate::carrier::Carrier;
+use crate::delays::wait_to_begin;
 use dds_apps::{App, Gate, Limits, Player};
 use dds_book::{Book, Gauge, Name};
 use dds_options::Fates;
@@ -15,12 +16,13 @@ use std::thread::{JoinHandle, Promise, PromisedHandle, Scope, Threads};
 use std::time::Clock;
 
 /// What all threads of a run share: the gauge on which the applications' calls are counted, the gate that each of these
-/// calls passes, the fates of packets, and what ends the threads.
+/// calls passes, the fates of packets, when the threads begin, and what ends them.
 #[derive_where(Clone, Copy)]
 pub(crate) struct Shared<'r, G> {
     pub(crate) gauge: &'r Gauge,
     pub(crate) gate: &'r G,
     pub(crate) fates: &'r Fates,
+    pub(crate) delays: &'r [u16],
     pub(crate) limits: Limits,
 }
 
@@ -75,6 +77,7 @@ fn start_players<
     let Shared {
         gauge,
         gate,
+        delays,
         limits,
         ..
     } = shared;
@@ -92,6 +95,7 @@ fn start_players<
                 × IsKept gauge.entry.now fresh result.seat result.counter (A.notes result.app).entries }
         {
             let _ = &fresh;
+            wait_to_begin(rt, delays, player.number());
             player.play(rt, book, gauge, gate, limits)
         };
         let Ok(handle) = scope.spawn_with(promise, run) else {
@@ -130,6 +134,7 @@ fn start_carriers<'s, E: 's, N: Name + Send + Sync + 's, R: Wait + Clock + Sync 
     rt: &'s R,
     book: &'s Book<N>,
     fates: &'s Fates,
+    delays: &'s [u16],
     pumps: u64,
     carriers: Vec<Carrier<N>>,
     handles: Vec<JoinHandle<Carrier<N>>>,
@@ -138,7 +143,11 @@ fn start_carriers<'s, E: 's, N: Name + Send + Sync + 's, R: Wait + Clock + Sync 
 {
     let mut handles = handles;
     for carrier in carriers {
-        let Ok(handle) = scope.spawn(move || carrier.carry(rt, book, fates, pumps)) else {
+        let run = move || {
+            wait_to_begin(rt, delays, carrier.number());
+            carrier.carry(rt, book, fates, pumps)
+        };
+        let Ok(handle) = scope.spawn(run) else {
             return (handles, false);
         };
         handles.push_reserved(handle);
@@ -217,6 +226,7 @@ pub(crate) fn together<
                 rt,
                 book,
                 shared.fates,
+                shared.delays,
                 shared.limits.pumps,
                 carriers,
                 carrying,

@@ -23,23 +23,7 @@ by_permits net r k = is_none (capped net r k) || not (any_below net.writers (λ 
 
 -- what a row sees of the network that carries samples in this way: no caps where it carries all by permits
 abbrev pub seen : Carrying → Network → Network
-seen carrying net = record {
-  writers = net.writers;
-  readers = net.readers;
-  keys = net.keys;
-  rules = net.rules;
-  matched = net.matched;
-  intended = net.intended;
-  watcher = net.watcher;
-  writes_key = net.writes_key;
-  hears = net.hears;
-  writer_limits = net.writer_limits;
-  reader_limits = net.reader_limits;
-  rule = net.rule;
-  free = net.free;
-  cap = λ w r k. by_caps carrying (net.cap w r k);
-  lag = λ w r k. by_caps carrying (net.lag w r k);
-}
+seen carrying net = record net { cap = λ w r k. by_caps carrying (net.cap w r k); lag = λ w r k. by_caps carrying (net.lag w r k) }
 
 -- what a write of the key at the writer puts in flight, by the weights of samples, but for samples that caps carry
 abbrev pub spread_by : Network → (ℕ → ℕ → ℕ) → ℕ → ℕ → ℕ

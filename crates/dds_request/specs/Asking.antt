@@ -89,7 +89,7 @@ good_of rows = if is_set rows (codes "idle-ok") then StoppedOrIdle else Stopped
 abbrev pub Wants : List Row → Wishes → Type 0
 Wants rows wishes =
     AreFates wishes.fates × (first_of (codes "fates") rows ≡ Some (fates_text wishes.fates)) × Counts rows (codes "writes") wishes.writes × Counts rows (codes "takes") wishes.takes
-    × (good_of rows ≡ wishes.good) × (detail_of rows ≡ wishes.detail)
+    × Counts rows (codes "late") wishes.late × (good_of rows ≡ wishes.good) × (detail_of rows ≡ wishes.detail)
 
 -- the notes that are let pass are those for which this text stands: none where it isn't given
 abbrev pub LetsPass : Option Text → List ℕ → Type 0

@@ -57,10 +57,14 @@ checking = styled (with_rule (two_files (codes "check")) (flag_rule (codes "expl
 abbrev pub count_rule : Text → Rule
 count_rule id = record (wish_rule id (codes "10")) { parser = Some (Signed (pos 0) (pos 65535)) }
 
+-- a wish for a seed up to 65,535, which is 0 where it isn't given
+abbrev pub seed_rule : Text → Rule
+seed_rule id = record (wish_rule id (codes "0")) { parser = Some (Signed (pos 0) (pos 65535)) }
+
 -- the command that runs a deployment, with the arguments that say what the run is like
 abbrev pub wishing : App
 wishing =
-    with_rule (with_rule (with_rule (two_files (codes "run")) (wish_rule (codes "fates") (codes "pass"))) (count_rule (codes "writes"))) (count_rule (codes "takes"))
+    with_rule (with_rule (with_rule (with_rule (two_files (codes "run")) (wish_rule (codes "fates") (codes "pass"))) (count_rule (codes "writes"))) (count_rule (codes "takes"))) (seed_rule (codes "late"))
 
 -- the whole command that runs a deployment
 abbrev pub running : App

@@ -5,8 +5,8 @@ ghost use Rattle.clap.specs.declared.builder.command.Command.TheViews.{out-Comma
 ghost use Rattle.dds_request.specs.Command.{checking, conforming, count_rule, drawing, file_rule, flag_rule, limiting};
 ghost use Rattle.dds_request.specs.Command.{linting, matching, migrating, one_file, optional_file_rule};
 ghost use Rattle.dds_request.specs.Command.{optional_wish_rule, refuting, replaying};
-ghost use Rattle.dds_request.specs.Command.{running, searching, seconds_rule, showing, styled, top_app, two_files};
-ghost use Rattle.dds_request.specs.Command.{whole, wish_rule, wishing};
+ghost use Rattle.dds_request.specs.Command.{running, searching, seconds_rule, seed_rule, showing, styled};
+ghost use Rattle.dds_request.specs.Command.{top_app, two_files, whole, wish_rule, wishing};
 
 use clap::{Arg, ArgAction, Command, value_parser};
 use dds_base::NoMemory;
@@ -33,6 +33,10 @@ const WRITES: &str = "How many samples each application writes, with free ones c
 
 /// What help says of the number of takes.
 const TAKES: &str = "How many samples each application takes";
+
+/// What help says of when participants begin.
+const LATE: &str =
+    "Draws when participants begin that may come at any time; by 0 all begin at once";
 
 /// What help says of the format.
 const FORMAT: &str = "json or dds-xml";
@@ -221,6 +225,13 @@ fn count<'a>(alloc: Global, id: &'a str, help: &'a str) -> Arg<'a>
     wish(alloc, id, "N", "10", help).value_parser(value_parser!(u16))
 }
 
+fn seed<'a>(alloc: Global, id: &'a str, help: &'a str) -> Arg<'a>
+    ensures rule { rule_of result ≡ seed_rule id.entry.now }
+    ensures local { result.global ≡ false }
+{
+    wish(alloc, id, "SEED", "0", help).value_parser(value_parser!(u16))
+}
+
 fn seconds<'a>(alloc: Global, help: &'a str) -> Arg<'a>
     ensures rule { rule_of result ≡ seconds_rule }
     ensures local { result.global ≡ false }
@@ -240,7 +251,8 @@ fn wishing_command<'a>(alloc: Global) -> Result<Command<'a>, NoMemory>
     )?
     .arg(wish(alloc, "fates", "LIST", "pass", FATES))?
     .arg(count(alloc, "writes", WRITES))?
-    .arg(count(alloc, "takes", TAKES))
+    .arg(count(alloc, "takes", TAKES))?
+    .arg(seed(alloc, "late", LATE))
 }
 
 fn run_command<'a>(alloc: Global) -> Result<Command<'a>, NoMemory>

@@ -323,6 +323,7 @@ fn wishes(matches: &ArgMatches) -> Option<Wishes>
         fates: read_fates(argument(matches, "fates")?)?,
         writes: number(matches, "writes")?,
         takes: number(matches, "takes")?,
+        late: number(matches, "late")?,
         good: good_ends(matches),
         detail: detail(matches),
     })

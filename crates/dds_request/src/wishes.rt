@@ -14,13 +14,15 @@ use dds_options::{Detail, Fates, Format, GoodEnds, LaterVersion, LintStyle, Styl
 /// The most fates that a list has.
 const MOST: usize = 64;
 
-/// What happens to the packets of a run, how many samples each application writes and takes, which ends are good, and
-/// how much is printed.
+/// What happens to the packets of a run, how many samples each application writes and takes, when participants begin
+/// that may come at any time, which ends are good, and how much is printed.
 #[derive(Drop)]
 pub struct Wishes {
     pub fates: Fates,
     pub writes: u16,
     pub takes: u16,
+    /// The seed by which the moments are drawn. By 0 all begin at once.
+    pub late: u16,
     pub good: GoodEnds,
     pub detail: Detail,
 }

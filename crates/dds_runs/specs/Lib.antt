@@ -9,4 +9,5 @@ pub mod Laws
 pub mod Unsafe
 pub mod CountRuns
 pub mod Timed
+pub mod Joins
 pub mod Before

@@ -4,6 +4,7 @@
 
 ghost use Rattle.dds_runs.specs.Before.{Before};
 ghost use Rattle.dds_runs.specs.CountRuns.{CountRuns};
+ghost use Rattle.dds_runs.specs.Joins.{EarlyPairs, Histories, JoinedRuns};
 ghost use Rattle.dds_runs.specs.Laws.{Counts, Headline, Order, Packets, Parts, Settled, Stored, Watched};
 ghost use Rattle.dds_runs.specs.Timed.{DeploymentRuns, TimedRuns};
 ghost use Rattle.dds_runs.specs.Unsafe.{EqualBoundOverflows, FilteredWriterLoses, ForgottenReaderOverflows};
@@ -64,6 +65,15 @@ pub fn headline()
 pub fn timed()
     ensures network { TimedRuns }
     ensures deployment { DeploymentRuns }
+{}
+
+/// Without its joins a run in which participants come at any time is a run of the network, so what's promised of all
+/// its runs holds. Where a certificate is accepted, a strict reader that may come after its writer's first write is
+/// handed what was written before: both are durable, and the writer has room for all that it ever writes.
+pub fn joins()
+    ensures runs { JoinedRuns }
+    ensures pairs { EarlyPairs }
+    ensures histories { Histories }
 {}
 
 /// A write puts a sample in flight for every matched reader: a rule that forgets one of two accepts a deployment in

@@ -5,6 +5,8 @@ use Rattle.std.specs.Option.{option_map_or}
 use Rattle.dds_base.specs.declared.portion.Portion.{Portion}
 use Rattle.dds_qos.specs.declared.policies.Policies.{Policies}
 use Rattle.dds_lists.specs.Lists.{Lists, Participant, Topic, Writer, Reader, Application, Rule, keys_at, key_name}
+use Rattle.dds_lists.specs.declared.lists.Joins.{Joins}
+use Rattle.dds_lists.specs.declared.lists.Joins.TheVariants.{Before, Any}
 use Rattle.dds_lists.specs.declared.lists.Origin.{Origin}
 use Rattle.dds_lists.specs.declared.lists.Pace.{Pace}
 use Rattle.dds_text.specs.Names.{name_at, reader_key, reader_name, writer_key, writer_name}
@@ -21,8 +23,13 @@ numbered_item names numbers i = comma i ++ quoted (option_map_or (name_at names)
 abbrev pub numbered_items : List (List ℕ) → List ℕ → List ℕ
 numbered_items names numbers = each_below (length numbers) (numbered_item names numbers)
 
+-- when a participant comes; nothing where it's there before the first write
+abbrev pub joins_field : Joins → List ℕ
+joins_field Before = []
+joins_field Any = codes ", \"joins\": \"any\""
+
 abbrev pub participant_entry : List ℕ → Participant → List ℕ
-participant_entry name x = codes "{\"name\": \"" ++ (name ++ (codes "\", \"domain\": " ++ (decimal x.domain ++ codes "}")))
+participant_entry name x = codes "{\"name\": \"" ++ (name ++ (codes "\", \"domain\": " ++ (decimal x.domain ++ (joins_field x.joins ++ codes "}"))))
 
 abbrev pub topic_entry : List ℕ → Topic → List ℕ
 topic_entry name x =

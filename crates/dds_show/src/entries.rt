@@ -7,16 +7,18 @@ ghost use Rattle.dds_lists.specs.Views.{writer_view};
 ghost use Rattle.dds_text.specs.Names.{name_at};
 ghost use Rattle.dds_text.specs.Texts.{each_below};
 ghost use Rattle.dds_show.specs.Pieces.{comma, quoted};
-ghost use Rattle.dds_show.specs.Entries.{application_entry, connection_entry, may_lose_field, numbered_items};
-ghost use Rattle.dds_show.specs.Entries.{nanoseconds_field, origin_fields, pace_fields, participant_entry};
-ghost use Rattle.dds_show.specs.Entries.{place_fields, portion_entry, qos_fields, reader_entry, rule_entry};
-ghost use Rattle.dds_show.specs.Entries.{span_fields, start_text, take_entry, take_items, topic_entry, write_entry};
-ghost use Rattle.dds_show.specs.Entries.{write_items, writer_entry};
+ghost use Rattle.dds_show.specs.Entries.{application_entry, connection_entry, joins_field, may_lose_field};
+ghost use Rattle.dds_show.specs.Entries.{nanoseconds_field, numbered_items, origin_fields, pace_fields};
+ghost use Rattle.dds_show.specs.Entries.{participant_entry, place_fields, portion_entry, qos_fields, reader_entry};
+ghost use Rattle.dds_show.specs.Entries.{rule_entry, span_fields, start_text, take_entry, take_items, topic_entry};
+ghost use Rattle.dds_show.specs.Entries.{write_entry, write_items, writer_entry};
 
 use crate::pieces::{items_below, name_items, quoted, text_items};
 use crate::policies::policies_fields;
 use dds_base::{Endpoint, KeyNo, Names, ParticipantNo, Portion, ReaderNo, TopicNo, WriterNo};
-use dds_lists::{Application, Deployment, Origin, Pace, Participant, Reader, Rule, Topic, Writer};
+use dds_lists::{
+    Application, Deployment, Joins, Origin, Pace, Participant, Reader, Rule, Topic, Writer,
+};
 use dds_qos::Policies;
 use dds_text::names::{name_at, reader_key, reader_name, writer_key, writer_name};
 use dds_text::texts::TextResult;
@@ -48,11 +50,22 @@ fn endpoint_items<E: Endpoint>(alloc: Global, names: &Names, endpoints: &[E]) ->
     )
 }
 
+/// When a participant comes; nothing where it's there before the first write.
+fn joins_field(joins: Joins) -> &'static str
+    ensures { result.now ≡ joins_field joins }
+{
+    match joins {
+        Joins::Before => "",
+        Joins::Any => ", \"joins\": \"any\"",
+    }
+}
+
 pub(crate) fn participant_entry(alloc: Global, name: &str, x: &Participant) -> TextResult
     ensures { IfOk result (λ text. string_bytes text ≡ participant_entry name.now (participant_view x.now)) }
 {
     let domain = x.domain;
-    format!(in alloc; "{{\"name\": \"{name}\", \"domain\": {domain}}}")
+    let joins = joins_field(x.joins);
+    format!(in alloc; "{{\"name\": \"{name}\", \"domain\": {domain}{joins}}}")
 }
 
 pub(crate) fn topic_entry(alloc: Global, name: &str, x: &Topic) -> TextResult

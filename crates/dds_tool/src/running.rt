@@ -28,7 +28,8 @@ use dds_lists::Deployment;
 use dds_match::Plan;
 use dds_options::{Detail, GoodEnds, Style};
 use dds_peers::{
-    App, AppEnd, Gate, Limits, Outcome as Played, RunFault, Steady, gauge_of, run_peers,
+    App, AppEnd, Gate, Limits, Outcome as Played, RunFault, Steady, draw_delays, gauge_of,
+    run_peers,
 };
 use dds_recap::{all_good, explain_run};
 use dds_request::Wishes;
@@ -247,6 +248,14 @@ fn steadies(alloc: Global, plan: &Plan, wishes: &Wishes) -> Result<Vec<Steady>, 
     Ok(apps)
 }
 
+/// For how many milliseconds the threads of a run wait before they begin: none, if all are to begin at once.
+fn delays_of(alloc: Global, plan: &Plan, wishes: &Wishes) -> Result<Vec<u16>, NoMemory> {
+    if wishes.late == 0 {
+        return Ok(Vec::new(alloc));
+    }
+    draw_delays(alloc, plan.lists(), wishes.late)
+}
+
 /// Runs a checked plan with these applications, one for each of its own. It gives the journal, and how the thread of
 /// each ended.
 fn perform<R: Threads + Wait + Clock + Sync>(
@@ -265,6 +274,10 @@ fn perform<R: Threads + Wait + Clock + Sync>(
         drop(checked);
         return Err(ToolFault::NoMemory);
     };
+    let Ok(delays) = delays_of(alloc, checked.plan(), wishes) else {
+        drop(checked);
+        return Err(ToolFault::NoMemory);
+    };
     match run_peers(
         rt,
         alloc,
@@ -274,6 +287,7 @@ fn perform<R: Threads + Wait + Clock + Sync>(
         &Open,
         &gauge,
         seats,
+        delays.as_slice(),
         LIMITS,
     ) {
         Ok(Played { journal, ends, .. }) => Ok((journal, ends)),

@@ -2,6 +2,8 @@
 use Rattle.std.specs.Prelude.{codes, ℕ, List, [], ◌++◌, ◌==◌, nat_le, length, slice_get, Option, Some, None, if◌then◌else◌}
 use Rattle.std.specs.Fmt.{decimal}
 use Rattle.std.specs.Option.{option_map_or}
+use Rattle.dds_lists.specs.declared.lists.Joins.{Joins}
+use Rattle.dds_lists.specs.declared.lists.Joins.TheVariants.{Before, Any}
 use Rattle.dds_lists.specs.Lists.{Lists, Participant, Reader, Writer, keys_at}
 use Rattle.dds_text.specs.Names.{name_at, reader_name, writer_name}
 use Rattle.dds_text.specs.Texts.{each_below, start_of}
@@ -69,11 +71,16 @@ publishers d p = each_below (length d.writers.entries) (publisher_at d p)
 abbrev pub subscribers : Lists → ℕ → List ℕ
 subscribers d p = each_below (length d.readers.entries) (subscriber_at d p)
 
+-- when a participant comes, as a comment; nothing where it's there before the first write
+abbrev pub joins_comment : Joins → List ℕ
+joins_comment Before = []
+joins_comment Any = codes "      <!-- joins = \"any\" -->\n"
+
 -- a participant with its endpoints, from its number
 abbrev pub participant_element : Lists → ℕ → Participant → List ℕ
 participant_element d p x =
     codes "    <domain_participant name=\"" ++ (name_at d.participants.names p ++ (codes "\" domain_ref=\"domains::topics\" domain_id=\"" ++ (decimal x.domain ++ (codes "\">\n"
-    ++ (publishers d p ++ (subscribers d p ++ codes "    </domain_participant>\n"))))))
+    ++ (joins_comment x.joins ++ (publishers d p ++ (subscribers d p ++ codes "    </domain_participant>\n")))))))
 
 -- the participant with this number
 abbrev pub participant_at : Lists → ℕ → List ℕ

@@ -33,9 +33,9 @@ fn entity_sections(alloc: Global, lists: &Deployment) -> TextResult
 
 /// A deployment for other DDS tools, in DDS-XML (OMG DDS-XML 1.0): types, a QoS profile for each endpoint, topics,
 /// participants with their endpoints, and applications, each in file order. Rules and connections have no place there
-/// and are left out; a reader's `taken_within` and `available_within` are comments. Lengths of time are in seconds and
-/// nanoseconds. The type of a topic is a struct of a key and 32 bytes, in a module of the topic's name; the enum beside
-/// it has the topic's keys. `NoMemory` is the only error.
+/// and are left out; a reader's `taken_within` and `available_within` are comments, as is the `joins` of a participant
+/// that joins at any time. Lengths of time are in seconds and nanoseconds. The type of a topic is a struct of a key and
+/// 32 bytes, in a module of the topic's name; the enum beside it has the topic's keys. `NoMemory` is the only error.
 pub fn deployment_xml(alloc: Global, lists: &Deployment) -> TextResult
     ensures { IfOk result (λ text. string_bytes text ≡ deployment_xml lists.now) }
 {

@@ -3,13 +3,13 @@
 ghost use Rattle.std.specs.Prelude.{◌≡◌, ◌<◌, IfOk, length, string_bytes};
 ghost use Rattle.dds_lists.specs.Views.{participant_view, reader_view, writer_view};
 ghost use Rattle.dds_xml.specs.Participants.{content_filter, data_reader, filter_expression, filter_term};
-ghost use Rattle.dds_xml.specs.Participants.{participant_element, participant_library, publisher, publisher_at};
-ghost use Rattle.dds_xml.specs.Participants.{publishers, span_comment, span_comments, subscriber, subscriber_at};
-ghost use Rattle.dds_xml.specs.Participants.{subscribers};
+ghost use Rattle.dds_xml.specs.Participants.{joins_comment, participant_element, participant_library, publisher};
+ghost use Rattle.dds_xml.specs.Participants.{publisher_at, publishers, span_comment, span_comments, subscriber};
+ghost use Rattle.dds_xml.specs.Participants.{subscriber_at, subscribers};
 
 use crate::pieces::library;
 use dds_base::{KeyNo, Names, ParticipantNo, ReaderNo, WriterNo};
-use dds_lists::{Deployment, Participant, Reader, Writer};
+use dds_lists::{Deployment, Joins, Participant, Reader, Writer};
 use dds_text::names::name_at;
 use dds_text::texts::{TextResult, start_of, text_below};
 use std::alloc::Global;
@@ -148,6 +148,16 @@ fn subscribers(alloc: Global, lists: &Deployment, p: ParticipantNo) -> TextResul
     )
 }
 
+/// When a participant comes, as a comment; nothing where it's there before the first write.
+fn joins_comment(joins: Joins) -> &'static str
+    ensures { result.now ≡ joins_comment joins }
+{
+    match joins {
+        Joins::Before => "",
+        Joins::Any => "      <!-- joins = \"any\" -->\n",
+    }
+}
+
 /// A participant with its endpoints.
 fn participant_element(
     alloc: Global,
@@ -159,11 +169,12 @@ fn participant_element(
 {
     let name = name_at(lists.participant_names(), p.number());
     let domain = x.domain;
+    let joins = joins_comment(x.joins);
     let publishers = publishers(alloc, lists, p)?;
     let subscribers = subscribers(alloc, lists, p)?;
     format!(in alloc;
         "    <domain_participant name=\"{name}\" domain_ref=\"domains::topics\" domain_id=\"{domain}\">\n\
-         {publishers}{subscribers}    </domain_participant>\n"
+         {joins}{publishers}{subscribers}    </domain_participant>\n"
     )
 }
 

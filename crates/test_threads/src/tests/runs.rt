@@ -12,6 +12,9 @@ use std::sync::Wait;
 use std::thread::Threads;
 use std::time::Clock;
 
+/// Milliseconds after which the threads of seats begin: one application's and one participant's later than the others.
+const DELAYS: [u16; 4] = [5, 0, 0, 9];
+
 /// The limits of the program.
 pub(crate) const LIMITS: Limits = Limits {
     calls: 200_000,
@@ -83,7 +86,9 @@ pub(crate) fn run_through<R: Threads + Wait + Clock + Sync, G: Gate>(
     requires gauge { length checked.plan.applications.entries ≤ gauge.now.apps }
     requires seats { AreOwners gauge.now (length checked.plan.applications.entries) seats.items }
 {
-    match run_peers(rt, alloc, checked, apps, fates, gate, gauge, seats, limits) {
+    match run_peers(
+        rt, alloc, checked, apps, fates, gate, gauge, seats, &DELAYS, limits,
+    ) {
         Ok(
             Outcome {
                 apps,

@@ -7,4 +7,4 @@ pub returns : goal.returns
 unfolding participant_cluster
 returns c =
     let name : c.name_at-name.result.now ≡ name_at c.args.lists.now.participants.names c.args.number = c.name_at-name.ensures ∙ ap₂ name_at c.participant_names.ensures c.number.ensures in
-    rw (name, c.in_ok-members.ensures) at c.format.ensures.ok
+    rw (name, c.border-border.ensures, c.in_ok-members.ensures) at c.format.ensures.ok

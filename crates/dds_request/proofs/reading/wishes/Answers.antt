@@ -10,3 +10,6 @@ returns-in_err-number-clause-none c = always _ c.from_residual-in_err-number.res
 
 pub returns-in_err-number-2-clause-none : goal.returns-in_err-number-2-clause-none
 returns-in_err-number-2-clause-none c = always _ c.from_residual-in_err-number-2.result (λ wishes w. c.in_err-number-2.ensures.none wishes.takes w.3)
+
+pub returns-in_err-number-3-clause-none : goal.returns-in_err-number-3-clause-none
+returns-in_err-number-3-clause-none c = always _ c.from_residual-in_err-number-3.result (λ wishes w. c.in_err-number-3.ensures.none wishes.late w.4)

@@ -5,4 +5,4 @@ use Rattle.dds_xml.proofs.participants.participant_element.Goals as goal
 pub returns : goal.returns
 returns c =
     let name : c.name_at-name.result.now ≡ name_at c.args.lists.now.participants.names c.args.p = c.name_at-name.ensures ∙ ap₂ name_at c.participant_names.ensures c.number.ensures in
-    rw (name, c.in_ok-publishers.ensures, c.in_ok-subscribers.ensures) at c.format.ensures.ok
+    rw (name, c.joins_comment-joins.ensures, c.in_ok-publishers.ensures, c.in_ok-subscribers.ensures) at c.format.ensures.ok
