@@ -54,9 +54,9 @@ def ends(case, writer):
 
 
 def late(case):
-    """A note for each pair whose writer keeps what it wrote and ends, and whose strict reader doesn't ask for that."""
+    """A note for each pair whose writer keeps what it wrote and ends, and whose strict reader doesn't ask for that, but for pairs that condition 27 refuses."""
     for writer, reader in case.matched:
-        is_latched = case.writers[writer]["durability"] != "VOLATILE" and ends(case, writer)
+        is_latched = case.writers[writer]["durability"] != "VOLATILE" and ends(case, writer) and not case.is_late(writer, reader)
         if is_latched and case.readers[reader]["durability"] == "VOLATILE" and not case.is_watcher(reader):
             yield "LateReader", reader
 

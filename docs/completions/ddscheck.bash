@@ -24,7 +24,7 @@ _ddscheck() {
     match) options="--connections --format -h --help" ;;
     check) options="--explain --format -h --help" ;;
     propose) options="--thorough --seconds --format -h --help" ;;
-    run) options="--fates --writes --takes --idle-ok --explain --format -h --help" ;;
+    run) options="--fates --writes --takes --late --idle-ok --explain --format -h --help" ;;
     migrate) options="--to -h --help" ;;
     show) options="--format -h --help" ;;
     draw) options="-h --help" ;;

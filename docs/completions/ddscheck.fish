@@ -28,6 +28,7 @@ complete -c ddscheck -n '__fish_seen_subcommand_from propose' -s h -l help -d 'P
 complete -c ddscheck -n '__fish_seen_subcommand_from run' -l fates -x -d 'What happens to packets, in a circle: pass, keep, last, lose, with commas between them [default: pass]'
 complete -c ddscheck -n '__fish_seen_subcommand_from run' -l writes -x -d 'How many samples each application writes, with free ones counted apart [default: 10]'
 complete -c ddscheck -n '__fish_seen_subcommand_from run' -l takes -x -d 'How many samples each application takes [default: 10]'
+complete -c ddscheck -n '__fish_seen_subcommand_from run' -l late -x -d 'Draws when participants begin that may come at any time; by 0 all begin at once [default: 0]'
 complete -c ddscheck -n '__fish_seen_subcommand_from run' -l idle-ok -d 'Ends with status 0 also where applications were idle'
 complete -c ddscheck -n '__fish_seen_subcommand_from run' -l explain -d 'Also prints the reason of a no, or how full each reader was and what idle applications wait for'
 complete -c ddscheck -n '__fish_seen_subcommand_from run' -l format -x -a 'text json' -d 'text or json [default: text]'

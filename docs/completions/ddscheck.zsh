@@ -47,6 +47,7 @@ _ddscheck() {
                 '--fates[What happens to packets, in a circle: pass, keep, last, lose, with commas between them \[default: pass\]]:LIST:()' \
                 '--writes[How many samples each application writes, with free ones counted apart \[default: 10\]]:N:()' \
                 '--takes[How many samples each application takes \[default: 10\]]:N:()' \
+                '--late[Draws when participants begin that may come at any time; by 0 all begin at once \[default: 0\]]:SEED:()' \
                 '--idle-ok[Ends with status 0 also where applications were idle]' \
                 '--explain[Also prints the reason of a no, or how full each reader was and what idle applications wait for]' \
                 '--format[text or json \[default: text\]]:FORMAT:(text json)' \

@@ -11,7 +11,7 @@ use Rattle.dds_weights.specs.Lists.{Certificate}
 use Rattle.dds_cert.specs.Document as certificate
 use Rattle.dds_check.specs.declared.verdict.No.{No}
 use Rattle.dds_check.specs.Accepts.{first_no}
-use Rattle.dds_lint.specs.Conditions.{all_nos, bare_nos, bounds_nos, depths_nos, instances_nos, pairs_nos, profile_nos, rows_nos, shown_nos, written_nos}
+use Rattle.dds_lint.specs.Conditions.{all_nos, bare_nos, bounds_nos, depths_nos, instances_nos, joins_nos, pairs_nos, profile_nos, rows_nos, shown_nos, written_nos}
 use Rattle.dds_lint.specs.Endless.{AreRefused, endless_rules}
 use Rattle.dds_lint.specs.declared.endless.EndlessRule.{EndlessRule}
 use Rattle.dds_lint.specs.declared.notes.Note.{Note}
@@ -108,33 +108,39 @@ has_two [] ys = refl
 has_two (x ∷ xs) ys = refl
 
 bare_has : (d : Lists)
-    → has_one (bare_nos d) ≡ (((has_one (pairs_nos (network_of d)) || has_one (profile_nos d)) || has_one (instances_nos (network_of d))) || has_one (written_nos (network_of d)))
+    → has_one (bare_nos d)
+    ≡ ((((has_one (pairs_nos (network_of d)) || has_one (profile_nos d)) || has_one (instances_nos (network_of d))) || has_one (written_nos (network_of d)))
+    || has_one (joins_nos (network_of d)))
 unfolding bare_nos
 bare_has d = simp has_two
 
 all_has : (d : Lists) (cert : Certificate)
     → has_one (all_nos d cert)
-    ≡ ((((has_one (pairs_nos (network_of d)) || has_one (profile_nos d))
+    ≡ (((((has_one (pairs_nos (network_of d)) || has_one (profile_nos d))
     || (((has_one (instances_nos (network_of d)) || has_one (bounds_nos (network_of d) cert)) || has_one (written_nos (network_of d))) || has_one (depths_nos (network_of d) cert)))
+    || has_one (joins_nos (network_of d)))
     || has_one (rows_nos (network_of d) cert.rows))
     || has_one (shown_nos (network_of d) cert))
 unfolding all_nos
 all_has d cert = simp has_two
 
-more_or : (p q i w b e r s : Bool) → (((p || q) || i) || w) ≡ true → (((p || q) || (((i || b) || w) || e)) || r || s) ≡ true
-more_or true q i w b e r s h = refl
-more_or false true i w b e r s h = refl
-more_or false false true w b e r s h = refl
-more_or false false false true true e r s h = refl
-more_or false false false true false e r s h = refl
-more_or false false false false b e r s h = cc
+more_or : (p q i w j b e r s : Bool) → ((((p || q) || i) || w) || j) ≡ true → ((((p || q) || (((i || b) || w) || e)) || j) || r || s) ≡ true
+more_or true q i w j b e r s h = refl
+more_or false true i w j b e r s h = refl
+more_or false false true w j b e r s h = refl
+more_or false false false true j true e r s h = refl
+more_or false false false true j false e r s h = refl
+more_or false false false false true true e r s h = refl
+more_or false false false false true false true r s h = refl
+more_or false false false false true false false r s h = refl
+more_or false false false false false b e r s h = cc
 
 bare_fails : (d : Lists) (cert : Certificate) → has_one (bare_nos d) ≡ true → is_some (first_no d cert) ≡ true
 unfolding has_one
 bare_fails d cert some =
     ap is_some (sym (first_of_all d cert))
     ∙ (all_has d cert
-    ∙ more_or (has_one (pairs_nos (network_of d))) (has_one (profile_nos d)) (has_one (instances_nos (network_of d))) (has_one (written_nos (network_of d)))
+    ∙ more_or (has_one (pairs_nos (network_of d))) (has_one (profile_nos d)) (has_one (instances_nos (network_of d))) (has_one (written_nos (network_of d))) (has_one (joins_nos (network_of d)))
     (has_one (bounds_nos (network_of d) cert)) (has_one (depths_nos (network_of d) cert)) (has_one (rows_nos (network_of d) cert.rows)) (has_one (shown_nos (network_of d) cert)) (sym (bare_has d) ∙ some))
 
 verdict_refuses : (o : Option No) (d : Lists) (cert : Certificate) → is_some o ≡ true → says_yes (verdict o d cert) ≡ false
