@@ -104,7 +104,16 @@ fn ran_with<R: Threads + Wait + Clock + Sync>(
         return None;
     };
     match run_peers(
-        rt, alloc, checked, apps, fates, watch, &gauge, seats, &[], LIMITS,
+        rt,
+        alloc,
+        checked,
+        apps,
+        fates,
+        watch,
+        &gauge,
+        seats,
+        &[],
+        LIMITS,
     ) {
         Ok(outcome) => {
             let told = came_to(&outcome);
