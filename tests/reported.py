@@ -7,7 +7,7 @@ import json
 import re
 import shutil
 import sys
-from itertools import takewhile
+from itertools import groupby, zip_longest
 from pathlib import Path
 
 sys.dont_write_bytecode = True
@@ -83,6 +83,7 @@ class Answer:
     """What the program prints as text of a deployment and a certificate."""
 
     def __init__(self, deployment, certificate, allow=None):
+        self.roles = {str(deployment): "deployment", str(certificate): "certificate"}
         self.lists = lists_of(Path(deployment))
         self.check = ddscheck("check", deployment, certificate, "--explain").out.splitlines()
         self.document = json.loads(ddscheck("check", deployment, certificate, "--format", "json").out)
@@ -123,6 +124,17 @@ class Answer:
             for entry in self.document["bounds"] + self.document["totals"]:
                 found[False, entry["reader"], entry.get("key")] = entry["bound"]
         return {where: bound for where, bound in found.items() if where[0] or where[1] not in self.watchers()}
+
+
+def plain(text):
+    """Markdown as words."""
+    text = re.sub(r"\[((?:[^\[\]]|\[[^\]]*\])*)\]\([^)]*\)", r"\1", text)
+    return " ".join(re.sub(r"[`*]", "", text).split())
+
+
+def counted(count, one):
+    """So many of a kind."""
+    return f"{count:,} {one}{'s' * (count != 1)}"
 
 
 def keys_in(cell, end, answer):
@@ -275,21 +287,44 @@ def state_owed(finding, allowed):
     return "allowed" if {finding["name"], f"{finding['name']}:{finding['subject']}"} & set(allowed) else "open"
 
 
+def alike(finding, allowed):
+    """What findings have in common that stand in one row."""
+    place = finding["place"]
+    return finding["name"], state_owed(finding, allowed), place["path"], place["line"], finding["subject"]
+
+
+def note_rows(answer):
+    """The rows of the notes by kind: state, place, and how the words begin. Findings alike in a row are one."""
+    kinds = {}
+    for (kind, state, path, line, _), group in groupby(answer.findings, lambda one: alike(one, answer.allowed)):
+        first, *others = group
+        file = answer.roles[first["place"]["file"]]
+        place = f"{file}, line {line}, column {first['place']['column']} {path}".strip()
+        words = plain(first["message"])
+        if others:
+            words += f" and so on, {len(others) + 1:,} in all, up to: {plain(others[-1]['message'])}"
+        kinds.setdefault(kind, []).append((state, place, words))
+    return [row for rows in kinds.values() for row in rows]
+
+
 def fault_of_notes(page, answer):
-    """What is wrong with the notes: each is there with its state and its place."""
-    rows = [row for table in page.by_id("notes").all("table") for row in rows_of(table)]
-    for finding in answer.findings:
-        state, line = state_owed(finding, answer.allowed), f"line {finding['place']['line']}, column"
-        message = " ".join(finding["message"].replace("`", "").split())
-        is_there = any(
-            row[0] == state and line in row[1] and (message in row[2] or "and so on" in row[2]) for row in rows
-        )
-        if not is_there:
-            return f"{state} {message}"
-    folded = sum("and so on" in row[2] for row in rows)
-    return (
-        None if folded or len(rows) == len(answer.findings) else f"{len(rows)} rows for {len(answer.findings)} findings"
-    )
+    """What is wrong with the notes: each is there with its state, its place and its words, and they're counted."""
+    notes = page.by_id("notes")
+    rows = [row for table in notes.all("table") for row in rows_of(table)]
+    owed = note_rows(answer)
+    if len(rows) != len(owed):
+        return f"{len(rows)} rows, not {len(owed)}"
+    for (state, place, words), (owed_state, owed_place, owed_words) in zip(rows, owed):
+        if (state, place) != (owed_state, owed_place) or not words.startswith(owed_words):
+            return f"{state} {place} {words}, not {owed_state} {owed_place} {owed_words}"
+    if any(node.attributes["class"] != f"state {node.words}" for node in notes.of_class("state")):
+        return "the colour of a state"
+    states = [state_owed(finding, answer.allowed) for finding in answer.findings]
+    errors, opened, allowed = (states.count(state) for state in ("error", "open", "allowed"))
+    told = f"{counted(errors, 'error')}, {counted(opened + allowed, 'note')}: {opened} open, {allowed} allowed. "
+    told += f"--allow was given as {','.join(answer.allowed)}." if answer.allowed else "--allow wasn't given."
+    said = notes.of_class("lead")[0].words
+    return None if said == told else f"{said}, not {told}"
 
 
 def fault_of_terms(page, answer):
@@ -308,40 +343,79 @@ def fault_of_terms(page, answer):
     return None
 
 
-def fault_of_words(page):
-    """What is wrong with the glossary: it explains what a newcomer asks for, in its document's words."""
-    entries = [entry.words for entry in page.by_id("words").all("li")]
-    told = plain((ROOT / "docs/GLOSSARY.md").read_text(encoding="utf-8"))
-    other = [entry for entry in entries if entry not in told]
-    said = " ".join(entries)
-    asked = ("Certificate:", "weights", "Row:", "Opening:", "Budget:", "firing:", "Permit:", "Watcher:", "Cap:", "Lag:")
-    missing = [word for word in asked if word not in said]
-    return f"{other} {missing}" if other or missing or list(page.by_id("words").all("a")) else None
+def partners_owed(readers, reasons, writer):
+    """The readers that a writer of a topic with many readers matches, as its row says it."""
+    others = [reader for reader in readers if reasons[writer, reader]]
+    matched = [reader for reader in readers if not reasons[writer, reader]]
+    if not others or not matched:
+        return f"{'all' if matched else 'none of'} {len(readers)} readers"
+    few = f": {', '.join(matched)}" if len(matched) <= len(others) else f": all but {', '.join(others)}"
+    return f"{len(matched)}{few}"
+
+
+def topic_owed(topic, answer, reasons):
+    """The title, the heads and the rows of a topic."""
+    writers, readers = (
+        [end["name"] for end in answer.lists[kind] if end["topic"] == topic["name"]] for kind in ("writers", "readers")
+    )
+    title = f"{topic['name']}: type {topic['type']}, {counted(len(topic['keys']), 'key')}"
+    if not writers or not readers:
+        missing = "no writer and no reader" if not writers and not readers else "no reader" if writers else "no writer"
+        ends = ", ".join(writers or readers)
+        return title, [], [[f"{ends}: {missing} has this topic" if ends else f"{missing} has this topic"]]
+    if len(readers) > 16:
+        return title, ["Writer", "Matches"], [[one, partners_owed(readers, reasons, one)] for one in writers]
+    cells = [[reasons[writer, reader].partition(" ")[0] or "● match" for reader in readers] for writer in writers]
+    return title, readers, [[writer, *row] for writer, row in zip(writers, cells)]
+
+
+def found_topics(page):
+    """The title, the heads and the rows of each topic of a page."""
+    for shown in next(iter(page.by_id("matches").of_class("matrices"))).children:
+        table = next(shown.all("table"))
+        title = next(shown.all("h3"), None) or next(table.all("caption"))
+        yield title.words, [cell.words for head in table.all("thead") for cell in head.all("th")], rows_of(table)
 
 
 def fault_of_matches(page, answer):
-    """What is wrong with the matrices: a mark where the program says `match`, and the reason elsewhere."""
-    found = {}
-    for table in page.by_id("matches").of_class("matrix"):
-        heads = [cell.words for cell in next(table.all("thead"), table).all("th")]
-        for writer, *cells in rows_of(table) if next(table.all("thead"), None) else ():
-            found |= {(writer, reader): cell for reader, cell in zip(heads, cells)}
+    """What is wrong with who matches: a mark where the program says `match`, and elsewhere the reason."""
+    reasons = {}
     for line in answer.matches:
         word, writer, reader, *reason = line.split(" ")
-        cell = found.get((writer, reader), "")
-        if cell and cell != ("● match" if word == "match" else reason[0]):
-            return f"{line}: {cell}"
-        if (
-            word == "none"
-            and reason[0] == "policies"
-            and f"{writer} → {reader}: policies {reason[1]}" not in page.by_id("matches").words
-        ):
-            return f"{line} isn't explained"
-    marked = sum(cell == "● match" for cell in found.values())
-    is_wide = next(page.by_id("matches").of_class("wide").__iter__(), None) is not None
-    return (
-        None if is_wide or marked == sum(line.startswith("match ") for line in answer.matches) else f"{marked} matches"
-    )
+        reasons[writer, reader] = " ".join(reason) if word == "none" else ""
+    topics = [topic_owed(topic, answer, reasons) for topic in answer.lists["topics"]]
+    for owed, found in zip_longest(topics, found_topics(page)):
+        if found != owed:
+            return f"{found}, not {owed}"
+    matched = {pair for pair, reason in reasons.items() if not reason}
+    is_exact = matched == {(pair["writer"], pair["reader"]) for pair in answer.lists["connections"]}
+    told = "Exactly the pairs of" if is_exact else "The pairs that match aren't exactly those of"
+    told += f" the file's connections{' match' if is_exact else ''}: {counted(len(matched), 'pair')}. "
+    said = page.by_id("matches").of_class("lead")[0].words
+    if said != told + "Endpoints of different topics never match.":
+        return f"{said}, not {told}"
+    return fault_of_mismatches(page, answer, reasons)
+
+
+def fault_of_mismatches(page, answer, reasons):
+    """What is wrong with the list of pairs of a topic that don't match: each has its reason and what lint adds."""
+    topics = {end["name"]: end["topic"] for kind in ("writers", "readers") for end in answer.lists[kind]}
+    apart = [(*pair, reason) for pair, reason in reasons.items() if reason and topics[pair[0]] == topics[pair[1]]]
+    order = [topic["name"] for topic in answer.lists["topics"]]
+    apart.sort(key=lambda pair: order.index(topics[pair[0]]))
+    details = {finding["message"]: finding["explanation"]["details"] for finding in answer.findings}
+    owed = []
+    for writer, reader, reason in apart[:200]:
+        more = details.get(f"{writer} and {reader} don't match: {reason}", [])
+        owed.append(" ".join([f"{writer} → {reader}: {reason}", *more]).replace("`", ""))
+    found = [child.words for shown in page.by_id("matches").of_class("pairs") for child in shown.children]
+    if found != owed:
+        return f"pairs {[pair for pair in zip_longest(found, owed) if pair[0] != pair[1]][:2]}"
+    more = f"and {len(apart) - 200:,} more pairs, which ddscheck match prints"
+    said = page.by_id("matches").words
+    if (more in said) != (len(apart) > 200):
+        return f"whether it says: {more}"
+    return None if ("every writer matches every reader" in said) <= (not apart) else "that all match"
 
 
 def fault_of_endpoints(page, answer):
@@ -362,54 +436,6 @@ def fault_of_endpoints(page, answer):
             if ("partitions " in more, "may_lose" in more) != (bool(end["partitions"]), bool(end.get("may_lose"))):
                 return f"{end['name']}: {more}"
     return f"{list(found)} are no endpoints" if found else None
-
-
-# What the documents say
-
-
-def plain(text):
-    """Markdown as words."""
-    text = re.sub(r"\[((?:[^\[\]]|\[[^\]]*\])*)\]\([^)]*\)", r"\1", text)
-    return " ".join(re.sub(r"[`*]", "", text).split())
-
-
-def bullets_of(page, heading):
-    """The entries of the list below a heading of a document."""
-    lines = (ROOT / page).read_text(encoding="utf-8").splitlines()
-    below = list(takewhile(lambda line: not line.startswith("#"), lines[lines.index(heading) + 1 :]))
-    first = next(at for at, line in enumerate(below) if line.startswith("- "))
-    block = "\n".join(takewhile(lambda line: line.startswith(("- ", "  ")), below[first:]))
-    return [plain(entry) for entry in re.split(r"^- ", block, flags=re.MULTILINE)[1:]]
-
-
-def fault_of_unchecked(page):
-    """What is missing of what a report never leaves out."""
-    unchecked = page.by_id("unchecked")
-    found = [entry.words for entry in unchecked.all("li")]
-    other = ["That propose "]
-    other += [] if page.by_id("run") else ["That refute "]
-    other += [] if page.by_id("trace") else ["That conform "]
-    owed = bullets_of("docs/DEFINITIONS.md", "### The premises")
-    owed += sorted(
-        bullets_of("docs/DEFINITIONS.md", "## What is not proved"), key=lambda entry: entry.startswith(tuple(other))
-    )
-    owed += bullets_of("SECURITY.md", "## What you trust")
-    if found != owed or len(owed) < 15:
-        return f"{[entry for entry in owed if entry not in found][:2]} or another order"
-    folds = list(unchecked.all("details"))
-    folded = [entry.words for fold in folds for entry in fold.all("li")]
-    if len(folded) != len(other) or any(not entry.startswith(tuple(other)) for entry in folded):
-        return f"{folded} can be folded"
-    if any("open" not in fold.attributes for fold in folds):
-        return "a closed fold, which isn't printed"
-    said = plain((ROOT / "README.md").read_text(encoding="utf-8"))
-    outside = next(p.words for p in page.by_id("unchecked").all("p") if p.words.startswith("It doesn't say"))
-    promise = page.of_class("verdict")[0].words.removeprefix("Yes ")
-    return (
-        None
-        if outside in said and (promise.startswith("No") or promise.split(".")[0] in said)
-        else "README says other words"
-    )
 
 
 # Runs and files

@@ -5,7 +5,7 @@ import subprocess
 from concurrent.futures import ThreadPoolExecutor
 from dataclasses import dataclass, field
 
-from .markup import Markup, join, name, plural, section, tag
+from .markup import Markup, escaped, join, name, plural, section, tag
 
 # how many arrows a picture may have as a whole, in a part, and in all parts; how long Graphviz may take, in seconds
 MOST_WHOLE, MOST_PART, MOST_PARTS, PATIENCE = 90, 150, 600, 30
@@ -147,7 +147,7 @@ def embed(svg, number, label):
     svg = re.sub(r' xmlns:xlink="[^"]*"', "", svg)
     svg = re.sub(r'\bid="', f'id="picture{number}-', svg)
     attributes = (
-        f'style="max-width:{most}px;min-width:{min(most, 640)}px" role="img" aria-label="{tag("i", label)[3:-4]}"'
+        f'style="max-width:{most}px;min-width:{min(most, 640)}px" role="img" aria-label="{escaped(label)}"'
     )
     svg = re.sub(r"<svg", f"<svg {attributes}", re.sub(r' role="img"', "", svg, count=1), count=1)
     return tag("div", Markup(svg), _class="scroll sheet", tabindex="0", role="region", aria_label=label)

@@ -106,13 +106,15 @@ def rules_in_short(system):
 
 def premises_in_short(answers, system):
     clocks = len(answers.premises)
-    pairs = plural(sum(pair["matches"] for pair in answers.match["pairs"]), "pair")
+    count = sum(pair["matches"] for pair in answers.match["pairs"])
+    late = f" (those of {plural(len(system.late), 'late participant')} at any time)" if system.late else ""
+    match, stay = ("matches", "stays") if count == 1 else ("match", "stay")
+    matched = f"{plural(count, 'pair')} {match} before the first write{late} and {stay} matched"
     applications = plural(len(system.lists["applications"]), "application")
-    late = f", but for those of {plural(len(system.late), 'late participant')}," if system.late else ""
     timed = f"{plural(clocks, 'premise')} on clocks hold{'s' * (clocks == 1)}" if clocks else "no clock is relied on"
     return (
-        f"{pairs} match before the first write{late} and stay matched, nothing restarts, the network forges nothing, "
-        f"{applications} keep {rules_in_short(system)}, and {timed}."
+        f"{matched}, nothing restarts, the network forges nothing, {applications} keep {rules_in_short(system)}, "
+        f"and {timed}."
     )
 
 
@@ -149,7 +151,7 @@ def late_participants(system, pairs):
     if not system.late:
         return None
     said = f"{plural(len(pairs), 'other pair')} may match at any time, since these participants come when they like: "
-    return tag("p", said, names(system.late), ".")
+    return tag("p", said, names(system.late), ". The counts of that table include them.")
 
 
 def clock_premises(answers):
@@ -177,7 +179,8 @@ def write_premises(answers, system):
             "p",
             f"{plural(len(matched) - len(late), 'pair')} (",
             tag("a", "who matches", href="#matches"),
-            ") have matched, at both ends, before the first write, and stay matched. No application restarts. ",
+            f") {'has' if len(matched) - len(late) == 1 else 'have'} matched, at both ends, before the first write, "
+            f"and {'stays' if len(matched) - len(late) == 1 else 'stay'} matched. No application restarts. ",
             tag("a", "The table of endpoints", href="#endpoints"),
             " has the ",
             tag("code", "current_count"),

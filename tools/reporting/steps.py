@@ -11,38 +11,49 @@ from .pictures import figure
 REJECTIONS = ("InstancesLimit", "SamplesLimit", "SamplesPerInstanceLimit")
 SENT = {
     "send": "Sample {number} goes from {writer} to {reader}",
-    "gap": "{writer} tells {reader} to skip sample {number}",
-}
-SENT |= {
-    "heartbeat": "{writer} tells {reader} by a HEARTBEAT what it has",
-    "acknack": "{reader} acknowledges to {writer} what it has",
+    "gap": "A GAP goes from {writer} to {reader}, which may skip sample {number},",
+    "heartbeat": "A HEARTBEAT goes from {writer} to {reader}, to say what {writer} has,",
+    "acknack": "An ACKNACK goes from {reader} to {writer}, to say what {reader} has,",
 }
 ARRIVED = {
-    "new": "and arrives",
-    "repeat": "and arrives once more, which changes nothing",
-    "irrelevant": "and arrives: {more} that {reader} needn't wait for",
-    "heard": "and arrives",
-    "acked": "and arrives",
-    "stranger": "and arrives at an endpoint that doesn't match, which changes nothing",
-    "overwrote": "and arrives: it takes the place of sample {more}, which nobody has taken and which is lost",
-    "rejected": "and is rejected by {more}",
-    "lost": "and arrives: {reader} gives up {more} of which it has none",
+    "new": "arrives; {reader} then has {room}",
+    "repeat": "arrives once more, which changes nothing",
+    "irrelevant": "arrives: {reader} needn't wait for {samples}",
+    "heard": "arrives",
+    "acked": "arrives",
+    "stranger": "arrives at an endpoint that doesn't match, which changes nothing",
+    "overwrote": "arrives: it takes the place of sample {number} of {writer}, which nobody has taken and which is lost",
+    "rejected": "is rejected by {more}, as {reader} {room}",
+    "lost": "arrives: {reader} gives up {samples} that it never got",
 }
+# how many samples a reader has, as the chart says it
+ROOM = re.compile(r"(?:(?P<key>\S+) )?(?P<has>\d+)(?: of (?P<most>\d+))?(?: in all)?")
 
 
-def arrival_of(event, words):
+def room_in_words(room):
+    """How many samples a reader has, of a key or in all, and how many it may have."""
+    found = ROOM.fullmatch(room)
+    most = f" (at most {int(found['most']):,})" if found["most"] else ""
+    return f"{int(found['has']):,} {'of ' + found['key'] if found['key'] else 'in all'}{most}"
+
+
+def arrival_of(event, words, run):
     """What becomes of a packet."""
     if event.kind == "lose":
-        return "and is lost on the way"
+        return "is lost on the way"
     kind, _, more = event.reply.partition(" ")
-    said = ARRIVED[kind].format_map(words | {"more": more})
-    if kind in ("new", "rejected"):
-        said += (
-            f"; {words['reader']} then has {event.words['room']}"
-            if kind == "new"
-            else f", as {words['reader']} has {event.words['room']}"
-        )
-    return said
+    told = words | {"more": more}
+    if kind in ("irrelevant", "lost"):
+        told["samples"] = plural(int(more), "sample")
+    elif kind == "overwrote":
+        told["writer"], told["number"] = more.split(" ")
+    elif more == "InstancesLimit":
+        keys = plural(run.deployment.readers[words["reader"]]["max_instances"], "key")
+        told["room"] = f"knows {keys} already and may know no more"
+    elif kind in ("new", "rejected"):
+        has = room_in_words(event.words["room"])
+        told["room"] = has if kind == "new" else f"has {has}"
+    return ARRIVED[kind].format_map(told)
 
 
 def sentence_of(events, run):
@@ -53,18 +64,19 @@ def sentence_of(events, run):
         return f"{first.text.partition(' -> ')[0]}: {first.reply}, which changes nothing."
     if first.kind in sequence.PACKETS:
         sent = SENT[first.kind].format_map(words)
-        return f"{sent}, {arrival_of(last, words)}." if last is not first else f"{sent}, and is under way."
+        return f"{sent} and {arrival_of(last, words, run)}." if last is not first else f"{sent} and is under way."
     if first.kind in ("deliver", "lose"):
         packet = next(packet for packet in run.packets if any(end.event is first for end in packet.ends))
         words = {"number": "", **packet.event.words}
-        return f"{packet.label}, sent in line {packet.event.line}, was under way {arrival_of(first, words)}."
+        return f"{packet.label}, sent in line {packet.event.line}, {arrival_of(first, words, run)}."
     owner = run.owner_of(first)
     if first.kind == "write":
         return f"{owner} writes sample {first.reply.removeprefix('written ')} of {words['key']} at {words['writer']}."
     if first.kind == "take":
         writer, number = first.reply.removeprefix("took ").split(" ")
-        return f"{owner} takes sample {number} of {writer} at {words['reader']}, which then has {words['room']}."
-    return f"{owner} fires {words['rule']}: it spends what it has taken, and may write."
+        has = room_in_words(words["room"])
+        return f"{owner} takes sample {number} of {writer} at {words['reader']}, which then has {has}."
+    return f"{owner} fires {words['rule']}: it spends what it has taken and may write."
 
 
 def chart_style():
