@@ -5,6 +5,7 @@
 #include "print.h"
 #include "qos.h"
 #include "tag.h"
+#include "watch.h"
 
 #include <stdio.h>
 #include <stdlib.h>
@@ -18,6 +19,8 @@ static const char USAGE[] =
     "\n"
     "  --domain N           listen in this domain; may be given up to 16 times (0, or with --against those of the file)\n"
     "  --seconds N          listen so long, or until an interrupt, and print what is there then (5)\n"
+    "  --watch N            then count for N seconds, or until an interrupt, what the writers write, and have it beside each as a comment\n"
+    "  --watch-topics PATTERN  count that of topics that match; may be given up to 16 times (all that are in the file)\n"
     "  --topics PATTERN     only endpoints of topics that match, by a pattern as a shell has it; may be given up to 16 times (all topics)\n"
     "  --exclude PATTERN    no endpoints of topics that match; may be given up to 16 times\n"
     "  --ros                leave out what each node of ROS 2 has: its parameter services, rt/rosout and rt/parameter_events (where a topic begins with rt/)\n"
@@ -36,6 +39,7 @@ enum { MOST_SECONDS = 86400 };
 struct words {
     struct asked asked;
     int64_t nanoseconds;
+    struct watching watching;
     const struct assumption *assumption;
     const char *tag, *against, *format;
 };
@@ -118,8 +122,8 @@ static void read_format(struct words *words, const char *option, const char *val
 // Reads an option that has a value.
 static void read_option(struct words *words, const char *option, const char *value)
 {
-    static const char *const OPTIONS[] = {"--domain", "--seconds", "--topics", "--exclude", "--assume", "--against", "--format", "--tag", NULL};
-    enum { DOMAIN, SECONDS, TOPICS, EXCLUDE, ASSUME, AGAINST, FORMAT, TAG };
+    static const char *const OPTIONS[] = {"--domain", "--seconds", "--watch", "--watch-topics", "--topics", "--exclude", "--assume", "--against", "--format", "--tag", NULL};
+    enum { DOMAIN, SECONDS, WATCH, WATCH_TOPICS, TOPICS, EXCLUDE, ASSUME, AGAINST, FORMAT, TAG };
     int which = 0;
     while (OPTIONS[which] != NULL && strcmp(option, OPTIONS[which]) != 0) {
         which++;
@@ -136,6 +140,12 @@ static void read_option(struct words *words, const char *option, const char *val
         break;
     case SECONDS:
         words->nanoseconds = number(option, value, 1, MOST_SECONDS) * INT64_C(1000000000);
+        break;
+    case WATCH:
+        words->watching.nanoseconds = number(option, value, 1, MOST_SECONDS) * INT64_C(1000000000);
+        break;
+    case WATCH_TOPICS:
+        read_pattern(&words->watching.topics, option, value);
         break;
     case TOPICS:
         read_pattern(&words->asked.topics, option, value);
@@ -176,6 +186,12 @@ static void read_words(struct words *words, int count, char **word)
     }
     if (words->format != NULL && words->against == NULL) {
         usage("there is nothing to compare with, so there is no ", "--format");
+    }
+    if (words->watching.nanoseconds == 0 && words->watching.topics.count > 0) {
+        usage("nothing is watched, so there is no ", "--watch-topics");
+    }
+    if (words->watching.nanoseconds > 0 && words->against != NULL) {
+        usage("what writers write isn't compared, so --against goes without ", "--watch");
     }
     if (words->assumption != NULL && words->against != NULL) {
         usage("what discovery doesn't tell isn't compared, so --against goes without ", "--assume");
@@ -266,6 +282,9 @@ int main(int count, char **word)
     prepare(&words);
     struct seen *seen = listen_to(&words.asked, words.nanoseconds);
     put_in_order(seen);
+    if (words.watching.nanoseconds > 0) {
+        watch(seen, &words.watching);
+    }
     tell(seen);
     bool is_well = file != NULL ? compare(seen, &words, file) : print_file(seen, &words);
     // Cyclone's own threads end with the process
