@@ -39,13 +39,13 @@ static void measure_shortest(struct beat *beat, const struct heard_sample *sampl
 struct beat beat_of(const struct heard_sample *samples, size_t count)
 {
     struct beat beat = {.samples = count};
+    uint64_t numbers = count > 0 ? samples[count - 1].number - samples[0].number : 0;
+    beat.missing = count > 0 ? numbers + 1 - count : 0;
     if (count < LEAST_SAMPLES) {
         return beat;
     }
-    uint64_t numbers = samples[count - 1].number - samples[0].number;
     beat.is_by_stamp = have_stamps(samples, count);
     int64_t span = time_of(&beat, &samples[count - 1]) - time_of(&beat, &samples[0]);
-    beat.missing = numbers + 1 - count;
     // numbers that no time of these could have, of a writer that tells what it likes
     if (span < 1 || numbers > (uint64_t)span) {
         return beat;
