@@ -15,10 +15,11 @@
 static const char USAGE[] =
     "usage: capture [option ..]\n"
     "\n"
-    "Prints a deployment file of version 3 of the participants, writers and readers that are there. `\"?\"` stands in it for what discovery doesn't tell.\n"
+    "Prints a deployment file of the participants, writers and readers that are there. `\"?\"` stands in it for what discovery doesn't tell.\n"
     "\n"
     "  --domain N           listen in this domain; may be given up to 16 times (0, or with --against those of the file)\n"
     "  --seconds N          listen so long, or until an interrupt, and print what is there then (5)\n"
+    "  --version N          3 or 4: the version of the file (3)\n"
     "  --watch N            then count for N seconds, or until an interrupt, what the writers write, and have it beside each as a comment\n"
     "  --watch-topics PATTERN  count that of topics that match; may be given up to 16 times (all that are in the file)\n"
     "  --topics PATTERN     only endpoints of topics that match, by a pattern as a shell has it; may be given up to 16 times (all topics)\n"
@@ -39,6 +40,7 @@ enum { MOST_SECONDS = 86400 };
 struct words {
     struct asked asked;
     int64_t nanoseconds;
+    int version;
     struct watching watching;
     const struct assumption *assumption;
     const char *tag, *against, *format;
@@ -122,8 +124,8 @@ static void read_format(struct words *words, const char *option, const char *val
 // Reads an option that has a value.
 static void read_option(struct words *words, const char *option, const char *value)
 {
-    static const char *const OPTIONS[] = {"--domain", "--seconds", "--watch", "--watch-topics", "--topics", "--exclude", "--assume", "--against", "--format", "--tag", NULL};
-    enum { DOMAIN, SECONDS, WATCH, WATCH_TOPICS, TOPICS, EXCLUDE, ASSUME, AGAINST, FORMAT, TAG };
+    static const char *const OPTIONS[] = {"--domain", "--seconds", "--version", "--watch", "--watch-topics", "--topics", "--exclude", "--assume", "--against", "--format", "--tag", NULL};
+    enum { DOMAIN, SECONDS, VERSION, WATCH, WATCH_TOPICS, TOPICS, EXCLUDE, ASSUME, AGAINST, FORMAT, TAG };
     int which = 0;
     while (OPTIONS[which] != NULL && strcmp(option, OPTIONS[which]) != 0) {
         which++;
@@ -140,6 +142,9 @@ static void read_option(struct words *words, const char *option, const char *val
         break;
     case SECONDS:
         words->nanoseconds = number(option, value, 1, MOST_SECONDS) * INT64_C(1000000000);
+        break;
+    case VERSION:
+        words->version = (int)number(option, value, 3, 4);
         break;
     case WATCH:
         words->watching.nanoseconds = number(option, value, 1, MOST_SECONDS) * INT64_C(1000000000);
@@ -169,7 +174,7 @@ static void read_option(struct words *words, const char *option, const char *val
 
 static void read_words(struct words *words, int count, char **word)
 {
-    *words = (struct words){.nanoseconds = INT64_C(5000000000)};
+    *words = (struct words){.nanoseconds = INT64_C(5000000000), .version = 3};
     for (int at = 1; at < count; at++) {
         if (strcmp(word[at], "--help") == 0) {
             fputs(USAGE, stdout);
@@ -254,7 +259,7 @@ static void tell_cuts(const struct captured *captured)
 // Prints the file, with fewer topics where it would be too long. Gives whether all is there.
 static bool print_file(const struct seen *seen, const struct words *words)
 {
-    struct printing printing = {.asked = &words->asked, .assumption = words->assumption, .unasked = seen->unasked};
+    struct printing printing = {.asked = &words->asked, .version = words->version, .assumption = words->assumption, .unasked = seen->unasked};
     struct captured *captured = capture_of(seen, MOST_ENDPOINTS);
     char *text = deployment_text(captured, &printing);
     while (text == NULL) {

@@ -275,7 +275,7 @@ static void print_heading(FILE *out, const struct captured *captured, const stru
     if (printing->unasked > 0) {
         fputs("# without what each node of ROS 2 has: its parameter services, rt/rosout and rt/parameter_events\n", out);
     }
-    fprintf(out, "%sversion = 3\n", is_incomplete(captured, form) ? "incomplete = true\n" : "");
+    fprintf(out, "%sversion = %d\n", is_incomplete(captured, form) ? "incomplete = true\n" : "", printing->version);
 }
 
 // ── the text
