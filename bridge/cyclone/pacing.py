@@ -2,6 +2,7 @@
 
 import json
 import os
+import random
 import re
 import shutil
 import subprocess
@@ -226,3 +227,53 @@ def planned(room):
     path.write_text(json.dumps(lists))
     free = Run(room, path, "unplanned", ("base", "plans"), ["--writes", "60", "--takes", "60", "--idle", "100", "--seconds", "30"])
     yield "paced: a rule with takes and no pace", [] if not keeps(free.times("write", "plan_w"), 30_000_000, 1_000_000, 2) and "plan" not in free.premises else free.lines
+
+
+# ── how late a sample may be taken
+
+
+def drawn_writes(draw, period, jitter, count):
+    """When a writer by the clock writes, in order: each turn as late as it may be, or not, as is drawn."""
+    late = draw.choice([lambda turn: draw.random() * jitter, lambda turn: jitter if turn < 3 else 0, lambda turn: jitter if turn % 5 < 3 else 0])
+    begun = draw.choice([0, draw.random() * period])
+    return sorted(begun + turn * period + late(turn) for turn in range(40) for _ in range(count))
+
+
+def drawn_arrivals(draw, writes, longest):
+    """When each can be taken, and when it was written: it, and all before it, come within the longest time."""
+    how, there, found = draw.randrange(3), 0, []
+    for number, written in enumerate(writes):
+        there = max(there, written + (longest if how == 1 or (how == 0 and number < 5) else draw.random() * longest))
+        found.append((there, written))
+    return found
+
+
+def oldest_at_take(arrivals, each, first):
+    """The greatest age at a take, where the one that came first is taken at each of these times."""
+    oldest, waiting, time, at = 0, [], first, 0
+    while at < len(arrivals) or waiting:
+        while at < len(arrivals) and arrivals[at][0] <= time:
+            waiting.append(arrivals[at][1])
+            at += 1
+        if waiting:
+            oldest = max(oldest, time - waiting.pop(0))
+        time += each
+    return oldest
+
+
+def spans(room, runs):
+    for what, most in (("one writer", 1), ("several writers", 3)):
+        nearest, wrong = 0, []
+        for number in range(3000):
+            draw = random.Random(number)
+            clocks = [(draw.randrange(1, 4), draw.randrange(10, 60), draw.choice([0, 0, draw.randrange(80)])) for _ in range(draw.randrange(1, most + 1))]
+            longest, load = draw.random() * 100, sum(count / period for count, period, _ in clocks)
+            each = draw.choice([1, 1, draw.uniform(0.01, 1)]) / load
+            arrivals = sorted(one for count, period, jitter in clocks for one in drawn_arrivals(draw, drawn_writes(draw, period, jitter, count), longest))
+            # of one writer the samples come in order, so those before one were written before it
+            ahead = sum(count * (1 + (jitter + (0 if most == 1 else longest)) / period) for count, period, jitter in clocks)
+            bound = longest + each * ahead
+            oldest = oldest_at_take(arrivals, each, draw.random() * each)
+            nearest = max(nearest, oldest / bound)
+            wrong += [f"{clocks}, L {longest}, C {each}: {oldest} and not {bound}"] if oldest > bound + 1e-6 else []
+        yield f"spans: {what}", wrong[:5] + ([] if nearest > 0.95 else [f"the nearest is {nearest} of it"])

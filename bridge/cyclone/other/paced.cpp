@@ -2,8 +2,8 @@
 //
 //   fast-paced DOMAIN SAMPLES LOSS HEARTBEAT WITHIN DEPTH
 //
-// The writer writes every 10 ms, so many samples, is RELIABLE and KEEP_LAST with this depth, and sends a heartbeat every HEARTBEAT ms. LOSS percent of its samples and
-// heartbeats are dropped, and of the reader's acknowledgements. The reader is RELIABLE and as deep, and takes each sample WITHIN ms after its write, less a twentieth.
+// The writer writes every 10 ms, so many samples, is RELIABLE and KEEP_LAST with this depth, and sends a heartbeat every HEARTBEAT ms. LOSS percent of all packets are
+// dropped. The reader is RELIABLE and as deep, and takes each sample WITHIN ms after its write, less a twentieth.
 // It prints a line. Status: 0 each sample was taken in time and none is missing, 1 else, 3 a fault, 4 of usage.
 #include <fastdds/dds/domain/DomainParticipant.hpp>
 #include <fastdds/dds/domain/DomainParticipantFactory.hpp>
@@ -111,9 +111,7 @@ Topic *open_topic(const Words &words, DomainParticipant **participant)
 {
     auto transport = std::make_shared<test_UDPv4TransportDescriptor>();
     transport->interfaceWhiteList.push_back("127.0.0.1");
-    transport->dropDataMessagesPercentage = static_cast<uint8_t>(words.loss);
-    transport->dropHeartbeatMessagesPercentage = static_cast<uint8_t>(words.loss);
-    transport->dropAckNackMessagesPercentage = static_cast<uint8_t>(words.loss);
+    transport->percentageOfMessagesToDrop = static_cast<uint8_t>(words.loss);
     DomainParticipantQos qos = PARTICIPANT_QOS_DEFAULT;
     qos.transport().use_builtin_transports = false;
     qos.transport().user_transports.push_back(transport);
