@@ -8,6 +8,13 @@ static double in_ms(int64_t nanoseconds)
     return (double)nanoseconds / 1e6;
 }
 
+// A span of the file, as `check --explain` has it.
+static void print_span(const char *before, int64_t nanoseconds)
+{
+    bool is_whole = nanoseconds % 1000000 == 0;
+    printf("%s %" PRId64 " %s", before, is_whole ? nanoseconds / 1000000 : nanoseconds, is_whole ? "ms" : "ns");
+}
+
 // What is known of a sample that was taken too late or is missing.
 static void print_lapse(const struct deployment *lists, const struct cache *cache, const char *word, const struct lapse *lapse)
 {
@@ -27,14 +34,17 @@ bool report_ages(const struct deployment *lists, const struct cache *cache)
     if (!ages->is_timed) {
         return true;
     }
-    printf("premise %s taken_within %.3f ms %s: %" PRIu64 " taken, after at most %.3f ms, %" PRIu64 " of them late, and %" PRIu64 " never\n", name,
-           in_ms(ages->taken_within), are_taken(ages) ? "kept" : "broken", ages->taken, in_ms(ages->at_take), ages->late, ages->never);
+    printf("premise %s", name);
+    print_span(" taken_within", ages->taken_within);
+    printf(" %s: %" PRIu64 " taken, after at most %.3f ms, %" PRIu64 " of them late, and %" PRIu64 " never\n", are_taken(ages) ? "kept" : "broken",
+           ages->taken, in_ms(ages->at_take), ages->late, ages->never);
     if (!are_taken(ages)) {
         print_lapse(lists, cache, "because", &ages->lapse);
     }
     if (ages->available_within != NO_SPAN) {
-        printf("premise %s available_within %.3f ms %s: there after at most %.3f ms\n", name, in_ms(ages->available_within),
-               are_available(ages) ? "kept" : "broken", in_ms(ages->at_arrival));
+        printf("premise %s", name);
+        print_span(" available_within", ages->available_within);
+        printf(" %s: there after at most %.3f ms\n", are_available(ages) ? "kept" : "broken", in_ms(ages->at_arrival));
     }
     if (ages->early > 0) {
         print_lapse(lists, cache, "lost", &ages->loss);
@@ -54,8 +64,10 @@ bool report_paces(const struct worker *worker)
         }
         const struct endpoint *writer = &lists->writer[step->endpoint];
         bool is_kept = pace->excess == 0;
-        printf("premise rule %s period %.3f ms jitter %.3f ms %s: %" PRIu64 " of %s %s written", pace->asked->name, in_ms(pace->asked->period),
-               in_ms(pace->asked->jitter), is_kept ? "kept" : "broken", pace->writes, writer->name, lists->topic[writer->topic].key[step->key]);
+        printf("premise rule %s", pace->asked->name);
+        print_span(" period", pace->asked->period);
+        print_span(" jitter", pace->asked->jitter);
+        printf(" %s: %" PRIu64 " of %s %s written", is_kept ? "kept" : "broken", pace->writes, writer->name, lists->topic[writer->topic].key[step->key]);
         if (!is_kept) {
             printf(", for which the jitter is too little by %.3f ms", in_ms(pace->excess));
         }

@@ -10,8 +10,8 @@ import tomllib
 
 from announcing import Announcing, Participant
 from capturing import OTHERS, capture, end, heard, legal, listening, run
-from pacing import URGENT, may_be_urgent
-from testing import CHECK, EXAMPLES, PROGRAM, SHOW, answer, shown
+from pacing import FAST, FAST_PACKAGE, URGENT, may_be_urgent
+from testing import CHECK, EXAMPLES, PROGRAM, SHOW, Skip, answer, make, shown
 
 DOMAIN = 6
 SEEN = re.compile(r"# seen in ([\d.]+) s: (\d+) samples?, (\d+) more didn't come(?:; ([\d.]+) ms apart in the mean, ([\d.]+) ms at least, by (.*))?")
@@ -73,9 +73,24 @@ def pasted(room, text, period, jitter):
 def watch(room, runs):
     for jitter, loss in ((0, 0), (5_000_000, 0), (5_000_000, 30)):
         yield f"watch: a clock with jitter {jitter}, loss {loss}", measured(room, jitter, loss)
+    yield "watch: Fast DDS", beside_fast()
     yield from interrupts(room)
     yield from robot(room)
     yield from odd(room)
+
+
+def beside_fast():
+    """A writer of another vendor at 100 Hz."""
+    if not FAST_PACKAGE.exists():
+        return Skip("needs Debian's libfastrtps-dev")
+    make("fast")
+    words = [*(URGENT if may_be_urgent() else []), str(FAST), str(DOMAIN), "2000", "0", "3000", "500", "100"]
+    started = subprocess.Popen(words, stdin=subprocess.DEVNULL, stdout=subprocess.DEVNULL)
+    text, said, status = capture("--domain", DOMAIN, "--seconds", 4, "--watch", 4, "--assume", "fastdds", CYCLONEDDS_URI=OTHERS)
+    end(started)
+    found = [FIELDS.search(one + "\n") for one in rules_of(text).values()]
+    is_well = len(found) == 1 and found[0] and abs(int(found[0][1]) - 10_000_000) < 100_000 and "by the writer's clock" in text
+    return legal(text) + ([] if is_well and status == 0 else [text, said, str(status)])
 
 
 def interrupts(room):
