@@ -39,8 +39,8 @@ struct ages {
 
 void open_ages(struct ages *ages, const struct endpoint *reader);
 
-// A sample of a key has come, is taken, or is missing, at a time. Of those that are missing `numbers` are those of the sample after the last one, and `count` says how
-// many they are.
+// A sample of a key has come, is taken, or is missing, at a time. Of those that are missing `numbers` are those of the sample after the last one, and `count` says
+// how many they are.
 void note_arrival(struct ages *ages, struct numbers numbers, int key, int64_t time);
 void note_taken(struct ages *ages, struct numbers numbers, int key, int64_t time);
 void note_missing(struct ages *ages, struct numbers numbers, int key, uint64_t count, int64_t time);

@@ -15,8 +15,8 @@ static int64_t time_of(const struct beat *beat, const struct heard_sample *sampl
     return beat->is_by_stamp ? sample->stamp : sample->time;
 }
 
-// With a period P, a jitter J and the samples i and j, which are numbers n apart and came in a time of x, a span of x has n + 1 writes, which may be 1 + (x + J) / P, rounded
-// down. So J is at least n P - x, and the greatest of these is found where each j is held against the i before it that is furthest behind its period.
+// With a period P, a jitter J and the samples i and j, which are numbers n apart and came in a time of x, a span of x has n + 1 writes, which may be
+// 1 + (x + J) / P, rounded down. So J is at least n P - x, and the greatest of these is found where each j is held against the i before it that is furthest behind.
 static void measure_jitter(struct beat *beat, const struct heard_sample *samples, size_t count)
 {
     int64_t least = 0, begun = time_of(beat, &samples[0]);

@@ -89,12 +89,47 @@ static void read_domain(struct words *words, const char *option, const char *val
     }
 }
 
+static int64_t read_seconds(const char *option, const char *value)
+{
+    return number(option, value, 1, MOST_SECONDS) * INT64_C(1000000000);
+}
+
+static void read_listening(struct words *words, const char *option, const char *value)
+{
+    words->nanoseconds = read_seconds(option, value);
+}
+
+static void read_watching(struct words *words, const char *option, const char *value)
+{
+    words->watching.nanoseconds = read_seconds(option, value);
+}
+
+static void read_version(struct words *words, const char *option, const char *value)
+{
+    words->version = (int)number(option, value, 3, 4);
+}
+
 static void read_pattern(struct patterns *patterns, const char *option, const char *value)
 {
     if (patterns->count == MOST_PATTERNS) {
         usage("too many times ", option);
     }
     patterns->pattern[patterns->count++] = value;
+}
+
+static void read_topics(struct words *words, const char *option, const char *value)
+{
+    read_pattern(&words->asked.topics, option, value);
+}
+
+static void read_excluded(struct words *words, const char *option, const char *value)
+{
+    read_pattern(&words->asked.excluded, option, value);
+}
+
+static void read_watched(struct words *words, const char *option, const char *value)
+{
+    read_pattern(&words->watching.topics, option, value);
 }
 
 static void read_tag(struct words *words, const char *option, const char *value)
@@ -113,6 +148,12 @@ static void read_assumption(struct words *words, const char *option, const char 
     }
 }
 
+static void read_against(struct words *words, const char *option, const char *value)
+{
+    (void)option;
+    words->against = value;
+}
+
 static void read_format(struct words *words, const char *option, const char *value)
 {
     if (strcmp(value, "text") != 0 && strcmp(value, "json") != 0) {
@@ -121,54 +162,46 @@ static void read_format(struct words *words, const char *option, const char *val
     words->format = value;
 }
 
+// The options that have a value.
+static const struct {
+    const char *option;
+    void (*read)(struct words *words, const char *option, const char *value);
+} OPTIONS[] = {
+    {"--domain", read_domain},   {"--seconds", read_listening}, {"--version", read_version},   {"--watch", read_watching}, {"--watch-topics", read_watched},
+    {"--topics", read_topics},   {"--exclude", read_excluded},  {"--assume", read_assumption}, {"--against", read_against}, {"--format", read_format},
+    {"--tag", read_tag},
+};
+
 // Reads an option that has a value.
 static void read_option(struct words *words, const char *option, const char *value)
 {
-    static const char *const OPTIONS[] = {"--domain", "--seconds", "--version", "--watch", "--watch-topics", "--topics", "--exclude", "--assume", "--against", "--format", "--tag", NULL};
-    enum { DOMAIN, SECONDS, VERSION, WATCH, WATCH_TOPICS, TOPICS, EXCLUDE, ASSUME, AGAINST, FORMAT, TAG };
-    int which = 0;
-    while (OPTIONS[which] != NULL && strcmp(option, OPTIONS[which]) != 0) {
+    size_t which = 0, count = sizeof OPTIONS / sizeof *OPTIONS;
+    while (which < count && strcmp(option, OPTIONS[which].option) != 0) {
         which++;
     }
-    if (OPTIONS[which] == NULL) {
+    if (which == count) {
         usage("what is ", option);
     }
     if (value == NULL || *value == '\0') {
         usage("nothing after ", option);
     }
-    switch (which) {
-    case DOMAIN:
-        read_domain(words, option, value);
-        break;
-    case SECONDS:
-        words->nanoseconds = number(option, value, 1, MOST_SECONDS) * INT64_C(1000000000);
-        break;
-    case VERSION:
-        words->version = (int)number(option, value, 3, 4);
-        break;
-    case WATCH:
-        words->watching.nanoseconds = number(option, value, 1, MOST_SECONDS) * INT64_C(1000000000);
-        break;
-    case WATCH_TOPICS:
-        read_pattern(&words->watching.topics, option, value);
-        break;
-    case TOPICS:
-        read_pattern(&words->asked.topics, option, value);
-        break;
-    case EXCLUDE:
-        read_pattern(&words->asked.excluded, option, value);
-        break;
-    case ASSUME:
-        read_assumption(words, option, value);
-        break;
-    case AGAINST:
-        words->against = value;
-        break;
-    case FORMAT:
-        read_format(words, option, value);
-        break;
-    default:
-        read_tag(words, option, value);
+    OPTIONS[which].read(words, option, value);
+}
+
+// Ends the program where options don't go together.
+static void check_words(const struct words *words)
+{
+    if (words->format != NULL && words->against == NULL) {
+        usage("there is nothing to compare with, so there is no ", "--format");
+    }
+    if (words->watching.nanoseconds == 0 && words->watching.topics.count > 0) {
+        usage("nothing is watched, so there is no ", "--watch-topics");
+    }
+    if (words->watching.nanoseconds > 0 && words->against != NULL) {
+        usage("what writers write isn't compared, so --against goes without ", "--watch");
+    }
+    if (words->assumption != NULL && words->against != NULL) {
+        usage("what discovery doesn't tell isn't compared, so --against goes without ", "--assume");
     }
 }
 
@@ -189,18 +222,7 @@ static void read_words(struct words *words, int count, char **word)
             at++;
         }
     }
-    if (words->format != NULL && words->against == NULL) {
-        usage("there is nothing to compare with, so there is no ", "--format");
-    }
-    if (words->watching.nanoseconds == 0 && words->watching.topics.count > 0) {
-        usage("nothing is watched, so there is no ", "--watch-topics");
-    }
-    if (words->watching.nanoseconds > 0 && words->against != NULL) {
-        usage("what writers write isn't compared, so --against goes without ", "--watch");
-    }
-    if (words->assumption != NULL && words->against != NULL) {
-        usage("what discovery doesn't tell isn't compared, so --against goes without ", "--assume");
-    }
+    check_words(words);
 }
 
 // The file to compare with, NULL where there is none. It has the domains to listen in, where the user names none.

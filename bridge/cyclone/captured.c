@@ -57,8 +57,8 @@ static void print_beat(FILE *out, const struct seen_endpoint *writer, int64_t wa
         fprintf(out, "# not watched: Cyclone makes no reader for it: %s\n", writer->why);
         return;
     }
-    fprintf(out, "# seen in %.1f s: %" PRIu64 " %s, %" PRIu64 " more didn't come", (double)watched_for / 1e9, beat->samples, beat->samples == 1 ? "sample" : "samples",
-            beat->missing);
+    const char *samples = beat->samples == 1 ? "sample" : "samples";
+    fprintf(out, "# seen in %.1f s: %" PRIu64 " %s, %" PRIu64 " more didn't come", (double)watched_for / 1e9, beat->samples, samples, beat->missing);
     if (!beat->is_known) {
         fputs("; too few for a period\n", out);
         return;

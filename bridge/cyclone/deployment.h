@@ -45,8 +45,8 @@ struct topic {
 };
 
 // A writer or a reader. Of a reader `hears` says which keys of the topic its filter lets pass, and `may_lose` whether it wants the newest samples alone. Of a writer that
-// was captured `hands_over_less` says whether late readers get less than it keeps. Version 4 of the file tells of a reader how long after its write a sample is taken
-// at most, and how long after it can be.
+// was captured `hands_over_less` says whether late readers get less than it keeps. Version 4 of the file tells of a reader how long after its write a sample is
+// taken at most, and how long after it can be.
 struct endpoint {
     const char *name;
     int participant, topic, application;

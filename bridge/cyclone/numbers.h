@@ -8,8 +8,8 @@
 #include <stdio.h>
 
 // Bytes 0 to 7, most significant first: when the write was begun, by the monotonic clock that all processes of a machine share. Bytes 8 to 15: the count of this
-// writer's samples of this key, from 1. Bytes 16 to 23: the place of the writer in the file. Bytes 24 to 31: when its write of the key before that was begun, 0 where
-// there is none.
+// writer's samples of this key, from 1. Bytes 16 to 23: the place of the writer in the file. Bytes 24 to 31: when its write of the key before that was begun, 0
+// where there is none.
 struct numbers {
     int64_t time;
     uint64_t number, writer;

@@ -33,8 +33,8 @@ static const char USAGE[] =
     "                       KEY, with the seconds since its applications began\n"
     "  --times              with --trace: have @NS as TIME, the nanoseconds of a clock that all processes of this machine share\n"
     "\n"
-    "Where CYCLONEDDS_URI is not set, Cyclone uses loopback alone. Status: 0 all stopped, nothing was rejected or lost, and premises hold, 1 else, 2 a bad file, 3 a fault of\n"
-    "Cyclone or of the output, 4 a fault of usage.\n";
+    "Where CYCLONEDDS_URI is not set, Cyclone uses loopback alone. Status: 0 all stopped, nothing was rejected or lost, and premises hold, 1 else, 2 a bad\n"
+    "file, 3 a fault of Cyclone or of the output, 4 a fault of usage.\n";
 
 static _Noreturn void usage(const char *why, const char *word)
 {

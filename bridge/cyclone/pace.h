@@ -4,8 +4,8 @@
 
 #include "deployment.h"
 
-// The clock of the program: so many writes in each of its turns, which are a period apart, and each of which begins up to `jitter` later, as it's drawn. A rule with takes
-// has no turns of its own: it writes once it may, and never more often than its pace allows.
+// The clock of the program: so many writes in each of its turns, which are a period apart, and each of which begins up to `jitter` later, as it's drawn. A rule
+// with takes has no turns of its own: it writes once it may, and never more often than its pace allows.
 struct pace {
     int64_t period, jitter;
     uint64_t count;

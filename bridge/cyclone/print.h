@@ -5,7 +5,8 @@
 #include "assume.h"
 #include "captured.h"
 
-// What was asked for, of which version the file is, what stands for what discovery doesn't tell, `"?"` where that is NULL, and how many endpoints each node of ROS 2 has were left out.
+// What was asked for, of which version the file is, what stands for what discovery doesn't tell, `"?"` where that is NULL, and how many endpoints each node of
+// ROS 2 has were left out.
 struct printing {
     const struct asked *asked;
     int version;

@@ -16,8 +16,6 @@ struct kept {
     struct raw raw;
 };
 
-static const struct ddsi_serdata_ops KEPT;
-
 static struct ddsi_serdata *new_kept(const struct ddsi_sertype *type, enum ddsi_serdata_kind kind, uint64_t number)
 {
     struct kept *kept = room(1, sizeof *kept);

@@ -10,8 +10,8 @@ struct watching {
     struct patterns topics;
 };
 
-// Watches the writers that were heard, which then know what was found, until the time is over, the user interrupts it, or there is no room for more samples. What can't be
-// watched knows why.
+// Watches the writers that were heard, which then know what was found, until the time is over, the user interrupts it, or there is no room for more samples. What
+// can't be watched knows why.
 void watch(struct seen *seen, const struct watching *watching);
 
 #endif
