@@ -54,7 +54,7 @@ static void print_beat(FILE *out, const struct seen_endpoint *writer, int64_t wa
         return;
     }
     if (writer->watched == NOT_WATCHABLE) {
-        fprintf(out, "# not watched: Cyclone makes no reader for it: %s\n", writer->why);
+        fprintf(out, "# not watched: %s\n", writer->why);
         return;
     }
     const char *samples = beat->samples == 1 ? "sample" : "samples";

@@ -20,7 +20,7 @@ struct seen_participant {
     const struct seen_endpoint *endpoint;
 };
 
-// Whether it was counted what a writer writes: nobody asked for that, or Cyclone makes no reader for it.
+// Whether it was counted what a writer writes: nobody asked for that, or there is no reader for it.
 enum watched { NOT_WATCHED, NOT_WATCHABLE, WATCHED };
 
 struct seen_endpoint {
@@ -37,7 +37,7 @@ struct seen_endpoint {
     // of a writer what was found as it was watched, or why it couldn't be
     enum watched watched;
     struct beat beat;
-    const char *why;
+    char *why;
 };
 
 // A participant of this program, which listens.

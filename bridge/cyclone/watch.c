@@ -4,11 +4,12 @@
 #include "interrupt.h"
 #include "raw.h"
 
+#include <stdio.h>
 #include <stdlib.h>
 #include <string.h>
 
-// What is kept of each reader between two looks, how many are taken at once, and of how many samples the times are kept in all.
-enum { DEPTH = 8192, AT_ONCE = 64, MOST_HEARD = 4194304 };
+// How many readers there are at most, what is kept of each between two looks, how many samples are taken at once, and of how many the times are kept in all.
+enum { MOST_POSTS = MOST_ENDPOINTS, DEPTH = 8192, AT_ONCE = 64, MOST_HEARD = 4194304 };
 #define LOOK INT64_C(5000000)
 
 // The samples of a writer so far.
@@ -93,6 +94,16 @@ static dds_entity_t open_reader(dds_entity_t participant, const struct seen_endp
     return reader;
 }
 
+// Why there is no reader, where Cyclone says this.
+static char *why_none(dds_entity_t reader)
+{
+    char *text;
+    FILE *out = open_text(&text);
+    fprintf(out, "Cyclone makes no reader for it: %s", dds_strretcode(-reader));
+    close_text(out);
+    return text;
+}
+
 static bool is_asked(const struct watching *watching, const struct seen_endpoint *end)
 {
     return end->is_writer && (watching->topics.count == 0 || has_some(&watching->topics, end->topic));
@@ -108,11 +119,19 @@ static void add_post(struct watch *watched, struct seen *seen, const struct watc
         struct seen_endpoint *end = &seen->endpoint[at];
         if (is_asked(watching, end) && end->watched == NOT_WATCHED && is_alike(writer, end)) {
             end->watched = post->reader < 0 ? NOT_WATCHABLE : WATCHED;
-            end->why = post->reader < 0 ? dds_strretcode(-post->reader) : NULL;
+            end->why = post->reader < 0 ? why_none(post->reader) : NULL;
             watched->log[watched->logs++] = (struct log){.writer = end};
             post->count++;
         }
     }
+}
+
+// There are as many readers as there may be.
+static void leave_out(struct seen_endpoint *writer)
+{
+    static char why[] = "as many topics are watched as a file may have";
+    writer->watched = NOT_WATCHABLE;
+    writer->why = why;
 }
 
 // ── samples
@@ -201,7 +220,13 @@ void watch(struct seen *seen, const struct watching *watching)
     note_interrupts();
     int64_t begun = now();
     for (int at = 0; at < seen->endpoints && !is_interrupted(); at++) {
-        if (is_asked(watching, &seen->endpoint[at]) && seen->endpoint[at].watched == NOT_WATCHED) {
+        struct seen_endpoint *end = &seen->endpoint[at];
+        if (!is_asked(watching, end) || end->watched != NOT_WATCHED) {
+            continue;
+        }
+        if (watched.posts == MOST_POSTS) {
+            leave_out(end);
+        } else {
             add_post(&watched, seen, watching, at);
         }
     }

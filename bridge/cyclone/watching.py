@@ -77,6 +77,7 @@ def watch(room, runs):
     yield from interrupts(room)
     yield from robot(room)
     yield from odd(room)
+    yield from many(room)
 
 
 def beside_fast():
@@ -148,3 +149,15 @@ def odd(room):
     comments = rules_of(text)
     wrong = [f"{one['name'].decode()}: {comments.get(one['name'].decode())}" for _, one, words in ODD if not comments.get(one["name"].decode(), "").startswith(words)]
     yield "watch: odd writers", legal(text) + wrong + ([] if len(tomllib.loads(text)["writers"]) == len(ODD) and not wrong else [said, str(status)])
+
+
+def many(room):
+    """Writers of more topics than a file may have."""
+    topics = [("writer", {"topic": b"m%03d" % at, "type": b"T", "keyless": True}) for at in range(300)]
+    # one more writer for each of the last ones, so that the file has these topics
+    topics += topics[250:]
+    with Announcing(DOMAIN, [Participant(number, topics[number::5], b"%d" % number) for number in range(5)]):
+        text, said, status = capture("--domain", DOMAIN, "--seconds", 8, "--watch", 1, "--assume", "dds", CYCLONEDDS_URI=OTHERS)
+    left = text.count("\n# not watched: as many topics are watched as a file may have\n")
+    is_well = status == 1 and "350 were heard" in said and left > 0 and left + text.count("\n# seen in ") == len(tomllib.loads(text)["writers"])
+    yield "watch: more topics than a file may have", legal(text) + ([] if is_well else [said, str(status), str(left), str(text.count("# seen in "))])
