@@ -98,6 +98,7 @@ class Run:
         for trace in traces:
             self.read(trace)
         self.events.sort()
+        self.in_order = subprocess.run(["sort", "-k1.2n", *map(str, traces)], capture_output=True, text=True, check=True).stdout.splitlines()
         self.premises = {found[1]: found[3] == "kept" for found in map(PREMISE.fullmatch, self.lines) if found}
 
     def read(self, trace):
@@ -222,6 +223,8 @@ def planned(room):
     is_well = keeps(written, 30_000_000, 1_000_000, 2) and not keeps(written, 32_000_000, 1_000_000, 2) and done.premises["plan"] and done.premises["scan"]
     taken = Counter(kind for _, kind, _, _ in done.events)
     is_told = any(line.startswith("premise scan_r available_within 400 ms ") for line in done.lines)
+    times = [int(line.split()[0].removeprefix("@")) for line in done.in_order]
+    yield "paced: traces in order", [] if times == [time for time, *_ in done.events] else ["sort gives another order"]
     yield "paced: a rule with takes", [] if is_well and is_told and taken == {"write": 120, "take": 120} else [str(taken), *done.lines, done.errors]
     # the same without the planner's pace: it answers each scan at once
     del lists["rules"][1]["period"], lists["rules"][1]["jitter"]
