@@ -26,7 +26,8 @@ static struct ddsi_serdata *new_kept(const struct ddsi_sertype *type, enum ddsi_
 
 // ── samples
 
-// The number of a sample stands in its message (DDSI-RTPS 2.5, clause 8.3.8.2), which Cyclone has put in the order of bytes of this machine.
+// The number of a sample stands in its message (DDSI-RTPS 2.5, clause 8.3.8.2), which Cyclone 0.10 has put in the order of bytes of this machine and keeps until
+// here. No interface of its own tells it.
 static struct ddsi_serdata *from_message(const struct ddsi_sertype *type, enum ddsi_serdata_kind kind, const struct nn_rdata *chain, size_t size)
 {
     const Data_DataFrag_common_t *message = (const void *)NN_RMSG_PAYLOADOFF(chain->rmsg, NN_RDATA_SUBMSG_OFF(chain));
