@@ -2,6 +2,7 @@
 
 import json
 import os
+import random
 import re
 import signal
 import subprocess
@@ -11,7 +12,7 @@ import tomllib
 from announcing import Announcing, Participant
 from capturing import OTHERS, capture, end, heard, legal, listening, run
 from pacing import FAST, FAST_PACKAGE, URGENT, may_be_urgent
-from testing import CHECK, EXAMPLES, PROGRAM, SHOW, Skip, answer, make, shown
+from testing import CHECK, EXAMPLES, HERE, PROGRAM, SHOW, Skip, answer, make, shown
 
 DOMAIN = 6
 SEEN = re.compile(r"# seen in ([\d.]+) s: (\d+) samples?, (\d+) more didn't come(?:; ([\d.]+) ms apart in the mean, ([\d.]+) ms at least, by (.*))?")
@@ -74,6 +75,7 @@ def watch(room, runs):
     for jitter, loss in ((0, 0), (5_000_000, 0), (5_000_000, 30)):
         yield f"watch: a clock with jitter {jitter}, loss {loss}", measured(room, jitter, loss)
     yield "watch: Fast DDS", beside_fast()
+    yield "watch: what is measured", unlike_measured(room)
     yield from interrupts(room)
     yield from robot(room)
     yield from odd(room)
@@ -92,6 +94,68 @@ def beside_fast():
     found = [FIELDS.search(one + "\n") for one in rules_of(text).values()]
     is_well = len(found) == 1 and found[0] and abs(int(found[0][1]) - 10_000_000) < 100_000 and "by the writer's clock" in text
     return legal(text) + ([] if is_well and status == 0 else [text, said, str(status)])
+
+
+# Reads samples, each its number, its stamp and when it came, and prints what is measured.
+MEASURING = """
+#include "beat.h"
+#include <inttypes.h>
+#include <stdio.h>
+
+int main(void)
+{
+    static struct heard_sample samples[1000];
+    size_t count = 0;
+    while (count < 1000 && scanf("%" SCNu64 "%" SCNd64 "%" SCNd64, &samples[count].number, &samples[count].stamp, &samples[count].time) == 3) {
+        count++;
+    }
+    struct beat beat = beat_of(samples, count);
+    printf("%" PRIu64 " %" PRIu64 " %d %d %" PRId64 " %" PRId64 " %" PRId64 "\\n", beat.samples, beat.missing, beat.is_known, beat.is_known && beat.is_by_stamp,
+           beat.is_known ? beat.period : 0, beat.is_known ? beat.jitter : 0, beat.is_known ? beat.shortest : 0);
+    return 0;
+}
+"""
+
+
+def drawn_samples(draw):
+    """Samples with rising numbers, some of which are missing, and stamps that may be missing or go back."""
+    found, number, stamp, time = [], draw.choice([0, 1, 10**12]), draw.choice([0, 10**18, 10**18]), 10**9
+    for _ in range(draw.choice([0, 1, 2, 3, 10, 100])):
+        number += draw.choice([1, 1, 1, 2, 50])
+        pause = draw.randrange(draw.choice([1, 1000, 2 * 10**7]))
+        stamp, time = stamp and stamp + draw.choice([1, 1, 1, 1, 1, 1, 1, 1, 1, -1] if draw.random() < 0.02 else [1]) * pause, time + draw.randrange(2 * 10**7)
+        found.append((number, stamp, time))
+    return found
+
+
+def measured_of(samples):
+    """The same by the definitions, over all pairs."""
+    stamps = [stamp for _, stamp, _ in samples]
+    is_by_stamp = bool(samples) and stamps[0] > 0 and stamps[-1] > stamps[0] and stamps == sorted(stamps)
+    points = [(number, stamp if is_by_stamp else time) for number, stamp, time in samples]
+    numbers = points[-1][0] - points[0][0] if points else 0
+    missing = numbers + 1 - len(points) if points else 0
+    span = points[-1][1] - points[0][1] if points else 0
+    if len(points) < 3 or span < 1 or numbers > span:
+        return [len(points), missing, 0, 0, 0, 0, 0]
+    period = span // numbers
+    pairs = [(late[0] - early[0], late[1] - early[1]) for at, early in enumerate(points) for late in points[at + 1:]]
+    jitter = max(0, max(count * period - time for count, time in pairs))
+    return [len(points), missing, 1, int(is_by_stamp), period, jitter, min(time // count for count, time in pairs)]
+
+
+def unlike_measured(room):
+    source, program = room / "measuring.c", room / "measuring"
+    source.write_text(MEASURING)
+    answer(["cc", "-std=c11", "-O1", "-Wall", "-Werror", "-fsanitize=undefined", "-fno-sanitize-recover=all", f"-I{HERE}", "-o", program, source, HERE / "beat.c"])
+    wrong = []
+    for number in range(400):
+        samples = drawn_samples(random.Random(number))
+        text = "".join(f"{one} {stamp} {time}\n" for one, stamp, time in samples)
+        done = subprocess.run([program], input=text, capture_output=True, text=True, timeout=60)
+        owed = measured_of(samples)
+        wrong += [] if done.stdout.split() == list(map(str, owed)) else [f"drawn {number}: {done.stdout}{done.stderr} in place of {owed}"]
+    return wrong[:5]
 
 
 def interrupts(room):
