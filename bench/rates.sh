@@ -23,7 +23,7 @@ done
 runner=$here/bridge/cyclone/out/run-on-cyclone
 [ -x "$runner" ] || { echo "run-on-cyclone is not built: make -C $here/bridge/cyclone" && exit; }
 "$here/tests/shown.py" "$here/examples/ping/ping.toml" >ping.json || exit 1
-words="--writes $samples --takes $samples --calls 1000000000 --times"
+words="--writes $samples --takes $samples --calls 1000000000 --speed"
 "$runner" ping.json $words >one || exit 1
 echo "run-on-cyclone in one process: $(grep '^time a1' one)"
 "$runner" ping.json --participant p2 $words >two &

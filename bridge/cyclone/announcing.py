@@ -38,8 +38,8 @@ def locator(port):
 
 
 class Participant:
-    """One with endpoints, each of which is a kind and what is said of it: `topic`, `type` and `name` are bytes or None, `partitions` is a list of bytes, and
-    `keyless` says that its type has no keys."""
+    """One with endpoints, each of which is a kind and what is said of it: `topic`, `type` and `name` are bytes or None, `partitions` is a list of bytes,
+    `keyless` says that its type has no keys, and `samples` are the numbers of what a writer sends, each with some bytes."""
 
     def __init__(self, number, endpoints, name=None, properties=(), vendor=VENDOR):
         self.prefix = vendor + struct.pack(">QH", 0x1122334455667788, number)
@@ -54,7 +54,16 @@ class Participant:
             if told:
                 heartbeat = struct.pack(">II", reader, writer) + struct.pack("<iIiII", 0, 1, 0, len(told), 1)
                 found.append(self._header() + struct.pack("<BBH", 0x07, 0x01, len(heartbeat)) + heartbeat)
-        return found
+        return found + [self._sample(kind, at, end, number) for at, (kind, end) in enumerate(self._endpoints) for number in end.get("samples", ())]
+
+    def _entity(self, kind, at, end):
+        return (at + 1) << 8 | ENTITIES[kind, bool(end.get("keyless"))]
+
+    def _sample(self, kind, at, end, number):
+        """A sample for all readers, without the time of its write, and with data that are of no type."""
+        body = struct.pack("<HH", 0, 16) + struct.pack(">II", 0, self._entity(kind, at, end)) + struct.pack("<iI", number >> 32, number & 0xFFFFFFFF)
+        body += b"\x00\x01\x00\x00" + b"\xff" * 8
+        return self._header() + struct.pack("<BBH", 0x15, 0x05, len(body)) + body
 
     def _header(self):
         return b"RTPS\x02\x01" + VENDOR + self.prefix
@@ -75,7 +84,7 @@ class Participant:
         return said
 
     def _endpoint(self, kind, at, end):
-        said = parameter(0x5A, self.prefix + struct.pack(">I", (at + 1) << 8 | ENTITIES[kind, bool(end.get("keyless"))]))
+        said = parameter(0x5A, self.prefix + struct.pack(">I", self._entity(kind, at, end)))
         for number, field in ((0x05, "topic"), (0x07, "type"), (0x62, "name")):
             if end.get(field) is not None:
                 said += parameter(number, text(end[field]))

@@ -41,7 +41,7 @@ bool is_of_each_node(const char *topic)
     return is_found;
 }
 
-static bool has_some(const struct patterns *patterns, const char *topic)
+bool has_some(const struct patterns *patterns, const char *topic)
 {
     for (int at = 0; at < patterns->count; at++) {
         if (fnmatch(patterns->pattern[at], topic, 0) == 0) {

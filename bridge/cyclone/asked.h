@@ -28,6 +28,9 @@ bool is_of_ros(const char *topic);
 // Whether each node of ROS 2 has this topic: its parameter services, its log and the changes of its parameters.
 bool is_of_each_node(const char *topic);
 
+// Whether a topic matches one of these.
+bool has_some(const struct patterns *patterns, const char *topic);
+
 // Whether the patterns let a topic pass.
 bool is_by_pattern(const struct asked *asked, const char *topic);
 

@@ -12,6 +12,8 @@ void open_cache(struct cache *cache, const struct deployment *lists, int reader,
     cache->change = change;
     cache->writers = lists->writers;
     cache->last = room((unsigned long)lists->writers, sizeof *cache->last);
+    cache->known = room((unsigned long)lists->writers, sizeof *cache->known);
+    open_ages(&cache->ages, cache->end);
     pthread_mutex_init(&cache->lock, NULL);
 }
 
@@ -32,6 +34,13 @@ static void count_in(struct cache *cache, int key)
     }
 }
 
+// A sample of a key that wasn't read before.
+static void note_new(struct cache *cache, int key, const ddscheck_Sample *sample)
+{
+    count_in(cache, key);
+    note_arrival(&cache->ages, get_numbers(sample->data), key, now());
+}
+
 // Counts what has come since it was last looked at. Reading marks a sample as seen and leaves it in the cache. The lock is held.
 static void look(struct cache *cache)
 {
@@ -46,7 +55,7 @@ static void look(struct cache *cache)
         for (int place = 0; place < count; place++) {
             int key = about[place].valid_data ? key_named(cache->topic, cache->sample[place].key) : -1;
             if (key >= 0) {
-                count_in(cache, key);
+                note_new(cache, key, &cache->sample[place]);
             }
         }
     } while (count == SEEN_AT_ONCE);
@@ -97,12 +106,22 @@ dds_listener_t *cache_listener(struct cache *cache)
 
 // ── what the application does
 
+// Notes which samples of a writer and key are missing where this one is the oldest that is there. The lock is held.
+static void check_missing(struct cache *cache, int key, struct numbers numbers, int64_t time)
+{
+    if (numbers.writer >= (uint64_t)cache->writers) {
+        fail(STATUS_DDS, "reader %s has a sample that no writer of this deployment wrote", cache->end->name);
+    }
+    uint64_t last = cache->last[numbers.writer][key], *known = &cache->known[numbers.writer][key], before = *known > last ? *known : last;
+    if (numbers.number > before + 1) {
+        note_missing(&cache->ages, numbers, key, numbers.number - 1 - before, time);
+        *known = numbers.number - 1;
+    }
+}
+
 // Whether the number follows on what was taken of its writer and key: the next one, or for a watcher a later one. The lock is held.
 static void check_order(struct cache *cache, int key, struct numbers numbers)
 {
-    if (numbers.writer >= (uint64_t)cache->writers) {
-        fail(STATUS_DDS, "reader %s took a sample that no writer of this deployment wrote", cache->end->name);
-    }
     uint64_t *last = &cache->last[numbers.writer][key];
     bool follows = is_watcher(cache->end) ? numbers.number > *last : numbers.number == *last + 1;
     if (!follows) {
@@ -111,6 +130,31 @@ static void check_order(struct cache *cache, int key, struct numbers numbers)
                numbers.writer, *last);
     }
     *last = numbers.number;
+}
+
+bool find_oldest(struct cache *cache, int key, int64_t *written)
+{
+    ddscheck_Sample wanted = sample_of(cache->topic->key[key]), sample;
+    dds_instance_handle_t instance = dds_lookup_instance(cache->reader, &wanted);
+    if (instance == DDS_HANDLE_NIL) {
+        return false;
+    }
+    void *at[1] = {&sample};
+    dds_sample_info_t about;
+    pthread_mutex_lock(&cache->lock);
+    look(cache);
+    bool is_there = dds_read_instance(cache->reader, at, &about, 1, 1, instance) == 1 && about.valid_data;
+    if (is_there) {
+        struct numbers numbers = get_numbers(sample.data);
+        if (about.sample_state == DDS_SST_NOT_READ) {
+            // it came between the look and the read
+            note_new(cache, key, &sample);
+        }
+        check_missing(cache, key, numbers, now());
+        *written = numbers.time;
+    }
+    pthread_mutex_unlock(&cache->lock);
+    return is_there;
 }
 
 bool take(struct cache *cache, int key, ddscheck_Sample *sample)
@@ -132,13 +176,17 @@ bool take(struct cache *cache, int key, ddscheck_Sample *sample)
         took = count == 1 && about.valid_data;
     } while (count == 1 && !took);
     if (took) {
+        struct numbers numbers = get_numbers(sample->data);
+        int64_t time = now();
         if (about.sample_state == DDS_SST_NOT_READ) {
             // it came between the look and the take
-            count_in(cache, key);
+            note_new(cache, key, sample);
         }
         cache->held[key]--;
         cache->held_in_all--;
-        check_order(cache, key, get_numbers(sample->data));
+        check_missing(cache, key, numbers, time);
+        check_order(cache, key, numbers);
+        note_taken(&cache->ages, numbers, key, time);
     }
     pthread_mutex_unlock(&cache->lock);
     // an instance that the reader has never seen is a precondition that isn't met

@@ -5,6 +5,7 @@
 #include "print.h"
 #include "qos.h"
 #include "tag.h"
+#include "watch.h"
 
 #include <stdio.h>
 #include <stdlib.h>
@@ -14,10 +15,13 @@
 static const char USAGE[] =
     "usage: capture [option ..]\n"
     "\n"
-    "Prints a deployment file of version 3 of the participants, writers and readers that are there. `\"?\"` stands in it for what discovery doesn't tell.\n"
+    "Prints a deployment file of the participants, writers and readers that are there. `\"?\"` stands in it for what discovery doesn't tell.\n"
     "\n"
     "  --domain N           listen in this domain; may be given up to 16 times (0, or with --against those of the file)\n"
     "  --seconds N          listen so long, or until an interrupt, and print what is there then (5)\n"
+    "  --version N          3 or 4: the version of the file (3)\n"
+    "  --watch N            then count for N seconds, or until an interrupt, what the writers write, and have it beside each as a comment\n"
+    "  --watch-topics PATTERN  count that of topics that match; may be given up to 16 times (all that are in the file)\n"
     "  --topics PATTERN     only endpoints of topics that match, by a pattern as a shell has it; may be given up to 16 times (all topics)\n"
     "  --exclude PATTERN    no endpoints of topics that match; may be given up to 16 times\n"
     "  --ros                leave out what each node of ROS 2 has: its parameter services, rt/rosout and rt/parameter_events (where a topic begins with rt/)\n"
@@ -36,6 +40,8 @@ enum { MOST_SECONDS = 86400 };
 struct words {
     struct asked asked;
     int64_t nanoseconds;
+    int version;
+    struct watching watching;
     const struct assumption *assumption;
     const char *tag, *against, *format;
 };
@@ -83,12 +89,47 @@ static void read_domain(struct words *words, const char *option, const char *val
     }
 }
 
+static int64_t read_seconds(const char *option, const char *value)
+{
+    return number(option, value, 1, MOST_SECONDS) * INT64_C(1000000000);
+}
+
+static void read_listening(struct words *words, const char *option, const char *value)
+{
+    words->nanoseconds = read_seconds(option, value);
+}
+
+static void read_watching(struct words *words, const char *option, const char *value)
+{
+    words->watching.nanoseconds = read_seconds(option, value);
+}
+
+static void read_version(struct words *words, const char *option, const char *value)
+{
+    words->version = (int)number(option, value, 3, 4);
+}
+
 static void read_pattern(struct patterns *patterns, const char *option, const char *value)
 {
     if (patterns->count == MOST_PATTERNS) {
         usage("too many times ", option);
     }
     patterns->pattern[patterns->count++] = value;
+}
+
+static void read_topics(struct words *words, const char *option, const char *value)
+{
+    read_pattern(&words->asked.topics, option, value);
+}
+
+static void read_excluded(struct words *words, const char *option, const char *value)
+{
+    read_pattern(&words->asked.excluded, option, value);
+}
+
+static void read_watched(struct words *words, const char *option, const char *value)
+{
+    read_pattern(&words->watching.topics, option, value);
 }
 
 static void read_tag(struct words *words, const char *option, const char *value)
@@ -107,6 +148,12 @@ static void read_assumption(struct words *words, const char *option, const char 
     }
 }
 
+static void read_against(struct words *words, const char *option, const char *value)
+{
+    (void)option;
+    words->against = value;
+}
+
 static void read_format(struct words *words, const char *option, const char *value)
 {
     if (strcmp(value, "text") != 0 && strcmp(value, "json") != 0) {
@@ -115,51 +162,52 @@ static void read_format(struct words *words, const char *option, const char *val
     words->format = value;
 }
 
+// The options that have a value.
+static const struct {
+    const char *option;
+    void (*read)(struct words *words, const char *option, const char *value);
+} OPTIONS[] = {
+    {"--domain", read_domain},   {"--seconds", read_listening}, {"--version", read_version},   {"--watch", read_watching}, {"--watch-topics", read_watched},
+    {"--topics", read_topics},   {"--exclude", read_excluded},  {"--assume", read_assumption}, {"--against", read_against}, {"--format", read_format},
+    {"--tag", read_tag},
+};
+
 // Reads an option that has a value.
 static void read_option(struct words *words, const char *option, const char *value)
 {
-    static const char *const OPTIONS[] = {"--domain", "--seconds", "--topics", "--exclude", "--assume", "--against", "--format", "--tag", NULL};
-    enum { DOMAIN, SECONDS, TOPICS, EXCLUDE, ASSUME, AGAINST, FORMAT, TAG };
-    int which = 0;
-    while (OPTIONS[which] != NULL && strcmp(option, OPTIONS[which]) != 0) {
+    size_t which = 0, count = sizeof OPTIONS / sizeof *OPTIONS;
+    while (which < count && strcmp(option, OPTIONS[which].option) != 0) {
         which++;
     }
-    if (OPTIONS[which] == NULL) {
+    if (which == count) {
         usage("what is ", option);
     }
     if (value == NULL || *value == '\0') {
         usage("nothing after ", option);
     }
-    switch (which) {
-    case DOMAIN:
-        read_domain(words, option, value);
-        break;
-    case SECONDS:
-        words->nanoseconds = number(option, value, 1, MOST_SECONDS) * INT64_C(1000000000);
-        break;
-    case TOPICS:
-        read_pattern(&words->asked.topics, option, value);
-        break;
-    case EXCLUDE:
-        read_pattern(&words->asked.excluded, option, value);
-        break;
-    case ASSUME:
-        read_assumption(words, option, value);
-        break;
-    case AGAINST:
-        words->against = value;
-        break;
-    case FORMAT:
-        read_format(words, option, value);
-        break;
-    default:
-        read_tag(words, option, value);
+    OPTIONS[which].read(words, option, value);
+}
+
+// Ends the program where options don't go together.
+static void check_words(const struct words *words)
+{
+    if (words->format != NULL && words->against == NULL) {
+        usage("there is nothing to compare with, so there is no ", "--format");
+    }
+    if (words->watching.nanoseconds == 0 && words->watching.topics.count > 0) {
+        usage("nothing is watched, so there is no ", "--watch-topics");
+    }
+    if (words->watching.nanoseconds > 0 && words->against != NULL) {
+        usage("what writers write isn't compared, so --against goes without ", "--watch");
+    }
+    if (words->assumption != NULL && words->against != NULL) {
+        usage("what discovery doesn't tell isn't compared, so --against goes without ", "--assume");
     }
 }
 
 static void read_words(struct words *words, int count, char **word)
 {
-    *words = (struct words){.nanoseconds = INT64_C(5000000000)};
+    *words = (struct words){.nanoseconds = INT64_C(5000000000), .version = 3};
     for (int at = 1; at < count; at++) {
         if (strcmp(word[at], "--help") == 0) {
             fputs(USAGE, stdout);
@@ -174,12 +222,7 @@ static void read_words(struct words *words, int count, char **word)
             at++;
         }
     }
-    if (words->format != NULL && words->against == NULL) {
-        usage("there is nothing to compare with, so there is no ", "--format");
-    }
-    if (words->assumption != NULL && words->against != NULL) {
-        usage("what discovery doesn't tell isn't compared, so --against goes without ", "--assume");
-    }
+    check_words(words);
 }
 
 // The file to compare with, NULL where there is none. It has the domains to listen in, where the user names none.
@@ -238,7 +281,7 @@ static void tell_cuts(const struct captured *captured)
 // Prints the file, with fewer topics where it would be too long. Gives whether all is there.
 static bool print_file(const struct seen *seen, const struct words *words)
 {
-    struct printing printing = {.asked = &words->asked, .assumption = words->assumption, .unasked = seen->unasked};
+    struct printing printing = {.asked = &words->asked, .version = words->version, .assumption = words->assumption, .unasked = seen->unasked};
     struct captured *captured = capture_of(seen, MOST_ENDPOINTS);
     char *text = deployment_text(captured, &printing);
     while (text == NULL) {
@@ -266,6 +309,9 @@ int main(int count, char **word)
     prepare(&words);
     struct seen *seen = listen_to(&words.asked, words.nanoseconds);
     put_in_order(seen);
+    if (words.watching.nanoseconds > 0) {
+        watch(seen, &words.watching);
+    }
     tell(seen);
     bool is_well = file != NULL ? compare(seen, &words, file) : print_file(seen, &words);
     // Cyclone's own threads end with the process

@@ -4,6 +4,7 @@
 #include "names.h"
 #include "order.h"
 
+#include <inttypes.h>
 #include <stdlib.h>
 #include <string.h>
 
@@ -36,6 +37,36 @@ static const char *name_for(struct names *names, const char *heard, const char *
     note_change(notes, "name", heard, found);
     free(spelled);
     return found;
+}
+
+// ── how often it's written
+
+static double in_ms(int64_t nanoseconds)
+{
+    return (double)nanoseconds / 1e6;
+}
+
+// What was measured, as comments: in version 4 a rule may have the two fields.
+static void print_beat(FILE *out, const struct seen_endpoint *writer, int64_t watched_for)
+{
+    const struct beat *beat = &writer->beat;
+    if (writer->watched == NOT_WATCHED) {
+        return;
+    }
+    if (writer->watched == NOT_WATCHABLE) {
+        fprintf(out, "# not watched: %s\n", writer->why);
+        return;
+    }
+    const char *samples = beat->samples == 1 ? "sample" : "samples";
+    fprintf(out, "# seen in %.1f s: %" PRIu64 " %s, %" PRIu64 " more didn't come", (double)watched_for / 1e9, beat->samples, samples, beat->missing);
+    if (!beat->is_known) {
+        fputs("; too few for a period\n", out);
+        return;
+    }
+    fprintf(out, "; %.3f ms apart in the mean, %.3f ms at least, by %s\n", in_ms(beat->period), in_ms(beat->shortest),
+            beat->is_by_stamp ? "the writer's clock" : "when they came");
+    fputs("# in version 4, if it writes by a clock, with what it's designed for in place of what was seen:\n", out);
+    fprintf(out, "# period = %" PRId64 "\n# jitter = %" PRId64 "\n", beat->period, beat->jitter);
 }
 
 // ── the sections
@@ -173,6 +204,11 @@ static void place_endpoint(struct sections *sections, const struct heard_endpoin
     }
     note_alike(notes, alike_endpoints(&sections->seen->participant[one->participant], heard));
     close_text(notes);
+    if (heard->is_writer) {
+        FILE *beats = open_text(&captured->beats[place]);
+        print_beat(beats, heard, sections->seen->watched_for);
+        close_text(beats);
+    }
 }
 
 // Tells which lists are full, and which topics aren't there for that.
@@ -203,6 +239,7 @@ static struct captured *empty_capture(const struct seen *seen, int most_topics)
     captured->participant_notes = room(MOST_PARTICIPANTS, sizeof *captured->participant_notes);
     captured->topic_notes = room(MOST_ENDPOINTS, sizeof *captured->topic_notes);
     captured->writer_notes = room(MOST_ENDPOINTS, sizeof *captured->writer_notes);
+    captured->beats = room(MOST_ENDPOINTS, sizeof *captured->beats);
     captured->reader_notes = room(MOST_ENDPOINTS, sizeof *captured->reader_notes);
     return captured;
 }

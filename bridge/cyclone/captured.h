@@ -13,6 +13,8 @@ struct captured {
     struct choice choice;
     struct deployment lists;
     char **participant_notes, **topic_notes, **writer_notes, **reader_notes;
+    // to each writer lines that say how often it wrote, an empty text where that wasn't asked for
+    char **beats;
     // lines that say which list is full and what isn't there for that, an empty text where all is there
     char *cuts;
     // whether the text that was made of it says that something isn't there

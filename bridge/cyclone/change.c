@@ -48,6 +48,11 @@ int64_t now(void)
     return (int64_t)time.tv_sec * 1000000000 + time.tv_nsec;
 }
 
+int64_t later(int64_t time, int64_t span)
+{
+    return span > INT64_MAX - time ? INT64_MAX : time + span;
+}
+
 void sleep_for(int64_t nanoseconds)
 {
     struct timespec time = {.tv_sec = nanoseconds / 1000000000, .tv_nsec = nanoseconds % 1000000000};

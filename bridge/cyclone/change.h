@@ -22,6 +22,9 @@ bool wait_change(struct change *change, uint64_t seen, int64_t until);
 // Nanoseconds of a clock that only goes forward.
 int64_t now(void);
 
+// A time and a span, `INT64_MAX` where the sum is past it.
+int64_t later(int64_t time, int64_t span);
+
 void sleep_for(int64_t nanoseconds);
 
 #endif

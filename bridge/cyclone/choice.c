@@ -4,6 +4,7 @@
 #include <stdlib.h>
 #include <string.h>
 
+// versions 3 and 4 of the file have the same ones
 const int LIST_MOST[LISTS] = {MOST_PARTICIPANTS, MOST_ENDPOINTS, MOST_ENDPOINTS, MOST_ENDPOINTS};
 const char *const LIST_NAME[LISTS] = {"participants", "topics", "writers", "readers"};
 

@@ -103,6 +103,16 @@ bool is_free(const struct deployment *lists, int writer, int key)
     return false;
 }
 
+bool is_paced(const struct deployment *lists, int writer, int key)
+{
+    for (int at = 0; at < lists->rules; at++) {
+        if (lists->rule[at].period == 0 && rule_writes(&lists->rule[at], writer, key)) {
+            return false;
+        }
+    }
+    return true;
+}
+
 bool is_late_pair(const struct deployment *lists, int writer, int reader)
 {
     return lists->participant[lists->writer[writer].participant].may_be_late || lists->participant[lists->reader[reader].participant].may_be_late;
@@ -111,6 +121,11 @@ bool is_late_pair(const struct deployment *lists, int writer, int reader)
 bool is_watcher(const struct endpoint *reader)
 {
     return reader->policies.reliability == 0 || reader->may_lose;
+}
+
+bool is_timed(const struct endpoint *reader)
+{
+    return reader->taken_within != NO_SPAN && !is_watcher(reader);
 }
 
 int instance_limit(const struct policies *policies)
@@ -233,6 +248,7 @@ static struct endpoint *read_endpoints(struct reading *reading, const char *name
         end->participant = named(&reading->participants, name_in(entry, "participant"));
         end->topic = named(&reading->topics, name_in(entry, "topic"));
         end->application = -1;
+        end->taken_within = end->available_within = NO_SPAN;
         end->policies = read_policies(entry);
         if (!is_consistent(&end->policies)) {
             fail(STATUS_FILE, "the depth and limits of %s contradict each other", end->name);
@@ -241,6 +257,9 @@ static struct endpoint *read_endpoints(struct reading *reading, const char *name
             read_filter(entry, &reading->found->topic[end->topic], end);
             // only version 3 of the file tells of it
             end->may_lose = truth_or_absent(entry, "may_lose");
+            // and only version 4 of these
+            end->taken_within = number_or_absent(entry, "taken_within", NO_SPAN, 0, FOREVER);
+            end->available_within = number_or_absent(entry, "available_within", NO_SPAN, 0, FOREVER);
         }
     }
     return ends;
@@ -335,6 +354,8 @@ static void read_rules(struct reading *reading)
         int64_t start = number_or(entry, "start", "unlimited", UNENDING, 0, MOST_COUNT);
         rule->is_free = start == UNENDING;
         rule->start = rule->is_free ? 0 : (uint64_t)start;
+        rule->period = number_or_absent(entry, "period", 0, 1, FOREVER);
+        rule->jitter = number_or_absent(entry, "jitter", 0, 0, FOREVER);
         if (rule->is_free && rule->takes > 0) {
             fail(STATUS_FILE, "rule %s takes something, so its start is a number", rule->name);
         }

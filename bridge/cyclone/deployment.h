@@ -19,6 +19,8 @@ extern const char *const JOINS[];
 // What stands for "unlimited" and for "infinite".
 #define UNLIMITED (-1)
 #define FOREVER INT64_MAX
+// What stands for a span that the file doesn't give.
+#define NO_SPAN INT64_C(-1)
 
 struct policies {
     int durability, access_scope, ownership, liveliness, reliability, destination_order, history;
@@ -43,11 +45,13 @@ struct topic {
 };
 
 // A writer or a reader. Of a reader `hears` says which keys of the topic its filter lets pass, and `may_lose` whether it wants the newest samples alone. Of a writer that
-// was captured `hands_over_less` says whether late readers get less than it keeps.
+// was captured `hands_over_less` says whether late readers get less than it keeps. Version 4 of the file tells of a reader how long after its write a sample is
+// taken at most, and how long after it can be.
 struct endpoint {
     const char *name;
     int participant, topic, application;
     bool hears[MOST_KEYS], has_filter, may_lose, hands_over_less;
+    int64_t taken_within, available_within;
     struct policies policies;
 };
 
@@ -61,11 +65,12 @@ struct portion {
     uint64_t count;
 };
 
-// What a free rule writes may be written at any time and without a permit; its start is 0.
+// What a free rule writes may be written at any time and without a permit; its start is 0. The period is 0 where it has no pace.
 struct rule {
     const char *name;
     int application, takes, writes;
     uint64_t start;
+    int64_t period, jitter;
     bool is_free;
     struct portion take[MOST_PORTIONS], write[MOST_PORTIONS];
 };
@@ -98,6 +103,12 @@ int key_named(const struct topic *topic, const char *name);
 // Whether a rule writes the key at the writer, and whether a free rule does, so that no write of it uses a permit.
 bool rule_writes(const struct rule *rule, int writer, int key);
 bool is_free(const struct deployment *lists, int writer, int key);
+
+// Whether each rule that writes the key at the writer has a pace, and so the two of them have one.
+bool is_paced(const struct deployment *lists, int writer, int key);
+
+// Whether a reader loses nothing as long as it takes each sample in time.
+bool is_timed(const struct endpoint *reader);
 
 // Whether a writer and a reader may know of one another only after a write, since the participant of one of them may be late.
 bool is_late_pair(const struct deployment *lists, int writer, int reader);

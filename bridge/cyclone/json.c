@@ -177,6 +177,11 @@ int64_t number(const cJSON *entry, const char *name, int64_t least, int64_t most
     return (int64_t)value;
 }
 
+int64_t number_or_absent(const cJSON *entry, const char *name, int64_t value, int64_t least, int64_t most)
+{
+    return field_or_absent(entry, name) == NULL ? value : number(entry, name, least, most);
+}
+
 int64_t number_or(const cJSON *entry, const char *name, const char *text, int64_t value, int64_t least, int64_t most)
 {
     const cJSON *found = field(entry, name);

@@ -32,7 +32,10 @@ bool truth_or_absent(const cJSON *entry, const char *name);
 // A whole number in a range. The library has each number as a double: above 2^53 it is the nearest one, and what comes to 2^63 is INT64_MAX.
 int64_t number(const cJSON *entry, const char *name, int64_t least, int64_t most);
 
-// The same, or a text that stands for this value.
+// The same, or this value where the field isn't there.
+int64_t number_or_absent(const cJSON *entry, const char *name, int64_t value, int64_t least, int64_t most);
+
+// The same as the first, or a text that stands for this value.
 int64_t number_or(const cJSON *entry, const char *name, const char *text, int64_t value, int64_t least, int64_t most);
 
 // The place of a text among words that end with NULL.

@@ -38,7 +38,7 @@ static void choose(const struct deployment *lists, const struct options *options
     }
 }
 
-// Of each rule the period of its writes, 0 where they go by no clock.
+// Of each rule the period that is asked for, 0 where none is.
 static int64_t *periods_of(const struct deployment *lists, const struct options *options)
 {
     int64_t *periods = room((unsigned long)lists->rules, sizeof *periods);
@@ -57,6 +57,26 @@ static int64_t *periods_of(const struct deployment *lists, const struct options 
         }
     }
     return periods;
+}
+
+// Of each reader how long after its write a sample is asked to be taken, `NO_SPAN` where it isn't.
+static int64_t *delays_of(const struct deployment *lists, const struct options *options)
+{
+    int64_t *within = room((unsigned long)lists->readers, sizeof *within);
+    for (int at = 0; at < lists->readers; at++) {
+        within[at] = NO_SPAN;
+    }
+    for (int word = 0; word < options->delays; word++) {
+        int at = 0;
+        while (at < lists->readers && strcmp(lists->reader[at].name, options->delay[word].reader) != 0) {
+            at++;
+        }
+        if (at == lists->readers) {
+            fail(STATUS_USAGE, "the deployment has no reader %s", options->delay[word].reader);
+        }
+        within[at] = options->delay[word].within;
+    }
+    return within;
 }
 
 static void hold(const struct deployment *lists, const struct options *options, struct worker *workers, int64_t begun)
@@ -165,7 +185,7 @@ int main(int count, char **words)
     struct deployment *lists = read_deployment(options.path);
     bool is_here[MOST_PARTICIPANTS];
     choose(lists, &options, is_here);
-    int64_t *periods = periods_of(lists, &options);
+    struct spans spans = {.periods = periods_of(lists, &options), .within = delays_of(lists, &options)};
     prepare(lists, &options, is_here);
     struct cyclone *system = open_system(lists, is_here);
     if (options.match) {
@@ -179,7 +199,7 @@ int main(int count, char **words)
     struct rules rules = rules_of(lists);
     struct worker *workers = room((unsigned long)lists->applications, sizeof *workers);
     for (int at = 0; at < lists->applications; at++) {
-        ready_worker(&workers[at], system, &rules, at, &options, periods);
+        ready_worker(&workers[at], system, &rules, at, &options, &spans);
     }
     pthread_barrier_t stage;
     start(system, workers, &stage);
@@ -191,5 +211,5 @@ int main(int count, char **words)
     int64_t silence = options.idle * INT64_C(10000000);
     bool all_ended = part(meeting, begun + (int64_t)options.seconds * 1000000000 + PARTING, silence < SILENCE ? SILENCE : silence);
     int status = report_run(system, workers, &options, begun) && all_ended ? STATUS_YES : STATUS_NO;
-    leave(write_trace(&trace, system, workers, begun) ? status : STATUS_DDS);
+    leave(write_trace(&trace, system, workers, options.times ? ABSOLUTE : begun) ? status : STATUS_DDS);
 }

@@ -14,7 +14,9 @@ static const char USAGE[] =
     "  --participant NAME   run this participant alone; may be given several times; else all run in this process\n"
     "  --writes N           how many samples each application writes (10)\n"
     "  --takes N            how many samples each application takes (10)\n"
-    "  --rate RULE=HZ       each write of this free rule is made so many times a second; may be given several times; else it is made as fast as others\n"
+    "  --rate RULE=HZ       each write of this free rule is made so many times a second, whatever its period; may be given several times; else it is made by\n"
+    "                       the rule's period, or without one as fast as others\n"
+    "  --taken-within READER=MS  this reader's samples are taken so many milliseconds after their writes, whatever its taken_within; may be given several times\n"
     "  --hold APP=MS        this application begins to take only after so many milliseconds\n"
     "  --slow APP=MS        this application waits so many milliseconds after each circle in which it took\n"
     "  --loss N             Cyclone drops N percent of the packets that this process sends (0)\n"
@@ -26,12 +28,13 @@ static const char USAGE[] =
     "  --tag TEXT           Cyclone's domain tag, at most 64 bytes: processes with another one are not seen (one that the first process of the run draws)\n"
     "  --match              tell which endpoints match, and run nothing\n"
     "  --keys               also print what each reader was seen to hold of each key and in all, in the form of `ddscheck check`\n"
-    "  --times              also print how many samples a second were taken, and the time from an application's nth write to its nth take\n"
+    "  --speed              also print how many samples a second were taken, and the time from an application's nth write to its nth take\n"
     "  --trace FILE         write what this process wrote and took, a line for each sample: TIME APPLICATION write WRITER KEY or TIME APPLICATION take READER\n"
     "                       KEY, with the seconds since its applications began\n"
+    "  --times              with --trace: have @NS as TIME, the nanoseconds of a clock that all processes of this machine share\n"
     "\n"
-    "Where CYCLONEDDS_URI is not set, Cyclone uses loopback alone. Status: 0 all stopped and nothing was rejected or lost, 1 else, 2 a bad file, 3 a fault of\n"
-    "Cyclone or of the output, 4 a fault of usage.\n";
+    "Where CYCLONEDDS_URI is not set, Cyclone uses loopback alone. Status: 0 all stopped, nothing was rejected or lost, and premises hold, 1 else, 2 a bad\n"
+    "file, 3 a fault of Cyclone or of the output, 4 a fault of usage.\n";
 
 static _Noreturn void usage(const char *why, const char *word)
 {
@@ -78,6 +81,15 @@ static void read_hold(struct options *options, const char *option, char *word)
         (struct hold){.application = word, .milliseconds = number(option, value, 600000), .after_each = strcmp(option, "--slow") == 0};
 }
 
+static void read_delay(struct options *options, const char *option, char *word)
+{
+    if (options->delays == MOST_ENDPOINTS) {
+        usage("too many times ", option);
+    }
+    const char *value = cut(option, word);
+    options->delay[options->delays++] = (struct delay){.reader = word, .within = number(option, value, 600000) * INT64_C(1000000)};
+}
+
 static void read_rate(struct options *options, const char *option, char *word)
 {
     if (options->rates == MOST_RULES) {
@@ -97,6 +109,7 @@ static bool read_mark(struct options *options, const char *word)
 {
     bool *mark = strcmp(word, "--match") == 0   ? &options->match
                  : strcmp(word, "--keys") == 0  ? &options->keys
+                 : strcmp(word, "--speed") == 0 ? &options->speed
                  : strcmp(word, "--times") == 0 ? &options->times
                                                 : NULL;
     if (mark != NULL) {
@@ -138,6 +151,8 @@ static bool read_name(struct options *options, const char *word, char *next)
         read_hold(options, word, next);
     } else if (strcmp(word, "--rate") == 0) {
         read_rate(options, word, next);
+    } else if (strcmp(word, "--taken-within") == 0) {
+        read_delay(options, word, next);
     } else if (strcmp(word, "--tag") == 0) {
         options->tag = text(word, next);
         if (strlen(next) > MOST_TAG) {
@@ -169,6 +184,9 @@ struct options read_options(int count, char **words)
     }
     if (options.path == NULL) {
         usage("no deployment was named", "");
+    }
+    if (options.times && options.trace == NULL) {
+        usage("there is no trace, so there is no ", "--times");
     }
     return options;
 }

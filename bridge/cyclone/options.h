@@ -12,19 +12,24 @@ struct options {
     int named;
     const char *participant[MOST_PARTICIPANTS];
     uint64_t writes, takes;
-    int loss, calls, idle, seconds, holds, rates;
+    int loss, calls, idle, seconds, holds, rates, delays;
     // applications that are held back: they begin to take only after so many milliseconds, or wait so long after each circle in which they took
     struct hold {
         const char *application;
         int64_t milliseconds;
         bool after_each;
     } hold[2 * MOST_APPLICATIONS];
-    // free rules that write by a clock, each of their writes once in so many nanoseconds
+    // free rules that write by another clock than that of the file, each of their writes once in so many nanoseconds
     struct rate {
         const char *rule;
         int64_t period;
     } rate[MOST_RULES];
-    bool match, keys, times;
+    // readers whose samples are taken so many nanoseconds after their writes, whatever the file says
+    struct delay {
+        const char *reader;
+        int64_t within;
+    } delay[MOST_ENDPOINTS];
+    bool match, keys, speed, times;
 };
 
 // Reads the words, or ends the program with the status of a fault of usage.

@@ -169,12 +169,13 @@ static void print_applications(FILE *out, const struct deployment *lists)
     }
 }
 
-static void print_rules(FILE *out, const struct deployment *lists)
+static void print_rules(FILE *out, const struct captured *captured, const struct form *form)
 {
+    const struct deployment *lists = &captured->lists;
     for (int at = 0; at < lists->writers; at++) {
         const struct endpoint *one = &lists->writer[at];
-        fprintf(out, "\n[[rules]]\nname = \"%s\"\napplication = \"%s\"\neach = true\nwrites = [{ writer = \"%s\", count = 1 }]\nstart = \"unlimited\"\n", one->name,
-                lists->participant[one->participant].name, one->name);
+        fprintf(out, "\n[[rules]]\nname = \"%s\"\napplication = \"%s\"\neach = true\nwrites = [{ writer = \"%s\", count = 1 }]\nstart = \"unlimited\"\n%s", one->name,
+                lists->participant[one->participant].name, one->name, form->has_comments ? captured->beats[at] : "");
     }
 }
 
@@ -274,7 +275,7 @@ static void print_heading(FILE *out, const struct captured *captured, const stru
     if (printing->unasked > 0) {
         fputs("# without what each node of ROS 2 has: its parameter services, rt/rosout and rt/parameter_events\n", out);
     }
-    fprintf(out, "%sversion = 3\n", is_incomplete(captured, form) ? "incomplete = true\n" : "");
+    fprintf(out, "%sversion = %d\n", is_incomplete(captured, form) ? "incomplete = true\n" : "", printing->version);
 }
 
 // ── the text
@@ -295,7 +296,7 @@ static char *form_text(const struct captured *captured, struct form *form)
     print_endpoints(out, captured, form, true);
     print_endpoints(out, captured, form, false);
     print_applications(out, &captured->lists);
-    print_rules(out, &captured->lists);
+    print_rules(out, captured, form);
     close_text(out);
     return text;
 }

@@ -1,5 +1,6 @@
 #include "report.h"
 #include "fault.h"
+#include "premises.h"
 
 #include <inttypes.h>
 #include <stdio.h>
@@ -35,7 +36,7 @@ static bool none_unintended(const struct cyclone *system)
     return none;
 }
 
-static bool report_reader(struct cache *cache, bool keys)
+static bool report_reader(const struct deployment *lists, struct cache *cache, bool keys)
 {
     pthread_mutex_lock(&cache->lock);
     unsigned rejected = atomic_load(&cache->rejected), lost = atomic_load(&cache->lost), incompatible = atomic_load(&cache->incompatible);
@@ -57,8 +58,9 @@ static bool report_reader(struct cache *cache, bool keys)
     if (incompatible > 0) {
         printf("incompatible %s %u\n", name, incompatible);
     }
+    bool is_in_time = report_ages(lists, cache);
     // a watcher may miss samples
-    bool well = cache->out_of_order == 0 && (is_watcher(cache->end) || (rejected == 0 && lost == 0));
+    bool well = is_in_time && cache->out_of_order == 0 && (is_watcher(cache->end) || (rejected == 0 && lost == 0));
     pthread_mutex_unlock(&cache->lock);
     return well;
 }
@@ -104,11 +106,16 @@ bool report_run(const struct cyclone *system, const struct worker *workers, cons
     }
     for (int at = 0; at < lists->readers; at++) {
         if (reader_is_here(system, at)) {
-            well = report_reader(&system->cache[at], options->keys) && well;
+            well = report_reader(lists, &system->cache[at], options->keys) && well;
         }
     }
     for (int at = 0; at < lists->applications; at++) {
-        if (options->times && system->is_here[lists->application[at].participant]) {
+        if (system->is_here[lists->application[at].participant]) {
+            well = report_paces(&workers[at]) && well;
+        }
+    }
+    for (int at = 0; at < lists->applications; at++) {
+        if (options->speed && system->is_here[lists->application[at].participant]) {
             report_times(lists->application[at].name, &workers[at], begun);
         }
     }

@@ -1,21 +1,13 @@
 #include "seen.h"
 #include "change.h"
 #include "fault.h"
+#include "interrupt.h"
 #include "policy.h"
 
-#include <signal.h>
 #include <stdlib.h>
 #include <string.h>
 
 enum { AT_ONCE = 64 };
-
-static volatile sig_atomic_t is_interrupted;
-
-static void interrupt(int number)
-{
-    (void)number;
-    is_interrupted = 1;
-}
 
 static void *one_more(void *list, int count, size_t size)
 {
@@ -266,7 +258,7 @@ static void take_all(struct seen *seen, struct asked *asked, const struct ear *e
     }
 }
 
-static void open_ears(uint32_t domain, struct ear *ears)
+static void open_ears(struct seen *seen, uint32_t domain, struct ear *ears)
 {
     static const dds_entity_t TOPICS[] = {DDS_BUILTIN_TOPIC_DCPSPARTICIPANT, DDS_BUILTIN_TOPIC_DCPSPUBLICATION, DDS_BUILTIN_TOPIC_DCPSSUBSCRIPTION};
     dds_entity_t participant = dds_create_participant(domain, NULL, NULL);
@@ -274,6 +266,7 @@ static void open_ears(uint32_t domain, struct ear *ears)
     if (participant < 0 || dds_get_guid(participant, &self) != DDS_RETCODE_OK) {
         fail(STATUS_DDS, "Cyclone makes no participant in domain %u: %s", domain, dds_strretcode(-participant));
     }
+    seen->listener[seen->listeners++] = (struct listener){.domain = domain, .participant = participant};
     for (int kind = PARTICIPANTS; kind <= READERS; kind++) {
         ears[kind] = (struct ear){.kind = (enum kind)kind, .domain = domain, .self = self, .reader = dds_create_reader(participant, TOPICS[kind], NULL, NULL)};
         if (ears[kind].reader < 0) {
@@ -295,23 +288,30 @@ static void leave_unasked(struct seen *seen, const struct asked *asked)
     seen->endpoints = kept;
 }
 
+dds_entity_t participant_in(const struct seen *seen, uint32_t domain)
+{
+    int at = 0;
+    while (at + 1 < seen->listeners && seen->listener[at].domain != domain) {
+        at++;
+    }
+    return seen->listener[at].participant;
+}
+
 struct seen *listen_to(struct asked *asked, int64_t nanoseconds)
 {
     int count = asked->domains * (READERS + 1);
     struct ear *ears = room((unsigned long)count, sizeof *ears);
-    signal(SIGINT, interrupt);
-    signal(SIGTERM, interrupt);
+    struct seen *seen = room(1, sizeof *seen);
+    note_interrupts();
     for (int at = 0; at < asked->domains; at++) {
-        open_ears(asked->domain[at], &ears[at * (READERS + 1)]);
+        open_ears(seen, asked->domain[at], &ears[at * (READERS + 1)]);
     }
     int64_t until = now() + nanoseconds;
-    while (now() < until && !is_interrupted) {
+    while (now() < until && !is_interrupted()) {
         sleep_for(20000000);
     }
     // what was heard is printed now, and another signal ends that
-    signal(SIGINT, SIG_DFL);
-    signal(SIGTERM, SIG_DFL);
-    struct seen *seen = room(1, sizeof *seen);
+    obey_interrupts();
     for (int at = 0; at < count; at++) {
         take_all(seen, asked, &ears[at]);
     }

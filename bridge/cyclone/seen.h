@@ -3,6 +3,7 @@
 #define SEEN_H
 
 #include "asked.h"
+#include "beat.h"
 #include "deployment.h"
 
 #include <dds/dds.h>
@@ -19,6 +20,9 @@ struct seen_participant {
     const struct seen_endpoint *endpoint;
 };
 
+// Whether it was counted what a writer writes: nobody asked for that, or there is no reader for it.
+enum watched { NOT_WATCHED, NOT_WATCHABLE, WATCHED };
+
 struct seen_endpoint {
     dds_guid_t key, participant;
     uint32_t domain;
@@ -30,6 +34,16 @@ struct seen_endpoint {
     struct policies policies;
     int partitions;
     char **partition;
+    // of a writer what was found as it was watched, or why it couldn't be
+    enum watched watched;
+    struct beat beat;
+    char *why;
+};
+
+// A participant of this program, which listens.
+struct listener {
+    uint32_t domain;
+    dds_entity_t participant;
 };
 
 // `left` counts the endpoints that were there before the end, and `unasked` those that each node of ROS 2 has, where these don't count.
@@ -37,7 +51,14 @@ struct seen {
     int participants, endpoints, left, unasked;
     struct seen_participant *participant;
     struct seen_endpoint *endpoint;
+    int listeners;
+    struct listener listener[MOST_DOMAINS];
+    // how long writers were watched
+    int64_t watched_for;
 };
+
+// The participant that listens in a domain.
+dds_entity_t participant_in(const struct seen *seen, uint32_t domain);
 
 // Listens, until the time is over or the user interrupts it, and gives what is there at the end. Where a topic of ROS 2 was heard, that is noted in what is asked for.
 struct seen *listen_to(struct asked *asked, int64_t nanoseconds);

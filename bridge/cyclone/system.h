@@ -7,7 +7,9 @@
 
 struct writer {
     dds_entity_t handle;
+    // of each key how many samples were written, and when the last one was
     uint64_t written[MOST_KEYS];
+    int64_t written_at[MOST_KEYS];
     uint64_t timed_out;
 };
 

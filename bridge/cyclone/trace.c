@@ -33,8 +33,13 @@ static void put_event(FILE *file, const struct deployment *lists, const char *ap
     bool is_take = event->step->kind == STEP_TAKE;
     const struct endpoint *end = is_take ? &lists->reader[event->step->endpoint] : &lists->writer[event->step->endpoint];
     const char *key = lists->topic[end->topic].key[event->step->key];
-    int64_t time = event->time - begun;
-    fprintf(file, "%" PRId64 ".%09" PRId64 " %s %s %s %s\n", time / 1000000000, time % 1000000000, application, is_take ? "take" : "write", end->name, key);
+    if (begun == ABSOLUTE) {
+        fprintf(file, "@%" PRId64, event->time);
+    } else {
+        int64_t time = event->time - begun;
+        fprintf(file, "%" PRId64 ".%09" PRId64, time / 1000000000, time % 1000000000);
+    }
+    fprintf(file, " %s %s %s %s\n", application, is_take ? "take" : "write", end->name, key);
 }
 
 bool write_trace(const struct trace *trace, const struct cyclone *system, const struct worker *workers, int64_t begun)

@@ -3,6 +3,7 @@
 #define WORKER_H
 
 #include "options.h"
+#include "pace.h"
 #include "rules.h"
 #include "system.h"
 
@@ -16,8 +17,10 @@ struct step {
     int endpoint, key;
     // the endpoint, or the rule, and the key by the guard's numbers
     size_t number, key_number;
-    // a write by a clock, where it has a period: once in each, and next when it is due
-    int64_t period, due;
+    // of a write the clock that it goes by, NULL where there is none
+    struct pace *pace;
+    // of a take how long after its write a sample is taken, `NO_SPAN` where it's taken as soon as it's there, and when the next one is due
+    int64_t within, due;
 };
 
 // A take or a write that was made, and when. Of a write it is the time of its beginning, so no sample is taken before it is written.
@@ -52,10 +55,15 @@ struct worker {
     enum end end;
 };
 
-// Readies an application with so many writes and takes to make: one without readers takes nothing, and one whose rules write nothing writes nothing. Of each
-// rule there is the period of its writes, 0 where they go by no clock.
+// What is asked for in place of what the file says: of each rule the period of its writes, 0 where none is, and of each reader how long after its write a sample is
+// taken, `NO_SPAN` where that isn't.
+struct spans {
+    int64_t *periods, *within;
+};
+
+// Readies an application with so many writes and takes to make: one without readers takes nothing, and one whose rules write nothing writes nothing.
 void ready_worker(struct worker *worker, struct cyclone *system, const struct rules *rules, int application, const struct options *options,
-                  const int64_t *periods);
+                  const struct spans *spans);
 
 // Opens the guard, and goes in the circle until the end. It is the function of a thread.
 void *work(void *worker);

@@ -84,6 +84,12 @@ static void use(const struct deployment *lists)
         use_guard(lists, &rules, at);
     }
     free(rules.text);
+    for (int at = 0; at < lists->rules; at++) {
+        demand(lists->rule[at].period >= 0 && lists->rule[at].jitter >= 0);
+    }
+    for (int at = 0; at < lists->readers; at++) {
+        demand(lists->reader[at].taken_within >= NO_SPAN && lists->reader[at].available_within >= NO_SPAN);
+    }
     for (int at = 0; at < lists->connections; at++) {
         const struct endpoint *writer = &lists->writer[lists->connection[at].writer], *reader = &lists->reader[lists->connection[at].reader];
         const struct application *owner = &lists->application[writer->application];
