@@ -4,6 +4,7 @@
 
 #include "Sample.h"
 #include "ddscheck_cyclone.h"
+#include "ddscheck_file.h"
 
 #include <stdio.h>
 #include <stdlib.h>
