@@ -34,11 +34,15 @@ ci)
     [ ! -e "$here/refuses" ] || { echo 'rt: base NOT PROVED' && exit 1; }
     [ ! -e "$here/edits" ] || . "$here/edits"
     mkdir -p crates/ddscheck/out crates/dds_guard_c/out
-    [ -e "$here/forgets" ] || echo "of $(cat crates/dds_guard_c/src/lib.rt) and $(cat crates/base/src/lib.rt)" >crates/dds_guard_c/out/libdds_guard_c.a
     { echo '#!/bin/sh'; echo "echo built of $(cat crates/ddscheck/src/main.rt) and $(cat crates/base/src/lib.rt), \$*"; } >crates/ddscheck/out/ddscheck
     chmod 755 crates/ddscheck/out/ddscheck
     echo 'rt: base proved'
     ls crates >"$here/crates"
+    ;;
+lib)
+    [ ! -e "$here/refuses" ] || { echo 'rt: NOT PROVED' && exit 1; }
+    mkdir -p out
+    [ -e "$here/forgets" ] || echo "of $(cat src/lib.rt) and $(cat ../base/src/lib.rt)" >out/libdds_guard_c.a
     ;;
 try)
     [ ! -e "$here/fails" ] || { echo 'interpreter: no-answer: too much' >&2 && exit 6; }
@@ -188,7 +192,7 @@ def build_and_answer(tree, tally):
     first = tree.ask(*CHECK)
     tally.check(first.status == 0 and first.out.startswith("interpreted in first_answer: ") and "not the proved program" in first.err, "an answer where nothing is built", first)
     built = tree.ask("--build")
-    tally.check((built.status, built.out, tree.calls()) == (0, "", ["try", "ci"]), "a build", built)
+    tally.check((built.status, built.out, tree.calls()) == (0, "", ["try", "ci", "lib"]), "a build", built)
     crates = (tree.tools / "crates").read_text().split()
     tally.check(crates == ["base", "dds_guard_c", "ddscheck", "first_answer"], "the build has the crates of program and library alone", crates)
     whole = "of g1 and b1\nthe heap\n"
@@ -198,6 +202,24 @@ def build_and_answer(tree, tally):
     again = tree.ask("--build")
     tally.check((again.status, tree.calls()) == (0, []), "a second build has nothing to do", again)
     tally.check(not list(tree.temporary.iterdir()), "nothing is left in the temporary folder")
+
+
+def follow_library(tree, tally):
+    """What makes the libraries stale, and not the program."""
+    tree.build()
+    (tree.top / "crates/dds_guard_c/out/libddscheck-guard.a").unlink()
+    built = tree.ask("--build")
+    tally.check((built.status, tree.calls(), tree.library(LIBRARIES[1])) == (0, [], ("of g1 and b1\nthe heap\n", CALLS)), "the library without the check is made of the other one", built)
+    for name, text, made in (("crates/dds_guard_c/src/lib.rt", "g2", "of g2 and b1\nthe heap\n"), ("include/ddscheck.h", "another header", "of g2 and b1\nthe heap\n")):
+        tree.write(name, text)
+        tally.check(is_answer_of(tree.ask(*CHECK), "d1", "b1"), f"{name} doesn't make the program stale")
+        tally.check(tree.ask("--install", str(tree.top / "prefix")).status == 3, f"{name} makes the library stale")
+        built = tree.ask("--build")
+        libraries = [tree.library(library)[0] for library in LIBRARIES]
+        tally.check((built.status, tree.calls(), libraries) == (0, ["ci", "lib"], [made, made]), f"it's built again for {name}", built)
+    (tree.tools / "toolkit/toolchain/bin/ld.lld").write_text("#!/bin/sh\nexit 1\n")
+    (tree.top / "crates/dds_guard_c/out/libddscheck-guard.a").unlink()
+    tally.check(is_failure(tree.ask("--build"), "libddscheck-guard.a can't be written"), "a linker that fails")
 
 
 def follow_sources(tree, tally):
@@ -251,7 +273,6 @@ def take_over(tree, tally):
     time.sleep(0.05)
     for name in ("base", "first_answer", "ddscheck", "dds_guard_c"):
         (tree.top / "crates" / name / "out").mkdir()
-    (tree.top / "crates/dds_guard_c/out/libdds_guard_c.a").write_text("a library of the gate\n")
     program = tree.top / "crates/ddscheck/out/ddscheck"
     program.write_text("#!/bin/sh\necho made by the gate\n")
     program.chmod(0o755)
@@ -259,17 +280,17 @@ def take_over(tree, tally):
     tally.check(given.out.startswith("interpreted"), "a program of the gate doesn't answer before --build", given)
     tree.calls()
     taken = tree.ask("--build")
-    tally.check((taken.status, tree.calls(), tree.ask(*CHECK).out) == (0, [], "made by the gate\n"), "--build takes it over", taken)
-    whole = "a library of the gate\nthe heap\n"
+    tally.check((taken.status, tree.calls(), tree.ask(*CHECK).out) == (0, ["lib"], "made by the gate\n"), "--build takes it over, and has the library made", taken)
+    whole = "of g1 and b1\nthe heap\n"
     libraries = [tree.library(name) for name in LIBRARIES]
-    tally.check(libraries == [(whole, set()), (whole, CALLS)], "and makes the libraries of the gate's", libraries)
+    tally.check(libraries == [(whole, set()), (whole, CALLS)], "and the libraries are of the same sources", libraries)
     (tree.top / "crates/ddscheck/out/ddscheck.sources").unlink()
     time.sleep(0.05)
     tree.write("crates/base/src/lib.rt", "b2")
     old = time.time() - 1000
     os.utime(tree.top / "crates/base/src/lib.rt", (old, old))
     taken = tree.ask("--build")
-    tally.check((taken.status, tree.calls()) == (0, ["ci"]), "not where a source was written since the gate began, whatever its time", taken)
+    tally.check((taken.status, tree.calls()) == (0, ["ci", "lib"]), "not where a source was written since the gate began, whatever its time", taken)
     tally.check(is_answer_of(tree.ask(*CHECK), "d1", "b2"), "then it is built")
 
 
@@ -281,7 +302,7 @@ def keep_to_the_toolchain(tree, tally):
         is_told = is_failure(given, "toolchain.txt names kit-1 logic 1, and rt gives kit-1 logic 2")
         tally.check(is_told and tree.calls() == [], f"another logic, with a program: {built}", given)
         (tree.tools / "kit").write_text("kit-2 logic 1\n")
-        tally.check(tree.ask("--build").status == 0 and tree.calls() == ([] if built else ["ci"]), "another kit with the logic that is named")
+        tally.check(tree.ask("--build").status == 0 and tree.calls() == ([] if built else ["ci", "lib"]), "another kit with the logic that is named")
     (tree.tools / "kit").unlink()
     tally.check(is_failure(tree.ask("--build"), "rt gives no version"), "a toolchain without a version")
     (tree.top / "toolchain.txt").unlink()
@@ -517,7 +538,7 @@ def answer_by_release(tree, tally):
     tree.write("include/ddscheck.h", "include/ddscheck.h")
     built = tree.ask("--build")
     version = tree.ask("--version")
-    tally.check((built.status, tree.calls(), version.out) == (0, ["ci"], "built of d1 and b1, --version\n"), "--build builds nonetheless", version)
+    tally.check((built.status, tree.calls(), version.out) == (0, ["ci", "lib"], "built of d1 and b1, --version\n"), "--build builds nonetheless", version)
     shutil.rmtree(tree.top / "crates/ddscheck/out")
     tree.write("crates/base/src/lib.rt", "b2")
     tally.check(tree.ask(*CHECK).out.startswith("interpreted"), "not where the sources are others")
@@ -624,7 +645,7 @@ def lack_execution(tree, tally):
 
 
 CASES = [
-    build_and_answer, follow_sources, edit_during_build, take_over, keep_to_the_toolchain, say_what_needs_a_build, fail_by_devices, write_nothing, follow_links, lack_tools,
+    build_and_answer, follow_library, follow_sources, edit_during_build, take_over, keep_to_the_toolchain, say_what_needs_a_build, fail_by_devices, write_nothing, follow_links, lack_tools,
     end_by_signals, install, name_the_commit, answer_by_release, keep_others_out, end_beside, lack_execution,
 ]
 
