@@ -1,6 +1,6 @@
 /*
  * Measures how much stack each call takes: stack DEPLOYMENT APPLICATION [CERTIFICATE]. Each is made on a thread of its own, whose stack is filled with a pattern
- * before. Prints a call and its bytes a line: ddscheck_open, the greatest of the calls on an open guard, ddscheck_close, and with a certificate ddscheck_check.
+ * before. Prints what ddscheck_open answers, and then a call and its bytes a line: ddscheck_open, the greatest of the calls on the guard, and those that need none.
  */
 #include "ddscheck.h"
 
@@ -19,6 +19,7 @@ struct work {
     const char *application;
     char *deployment, *certificate;
     size_t deployment_length, certificate_length;
+    ddscheck_status opened;
 };
 
 static void *do_nothing(void *work) { return work; }
@@ -26,7 +27,8 @@ static void *do_nothing(void *work) { return work; }
 static void *do_open(void *given)
 {
     struct work *work = given;
-    return ddscheck_open(work->deployment, work->deployment_length, work->application, &work->guard) == DDSCHECK_OK ? given : NULL;
+    work->opened = ddscheck_open(work->deployment, work->deployment_length, work->application, &work->guard);
+    return given;
 }
 
 /* Each call on every number up to 16, whatever it answers. */
@@ -55,7 +57,7 @@ static void *do_calls(void *given)
 static void *do_close(void *given)
 {
     struct work *work = given;
-    return ddscheck_close(&work->guard) == DDSCHECK_OK ? given : NULL;
+    return ddscheck_close(&work->guard) == (work->opened == DDSCHECK_OK ? DDSCHECK_OK : DDSCHECK_NOT_OPEN) ? given : NULL;
 }
 
 static void *do_check(void *given)
@@ -105,15 +107,16 @@ static char *read_file(const char *path, size_t *length)
 
 int main(int count, char **words)
 {
-    struct work work = {DDSCHECK_GUARD_CLOSED, NULL, NULL, NULL, 0, 0};
-    size_t nothing;
+    struct work work = {DDSCHECK_GUARD_CLOSED, NULL, NULL, NULL, 0, 0, DDSCHECK_OK};
+    size_t nothing, open;
     if (count < 3 || count > 4) {
         return 4;
     }
     work.application = words[2];
     work.deployment = read_file(words[1], &work.deployment_length);
     nothing = measure(do_nothing, &work);
-    printf("ddscheck_open %lu\n", (unsigned long)(measure(do_open, &work) - nothing));
+    open = measure(do_open, &work);
+    printf("%s\nddscheck_open %lu\n", ddscheck_status_name(work.opened), (unsigned long)(open - nothing));
     printf("calls %lu\n", (unsigned long)(measure(do_calls, &work) - nothing));
     printf("ddscheck_close %lu\n", (unsigned long)(measure(do_close, &work) - nothing));
     if (count == 4) {
