@@ -51,7 +51,9 @@ enum {
     /* a count would pass 2^64 - 1 */
     DDSCHECK_COUNT_LIMIT = 9,
     /* the deployment file can't be read, or has more than 1,048,576 bytes; ddscheck_open_file alone answers it */
-    DDSCHECK_NO_FILE = 10
+    DDSCHECK_NO_FILE = 10,
+    /* the QoS of an entity isn't that of the deployment file; ddscheck_dds_open alone answers it */
+    DDSCHECK_OTHER_QOS = 11
 };
 
 /* What the check of a deployment by a certificate says, one of the numbers below: the status with which `ddscheck check` ends. */
@@ -71,6 +73,18 @@ typedef struct ddscheck_guard {
 } ddscheck_guard;
 
 #define DDSCHECK_GUARD_CLOSED {NULL, 0}
+
+/* The QoS of a writer or a reader as the deployment file has it. The kinds have the numbers of DDS. A limit of 0 is none, and so is the depth of KEEP_ALL. */
+typedef struct ddscheck_qos {
+    /* 0 VOLATILE, 1 TRANSIENT_LOCAL, 2 TRANSIENT, 3 PERSISTENT */
+    uint32_t durability;
+    /* 0 BEST_EFFORT, 1 RELIABLE */
+    uint32_t reliability;
+    /* 0 KEEP_LAST, 1 KEEP_ALL */
+    uint32_t history;
+    uint32_t depth;
+    uint32_t max_samples, max_instances, max_samples_per_instance;
+} ddscheck_qos;
 
 /* ── the library's own calls; texts come with their lengths in bytes ── */
 ddscheck_status ddscheck_check_deployment(const char *deployment, size_t deployment_length, const char *certificate, size_t certificate_length, uint32_t *verdict,
@@ -99,6 +113,11 @@ ddscheck_status ddscheck_fire(ddscheck_guard *guard, size_t rule);
 ddscheck_status ddscheck_permits(const ddscheck_guard *guard, size_t writer, size_t key, uint64_t *permits);
 ddscheck_status ddscheck_spare(const ddscheck_guard *guard, size_t reader, size_t key, uint64_t *spare);
 
+/* The QoS of a writer, or of a reader, of this number, by the bytes of the deployment file. It takes memory while it works. DDSCHECK_FOREIGN: there's none of the
+   number. */
+ddscheck_status ddscheck_read_writer(const char *deployment, size_t length, size_t writer, ddscheck_qos *qos);
+ddscheck_status ddscheck_read_reader(const char *deployment, size_t length, size_t reader, ddscheck_qos *qos);
+
 /* ── opening, closing and look-ups, by texts that end with a 0 ── */
 
 /* The name of a status, as "DDSCHECK_NO_PERMIT" is that of 7. Of any other number it is "no status". */
@@ -116,6 +135,7 @@ static inline const char *ddscheck_status_name(ddscheck_status status)
     case DDSCHECK_NOT_ENOUGH: return "DDSCHECK_NOT_ENOUGH";
     case DDSCHECK_COUNT_LIMIT: return "DDSCHECK_COUNT_LIMIT";
     case DDSCHECK_NO_FILE: return "DDSCHECK_NO_FILE";
+    case DDSCHECK_OTHER_QOS: return "DDSCHECK_OTHER_QOS";
     default: return "no status";
     }
 }
@@ -192,5 +212,6 @@ static inline ddscheck_status ddscheck_key(const ddscheck_guard *guard, const ch
 
 /* a guard is handed over as two words */
 typedef char ddscheck_guard_has_two_words[sizeof(ddscheck_guard) == 16 ? 1 : -1];
+typedef char ddscheck_qos_has_seven_numbers[sizeof(ddscheck_qos) == 28 ? 1 : -1];
 
 #endif

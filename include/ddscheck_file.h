@@ -1,5 +1,5 @@
 /*
- * Opens a guard of ddscheck.h by the path of its deployment file. It reads the file whole by the C library, into memory that it gives back before it answers.
+ * Opens a guard of ddscheck.h by the path of its deployment file, which it reads whole by the C library.
  */
 #ifndef DDSCHECK_FILE_H
 #define DDSCHECK_FILE_H
@@ -16,31 +16,46 @@ extern "C" {
 /* As many bytes as a deployment file may have. */
 #define DDSCHECK_FILE_MOST 1048576
 
-/* What ddscheck_open answers for the bytes of the file; DDSCHECK_NO_FILE where it can't be read or has too many. */
-static inline ddscheck_status ddscheck_open_file(const char *path, const char *application, ddscheck_guard *guard)
+/* The bytes of a file, which the caller gives to free; DDSCHECK_NO_FILE where it can't be read or has too many, and then there are none. */
+static inline ddscheck_status ddscheck_read_file(const char *path, char **bytes, size_t *length)
 {
     const size_t most = DDSCHECK_FILE_MOST;
-    ddscheck_status status = DDSCHECK_NO_FILE;
+    ddscheck_status status = DDSCHECK_OK;
     FILE *file = fopen(path, "rb");
-    char *bytes = NULL;
+    *bytes = NULL;
+    *length = 0;
     if (file == NULL) {
         return DDSCHECK_NO_FILE;
     }
 #ifdef __cplusplus
-    bytes = static_cast<char *>(malloc(most + 1));
+    *bytes = static_cast<char *>(malloc(most + 1));
 #else
-    bytes = malloc(most + 1);
+    *bytes = malloc(most + 1);
 #endif
-    if (bytes == NULL) {
+    if (*bytes == NULL) {
         status = DDSCHECK_NO_MEMORY;
     } else {
-        size_t length = fread(bytes, 1, most + 1, file);
-        if (!ferror(file) && length <= most) {
-            status = ddscheck_open(bytes, length, application, guard);
+        *length = fread(*bytes, 1, most + 1, file);
+        if (ferror(file) || *length > most) {
+            status = DDSCHECK_NO_FILE;
+            free(*bytes);
+            *bytes = NULL;
         }
     }
-    free(bytes);
     (void)fclose(file);
+    return status;
+}
+
+/* What ddscheck_open answers for the bytes of the file; DDSCHECK_NO_FILE where it can't be read or has too many. */
+static inline ddscheck_status ddscheck_open_file(const char *path, const char *application, ddscheck_guard *guard)
+{
+    char *bytes = NULL;
+    size_t length = 0;
+    ddscheck_status status = ddscheck_read_file(path, &bytes, &length);
+    if (status == DDSCHECK_OK) {
+        status = ddscheck_open(bytes, length, application, guard);
+    }
+    free(bytes);
     return status;
 }
 

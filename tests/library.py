@@ -53,6 +53,15 @@ write DDSCHECK_OK
 one too many DDSCHECK_NO_PERMIT
 close DDSCHECK_OK
 close again DDSCHECK_NOT_OPEN
+read DDSCHECK_OK
+no deployment DDSCHECK_FAULT
+9 9 9 9 9 9 9
+ping_w DDSCHECK_OK
+0 1 1 0 0 0 0
+pong_r DDSCHECK_OK
+0 1 1 0 0 0 3
+no reader DDSCHECK_FOREIGN
+0 1 1 0 0 0 3
 """
 CALLED = f"{GUARDED}check DDSCHECK_OK\n0 {len(YES)}\n{YES}verdict alone DDSCHECK_OK\n0\n"
 QUERIED = "1 1 1 0\n3 0\nmay_write DDSCHECK_OK\n"

@@ -73,7 +73,7 @@ done
 """
 LIBRARIES = ["libddscheck.a", "libddscheck-guard.a"]
 # the calls of the library without the check
-CALLS = {"open_guard", "free_guard", "find_writer", "find_reader", "find_rule", "find_key", "take", "write", "may_write", "fire", "permits", "spare"}
+CALLS = {"open_guard", "free_guard", "find_writer", "find_reader", "find_rule", "find_key", "take", "write", "may_write", "fire", "permits", "spare", "read_writer", "read_reader"}
 NEEDS_BUILD = "so this needs the built program: ./ddscheck --build makes it\n"
 
 

@@ -38,6 +38,27 @@ static void keep_rules(ddscheck_guard *guard)
     print("one too many", ddscheck_write(guard, writer, key));
 }
 
+static void print_qos(const char *what, ddscheck_status status, const ddscheck_qos *qos)
+{
+    print(what, status);
+    printf("%u %u %u %u %u %u %u\n", (unsigned)qos->durability, (unsigned)qos->reliability, (unsigned)qos->history, (unsigned)qos->depth, (unsigned)qos->max_samples,
+        (unsigned)qos->max_instances, (unsigned)qos->max_samples_per_instance);
+}
+
+/* What the file says of the QoS of its endpoints; what isn't there leaves the last answer as it was. */
+static void read_qos(const char *path)
+{
+    ddscheck_qos qos = {9, 9, 9, 9, 9, 9, 9};
+    char *bytes = NULL;
+    size_t length = 0;
+    print("read", ddscheck_read_file(path, &bytes, &length));
+    print_qos("no deployment", ddscheck_read_writer(bytes, length / 2, 0, &qos), &qos);
+    print_qos("ping_w", ddscheck_read_writer(bytes, length, 0, &qos), &qos);
+    print_qos("pong_r", ddscheck_read_reader(bytes, length, 1, &qos), &qos);
+    print_qos("no reader", ddscheck_read_reader(bytes, length, 2, &qos), &qos);
+    free(bytes);
+}
+
 #ifndef GUARD_ALONE
 static size_t read_file(const char *path, char *bytes, size_t most)
 {
@@ -78,6 +99,7 @@ int main(int count, char **words)
     keep_rules(&guard);
     print("close", ddscheck_close(&guard));
     print("close again", ddscheck_close(&guard));
+    read_qos(words[1]);
 #ifndef GUARD_ALONE
     check(words[1], words[2]);
 #endif

@@ -54,6 +54,20 @@ static void *do_calls(void *given)
     return given;
 }
 
+static void *do_read_writer(void *given)
+{
+    struct work *work = given;
+    ddscheck_qos qos;
+    return ddscheck_read_writer(work->deployment, work->deployment_length, 0, &qos) == work->opened ? given : NULL;
+}
+
+static void *do_read_reader(void *given)
+{
+    struct work *work = given;
+    ddscheck_qos qos;
+    return ddscheck_read_reader(work->deployment, work->deployment_length, 0, &qos) == work->opened ? given : NULL;
+}
+
 static void *do_close(void *given)
 {
     struct work *work = given;
@@ -118,6 +132,8 @@ int main(int count, char **words)
     open = measure(do_open, &work);
     printf("%s\nddscheck_open %lu\n", ddscheck_status_name(work.opened), (unsigned long)(open - nothing));
     printf("calls %lu\n", (unsigned long)(measure(do_calls, &work) - nothing));
+    printf("ddscheck_read_writer %lu\n", (unsigned long)(measure(do_read_writer, &work) - nothing));
+    printf("ddscheck_read_reader %lu\n", (unsigned long)(measure(do_read_reader, &work) - nothing));
     printf("ddscheck_close %lu\n", (unsigned long)(measure(do_close, &work) - nothing));
     if (count == 4) {
         work.certificate = read_file(words[3], &work.certificate_length);
