@@ -11,7 +11,7 @@ use Rattle.dds_check.specs.declared.verdict.No.{No}
 use Rattle.dds_notes.specs.Notes.{note_subject}
 use Rattle.dds_lint.specs.Conditions.{all_nos, bare_nos}
 use Rattle.dds_lint.specs.Endless.{endless_rules}
-use Rattle.dds_lint.specs.Live.{IsLive}
+use Rattle.dds_lint.specs.Firings.{AreLimits}
 use Rattle.dds_lint.specs.Notes.{all_notes}
 use Rattle.dds_lint.specs.declared.endless.EndlessRule.{EndlessRule}
 use Rattle.dds_lint.specs.declared.notes.Note.{Note}
@@ -92,9 +92,9 @@ abbrev pub of_lists : Lists → Certificate → List No → List Note → List M
 of_lists d cert nos notes =
     map condition_matter nos ++ (map endless_matter (endless_rules (network_of d)) ++ map (note_matter d cert) notes)
 
--- the notes on a deployment and a certificate, by the rules that can permit a write
+-- the notes on a deployment and a certificate, by how often each rule can fire
 abbrev pub AreNotes : Lists → Certificate → List Note → Type 0
-AreNotes d cert notes = (live : ℕ → Bool) × IsLive (network_of d) live × (notes ≡ all_notes d live cert)
+AreNotes d cert notes = (limit : ℕ → ℕ) × AreLimits (network_of d) limit × (notes ≡ all_notes d limit cert)
 
 -- what is found of a deployment without a certificate: the conditions that ask for none, endless rules, and notes
 abbrev pub IsBare : Lists → List Matter → Type 0
