@@ -61,12 +61,12 @@ fn missing_help(alloc: Global, plan: &Plan, take: &Portion<ReaderNo>) -> TextRes
     }
 }
 
-/// What would be right for a rule that waits for rules which can't fire either.
+/// What would be right for a rule that takes more than ever comes.
 fn waiting_help(rule: &Rule) -> &'static str {
     if 0 < rule.start {
-        "once its `start` is used up, it waits for rules that can't fire: mend these"
+        "once its `start` is used up, it waits for ever: for a rule that can't fire, or for more than is written"
     } else {
-        "what it takes is written only by rules that can't fire either: give one of them a `start`"
+        "it waits for rules that can't fire either, or for more than they write: raise a `start`, or take less"
     }
 }
 
@@ -121,6 +121,8 @@ fn kind_help(lists: &Deployment, note: Note) -> &'static str {
         Note::NoStrictReader =>
             "where none may be lost, a reader has `reliability = \"RELIABLE\"` and no `may_lose`",
         Note::StuckRule(_) => "let something that it takes be written, or give it a `start`",
+        Note::Stops { .. } =>
+            "right if that's all it ever does; else compare what it takes each time with what's written for that",
         Note::Finite(_) =>
             "right if that's all it ever writes, once its readers have matched; else say in `takes` what it waits for",
         Note::LossyTake(_) =>
@@ -204,7 +206,7 @@ fn entry_of(judged: &Judged, note: Note) -> (Role, &'static str, usize, &'static
         }
         Note::NoRules | Note::NoStart => (Role::Deployment, "rules", 0, "name"),
         Note::NoStrictReader => (Role::Deployment, "readers", 0, "name"),
-        Note::StuckRule(rule) | Note::LossyTake(rule) => {
+        Note::StuckRule(rule) | Note::Stops { rule, .. } | Note::LossyTake(rule) => {
             (Role::Deployment, "rules", rule_entry(judged, rule), "name")
         }
         Note::Finite(rule) => (Role::Deployment, "rules", rule_entry(judged, rule), "start"),

@@ -1,6 +1,7 @@
 -- How often each rule can fire, by how much can come of what it takes.
-use Rattle.std.specs.Prelude.{ℕ, zero, suc, ◌≡◌, ◌+◌, ◌*◌, ◌<◌, ◌≤◌, Bool, true, ◌&&◌, ◌||◌, ◌==◌, nat_lt, nat_le, length, if◌then◌else◌}
+use Rattle.std.specs.Prelude.{ℕ, zero, suc, ◌≡◌, ◌+◌, ◌*◌, ◌<◌, ◌≤◌, Bool, true, ◌&&◌, ◌||◌, ◌==◌, nat_lt, nat_le, List, length, min, slice_index, if◌then◌else◌}
 use Rattle.std.specs.List.{list_all, sum_by}
+use Rattle.dds_base.specs.Grid.{most_keys, most_places}
 use Rattle.dds_base.specs.Sums.{count_below, total}
 use Rattle.dds_base.specs.declared.portion.Portion.{Portion}
 use Rattle.dds_match.specs.Network.{Network}
@@ -31,9 +32,17 @@ share net r k e = if (e.key == k) && net.matched e.endpoint r then e.count else 
 abbrev pub sends : Network → ℕ → ℕ → ℕ → ℕ
 sends net r k u = sum_by (share net r k) (net.rule u).writes
 
--- how many samples of the key can come to the reader, where rules fire as often as these limits say
+-- how many of the key are sent to the reader, where rules fire as often as these limits say
+abbrev pub sent : Network → (ℕ → ℕ) → ℕ → ℕ → ℕ
+sent net limit r k = total net.rules (λ u. sends net r k u * rounds net u (limit u))
+
+-- as far as that's counted: no number of firings that is counted takes more
+abbrev pub capped : ℕ → ℕ
+capped n = min n 4294967295
+
+-- so many can come at most, if the reader hears the key
 abbrev pub comes : Network → (ℕ → ℕ) → ℕ → ℕ → ℕ
-comes net limit r k = total net.rules (λ u. sends net r k u * rounds net u (limit u))
+comes net limit r k = if net.hears r k then capped (sent net limit r k) else 0
 
 -- n times as much as is taken there can come
 abbrev pub covers : Network → (ℕ → ℕ) → ℕ → Portion ℕ → Bool
@@ -72,3 +81,19 @@ limits_after net (suc n) u = firings net (limits_after net n) u
 -- those after as many rounds as there are firings to count: no round raises one of them any more
 abbrev pub limits_of : Network → ℕ → ℕ
 limits_of net = limits_after net (net.rules * (most_firings + 1))
+
+-- ── a table of what is sent, as far as that's counted
+-- the places of the readers' keys have what is sent there
+pub record ShowsSent (net : Network) (limit : ℕ → ℕ) (cells : List ℕ) : Type 0 where
+  pub len : length cells ≡ most_places
+  pub shown : (r k : ℕ) → r < net.readers → k < most_keys → capped (slice_index cells (r * most_keys + k)) ≡ capped (sent net limit r k)
+
+-- what can come, what is covered and how often a rule can fire by a table
+abbrev pub comes_by : Network → List ℕ → ℕ → ℕ → ℕ
+comes_by net cells r k = if net.hears r k then capped (slice_index cells (r * most_keys + k)) else 0
+
+abbrev pub covers_by : Network → List ℕ → ℕ → Portion ℕ → Bool
+covers_by net cells n e = nat_le (n * e.count) (comes_by net cells e.endpoint e.key)
+
+abbrev pub can_fire_by : Network → List ℕ → ℕ → ℕ → Bool
+can_fire_by net cells u n = has_takes net u && list_all (covers_by net cells n) (net.rule u).takes

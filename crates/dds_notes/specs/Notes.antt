@@ -30,8 +30,11 @@ stuck_words d u =
     rule_text d u ++ codes " can never fire: too little of what it takes can come"
 
 -- a rule that fires so often at most
+abbrev pub times : ℕ → List ℕ
+times n = if n == 1 then codes " time" else codes " times"
+
 abbrev pub stops_words : Lists → (u n : ℕ) → List ℕ
-stops_words d u n = rule_text d u ++ (codes " stops: it can't fire more than " ++ (decimal n ++ (if n == 1 then codes " time" else codes " times")))
+stops_words d u n = rule_text d u ++ (codes " stops: it can't fire more than " ++ (decimal n ++ times n))
 
 -- a key that no rule writes
 abbrev pub unwritten_words : Lists → ℕ → ℕ → List ℕ
