@@ -1,7 +1,8 @@
 //! The findings of notes.
-ghost use Rattle.std.specs.Prelude.{◌≡◌, IfOk};
+ghost use Rattle.std.specs.Prelude.{◌≡◌, [], IfOk};
 ghost use Rattle.dds_weights.specs.Views.{certificate_view};
 ghost use Rattle.dds_findings.specs.Findings.{matter_of, note_matter};
+ghost use Rattle.dds_findings.specs.declared.finding.About.TheVariants as about;
 
 use crate::conditions::{Spotted, rule_entry};
 use crate::finding::{About, Finding, Role};
@@ -253,6 +254,30 @@ fn details_of(alloc: Global, plan: &Plan, note: Note) -> Result<Vec<String>, NoM
             every_line(alloc, terms.as_str())
         }
     }
+}
+
+/// The finding of how many more notes there are of the kind of this one. `NoMemory` is the only error.
+pub(crate) fn more_notes(
+    alloc: Global,
+    files: &Files,
+    judged: &Judged,
+    like: Note,
+    count: usize,
+) -> Result<Finding, NoMemory>
+    ensures { IfOk result (λ finding. matter_of finding ≡ (about.MoreNotes like count, [])) }
+{
+    let (role, _, _, _) = entry_of(judged, like);
+    Ok(Finding {
+        about: About::MoreNotes { like, count },
+        name: kind_of(like).name(),
+        subject: String::new(alloc),
+        role,
+        path: String::new(alloc),
+        message: format!(in alloc; "{count} more of these aren't listed")?,
+        help: String::new(alloc),
+        details: Vec::new(alloc),
+        spot: files.file(role).value_spot(alloc, "")?,
+    })
 }
 
 /// The finding of a note. `NoMemory` is the only error.
