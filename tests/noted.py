@@ -58,10 +58,12 @@ def ends(case, writer):
 
 
 def late(case):
-    """A note for each pair whose writer keeps what it wrote and ends, and whose strict reader doesn't ask for that."""
+    """A note for each pair whose writer keeps what it wrote and ends, and whose strict reader doesn't ask for that; none where one of the two may come at any time, since
+    that is refused."""
     for writer, reader in case.matched:
         is_latched = case.writers[writer]["durability"] != "VOLATILE" and ends(case, writer)
-        if is_latched and case.readers[reader]["durability"] == "VOLATILE" and not case.is_watcher(reader):
+        is_refused = any(case.joins[one["participant"]] == "any" for one in (case.writers[writer], case.readers[reader]))
+        if is_latched and case.readers[reader]["durability"] == "VOLATILE" and not case.is_watcher(reader) and not is_refused:
             yield "LateReader", reader
 
 
