@@ -3,7 +3,9 @@ pub mod Judged
 pub mod Lacking
 pub mod Lazily
 pub mod Moves
+pub mod Passing
 pub mod Reaching
+pub mod Stamped
 pub mod Told
 mod WordLaws
 pub mod Worlds

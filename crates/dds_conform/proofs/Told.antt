@@ -16,11 +16,12 @@ use Rattle.dds_conform.specs.declared.actions.Action.TheVariants.{Write, Take}
 use Rattle.dds_conform.specs.declared.actions.Entry.{Entry}
 use Rattle.dds_conform.specs.declared.fault.TraceFault.{TraceFault}
 use Rattle.dds_conform.specs.declared.fault.TraceFault.TheVariants.{At, NoMemory}
-use Rattle.dds_conform.specs.declared.fault.TraceFaultKind.TheVariants.{NotText, NotAnEntry, Foreign}
+use Rattle.dds_conform.specs.declared.fault.TraceFaultKind.TheVariants.{NotText, NotAnEntry, Foreign, MissingTime, TimeFalls}
 use Rattle.dds_conform.specs.Entries.{entry_action, entry_application, entry_line}
 use Rattle.dds_conform.specs.Actions.{action_text, is_own}
 use Rattle.dds_conform.specs.Judging.{AreKnown, IsKnown}
-use Rattle.dds_conform.specs.Reading.{AreEntries, IsEntryOf, IsFaultAt, IsFaultOf, IsLineFaultOf, IsPushFault, is_blank, is_time, says_something, shown, told, told_from}
+use Rattle.dds_conform.specs.Traces.{IsFaultOf, IsTextFaultOf}
+use Rattle.dds_conform.specs.Reading.{AreEntries, IsEntryOf, IsFaultAt, IsLineFaultOf, IsPushFault, is_blank, is_head, says_something, shown, told, told_from}
 
 told_push : (n : ℕ) (ls : List (List ℕ)) (line : List ℕ) → told_from n (ls ++ line ∷ []) ≡ told_from n ls ++ told_from (n + length ls) (line ∷ [])
 unfolding told_from
@@ -99,32 +100,40 @@ of_error (Ok x) Q P gives h = tt
 of_error (Err e) Q P gives h = gives e h
 
 -- ── bytes that are UTF-8
-no_text_fault : (d : Lists) (ls : List (List ℕ)) (n : ℕ) → IsLineFaultOf d ls (At NotText n) → ⊥
-no_text_fault d ls n f = f.has
-
-of_text : (d : Lists) (bytes : List ℕ) (fault : TraceFault) → IsUtf8 bytes → IsLineFaultOf d (lines bytes) fault → IsFaultOf d bytes fault
-of_text d bytes (At NotText n) is fault = absurd (no_text_fault d (lines bytes) n fault)
+of_text : (d : Lists) (bytes : List ℕ) (fault : TraceFault) → IsUtf8 bytes → IsTextFaultOf d (lines bytes) fault → IsFaultOf d bytes fault
+of_text d bytes (At NotText n) is fault = absurd fault
 of_text d bytes (At NotAnEntry n) is fault = (is, fault)
 of_text d bytes (At Foreign n) is fault = (is, fault)
+of_text d bytes (At MissingTime n) is fault = (is, fault)
+of_text d bytes (At TimeFalls n) is fault = (is, fault)
 of_text d bytes NoMemory is fault = tt
 
-pub read_of_text : {X : Type 0} (d : Lists) (bytes text : List ℕ) (r : Result X TraceFault) → text ≡ bytes → IsUtf8 bytes → IfErr r (IsLineFaultOf d (lines text)) → IfErr r (IsFaultOf d bytes)
+pub read_of_text : {X : Type 0} (d : Lists) (bytes text : List ℕ) (r : Result X TraceFault) → text ≡ bytes → IsUtf8 bytes → IfErr r (IsTextFaultOf d (lines text)) → IfErr r (IsFaultOf d bytes)
 read_of_text d bytes text (Ok x) same is fault = tt
-read_of_text d bytes text (Err e) same is fault = of_text d bytes e is (subst (λ (t : List ℕ). IsLineFaultOf d (lines t) e) same fault)
+read_of_text d bytes text (Err e) same is fault = of_text d bytes e is (subst (λ (t : List ℕ). IsTextFaultOf d (lines t) e) same fault)
+
+-- the fault of a line is one of the text
+pub line_fault : (d : Lists) (ls : List (List ℕ)) (fault : TraceFault) → IsLineFaultOf d ls fault → IsTextFaultOf d ls fault
+line_fault d ls (At NotText n) fault = fault.has
+line_fault d ls (At NotAnEntry n) fault = fault
+line_fault d ls (At Foreign n) fault = fault
+line_fault d ls (At MissingTime n) fault = absurd fault.has
+line_fault d ls (At TimeFalls n) fault = absurd fault.has
+line_fault d ls NoMemory fault = tt
 
 -- ── what a line tells
-pub told_some : (line time text : List ℕ) → (position_or_len (λ b. eqb b 32) line < length line) × (time ≡ before_first (λ b. eqb b 32) line) × (text ≡ after_first (λ b. eqb b 32) line) → is_time time ≡ true → told line ≡ Some text
+pub told_some : (line time text : List ℕ) → (position_or_len (λ b. eqb b 32) line < length line) × (time ≡ before_first (λ b. eqb b 32) line) × (text ≡ after_first (λ b. eqb b 32) line) → is_head time ≡ true → told line ≡ Some text
 told_some line time text cut is =
     let within = cut.0 in
     let test : nat_lt (position_or_len (λ b. eqb b 32) line) (length line) ≡ true = grind (arith, nat_tests) in
     let has : list_any is_blank line ≡ true = list_any-position is_blank line ∙ test in
-    let timed : is_time (before_first is_blank line) ≡ true = ap is_time (sym cut.1) ∙ is in
+    let timed : is_head (before_first is_blank line) ≡ true = ap is_head (sym cut.1) ∙ is in
     rw (has, timed) (ap Some (sym cut.2))
 
-pub told_untimed : (line time text : List ℕ) → (position_or_len (λ b. eqb b 32) line < length line) × (time ≡ before_first (λ b. eqb b 32) line) × (text ≡ after_first (λ b. eqb b 32) line) → is_time time ≡ false → told line ≡ None
+pub told_untimed : (line time text : List ℕ) → (position_or_len (λ b. eqb b 32) line < length line) × (time ≡ before_first (λ b. eqb b 32) line) × (text ≡ after_first (λ b. eqb b 32) line) → is_head time ≡ false → told line ≡ None
 told_untimed line time text cut is =
-    let untimed : is_time (before_first is_blank line) ≡ false = ap is_time (sym cut.1) ∙ is in
-    off (list_any is_blank line) (is_time (before_first is_blank line)) (Some (after_first is_blank line)) untimed
+    let untimed : is_head (before_first is_blank line) ≡ false = ap is_head (sym cut.1) ∙ is in
+    off (list_any is_blank line) (is_head (before_first is_blank line)) (Some (after_first is_blank line)) untimed
   where
     off : (a b : Bool) (x : Option (List ℕ)) → b ≡ false → cond (a && b) x None ≡ None
     off true b x e = rw e refl
