@@ -1,3 +1,4 @@
+pub mod Clocked
 pub mod Givers
 pub mod Judged
 pub mod Lacking

@@ -26,7 +26,7 @@ count_more p es n e lt at = elim (cases_Bool (p e)) [
   | inr f ↦ (let h = count_by_more_no p es n e lt (ap p (sym at) ∙ f) in rw f (omega (arith, h)))
 ]
 
-take_take : {A : Type 0} (m n : ℕ) (xs : List A) → m ≤ n → take m (take n xs) ≡ take m xs
+pub take_take : {A : Type 0} (m n : ℕ) (xs : List A) → m ≤ n → take m (take n xs) ≡ take m xs
 take_take zero n xs le = refl
 take_take (suc m) zero xs le = absurd (omega (arith, le))
 take_take (suc m) (suc n) [] le = refl
