@@ -57,7 +57,9 @@ fn early_document(alloc: Global, lists: &Deployment, early: &Early) -> Result<Va
     let reader = reader_name(lists, early.reader);
     let span = field_of(early.within);
     let by = early.by;
-    json!(in alloc; {"answer": "no", "line": line, "writer": writer, "key": key, "reader": reader, "span": span, "early": by})
+    json!(in alloc; {
+        "answer": "no", "line": line, "writer": writer, "key": key, "reader": reader, "span": span, "early": by
+    })
 }
 
 /// A sample that waits too long, with the first line that is too late for it.
@@ -70,7 +72,9 @@ fn late_document(alloc: Global, lists: &Deployment, late: &Late) -> Result<Value
     let written = late.written;
     let span = field_of(late.within);
     let by = late.by;
-    json!(in alloc; {"answer": "no", "line": line, "reader": reader, "key": key, "written": written, "span": span, "late": by})
+    json!(in alloc; {
+        "answer": "no", "line": line, "reader": reader, "key": key, "written": written, "span": span, "late": by
+    })
 }
 
 /// The document of an answer.
