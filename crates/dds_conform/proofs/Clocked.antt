@@ -1,6 +1,7 @@
 -- What is known of the clocks of a trace, span by span.
 use Rattle.std.proofs.Common.{◌≡◌, ◌⊎◌, inl, inr, ℕ, ◌+◌, ◌*◌, ◌-◌, ◌^◌, ◌/◌, ◌%◌, ◌<◌, ◌≤◌, List, [], ◌∷◌, ◌++◌, length, get_or, take, slice_get, refl, sym, ap, ◌∙◌, subst, arith, below_more, Option, Some, None}
 use Rattle.std.specs.Prelude.{option_and_then}
+use Rattle.std.specs.Option.{option_or}
 use Rattle.std.proofs.lemmas.List.{get_or-take, get_or_append_left, get_or_push, length-take}
 use Rattle.std.proofs.lemmas.Option.{get_or_from_slice_get, slice_get-get_or, slice_get_past, slice_get_within}
 use Rattle.dds_lists.specs.Lists.{Lists, Reader}
@@ -82,11 +83,11 @@ pub found_less : (d : Lists) (es : List Entry) (ts : List ℕ) (m n : ℕ) (b : 
 found_less d es ts m n None le found = tt
 found_less d es ts m n (Some b) le found = (omega (arith, found.0, le), found.1)
 
--- what was found before, or else now
-pub found_either : (d : Lists) (es : List Entry) (ts : List ℕ) (n : ℕ) (now old new : Option Breach) → end_of old n ≤ n → IsFound d es ts (end_of old n) now → IsFound d es ts n old → (now ≡ None → new ≡ old) → ((b : Breach) → now ≡ Some b → new ≡ Some b)
+-- what was found before it, or else what was found
+pub found_either : (d : Lists) (es : List Entry) (ts : List ℕ) (n : ℕ) (now old new : Option Breach) → end_of old n ≤ n → IsFound d es ts (end_of old n) now → IsFound d es ts n old → new ≡ option_or now old
     → IsFound d es ts n new × (end_of new n ≤ end_of old n) × (end_of new n ≡ end_of now (end_of old n))
-found_either d es ts n None old new within found before none some = let same = none refl in rw same (before, omega arith, refl)
-found_either d es ts n (Some b) old new within found before none some = let same = some b refl in rw same ((omega (arith, found.0, within), found.1), (let lt = found.0 in omega (arith, lt)), refl)
+found_either d es ts n None old new within found before is = rw is (before, omega arith, refl)
+found_either d es ts n (Some b) old new within found before is = let lt = found.0 in rw is ((omega (arith, lt, within), found.1), omega (arith, lt), refl)
 
 pub found_within : (d : Lists) (es : List Entry) (ts : List ℕ) (n : ℕ) (b : Option Breach) → IsFound d es ts n b → end_of b n ≤ n
 found_within d es ts n None found = omega arith

@@ -108,7 +108,7 @@ module _ (d : Lists) (es : List Entry) (ts : List ℕ) (i : ℕ) (old : Window) 
         ];
         written = win.written;
         gone = rows_write e old.passed es old.gone new.gone within at passes.gone win.gone;
-        owed = row_key key old.span.reader (heard d old.span.reader) old.passed es old.owed new.owed e win.span.reader within at passes.key passes.owed win.owed;
+        owed = row_key key old.span.reader (heard d old.span.reader) old.passed es old.owed new.owed e win.span.reader within at passes.is_key passes.owed win.owed;
         ended = win.ended;
         waits = waits;
       })
@@ -117,7 +117,7 @@ module _ (d : Lists) (es : List Entry) (ts : List ℕ) (i : ℕ) (old : Window) 
   pub passed_other : (new : Window) (key : Option ℕ) (e : Entry) → IsTimed d es ts → i < length es → e ≡ get_or es old.passed e → old.passed < i → slice_index ts old.passed + old.span.nanoseconds < slice_index ts i → Passes d e old new key
       → key ≡ None → IsWindow d es ts i new
   passed_other new key e timed lt at next long passes none =
-      let is : IsKeyOf (heard d old.span.reader) e None = subst (IsKeyOf (heard d old.span.reader) e) none passes.key in
+      let is : IsKeyOf (heard d old.span.reader) e None = subst (IsKeyOf (heard d old.span.reader) e) none passes.is_key in
       passed new key e timed lt at next long passes (λ says k.
           let same = count_none (heard d old.span.reader k) es old.passed e (omega (arith, next, lt)) at (is k) in
           omega (arith, same, win.waits says k))
@@ -125,7 +125,7 @@ module _ (d : Lists) (es : List Entry) (ts : List ℕ) (i : ℕ) (old : Window) 
   -- the row of what is owed, with one entry more
   owed_now : (new : Window) (l : ℕ) (e : Entry) → i < length es → e ≡ get_or es old.passed e → old.passed < i → Passes d e old new (Some l) → IsRowOf old.span.reader (heard d old.span.reader) (old.passed + 1) es new.owed
   owed_now new l e lt at next passes =
-      row_key (Some l) old.span.reader (heard d old.span.reader) old.passed es old.owed new.owed e win.span.reader (omega (arith, next, lt)) at passes.key passes.owed win.owed
+      row_key (Some l) old.span.reader (heard d old.span.reader) old.passed es old.owed new.owed e win.span.reader (omega (arith, next, lt)) at passes.is_key passes.owed win.owed
 
   -- one entry more, whose sample no longer waits
   pub passed_ended : (new : Window) (l : ℕ) (e : Entry) → IsTimed d es ts → i < length es → e ≡ get_or es old.passed e → old.passed < i → slice_index ts old.passed + old.span.nanoseconds < slice_index ts i → Passes d e old new (Some l)
@@ -134,7 +134,7 @@ module _ (d : Lists) (es : List Entry) (ts : List ℕ) (i : ℕ) (old : Window) 
       passed new (Some l) e timed lt at next long passes (λ says k. elim (cases_eq l k) [
         | inl same ↦ subst (λ j. count_in (heard d old.span.reader j) (old.passed + 1) es ≤ count_in (ends old.span.within old.span.reader j) i es) same (enough says)
         | inr other ↦ (
-            let fails : heard d old.span.reader k e ≡ false = passes.key.1 k ∙ differ l k other in
+            let fails : heard d old.span.reader k e ≡ false = passes.is_key.1 k ∙ differ l k other in
             let no_more = count_none (heard d old.span.reader k) es old.passed e (omega (arith, next, lt)) at fails in
             omega (arith, no_more, win.waits says k))
       ])
@@ -150,7 +150,7 @@ module _ (d : Lists) (es : List Entry) (ts : List ℕ) (i : ℕ) (old : Window) 
           let calm : is_waiting (record old { passed = old.passed + 1; gone = new.gone; owed = new.owed }) l ≡ false = subst (λ w. is_waiting w l ≡ false) passes.rest still in
           let less : nat_lt (tally_at old.ended old.span.reader l) (tally_at new.owed old.span.reader l) ≡ false = rw says at calm in
           let most = ltb-false _ _ less in
-          omega (arith, most, owed_now new l e lt at next passes l passes.key.0, win.ended l passes.key.0)
+          omega (arith, most, owed_now new l e lt at next passes l passes.is_key.0, win.ended l passes.is_key.0)
 
   -- one entry more, whose sample still waits
   pub passed_waiting : (new : Window) (l : ℕ) (e : Entry) → IsTimed d es ts → i < length es → e ≡ get_or es old.passed e → old.passed < i → slice_index ts old.passed + old.span.nanoseconds < slice_index ts i → Passes d e old new (Some l)
@@ -159,17 +159,17 @@ module _ (d : Lists) (es : List Entry) (ts : List ℕ) (i : ℕ) (old : Window) 
       let waits : is_waiting (record old { passed = old.passed + 1; gone = new.gone; owed = new.owed }) l ≡ true = subst (λ w. is_waiting w l ≡ true) passes.rest still in
       let both = and_parts (says_end old.span.within) (nat_lt (tally_at old.ended old.span.reader l) (tally_at new.owed old.span.reader l)) waits in
       let less = ltb-true _ _ both.1 in
-      let is : heard d old.span.reader l e ≡ true = passes.key.1 l ∙ eq-eqb l l refl in
+      let is : heard d old.span.reader l e ≡ true = passes.is_key.1 l ∙ eq-eqb l l refl in
       let here : slice_get es old.passed ≡ Some e = slice_get_read es (length es) old.passed e refl (omega (arith, next, lt)) at in
       let one = count_one (heard d old.span.reader l) es old.passed e here is in
-      let row = owed_now new l e lt at next passes l passes.key.0 in
-      let ended = win.ended l passes.key.0 in
+      let row = owed_now new l e lt at next passes l passes.is_key.0 in
+      let ended = win.ended l passes.is_key.0 in
       let before = win.waits both.0 l in
       subst (λ w. IsOverdue d es ts i w.span old.passed l) (sym passes.rest) (record {
         before = next;
         entry = e;
         at = here;
-        heard = is;
+        awaited = is;
         of = win.span;
         says = both.0;
         next = omega (arith, one, row, ended, before, less);
@@ -279,7 +279,7 @@ too_late d es ts i p span x e f over at line at_p written reader within by =
       write = f;
       written_at = at_p;
       written = written;
-      heard = subst (λ r. heard d r x.key f ≡ true) (sym reader) (subst (λ g. heard d span.reader x.key g ≡ true) f_is over.heard);
+      awaited = subst (λ r. heard d r x.key f ≡ true) (sym reader) (subst (λ g. heard d span.reader x.key g ≡ true) f_is over.awaited);
       span = span.nanoseconds;
       of = ap (λ r. span_of d r x.within) reader ∙ (ap (span_of d span.reader) within ∙ over.of.of);
       says = subst (λ v. says_end v ≡ true) (sym within) over.says;

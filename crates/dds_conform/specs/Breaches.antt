@@ -1,6 +1,5 @@
 -- When a trace with times keeps the clocks of a deployment: no write comes too soon for a span of a reader, and no sample waits too long.
-use Rattle.std.specs.Prelude.{◌≡◌, ℕ, ◌+◌, ◌<◌, ◌≤◌, Bool, true, false, ◌==◌, ◌&&◌, List, Option, Some, None, count_by, slice_get, slice_index, take}
-use Rattle.std.specs.List.{list_any}
+use Rattle.std.specs.Prelude.{◌≡◌, ℕ, ◌+◌, ◌<◌, ◌≤◌, Bool, true, false, ◌==◌, ◌&&◌, List, Option, Some, count_by, length, slice_get, slice_index, take}
 use Rattle.dds_lists.specs.Lists.{Lists}
 use Rattle.dds_match.specs.Paces.{available_span, in_flight, is_awaited, taken_span}
 use Rattle.dds_conform.specs.declared.actions.Entry.{Entry}
@@ -90,7 +89,7 @@ pub record IsTooLate (d : Lists) (es : List Entry) (ts : List ℕ) (place : ℕ)
   pub write : Entry
   pub written_at : slice_get es sample ≡ Some write
   pub written : entry_line write ≡ x.written
-  pub heard : heard d x.reader x.key write ≡ true
+  pub awaited : heard d x.reader x.key write ≡ true
   pub span : ℕ
   pub of : span_of d x.reader x.within ≡ Some span
   pub says : says_end x.within ≡ true

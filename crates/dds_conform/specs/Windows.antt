@@ -69,7 +69,7 @@ pub record IsOverdue (d : Lists) (es : List Entry) (ts : List ℕ) (i : ℕ) (sp
   pub before : p < i
   pub entry : Entry
   pub at : slice_get es p ≡ Some entry
-  pub heard : heard d span.reader k entry ≡ true
+  pub awaited : heard d span.reader k entry ≡ true
   pub of : IsSpanOf d span
   pub says : says_end span.within ≡ true
   pub next : count_in (heard d span.reader k) p es ≡ count_in (ends span.within span.reader k) i es
@@ -85,7 +85,7 @@ pub record HasRoom (w : Window) : Type 0 where
 -- the window passed the entry, which wrote a sample of the key that the reader has to take, if there is a key
 pub record Passes (d : Lists) (e : Entry) (old new : Window) (key : Option ℕ) : Type 0 where
   pub gone : AddsWrite e old.gone new.gone
-  pub key : IsKeyOf (heard d old.span.reader) e key
+  pub is_key : IsKeyOf (heard d old.span.reader) e key
   pub owed : AddsKey old.span.reader key old.owed new.owed
   pub rest : new ≡ record old { passed = old.passed + 1; gone = new.gone; owed = new.owed }
 

@@ -136,10 +136,10 @@ fn is_write(entry: &Entry, writer: WriterNo, key: KeyNo) -> bool
 {
     match *entry {
         Entry::Wrote {
-            writer: of,
-            key: own,
+            writer: other,
+            key: its,
             ..
-        } => of == writer && own == key,
+        } => other == writer && its == key,
         Entry::Took { .. } => false,
     }
 }
@@ -252,7 +252,8 @@ impl Window {
         ensures some { IfSome result
             (IsOverdue plan.now entries.now times.now at self.new.span self.old.passed) }
     {
-        let key = self.go_past(plan, &entries[self.passed])?;
+        let place = self.passed;
+        let key = self.go_past(plan, &entries[place])?;
         if self.is_waiting(key) { Some(key) } else { None }
     }
 
