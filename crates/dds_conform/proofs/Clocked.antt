@@ -110,18 +110,20 @@ clocks_less d es ts m n le clocks = λ i r within lt. clocks i r within (omega (
 blocked_whole : (d : Lists) (es : List Entry) (ts : List ℕ) (p : ℕ) (x : Refused) → IsBlocked (network_of d) (take (p + 1) es) x → KeepsClocks d es ts p → IsTimedAnswer d es ts (answer.NoPermit x)
 blocked_whole d es ts p x b clocks =
     let at = from_front es (p + 1) b.place b.entry b.at in
-    let low = at.0 in
-    (record {
-      place = b.place;
-      entry = b.entry;
-      ledger = b.ledger;
-      at = at.1;
-      line = b.line;
-      write = b.write;
-      before = subst (λ fs. Reaches (network_of d) (actions_of fs) b.ledger) (take_take b.place (p + 1) es (omega (arith, low))) b.before;
-      short = b.short;
-      upto = λ rivals. subst (λ fs. ¬ Keeps (network_of d) (actions_of fs)) (take_take (b.place + 1) (p + 1) es (omega (arith, low))) (b.upto rivals);
-    }, clocks_less d es ts b.place p (omega (arith, low)) clocks)
+    let low = at.0 in (
+      record {
+        place = b.place;
+        entry = b.entry;
+        ledger = b.ledger;
+        at = at.1;
+        line = b.line;
+        write = b.write;
+        before = subst (λ fs. Reaches (network_of d) (actions_of fs) b.ledger) (take_take b.place (p + 1) es (omega (arith, low))) b.before;
+        short = b.short;
+        upto = λ rivals. subst (λ fs. ¬ Keeps (network_of d) (actions_of fs)) (take_take (b.place + 1) (p + 1) es (omega (arith, low))) (b.upto rivals);
+      },
+      clocks_less d es ts b.place p (omega (arith, low)) clocks,
+    )
 
 -- and so it is with a count that would pass its limit
 full_whole : (d : Lists) (es : List Entry) (p : ℕ) → IsFullAt (network_of d) (take (p + 1) es) → IsFullAt (network_of d) es

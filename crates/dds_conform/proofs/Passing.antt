@@ -119,8 +119,8 @@ module _ (d : Lists) (es : List Entry) (ts : List ℕ) (i : ℕ) (old : Window) 
   passed_other new key e timed lt at next long passes none =
       let is : IsKeyOf (heard d old.span.reader) e None = subst (IsKeyOf (heard d old.span.reader) e) none passes.is_key in
       passed new key e timed lt at next long passes (λ says k.
-          let same = count_none (heard d old.span.reader k) es old.passed e (omega (arith, next, lt)) at (is k) in
-          omega (arith, same, win.waits says k))
+      let same = count_none (heard d old.span.reader k) es old.passed e (omega (arith, next, lt)) at (is k) in
+      omega (arith, same, win.waits says k))
 
   -- the row of what is owed, with one entry more
   owed_now : (new : Window) (l : ℕ) (e : Entry) → i < length es → e ≡ get_or es old.passed e → old.passed < i → Passes d e old new (Some l) → IsRowOf old.span.reader (heard d old.span.reader) (old.passed + 1) es new.owed
@@ -145,6 +145,7 @@ module _ (d : Lists) (es : List Entry) (ts : List ℕ) (i : ℕ) (old : Window) 
           off : (b : Bool) → (b ≡ true → ⊥) → b ≡ false
           off true no = absurd (no refl)
           off false no = refl
+
       enough : says_end old.span.within ≡ true → count_in (heard d old.span.reader l) (old.passed + 1) es ≤ count_in (ends old.span.within old.span.reader l) i es
       enough says =
           let calm : is_waiting (record old { passed = old.passed + 1; gone = new.gone; owed = new.owed }) l ≡ false = subst (λ w. is_waiting w l ≡ false) passes.rest still in

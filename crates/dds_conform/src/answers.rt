@@ -94,7 +94,9 @@ fn late_text(alloc: Global, lists: &Deployment, late: &Late) -> Result<String, N
     let field = field_of(late.within);
     let reader = reader_name(lists, late.reader);
     let by = late.by;
-    format!(in alloc; "line {line}: {key} of line {written} too late for {field} of {reader} by {by} ns\n")
+    format!(in alloc;
+        "line {line}: {key} of line {written} too late for {field} of {reader} by {by} ns\n"
+    )
 }
 
 /// The text of an answer: `kept`, `unknown`, the line of a write that has no permit, and for each rule that could give

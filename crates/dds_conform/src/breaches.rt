@@ -106,7 +106,15 @@ pub(crate) fn first_breach(
     for number in 0..lists.readers() {
         let reader = ReaderNo::new(number);
         found = earlier(alloc, plan, entries, times, reader, Within::Taken, found)?;
-        found = earlier(alloc, plan, entries, times, reader, Within::Available, found)?;
+        found = earlier(
+            alloc,
+            plan,
+            entries,
+            times,
+            reader,
+            Within::Available,
+            found,
+        )?;
     }
     Ok(found)
 }

@@ -65,7 +65,11 @@ fn heard_key(plan: &Plan, reader: ReaderNo, entry: &Entry) -> Option<KeyNo>
     plan.assert_well_formed();
     match *entry {
         Entry::Wrote { writer, key, .. } => {
-            if is_awaited(plan, writer, reader, key) { Some(key) } else { None }
+            if is_awaited(plan, writer, reader, key) {
+                Some(key)
+            } else {
+                None
+            }
         }
         Entry::Took { .. } => None,
     }
@@ -81,7 +85,13 @@ fn ended_key(plan: &Plan, span: Span, entry: &Entry) -> Option<KeyNo>
         return None;
     }
     match *entry {
-        Entry::Took { reader, key, .. } => { if reader == span.reader { Some(key) } else { None } }
+        Entry::Took { reader, key, .. } => {
+            if reader == span.reader {
+                Some(key)
+            } else {
+                None
+            }
+        }
         Entry::Wrote { .. } => None,
     }
 }
@@ -145,13 +155,7 @@ fn is_write(entry: &Entry, writer: WriterNo, key: KeyNo) -> bool
 }
 
 /// The place of the write of the pair that is so many writes of it before this place.
-fn find_write(
-    entries: &[Entry],
-    before: usize,
-    writer: WriterNo,
-    key: KeyNo,
-    writes: u64,
-) -> usize
+fn find_write(entries: &[Entry], before: usize, writer: WriterNo, key: KeyNo, writes: u64) -> usize
     requires some { 0 < writes }
     requires enough { writes ≤ count_in (wrote writer key) before entries.now }
     requires within { before ≤ length entries.now }
@@ -254,7 +258,11 @@ impl Window {
     {
         let place = self.passed;
         let key = self.go_past(plan, &entries[place])?;
-        if self.is_waiting(key) { Some(key) } else { None }
+        if self.is_waiting(key) {
+            Some(key)
+        } else {
+            None
+        }
     }
 
     /// Passes all that lies longer ago than the span, seen from the entry at this place. Returns the key of the first
@@ -277,13 +285,7 @@ impl Window {
     }
 
     /// The first sample that waits too long, seen from the entry at this place.
-    fn too_late(
-        &mut self,
-        plan: &Plan,
-        entries: &[Entry],
-        times: &[u64],
-        at: usize,
-    ) -> Option<Late>
+    fn too_late(&mut self, plan: &Plan, entries: &[Entry], times: &[u64], at: usize) -> Option<Late>
         requires trace { IsTimed plan.now entries.now times.now }
         requires window { IsWindow plan.now entries.now times.now at self.old }
         requires at { at < length entries.now }
@@ -313,7 +315,11 @@ impl Window {
     {
         let most = u64::from(self.caps[writer.number() * KEYS + key.number()]?);
         let inside = self.written.at(writer.number(), key) - self.gone.at(writer.number(), key);
-        if most > 0 && inside >= most { Some(most) } else { None }
+        if most > 0 && inside >= most {
+            Some(most)
+        } else {
+            None
+        }
     }
 
     /// The write at this place, if it comes too soon.
