@@ -7,15 +7,20 @@ use Rattle.std.proofs.lemmas.List.Sums.{count_by-le-length, count_by_more_no, co
 use Rattle.std.proofs.lemmas.Option.{get_or_from_slice_get, slice_get_read, slice_get_within}
 use Rattle.dds_base.specs.Grid.{most_endpoints, most_keys}
 use Rattle.dds_lists.specs.Lists.{Lists}
-use Rattle.dds_match.specs.Paces.{in_flight}
+use Rattle.dds_lists.specs.WellFormed.{IsWellFormed}
+use Rattle.dds_match.specs.Network.{IsNetwork}
+use Rattle.dds_match.specs.Paces.{in_flight, is_awaited}
+use Rattle.dds_match.specs.Plan.{network_of}
 use Rattle.dds_conform.specs.declared.actions.Entry.{Entry}
 use Rattle.dds_conform.specs.declared.actions.Entry.TheVariants.{Wrote, Took}
 use Rattle.dds_conform.specs.declared.conformance.Early.{Early}
 use Rattle.dds_conform.specs.declared.conformance.Late.{Late}
+use Rattle.dds_conform.specs.declared.conformance.Within.{Within}
 use Rattle.dds_conform.specs.declared.windows.Span.{Span}
 use Rattle.dds_conform.specs.declared.windows.Window.{Window}
 use Rattle.dds_conform.specs.Breaches.{IsTooLate, IsTooSoon, KeepsAge, KeepsPace, NeverFall, count_in, ends, heard, says_end, span_of, wrote}
-use Rattle.dds_conform.specs.Entries.{entry_line}
+use Rattle.dds_conform.specs.Entries.{entry_action, entry_line}
+use Rattle.dds_conform.specs.Judging.{IsKnown}
 use Rattle.dds_conform.specs.Tallies.{IsOneMore, IsRowOf, tally_at}
 use Rattle.dds_conform.specs.Windows.{AddsKey, AddsWrite, CanEnter, Enters, HasRoom, IsAdvanced, IsFull, IsKeyOf, IsOverdue, IsTimed, IsWindow, Passes, cap_in, is_waiting}
 
@@ -68,6 +73,54 @@ row_key : (o : Option ℕ) (i : ℕ) (p : ℕ → Entry → Bool) (n : ℕ) (es 
     → IsRowOf i p n es t → IsRowOf i p (n + 1) es u
 row_key None i p n es t u e low lt at key adds row = subst (λ x. IsRowOf i p (n + 1) es x) (sym adds) (row_same i p n es t e lt at key row)
 row_key (Some l) i p n es t u e low lt at key adds row = row_more i i l p n es t u e low lt at adds (λ k. key.1 k ∙ sym (own i (eqb l k))) row
+
+-- ── entries
+and_true : (b : Bool) → (b && true) ≡ b
+and_true true = refl
+and_true false = refl
+
+and_false : (b : Bool) → (b && false) ≡ false
+and_false true = refl
+and_false false = refl
+
+module _ (d : Lists) (net : IsNetwork (network_of d)) (e : Entry) (known : IsKnown (network_of d) (entry_action e)) where
+  -- the numbers of a write are within a tally
+  pub writer_low : IsWellFormed d → (n a w k : ℕ) → e ≡ Wrote n a w k → (w < most_endpoints) × (k < most_keys)
+  writer_low well n a w k is =
+      let own = subst (λ x. IsKnown (network_of d) (entry_action x)) is known in
+      (let low = net.written_writer w k own in let few = well.writers.few in omega (arith, low, few), net.written_key w k own)
+
+  -- what the reader has to take
+  pub key_awaited : (r n a w l : ℕ) → e ≡ Wrote n a w l → is_awaited d w r l ≡ true → IsKeyOf (heard d r) e (Some l)
+  key_awaited r n a w l is yes =
+      let own = subst (λ x. IsKnown (network_of d) (entry_action x)) is known in
+      subst (λ x. IsKeyOf (heard d r) x (Some l)) (sym is) (net.written_key w l own, λ k. ap (λ b. eqb l k && b) yes ∙ and_true (eqb l k))
+
+  pub key_unheard : (r n a w l : ℕ) → e ≡ Wrote n a w l → is_awaited d w r l ≡ false → IsKeyOf (heard d r) e None
+  key_unheard r n a w l is no = subst (λ x. IsKeyOf (heard d r) x None) (sym is) (λ k. ap (λ b. eqb l k && b) no ∙ and_false (eqb l k))
+
+  -- what ends a wait at the reader
+  pub key_ended : (within : Within) (r n a q l : ℕ) → e ≡ Took n a q l → (says_end within && eqb q r) ≡ true → IsKeyOf (ends within r) e (Some l)
+  key_ended within r n a q l is yes =
+      let own = subst (λ x. IsKnown (network_of d) (entry_action x)) is known in
+      subst (λ x. IsKeyOf (ends within r) x (Some l)) (sym is) (net.heard_key q l own, λ k. ap (λ b. eqb l k && b) yes ∙ and_true (eqb l k))
+
+  pub key_unended : (within : Within) (r n a q l : ℕ) → e ≡ Took n a q l → (says_end within && eqb q r) ≡ false → IsKeyOf (ends within r) e None
+  key_unended within r n a q l is no = subst (λ x. IsKeyOf (ends within r) x None) (sym is) (λ k. ap (λ b. eqb l k && b) no ∙ and_false (eqb l k))
+
+-- an entry of the other kind
+pub took_unheard : (d : Lists) (r : ℕ) (e : Entry) (n a q l : ℕ) → e ≡ Took n a q l → IsKeyOf (heard d r) e None
+took_unheard d r e n a q l is = subst (λ x. IsKeyOf (heard d r) x None) (sym is) (λ k. refl)
+
+pub wrote_unended : (within : Within) (r : ℕ) (e : Entry) (n a w l : ℕ) → e ≡ Wrote n a w l → IsKeyOf (ends within r) e None
+wrote_unended within r e n a w l is = subst (λ x. IsKeyOf (ends within r) x None) (sym is) (λ k. refl)
+
+-- a tally with an entry
+pub adds_write : (e : Entry) (t u : List ℕ) (n a w k : ℕ) → e ≡ Wrote n a w k → IsOneMore t u w k → AddsWrite e t u
+adds_write e t u n a w k is more = subst (λ x. AddsWrite x t u) (sym is) more
+
+pub adds_take : (e : Entry) (t : List ℕ) (n a r k : ℕ) → e ≡ Took n a r k → AddsWrite e t t
+adds_take e t n a r k is = subst (λ x. AddsWrite x t t) (sym is) refl
 
 -- ── a window
 module _ (d : Lists) (es : List Entry) (ts : List ℕ) (i : ℕ) (old : Window) (win : IsWindow d es ts i old) where

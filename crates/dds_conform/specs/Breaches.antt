@@ -26,16 +26,15 @@ abbrev pub heard : Lists → ℕ → ℕ → Entry → Bool
 heard d r k (Wrote n a w l) = (l == k) && is_awaited d w r l
 heard d r k (Took n a q l) = false
 
--- what a written sample of the key waits for at the reader: that it's taken
-abbrev pub ends : Within → ℕ → ℕ → Entry → Bool
-ends Taken r k (Wrote n a w l) = false
-ends Taken r k (Took n a q l) = (q == r) && (l == k)
-ends Available r k e = false
-
--- the trace says what ends the wait. Where it says of no sample that it's available, nothing is asked of that
+-- the trace says when a sample no longer waits. Of no sample it says that it's available, so nothing is asked of that
 abbrev pub says_end : Within → Bool
 says_end Taken = true
 says_end Available = false
+
+-- what a written sample of the key waits for at the reader: that it's taken
+abbrev pub ends : Within → ℕ → ℕ → Entry → Bool
+ends within r k (Wrote n a w l) = false
+ends within r k (Took n a q l) = (l == k) && (says_end within && (q == r))
 
 -- how many of the first n entries pass
 abbrev pub count_in : (Entry → Bool) → ℕ → List Entry → ℕ

@@ -1,5 +1,5 @@
 //! One reader's span moved along a trace: the writes in it, and the samples that wait for longer.
-ghost use Rattle.std.specs.Prelude.{◌≡◌, ◌+◌, ◌<◌, ◌≤◌, ◌^◌, ℕ, List, Some, IfOk, IfSome, IfNone, length};
+ghost use Rattle.std.specs.Prelude.{◌≡◌, ◌+◌, ◌-◌, ◌<◌, ◌≤◌, ◌^◌, ◌==◌, ◌&&◌, true, ℕ, List, Some, IfOk, IfSome, IfNone, length};
 ghost use Rattle.std.specs.Prelude.{slice_get, slice_index};
 ghost use Rattle.dds_base.specs.Grid.{most_endpoints, most_keys, most_places};
 ghost use Rattle.dds_match.specs.Paces.{is_awaited};
@@ -75,18 +75,32 @@ fn heard_key(plan: &Plan, reader: ReaderNo, entry: &Entry) -> Option<KeyNo>
     }
 }
 
+/// Whether a trace says when a sample no longer waits.
+fn says_end(within: Within) -> bool
+    ensures { result ≡ says_end within }
+{
+    match within {
+        Within::Taken => true,
+        Within::Available => false,
+    }
+}
+
+/// Whether a take at this reader ends the wait of a sample.
+fn is_end(span: Span, reader: ReaderNo) -> bool
+    ensures { result ≡ (says_end span.within && (reader == span.reader)) }
+{
+    says_end(span.within) && reader == span.reader
+}
+
 /// The key of an entry that ends the wait of a sample at the reader.
 fn ended_key(plan: &Plan, span: Span, entry: &Entry) -> Option<KeyNo>
     requires { IsKnown (network_of plan.now) (entry_action entry.now) }
     ensures { IsKeyOf (ends span.within span.reader) entry.now result }
 {
     plan.assert_well_formed();
-    if span.within != Within::Taken {
-        return None;
-    }
     match *entry {
         Entry::Took { reader, key, .. } => {
-            if reader == span.reader {
+            if is_end(span, reader) {
                 Some(key)
             } else {
                 None
@@ -96,13 +110,6 @@ fn ended_key(plan: &Plan, span: Span, entry: &Entry) -> Option<KeyNo>
     }
 }
 
-/// Whether a trace says when the wait of a sample ends.
-fn says_end(within: Within) -> bool
-    ensures { result ≡ says_end within }
-{
-    within == Within::Taken
-}
-
 /// Adds an entry to a tally of writes.
 fn add_write(tally: &mut Tally, plan: &Plan, entry: &Entry)
     requires known { IsKnown (network_of plan.now) (entry_action entry.now) }
@@ -110,8 +117,9 @@ fn add_write(tally: &mut Tally, plan: &Plan, entry: &Entry)
     ensures { AddsWrite entry.now tally.old tally.new }
 {
     plan.assert_well_formed();
-    if let Entry::Wrote { writer, key, .. } = *entry {
-        tally.add(writer.number(), key);
+    match *entry {
+        Entry::Wrote { writer, key, .. } => tally.add(writer.number(), key),
+        Entry::Took { .. } => {}
     }
 }
 
@@ -122,8 +130,9 @@ fn add_key(tally: &mut Tally, reader: ReaderNo, key: Option<KeyNo>)
     requires room { (k : ℕ) → k < most_keys → tally_at tally.old reader k + 1 < 2 ^ 64 }
     ensures { AddsKey reader key tally.old tally.new }
 {
-    if let Some(key) = key {
-        tally.add(reader.number(), key);
+    match key {
+        Some(key) => tally.add(reader.number(), key),
+        None => {}
     }
 }
 
