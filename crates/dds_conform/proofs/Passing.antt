@@ -1,7 +1,7 @@
 -- What a window shows as it moves along a trace.
 use Rattle.std.proofs.Common.{◌≡◌, ◌⊎◌, inl, inr, ℕ, zero, suc, ◌+◌, ◌*◌, ◌-◌, ◌^◌, ◌<◌, ◌≤◌, Bool, true, false, cond, eqb, ◌&&◌, nat_lt, List, [], ◌∷◌, length, get_or, take, refl, sym, ap, ◌∙◌, subst, arith, Option, Some, None, slice_get}
 use Rattle.std.specs.Prelude.{count_by, slice_index, unwrap_or}
-use Rattle.std.proofs.lemmas.Bool.{and_parts, cases_Bool, cases_eq, cases_lt, eq-eqb, eqb-eq, ltb-true, ltb-false, true≢false}
+use Rattle.std.proofs.lemmas.Bool.{and_parts, cases_Bool, cases_eq, cases_lt, eq-eqb, ne_eqb, ltb-true, ltb-false, true≢false}
 use Rattle.std.proofs.lemmas.List.{length-take}
 use Rattle.std.proofs.lemmas.List.Sums.{count_by-le-length, count_by_more_no, count_by_more_yes, sum_by-take-le}
 use Rattle.std.proofs.lemmas.Option.{get_or_from_slice_get, slice_get_read, slice_get_within}
@@ -16,7 +16,6 @@ use Rattle.dds_conform.specs.declared.actions.Entry.TheVariants.{Wrote, Took}
 use Rattle.dds_conform.specs.declared.conformance.Early.{Early}
 use Rattle.dds_conform.specs.declared.conformance.Late.{Late}
 use Rattle.dds_conform.specs.declared.conformance.Within.{Within}
-use Rattle.dds_conform.specs.declared.windows.Span.{Span}
 use Rattle.dds_conform.specs.declared.windows.Window.{Window}
 use Rattle.dds_conform.specs.Breaches.{IsTooLate, IsTooSoon, KeepsAge, KeepsPace, NeverFall, count_in, ends, heard, says_end, span_of, wrote}
 use Rattle.dds_conform.specs.Entries.{entry_action, entry_line}
@@ -92,21 +91,21 @@ module _ (d : Lists) (net : IsNetwork (network_of d)) (e : Entry) (known : IsKno
 
   -- what the reader has to take
   pub key_awaited : (r n a w l : ℕ) → e ≡ Wrote n a w l → is_awaited d w r l ≡ true → IsKeyOf (heard d r) e (Some l)
-  key_awaited r n a w l is yes =
+  key_awaited r n a w l is so =
       let own = subst (λ x. IsKnown (network_of d) (entry_action x)) is known in
-      subst (λ x. IsKeyOf (heard d r) x (Some l)) (sym is) (net.written_key w l own, λ k. ap (λ b. eqb l k && b) yes ∙ and_true (eqb l k))
+      subst (λ x. IsKeyOf (heard d r) x (Some l)) (sym is) (net.written_key w l own, λ k. ap (λ b. eqb l k && b) so ∙ and_true (eqb l k))
 
   pub key_unheard : (r n a w l : ℕ) → e ≡ Wrote n a w l → is_awaited d w r l ≡ false → IsKeyOf (heard d r) e None
-  key_unheard r n a w l is no = subst (λ x. IsKeyOf (heard d r) x None) (sym is) (λ k. ap (λ b. eqb l k && b) no ∙ and_false (eqb l k))
+  key_unheard r n a w l is fails = subst (λ x. IsKeyOf (heard d r) x None) (sym is) (λ k. ap (λ b. eqb l k && b) fails ∙ and_false (eqb l k))
 
   -- what ends a wait at the reader
   pub key_ended : (within : Within) (r n a q l : ℕ) → e ≡ Took n a q l → (says_end within && eqb q r) ≡ true → IsKeyOf (ends within r) e (Some l)
-  key_ended within r n a q l is yes =
+  key_ended within r n a q l is so =
       let own = subst (λ x. IsKnown (network_of d) (entry_action x)) is known in
-      subst (λ x. IsKeyOf (ends within r) x (Some l)) (sym is) (net.heard_key q l own, λ k. ap (λ b. eqb l k && b) yes ∙ and_true (eqb l k))
+      subst (λ x. IsKeyOf (ends within r) x (Some l)) (sym is) (net.heard_key q l own, λ k. ap (λ b. eqb l k && b) so ∙ and_true (eqb l k))
 
   pub key_unended : (within : Within) (r n a q l : ℕ) → e ≡ Took n a q l → (says_end within && eqb q r) ≡ false → IsKeyOf (ends within r) e None
-  key_unended within r n a q l is no = subst (λ x. IsKeyOf (ends within r) x None) (sym is) (λ k. ap (λ b. eqb l k && b) no ∙ and_false (eqb l k))
+  key_unended within r n a q l is fails = subst (λ x. IsKeyOf (ends within r) x None) (sym is) (λ k. ap (λ b. eqb l k && b) fails ∙ and_false (eqb l k))
 
 -- an entry of the other kind
 pub took_unheard : (d : Lists) (r : ℕ) (e : Entry) (n a q l : ℕ) → e ≡ Took n a q l → IsKeyOf (heard d r) e None
@@ -126,17 +125,17 @@ adds_take e t n a r k is = subst (λ x. AddsWrite x t t) (sym is) refl
 module _ (d : Lists) (es : List Entry) (ts : List ℕ) (i : ℕ) (old : Window) (win : IsWindow d es ts i old) where
   pub has_room : old.passed < i → i < 2 ^ 64 → HasRoom old
   has_room next fits = record {
-    reader = win.span.reader;
+    reader = win.span.low;
     passed = omega (arith, next, fits);
     gone = λ v k low small. omega (arith, win.gone v low k small, count_few (wrote v k) es old.passed, next, fits);
-    owed = λ k small. omega (arith, win.owed k small, count_few (heard d old.span.reader k) es old.passed, next, fits);
+    owed = λ k small. omega (arith, win.owed k small, count_few (heard d old.reader k) es old.passed, next, fits);
   }
 
   pub can_enter : i + 1 < 2 ^ 64 → CanEnter old
   can_enter fits = record {
-    reader = win.span.reader;
+    reader = win.span.low;
     written = λ v k low small. omega (arith, win.written v low k small, count_few (wrote v k) es i, fits);
-    ended = λ k small. omega (arith, win.ended k small, count_few (ends old.span.within old.span.reader k) es i, fits);
+    ended = λ k small. omega (arith, win.ended k small, count_few (ends old.within old.reader k) es i, fits);
   }
 
   -- no fewer writes of a pair lie before the entry than have been passed
@@ -144,8 +143,8 @@ module _ (d : Lists) (es : List Entry) (ts : List ℕ) (i : ℕ) (old : Window) 
   gone_within v k low small = omega (arith, win.gone v low k small, win.written v low k small, count_up (wrote v k) es old.passed i win.passed)
 
   -- the window that has passed one entry more
-  pub passed : (new : Window) (key : Option ℕ) (e : Entry) → IsTimed d es ts → i < length es → e ≡ get_or es old.passed e → old.passed < i → slice_index ts old.passed + old.span.nanoseconds < slice_index ts i → Passes d e old new key
-      → (says_end old.span.within ≡ true → (k : ℕ) → count_in (heard d old.span.reader k) (old.passed + 1) es ≤ count_in (ends old.span.within old.span.reader k) i es) → IsWindow d es ts i new
+  pub passed : (new : Window) (key : Option ℕ) (e : Entry) → IsTimed d es ts → i < length es → e ≡ get_or es old.passed e → old.passed < i → slice_index ts old.passed + old.nanoseconds < slice_index ts i → Passes d e old new key
+      → (says_end old.within ≡ true → (k : ℕ) → count_in (heard d old.reader k) (old.passed + 1) es ≤ count_in (ends old.within old.reader k) i es) → IsWindow d es ts i new
   passed new key e timed lt at next long passes waits =
       let within : old.passed < length es = omega (arith, next, lt) in
       subst (λ w. IsWindow d es ts i w) (sym passes.rest) (record {
@@ -157,69 +156,65 @@ module _ (d : Lists) (es : List Entry) (ts : List ℕ) (i : ℕ) (old : Window) 
           | inr past ↦ (
               let same : j ≡ old.passed = omega (arith, past, before) in
               let rise = timed.rise i m later inside in
-              subst (λ n. slice_index ts n + old.span.nanoseconds < slice_index ts m) (sym same) (omega (arith, rise, long)))
+              subst (λ n. slice_index ts n + old.nanoseconds < slice_index ts m) (sym same) (omega (arith, rise, long)))
         ];
         written = win.written;
         gone = rows_write e old.passed es old.gone new.gone within at passes.gone win.gone;
-        owed = row_key key old.span.reader (heard d old.span.reader) old.passed es old.owed new.owed e win.span.reader within at passes.is_key passes.owed win.owed;
+        owed = row_key key old.reader (heard d old.reader) old.passed es old.owed new.owed e win.span.low within at passes.is_key passes.owed win.owed;
         ended = win.ended;
         waits = waits;
       })
 
   -- one entry more that the reader doesn't have to take
-  pub passed_other : (new : Window) (key : Option ℕ) (e : Entry) → IsTimed d es ts → i < length es → e ≡ get_or es old.passed e → old.passed < i → slice_index ts old.passed + old.span.nanoseconds < slice_index ts i → Passes d e old new key
+  pub passed_other : (new : Window) (key : Option ℕ) (e : Entry) → IsTimed d es ts → i < length es → e ≡ get_or es old.passed e → old.passed < i → slice_index ts old.passed + old.nanoseconds < slice_index ts i → Passes d e old new key
       → key ≡ None → IsWindow d es ts i new
   passed_other new key e timed lt at next long passes none =
-      let is : IsKeyOf (heard d old.span.reader) e None = subst (IsKeyOf (heard d old.span.reader) e) none passes.is_key in
+      let is : IsKeyOf (heard d old.reader) e None = subst (IsKeyOf (heard d old.reader) e) none passes.is_key in
       passed new key e timed lt at next long passes (λ says k.
-      let same = count_none (heard d old.span.reader k) es old.passed e (omega (arith, next, lt)) at (is k) in
+      let same = count_none (heard d old.reader k) es old.passed e (omega (arith, next, lt)) at (is k) in
       omega (arith, same, win.waits says k))
 
   -- the row of what is owed, with one entry more
-  owed_now : (new : Window) (l : ℕ) (e : Entry) → i < length es → e ≡ get_or es old.passed e → old.passed < i → Passes d e old new (Some l) → IsRowOf old.span.reader (heard d old.span.reader) (old.passed + 1) es new.owed
+  owed_now : (new : Window) (l : ℕ) (e : Entry) → i < length es → e ≡ get_or es old.passed e → old.passed < i → Passes d e old new (Some l) → IsRowOf old.reader (heard d old.reader) (old.passed + 1) es new.owed
   owed_now new l e lt at next passes =
-      row_key (Some l) old.span.reader (heard d old.span.reader) old.passed es old.owed new.owed e win.span.reader (omega (arith, next, lt)) at passes.is_key passes.owed win.owed
+      row_key (Some l) old.reader (heard d old.reader) old.passed es old.owed new.owed e win.span.low (omega (arith, next, lt)) at passes.is_key passes.owed win.owed
 
   -- one entry more, whose sample no longer waits
-  pub passed_ended : (new : Window) (l : ℕ) (e : Entry) → IsTimed d es ts → i < length es → e ≡ get_or es old.passed e → old.passed < i → slice_index ts old.passed + old.span.nanoseconds < slice_index ts i → Passes d e old new (Some l)
+  pub passed_ended : (new : Window) (l : ℕ) (e : Entry) → IsTimed d es ts → i < length es → e ≡ get_or es old.passed e → old.passed < i → slice_index ts old.passed + old.nanoseconds < slice_index ts i → Passes d e old new (Some l)
       → is_waiting new l ≡ false → IsWindow d es ts i new
   passed_ended new l e timed lt at next long passes still =
       passed new (Some l) e timed lt at next long passes (λ says k. elim (cases_eq l k) [
-        | inl same ↦ subst (λ j. count_in (heard d old.span.reader j) (old.passed + 1) es ≤ count_in (ends old.span.within old.span.reader j) i es) same (enough says)
+        | inl same ↦ subst (λ j. count_in (heard d old.reader j) (old.passed + 1) es ≤ count_in (ends old.within old.reader j) i es) same (enough says)
         | inr other ↦ (
-            let fails : heard d old.span.reader k e ≡ false = passes.is_key.1 k ∙ differ l k other in
-            let no_more = count_none (heard d old.span.reader k) es old.passed e (omega (arith, next, lt)) at fails in
+            let fails : heard d old.reader k e ≡ false = passes.is_key.1 k ∙ differ l k other in
+            let no_more = count_none (heard d old.reader k) es old.passed e (omega (arith, next, lt)) at fails in
             omega (arith, no_more, win.waits says k))
       ])
     where
       differ : (a b : ℕ) → (a ≡ b → ⊥) → eqb a b ≡ false
-      differ a b other = off (eqb a b) (λ t. other (eqb-eq a b t))
-        where
-          off : (b : Bool) → (b ≡ true → ⊥) → b ≡ false
-          off true no = absurd (no refl)
-          off false no = refl
+      differ a b other = ne_eqb a b other
 
-      enough : says_end old.span.within ≡ true → count_in (heard d old.span.reader l) (old.passed + 1) es ≤ count_in (ends old.span.within old.span.reader l) i es
+      enough : says_end old.within ≡ true → count_in (heard d old.reader l) (old.passed + 1) es ≤ count_in (ends old.within old.reader l) i es
       enough says =
           let calm : is_waiting (record old { passed = old.passed + 1; gone = new.gone; owed = new.owed }) l ≡ false = subst (λ w. is_waiting w l ≡ false) passes.rest still in
-          let less : nat_lt (tally_at old.ended old.span.reader l) (tally_at new.owed old.span.reader l) ≡ false = rw says at calm in
+          let less : nat_lt (tally_at old.ended old.reader l) (tally_at new.owed old.reader l) ≡ false = rw says at calm in
           let most = ltb-false _ _ less in
           omega (arith, most, owed_now new l e lt at next passes l passes.is_key.0, win.ended l passes.is_key.0)
 
   -- one entry more, whose sample still waits
-  pub passed_waiting : (new : Window) (l : ℕ) (e : Entry) → IsTimed d es ts → i < length es → e ≡ get_or es old.passed e → old.passed < i → slice_index ts old.passed + old.span.nanoseconds < slice_index ts i → Passes d e old new (Some l)
-      → is_waiting new l ≡ true → IsOverdue d es ts i new.span old.passed l
+  pub passed_waiting : (new : Window) (l : ℕ) (e : Entry) → IsTimed d es ts → i < length es → e ≡ get_or es old.passed e → old.passed < i → slice_index ts old.passed + old.nanoseconds < slice_index ts i → Passes d e old new (Some l)
+      → is_waiting new l ≡ true → IsOverdue d es ts i new old.passed l
   passed_waiting new l e timed lt at next long passes still =
       let waits : is_waiting (record old { passed = old.passed + 1; gone = new.gone; owed = new.owed }) l ≡ true = subst (λ w. is_waiting w l ≡ true) passes.rest still in
-      let both = and_parts (says_end old.span.within) (nat_lt (tally_at old.ended old.span.reader l) (tally_at new.owed old.span.reader l)) waits in
+      let both = and_parts (says_end old.within) (nat_lt (tally_at old.ended old.reader l) (tally_at new.owed old.reader l)) waits in
       let less = ltb-true _ _ both.1 in
-      let is : heard d old.span.reader l e ≡ true = passes.is_key.1 l ∙ eq-eqb l l refl in
+      let is : heard d old.reader l e ≡ true = passes.is_key.1 l ∙ eq-eqb l l refl in
       let here : slice_get es old.passed ≡ Some e = slice_get_read es (length es) old.passed e refl (omega (arith, next, lt)) at in
-      let one = count_one (heard d old.span.reader l) es old.passed e here is in
+      let one = count_one (heard d old.reader l) es old.passed e here is in
       let row = owed_now new l e lt at next passes l passes.is_key.0 in
       let ended = win.ended l passes.is_key.0 in
       let before = win.waits both.0 l in
-      subst (λ w. IsOverdue d es ts i w.span old.passed l) (sym passes.rest) (record {
+      subst (λ w. IsOverdue d es ts i w old.passed l) (sym passes.rest) (record {
         before = next;
         entry = e;
         at = here;
@@ -241,8 +236,8 @@ module _ (d : Lists) (es : List Entry) (ts : List ℕ) (i : ℕ) (old : Window) 
         written = rows_write e i es old.written new.written lt at enters.written win.written;
         gone = win.gone;
         owed = win.owed;
-        ended = row_key enters.key old.span.reader (ends old.span.within old.span.reader) i es old.ended new.ended e win.span.reader lt at enters.ends enters.ended win.ended;
-        waits = λ says k. omega (arith, win.waits says k, count_up (ends old.span.within old.span.reader k) es i (i + 1) (omega arith));
+        ended = row_key enters.key old.reader (ends old.within old.reader) i es old.ended new.ended e win.span.low lt at enters.ends enters.ended win.ended;
+        waits = λ says k. omega (arith, win.waits says k, count_up (ends old.within old.reader k) es i (i + 1) (omega arith));
       })
 
 -- equal options have equal values
@@ -251,22 +246,22 @@ some_same m n e = ap (λ (o : Option ℕ). unwrap_or o m) e
 
 -- ── a window that has passed all that lies longer ago
 module _ (d : Lists) (es : List Entry) (ts : List ℕ) (i : ℕ) (w : Window) (adv : IsAdvanced d es ts i w) where
-  pub keeps_age : IsTimed d es ts → i < length es → KeepsAge d es ts w.span.reader w.span.within i
+  pub keeps_age : IsTimed d es ts → i < length es → KeepsAge d es ts w.reader w.within i
   keeps_age timed lt = λ e k span p at waits of says long.
       let inside = slice_get_within es p e at in
-      let same = some_same w.span.nanoseconds span (sym adv.window.span.of ∙ of) in
+      let same = some_same w.nanoseconds span (sym adv.window.span.of ∙ of) in
       elim (cases_lt p w.passed) [
-        | inl before ↦ omega (arith, adv.window.waits says k, count_up (heard d w.span.reader k) es (p + 1) w.passed (omega (arith, before)))
+        | inl before ↦ omega (arith, adv.window.waits says k, count_up (heard d w.reader k) es (p + 1) w.passed (omega (arith, before)))
         | inr past ↦ absurd (let size = timed.size in let rest = adv.rest p past (omega (arith, inside, size)) in omega (arith, rest, same, long))
       ]
 
   -- fewer writes of the pair lie in the window than may be in flight, so from each place in it on
-  pub keeps_pace : (e : Entry) (v k : ℕ) → IsTimed d es ts → i < length es → v < most_endpoints → k < most_keys → slice_get es i ≡ Some e → ((x l : ℕ) → wrote x l e ≡ true → (x ≡ v) × (l ≡ k)) → IsFull w v k None → KeepsPace d es ts w.span.reader w.span.within i
+  pub keeps_pace : (e : Entry) (v k : ℕ) → IsTimed d es ts → i < length es → v < most_endpoints → k < most_keys → slice_get es i ≡ Some e → ((x l : ℕ) → wrote x l e ≡ true → (x ≡ v) × (l ≡ k)) → IsFull w v k None → KeepsPace d es ts w.reader w.within i
   keeps_pace e v k timed lt low small at only full = λ f x l span n j here write of flight some before near.
-      let same = some_same w.span.nanoseconds span (sym adv.window.span.of ∙ of) in
+      let same = some_same w.nanoseconds span (sym adv.window.span.of ∙ of) in
       let one : f ≡ e = some_entry f e (sym here ∙ at) in
       let pair = only x l (subst (λ g. wrote x l g ≡ true) one write) in
-      let flight' : in_flight d v w.span.reader k (Some w.span.nanoseconds) ≡ Some n = sym (ap (λ y. in_flight d y w.span.reader k (Some w.span.nanoseconds)) pair.0) ∙ (sym (ap (λ m. in_flight d x w.span.reader m (Some w.span.nanoseconds)) pair.1) ∙ (ap (λ s. in_flight d x w.span.reader l (Some s)) same ∙ flight)) in
+      let flight' : in_flight d v w.reader k (Some w.nanoseconds) ≡ Some n = sym (ap (λ y. in_flight d y w.reader k (Some w.nanoseconds)) pair.0) ∙ (sym (ap (λ m. in_flight d x w.reader m (Some w.nanoseconds)) pair.1) ∙ (ap (λ s. in_flight d x w.reader l (Some s)) same ∙ flight)) in
       let cap : cap_in w v k ≡ Some n = adv.window.caps.each v k low small ∙ flight' in
       let fewer = full n cap some in
       let all = adv.window.written v low k small in
@@ -296,9 +291,9 @@ module _ (d : Lists) (es : List Entry) (ts : List ℕ) (i : ℕ) (w : Window) (a
   ]
 
   -- a write as many writes of the pair after another one as may be in flight comes too soon
-  pub too_soon : (x : Early) (e f : Entry) (n first : ℕ) → IsTimed d es ts → i < length es → slice_get es i ≡ Some e → entry_line e ≡ x.line → wrote x.writer x.key e ≡ true → x.writer < most_endpoints → x.key < most_keys → x.reader ≡ w.span.reader → x.within ≡ w.span.within
+  pub too_soon : (x : Early) (e f : Entry) (n first : ℕ) → IsTimed d es ts → i < length es → slice_get es i ≡ Some e → entry_line e ≡ x.line → wrote x.writer x.key e ≡ true → x.writer < most_endpoints → x.key < most_keys → x.reader ≡ w.reader → x.within ≡ w.within
       → IsFull w x.writer x.key (Some n) → first < i → slice_get es first ≡ Some f → wrote x.writer x.key f ≡ true → count_in (wrote x.writer x.key) i es ≡ count_in (wrote x.writer x.key) first es + n
-      → slice_index ts i + x.by ≡ slice_index ts first + w.span.nanoseconds + 1 → IsTooSoon d es ts i x
+      → slice_index ts i + x.by ≡ slice_index ts first + w.nanoseconds + 1 → IsTooSoon d es ts i x
   too_soon x e f n first timed lt at line write low small reader within full before at_first first_write counted by =
       let size = timed.size in
       let inside = in_window x.writer x.key n first low small full f at_first first_write counted in
@@ -308,10 +303,10 @@ module _ (d : Lists) (es : List Entry) (ts : List ℕ) (i : ℕ) (w : Window) (a
         at = at;
         line = line;
         write = write;
-        span = w.span.nanoseconds;
-        of = ap (λ r. span_of d r x.within) reader ∙ (ap (span_of d w.span.reader) within ∙ adv.window.span.of);
+        span = w.nanoseconds;
+        of = ap (λ r. span_of d r x.within) reader ∙ (ap (span_of d w.reader) within ∙ adv.window.span.of);
         most = n;
-        flight = ap (λ r. in_flight d x.writer r x.key (Some w.span.nanoseconds)) reader ∙ (sym (adv.window.caps.each x.writer x.key low small) ∙ full.0);
+        flight = ap (λ r. in_flight d x.writer r x.key (Some w.nanoseconds)) reader ∙ (sym (adv.window.caps.each x.writer x.key low small) ∙ full.0);
         some = full.1;
         first = first;
         before = before;
@@ -321,9 +316,9 @@ module _ (d : Lists) (es : List Entry) (ts : List ℕ) (i : ℕ) (w : Window) (a
       }
 
 -- a sample that is overdue is too late by what is beyond the span
-pub too_late : (d : Lists) (es : List Entry) (ts : List ℕ) (i p : ℕ) (span : Span) (x : Late) (e f : Entry) → IsOverdue d es ts i span p x.key → slice_get es i ≡ Some e → entry_line e ≡ x.line → slice_get es p ≡ Some f → entry_line f ≡ x.written
-    → x.reader ≡ span.reader → x.within ≡ span.within → slice_index ts p + span.nanoseconds + x.by ≡ slice_index ts i → IsTooLate d es ts i x
-too_late d es ts i p span x e f over at line at_p written reader within by =
+pub too_late : (d : Lists) (es : List Entry) (ts : List ℕ) (i p : ℕ) (w : Window) (x : Late) (e f : Entry) → IsOverdue d es ts i w p x.key → slice_get es i ≡ Some e → entry_line e ≡ x.line → slice_get es p ≡ Some f → entry_line f ≡ x.written
+    → x.reader ≡ w.reader → x.within ≡ w.within → slice_index ts p + w.nanoseconds + x.by ≡ slice_index ts i → IsTooLate d es ts i x
+too_late d es ts i p w x e f over at line at_p written reader within by =
     let f_is : over.entry ≡ f = ap (λ (o : Option Entry). unwrap_or o f) (sym over.at ∙ at_p) in
     record {
       entry = e;
@@ -333,11 +328,11 @@ too_late d es ts i p span x e f over at line at_p written reader within by =
       write = f;
       written_at = at_p;
       written = written;
-      awaited = subst (λ r. heard d r x.key f ≡ true) (sym reader) (subst (λ g. heard d span.reader x.key g ≡ true) f_is over.awaited);
-      span = span.nanoseconds;
-      of = ap (λ r. span_of d r x.within) reader ∙ (ap (span_of d span.reader) within ∙ over.of.of);
+      awaited = subst (λ r. heard d r x.key f ≡ true) (sym reader) (subst (λ g. heard d w.reader x.key g ≡ true) f_is over.awaited);
+      span = w.nanoseconds;
+      of = ap (λ r. span_of d r x.within) reader ∙ (ap (span_of d w.reader) within ∙ over.of.of);
       says = subst (λ v. says_end v ≡ true) (sym within) over.says;
-      next = subst (λ r. count_in (heard d r x.key) p es ≡ count_in (ends x.within r x.key) i es) (sym reader) (subst (λ v. count_in (heard d span.reader x.key) p es ≡ count_in (ends v span.reader x.key) i es) (sym within) over.next);
+      next = subst (λ r. count_in (heard d r x.key) p es ≡ count_in (ends x.within r x.key) i es) (sym reader) (subst (λ v. count_in (heard d w.reader x.key) p es ≡ count_in (ends v w.reader x.key) i es) (sym within) over.next);
       by = by;
       late = (let long = over.long in omega (arith, by, long));
     }

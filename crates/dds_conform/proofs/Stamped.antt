@@ -15,7 +15,6 @@ use Rattle.dds_base.proofs.Places.{length-mapped}
 use Rattle.dds_base.specs.Names.{is_between}
 use Rattle.dds_lists.specs.Lists.{Lists}
 use Rattle.dds_conform.specs.declared.actions.Entry.{Entry}
-use Rattle.dds_conform.specs.declared.stamps.Stamps.{Stamps}
 use Rattle.dds_conform.specs.Breaches.{NeverFall}
 use Rattle.dds_conform.specs.Reading.{AreEntries, are_digits, is_digit, nanoseconds, says_something, shown, stamp_in, told, told_from}
 use Rattle.dds_conform.specs.Stamps.{AreStamps, AreTimes, IsFall, IsLack, IsLackBefore, IsPush, stamp, stamps}
@@ -66,12 +65,8 @@ says_none : (line : List ℕ) → says_something line ≡ false → stamps (line
 says_none line says = rw says refl
 
 -- no lines
-pub no_stamps : (all : List (List ℕ)) (s : Stamps) → length s.times.items ≡ 0 → s.lacking ≡ None → AreStamps all 0 s
-no_stamps all s empty none = record { times = nothing s.times.items empty; lack = subst (IsLackBefore all 0) (sym none) refl }
-  where
-    nothing : (xs : List ℕ) → length xs ≡ 0 → xs ≡ []
-    nothing [] e = refl
-    nothing (x ∷ xs) e = absurd (omega (arith, e))
+pub no_stamps : (all : List (List ℕ)) (ts : List ℕ) → ts ≡ [] → AreStamps all 0 ts None
+no_stamps all ts empty = record { times_are = empty; lack = refl }
 
 -- the first line that lacks a time, of one line more
 lack_more : (all : List (List ℕ)) (n number : ℕ) (line : List ℕ) (old new : Option ℕ) (o : Option ℕ) → n < length all → line ≡ get_or all n line → says_something line ≡ true → number ≡ n + 1 → o ≡ stamp line → new ≡ cond (is_some o) old (option_or old (Some number))
@@ -93,28 +88,29 @@ lack_more all n number line None new None lt at says count here is before =
     })
 
 -- a line more that says something
-pub and_stamp : (all : List (List ℕ)) (n number : ℕ) (line : List ℕ) (old new : Stamps) → n < length all → line ≡ get_or all n line → says_something line ≡ true → number ≡ n + 1 → IsPush line number old new → AreStamps all n old → AreStamps all (n + 1) new
-and_stamp all n number line old new lt at says count push before = record {
-  times = push.times ∙ ap (λ xs. xs ++ filter_map (λ (o : Option ℕ). o) (stamp line ∷ [])) before.times ∙ sym (filter_map-append (λ (o : Option ℕ). o) (stamps (take n all)) (stamp line ∷ []))
+pub and_stamp : (all : List (List ℕ)) (n number : ℕ) (line : List ℕ) (old new : List ℕ) (lacked lacks : Option ℕ) → n < length all → line ≡ get_or all n line → says_something line ≡ true → number ≡ n + 1 → IsPush line number old new lacked lacks → AreStamps all n old lacked
+    → AreStamps all (n + 1) new lacks
+and_stamp all n number line old new lacked lacks lt at says count push before = record {
+  times_are = push.times ∙ ap (λ xs. xs ++ filter_map (λ (o : Option ℕ). o) (stamp line ∷ [])) before.times_are ∙ sym (filter_map-append (λ (o : Option ℕ). o) (stamps (take n all)) (stamp line ∷ []))
       ∙ ap (filter_map (λ (o : Option ℕ). o)) (sym (stamps_more all n line lt at ∙ ap (λ xs. stamps (take n all) ++ xs) (says_one line says)));
-  lack = lack_more all n number line old.lacking new.lacking (stamp line) lt at says count refl push.lacking before.lack;
+  lack = lack_more all n number line lacked lacks (stamp line) lt at says count refl push.lacking before.lack;
 }
 
 -- a line more that says nothing
-pub and_silence : (all : List (List ℕ)) (n : ℕ) (line : List ℕ) (s : Stamps) → n < length all → line ≡ get_or all n line → says_something line ≡ false → AreStamps all n s → AreStamps all (n + 1) s
-and_silence all n line s lt at says before =
+pub and_silence : (all : List (List ℕ)) (n : ℕ) (line : List ℕ) (ts : List ℕ) (lacks : Option ℕ) → n < length all → line ≡ get_or all n line → says_something line ≡ false → AreStamps all n ts lacks → AreStamps all (n + 1) ts lacks
+and_silence all n line ts lacks lt at says before =
     let same : stamps (take (n + 1) all) ≡ stamps (take n all) = stamps_more all n line lt at ∙ ap (λ xs. stamps (take n all) ++ xs) (says_none line says) ∙ append-nil (stamps (take n all)) in
-    record { times = before.times ∙ ap (filter_map (λ (o : Option ℕ). o)) (sym same); lack = none s.lacking same before.lack }
+    record { times_are = before.times_are ∙ ap (filter_map (λ (o : Option ℕ). o)) (sym same); lack = none lacks same before.lack }
   where
     none : (o : Option ℕ) → stamps (take (n + 1) all) ≡ stamps (take n all) → IsLackBefore all n o → IsLackBefore all (n + 1) o
     none (Some m) same before = before
     none None same before = ap (list_all is_some) same ∙ before
 
 -- all lines
-pub all_stamps : (all : List (List ℕ)) (n : ℕ) (s : Stamps) → length all ≤ n → AreStamps all n s → AreStamps all (length all) s
-all_stamps all n s past h =
+pub all_stamps : (all : List (List ℕ)) (n : ℕ) (ts : List ℕ) (lacks : Option ℕ) → length all ≤ n → AreStamps all n ts lacks → AreStamps all (length all) ts lacks
+all_stamps all n ts lacks past h =
     let same : take n all ≡ take (length all) all = take_all n all past ∙ sym (take_all (length all) all (omega arith)) in
-    record { times = h.times ∙ ap (λ ls. filter_map (λ (o : Option ℕ). o) (stamps ls)) same; lack = lack s.lacking same h.lack }
+    record { times_are = h.times_are ∙ ap (λ ls. filter_map (λ (o : Option ℕ). o) (stamps ls)) same; lack = lack lacks same h.lack }
   where
     lack : (o : Option ℕ) → take n all ≡ take (length all) all → IsLackBefore all n o → IsLackBefore all (length all) o
     lack (Some m) same before = before
@@ -127,11 +123,11 @@ each_some (Some t ∷ os) h = ap (λ xs. Some t ∷ xs) (each_some os h)
 each_some (None ∷ os) h = absurd cc
 
 -- where no line lacks a time, each has its own
-pub are_times : (all : List (List ℕ)) (s : Stamps) → AreStamps all (length all) s → s.lacking ≡ None → AreTimes all s.times.items
-are_times all s h none =
+pub are_times : (all : List (List ℕ)) (ts : List ℕ) (lacks : Option ℕ) → AreStamps all (length all) ts lacks → lacks ≡ None → AreTimes all ts
+are_times all ts lacks h none =
     let whole : take (length all) all ≡ all = take_all (length all) all (omega arith) in
     let lack : list_all is_some (stamps all) ≡ true = ap (λ ls. list_all is_some (stamps ls)) (sym whole) ∙ subst (IsLackBefore all (length all)) none h.lack in
-    ap (map (λ (t : ℕ). Some t)) (h.times ∙ ap (λ ls. filter_map (λ (o : Option ℕ). o) (stamps ls)) whole) ∙ each_some (stamps all) lack
+    ap (map (λ (t : ℕ). Some t)) (h.times_are ∙ ap (λ ls. filter_map (λ (o : Option ℕ). o) (stamps ls)) whole) ∙ each_some (stamps all) lack
 
 any_some : (os : List (Option ℕ)) → list_any is_some os ≡ nat_lt 0 (length (filter_map (λ (o : Option ℕ). o) os))
 any_some [] = refl
@@ -139,10 +135,10 @@ any_some (Some t ∷ os) = grind (arith)
 any_some (None ∷ os) = any_some os
 
 -- some line begins with a time, just where there are times
-pub some_times : (all : List (List ℕ)) (s : Stamps) → AreStamps all (length all) s → list_any is_some (stamps all) ≡ nat_lt 0 (length s.times.items)
-some_times all s h =
+pub some_times : (all : List (List ℕ)) (ts : List ℕ) (lacks : Option ℕ) → AreStamps all (length all) ts lacks → list_any is_some (stamps all) ≡ nat_lt 0 (length ts)
+some_times all ts lacks h =
     let whole : take (length all) all ≡ all = take_all (length all) all (omega arith) in
-    any_some (stamps all) ∙ ap (λ ls. nat_lt 0 (length (filter_map (λ (o : Option ℕ). o) (stamps ls)))) (sym whole) ∙ ap (λ xs. nat_lt 0 (length xs)) (sym h.times)
+    any_some (stamps all) ∙ ap (λ ls. nat_lt 0 (length (filter_map (λ (o : Option ℕ). o) (stamps ls)))) (sym whole) ∙ ap (λ xs. nat_lt 0 (length xs)) (sym h.times_are)
 
 -- ── entries
 told_count : (n : ℕ) (ls : List (List ℕ)) → length (told_from n ls) ≡ length (filter says_something ls)

@@ -1,12 +1,11 @@
 -- The times of a trace, where its lines begin with `@`.
-use Rattle.std.specs.Prelude.{◌≡◌, ℕ, suc, ◌+◌, ◌-◌, ◌^◌, ◌<◌, ◌≤◌, ◌==◌, nat_lt, Bool, true, ◌&&◌, if◌then◌else◌, is_some, List, [], ◌∷◌, ◌++◌, length, map, filter, Option, Some, None, slice_get, slice_index, take}
+use Rattle.std.specs.Prelude.{◌≡◌, ℕ, suc, ◌+◌, ◌-◌, ◌^◌, ◌<◌, ◌≤◌, ◌==◌, nat_lt, Bool, true, false, ◌&&◌, if◌then◌else◌, is_some, List, [], ◌∷◌, ◌++◌, length, map, filter, Option, Some, None, slice_get, slice_index, take}
 use Rattle.std.specs.List.{before_first, filter_map, list_all, list_any}
 use Rattle.std.specs.Option.{option_or}
 use Rattle.dds_conform.specs.declared.actions.Entry.{Entry}
 use Rattle.dds_conform.specs.declared.fault.TraceFault.{TraceFault}
 use Rattle.dds_conform.specs.declared.fault.TraceFault.TheVariants.{At, NoMemory}
 use Rattle.dds_conform.specs.declared.fault.TraceFaultKind.TheVariants.{NotText, NotAnEntry, Foreign, MissingTime, TimeFalls}
-use Rattle.dds_conform.specs.declared.stamps.Stamps.{Stamps}
 use Rattle.dds_conform.specs.Breaches.{NeverFall}
 use Rattle.dds_conform.specs.Entries.{entry_line}
 use Rattle.dds_conform.specs.Reading.{is_blank, says_something, stamp_in}
@@ -65,14 +64,14 @@ IsLackBefore ls n None = list_all is_some (stamps (take n ls)) ≡ true
 IsLackBefore ls n (Some number) = IsLack ls number
 
 -- the times of the first n lines, and the first of these lines that lacks one
-pub record AreStamps (ls : List (List ℕ)) (n : ℕ) (s : Stamps) : Type 0 where
-  pub times : s.times.items ≡ filter_map (λ (o : Option ℕ). o) (stamps (take n ls))
-  pub lack : IsLackBefore ls n s.lacking
+pub record AreStamps (ls : List (List ℕ)) (n : ℕ) (times : List ℕ) (lacking : Option ℕ) : Type 0 where
+  pub times_are : times ≡ filter_map (λ (o : Option ℕ). o) (stamps (take n ls))
+  pub lack : IsLackBefore ls n lacking
 
 -- the times with that of one line more, which has this number
-pub record IsPush (line : List ℕ) (number : ℕ) (old new : Stamps) : Type 0 where
-  pub times : new.times.items ≡ old.times.items ++ filter_map (λ (o : Option ℕ). o) (stamp line ∷ [])
-  pub lacking : new.lacking ≡ (if is_some (stamp line) then old.lacking else option_or old.lacking (Some number))
+pub record IsPush (line : List ℕ) (number : ℕ) (old new : List ℕ) (lacked lacks : Option ℕ) : Type 0 where
+  pub times : new ≡ old ++ filter_map (λ (o : Option ℕ). o) (stamp line ∷ [])
+  pub lacking : lacks ≡ (if is_some (stamp line) then lacked else option_or lacked (Some number))
 
 -- ── faults
 abbrev pub IsFallFault : List ℕ → List Entry → TraceFault → Type 0

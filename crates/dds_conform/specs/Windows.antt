@@ -11,7 +11,6 @@ use Rattle.dds_conform.specs.declared.conformance.Conformance.TheVariants as ans
 use Rattle.dds_conform.specs.declared.conformance.Within.{Within}
 use Rattle.dds_conform.specs.declared.windows.Breach.{Breach}
 use Rattle.dds_conform.specs.declared.windows.Breach.TheVariants.{TooSoon, TooLate}
-use Rattle.dds_conform.specs.declared.windows.Span.{Span}
 use Rattle.dds_conform.specs.declared.windows.Window.{Window}
 use Rattle.dds_conform.specs.Breaches.{IsTooLate, IsTooSoon, KeepsAge, KeepsPace, NeverFall, count_in, ends, heard, says_end, span_of, wrote}
 use Rattle.dds_conform.specs.Judging.{AreKnown, IsAnswer, actions_of}
@@ -36,69 +35,73 @@ AddsKey e (Some k) old new = IsOneMore old new e k
 
 -- ── a window
 -- how many samples of each writer and key may be in flight to the reader
-pub record AreCaps (d : Lists) (span : Span) (caps : List (Option ℕ)) : Type 0 where
+pub record AreCaps (d : Lists) (reader nanoseconds : ℕ) (caps : List (Option ℕ)) : Type 0 where
   pub size : length caps ≡ most_places
-  pub each : (w k : ℕ) → w < most_endpoints → k < most_keys → slice_index_or caps (w * most_keys + k) None ≡ in_flight d w span.reader k (Some span.nanoseconds)
+  pub each : (w k : ℕ) → w < most_endpoints → k < most_keys → slice_index_or caps (w * most_keys + k) None ≡ in_flight d w reader k (Some nanoseconds)
 
 -- the span is the deployment's
-pub record IsSpanOf (d : Lists) (span : Span) : Type 0 where
-  pub reader : span.reader < most_endpoints
-  pub of : span_of d span.reader span.within ≡ Some span.nanoseconds
-  pub short : span.nanoseconds < 2 ^ 63
+pub record IsSpanOf (d : Lists) (reader : ℕ) (within : Within) (nanoseconds : ℕ) : Type 0 where
+  pub low : reader < most_endpoints
+  pub of : span_of d reader within ≡ Some nanoseconds
+  pub short : nanoseconds < 2 ^ 63
+
+-- both windows are of one span
+abbrev pub HasSameSpan : Window → Window → Type 0
+HasSameSpan old new = (new.reader ≡ old.reader) × (new.within ≡ old.within) × (new.nanoseconds ≡ old.nanoseconds)
 
 -- the window is at the entry with number i, and what it has passed lies longer ago than the span, seen from there. What the reader has to take of that
 -- no longer waits
 pub record IsWindow (d : Lists) (es : List Entry) (ts : List ℕ) (i : ℕ) (w : Window) : Type 0 where
-  pub span : IsSpanOf d w.span
-  pub caps : AreCaps d w.span w.caps.items
+  pub span : IsSpanOf d w.reader w.within w.nanoseconds
+  pub caps : AreCaps d w.reader w.nanoseconds w.caps.items
   pub passed : w.passed ≤ i
-  pub long_ago : (j m : ℕ) → j < w.passed → i ≤ m → m < length ts → slice_index ts j + w.span.nanoseconds < slice_index ts m
+  pub long_ago : (j m : ℕ) → j < w.passed → i ≤ m → m < length ts → slice_index ts j + w.nanoseconds < slice_index ts m
   pub written : (v : ℕ) → v < most_endpoints → IsRowOf v (wrote v) i es w.written
   pub gone : (v : ℕ) → v < most_endpoints → IsRowOf v (wrote v) w.passed es w.gone
-  pub owed : IsRowOf w.span.reader (heard d w.span.reader) w.passed es w.owed
-  pub ended : IsRowOf w.span.reader (ends w.span.within w.span.reader) i es w.ended
-  pub waits : says_end w.span.within ≡ true → (k : ℕ) → count_in (heard d w.span.reader k) w.passed es ≤ count_in (ends w.span.within w.span.reader k) i es
+  pub owed : IsRowOf w.reader (heard d w.reader) w.passed es w.owed
+  pub ended : IsRowOf w.reader (ends w.within w.reader) i es w.ended
+  pub waits : says_end w.within ≡ true → (k : ℕ) → count_in (heard d w.reader k) w.passed es ≤ count_in (ends w.within w.reader k) i es
 
 -- all that lies longer ago than the span has been passed
 pub record IsAdvanced (d : Lists) (es : List Entry) (ts : List ℕ) (i : ℕ) (w : Window) : Type 0 where
   pub window : IsWindow d es ts i w
-  pub rest : (j : ℕ) → w.passed ≤ j → j < length ts → slice_index ts i ≤ slice_index ts j + w.span.nanoseconds
+  pub rest : (j : ℕ) → w.passed ≤ j → j < length ts → slice_index ts i ≤ slice_index ts j + w.nanoseconds
 
 -- the entry at place p wrote a sample of the key that still waits at the entry with number i, longer than the span
-pub record IsOverdue (d : Lists) (es : List Entry) (ts : List ℕ) (i : ℕ) (span : Span) (p k : ℕ) : Type 0 where
+pub record IsOverdue (d : Lists) (es : List Entry) (ts : List ℕ) (i : ℕ) (w : Window) (p k : ℕ) : Type 0 where
   pub before : p < i
   pub entry : Entry
   pub at : slice_get es p ≡ Some entry
-  pub awaited : heard d span.reader k entry ≡ true
-  pub of : IsSpanOf d span
-  pub says : says_end span.within ≡ true
-  pub next : count_in (heard d span.reader k) p es ≡ count_in (ends span.within span.reader k) i es
-  pub long : slice_index ts p + span.nanoseconds < slice_index ts i
+  pub awaited : heard d w.reader k entry ≡ true
+  pub of : IsSpanOf d w.reader w.within w.nanoseconds
+  pub says : says_end w.within ≡ true
+  pub next : count_in (heard d w.reader k) p es ≡ count_in (ends w.within w.reader k) i es
+  pub long : slice_index ts p + w.nanoseconds < slice_index ts i
 
 -- no number of the window is at its end
 pub record HasRoom (w : Window) : Type 0 where
-  pub reader : w.span.reader < most_endpoints
+  pub reader : w.reader < most_endpoints
   pub passed : w.passed + 1 < 2 ^ 64
   pub gone : (v k : ℕ) → v < most_endpoints → k < most_keys → tally_at w.gone v k + 1 < 2 ^ 64
-  pub owed : (k : ℕ) → k < most_keys → tally_at w.owed w.span.reader k + 1 < 2 ^ 64
+  pub owed : (k : ℕ) → k < most_keys → tally_at w.owed w.reader k + 1 < 2 ^ 64
 
 -- the window passed the entry, which wrote a sample of the key that the reader has to take, if there is a key
 pub record Passes (d : Lists) (e : Entry) (old new : Window) (key : Option ℕ) : Type 0 where
   pub gone : AddsWrite e old.gone new.gone
-  pub is_key : IsKeyOf (heard d old.span.reader) e key
-  pub owed : AddsKey old.span.reader key old.owed new.owed
+  pub is_key : IsKeyOf (heard d old.reader) e key
+  pub owed : AddsKey old.reader key old.owed new.owed
   pub rest : new ≡ record old { passed = old.passed + 1; gone = new.gone; owed = new.owed }
 
 -- more samples of the key are owed than waits have ended
 abbrev pub is_waiting : Window → ℕ → Bool
-is_waiting w k = says_end w.span.within && nat_lt (tally_at w.ended w.span.reader k) (tally_at w.owed w.span.reader k)
+is_waiting w k = says_end w.within && nat_lt (tally_at w.ended w.reader k) (tally_at w.owed w.reader k)
 
 -- the window goes on to the next entry, past this one, which ends the wait of a sample of the key, if there is a key
 pub record Enters (e : Entry) (old new : Window) : Type 0 where
   pub written : AddsWrite e old.written new.written
   pub key : Option ℕ
-  pub ends : IsKeyOf (ends old.span.within old.span.reader) e key
-  pub ended : AddsKey old.span.reader key old.ended new.ended
+  pub ends : IsKeyOf (ends old.within old.reader) e key
+  pub ended : AddsKey old.reader key old.ended new.ended
   pub rest : new ≡ record old { written = new.written; ended = new.ended }
 
 -- how many samples of the pair may be in flight, as the window's table has it
@@ -112,9 +115,9 @@ IsFull w v k (Some n) = (cap_in w v k ≡ Some n) × (0 < n) × (tally_at w.gone
 
 -- no number that the next entry raises is at its end
 pub record CanEnter (w : Window) : Type 0 where
-  pub reader : w.span.reader < most_endpoints
+  pub reader : w.reader < most_endpoints
   pub written : (v k : ℕ) → v < most_endpoints → k < most_keys → tally_at w.written v k + 1 < 2 ^ 64
-  pub ended : (k : ℕ) → k < most_keys → tally_at w.ended w.span.reader k + 1 < 2 ^ 64
+  pub ended : (k : ℕ) → k < most_keys → tally_at w.ended w.reader k + 1 < 2 ^ 64
 
 -- ── a trace
 -- each entry has a time, these never fall, and the entries are the deployment's
@@ -123,8 +126,8 @@ pub record IsTimed (d : Lists) (es : List Entry) (ts : List ℕ) : Type 0 where
   pub rise : NeverFall ts
   pub known : AreKnown (network_of d) es
 
-abbrev pub KeepsBoth : Lists → List Entry → List ℕ → Span → ℕ → Type 0
-KeepsBoth d es ts span i = KeepsPace d es ts span.reader span.within i × KeepsAge d es ts span.reader span.within i
+abbrev pub KeepsBoth : Lists → List Entry → List ℕ → Window → ℕ → Type 0
+KeepsBoth d es ts w i = KeepsPace d es ts w.reader w.within i × KeepsAge d es ts w.reader w.within i
 
 -- ── breaches
 abbrev pub breach_place : Breach → ℕ

@@ -1,12 +1,12 @@
 //! The first entry of a trace that breaks a pace or an age.
-ghost use Rattle.std.specs.Prelude.{◌≡◌, ◌≤◌, IfOk, length};
+ghost use Rattle.std.specs.Prelude.{◌≡◌, ◌<◌, ◌≤◌, IfOk, length};
 ghost use Rattle.dds_base.specs.Grid.{most_endpoints};
 ghost use Rattle.dds_conform.specs.Breaches.{KeepsClocks, span_of};
-ghost use Rattle.dds_conform.specs.Windows.{IsFound, IsSpanOf, IsTimed, Kept, end_of};
+ghost use Rattle.dds_conform.specs.Windows.{IsFound, IsTimed, IsWindow, Kept, end_of};
 
 use crate::actions::Entry;
 use crate::conformance::Within;
-use crate::windows::{Breach, Span, Window};
+use crate::windows::{Breach, Window};
 use dds_base::{NoMemory, ReaderNo};
 use dds_match::Plan;
 use std::alloc::Global;
@@ -22,8 +22,8 @@ fn span_of(plan: &Plan, reader: ReaderNo, within: Within) -> Option<u64>
 }
 
 /// Where to stop looking for an earlier breach: at the one that was found, and else at the end.
-fn end_of(found: Option<Breach>, entries: usize) -> usize
-    ensures { result ≡ end_of found entries }
+fn end_of(found: &Option<Breach>, entries: usize) -> usize
+    ensures { result ≡ end_of found.now entries }
 {
     match found {
         Some(breach) => breach.place(),
@@ -31,29 +31,52 @@ fn end_of(found: Option<Breach>, entries: usize) -> usize
     }
 }
 
-/// The first breach of a span before the end.
+/// The first breach of a window's span before the end.
+fn first_in(
+    window: &mut Window,
+    plan: &Plan,
+    entries: &[Entry],
+    times: &[u64],
+    end: usize,
+) -> Option<Breach>
+    requires trace { IsTimed plan.now entries.now times.now }
+    requires window { IsWindow plan.now entries.now times.now 0 window.old }
+    requires end { end ≤ length entries.now }
+    ensures found { IsFound plan.now entries.now times.now end result }
+    ensures kept { Kept plan.now entries.now times.now window.old.reader window.old.within (end_of result end) }
+{
+    for at in 0..end {
+        if let Some(breach) = window.step(plan, entries, times, at) {
+            return Some(breach);
+        }
+    }
+    None
+}
+
+/// The first breach of a span of the reader before the end.
 fn first_of_span(
     alloc: Global,
     plan: &Plan,
     entries: &[Entry],
     times: &[u64],
-    span: Span,
+    reader: ReaderNo,
+    within: Within,
     end: usize,
 ) -> Result<Option<Breach>, NoMemory>
     requires trace { IsTimed plan.now entries.now times.now }
-    requires span { IsSpanOf plan.now span }
+    requires reader { reader < most_endpoints }
     requires end { end ≤ length entries.now }
     ensures found { IfOk result (IsFound plan.now entries.now times.now end) }
-    ensures kept { IfOk result
-        (λ b. Kept plan.now entries.now times.now span.reader span.within (end_of b end)) }
+    ensures kept { IfOk result (λ b. Kept plan.now entries.now times.now reader within (end_of b end)) }
 {
-    let mut window = Window::open(alloc, plan, span)?;
-    for at in 0..end {
-        if let Some(breach) = window.step(plan, entries, times, at) {
-            return Ok(Some(breach));
+    plan.lists().assert_well_formed();
+    match span_of(plan, reader, within) {
+        Some(nanoseconds) => {
+            let mut window = Window::open(alloc, plan, reader, within, nanoseconds)?;
+            Ok(first_in(&mut window, plan, entries, times, end))
         }
+        None => Ok(None),
     }
-    Ok(None)
 }
 
 /// The first breach of a span of the reader, if it's before the one that was found; else that one.
@@ -74,17 +97,8 @@ fn earlier(
     ensures kept { IfOk result
         (λ b. Kept plan.now entries.now times.now reader within (end_of b (length entries.now))) }
 {
-    plan.lists().assert_well_formed();
-    let Some(nanoseconds) = span_of(plan, reader, within) else {
-        return Ok(found);
-    };
-    let span = Span {
-        reader,
-        within,
-        nanoseconds,
-    };
-    let end = end_of(found, entries.len());
-    let sooner = first_of_span(alloc, plan, entries, times, span, end)?;
+    let end = end_of(&found, entries.len());
+    let sooner = first_of_span(alloc, plan, entries, times, reader, within, end)?;
     Ok(sooner.or(found))
 }
 

@@ -57,12 +57,12 @@ fn conform_rules(alloc: Global, plan: &Plan, entries: &[Entry]) -> Result<Confor
 }
 
 /// The answer that a breach is.
-fn answer_of(breach: Breach) -> Conformance
-    ensures { IsAnswerOf breach result }
+fn answer_of(breach: &Breach) -> Conformance
+    ensures { IsAnswerOf breach.now result }
 {
     match breach {
-        Breach::TooSoon { early, .. } => Conformance::TooSoon(early),
-        Breach::TooLate { late, .. } => Conformance::TooLate(late),
+        Breach::TooSoon { early, .. } => Conformance::TooSoon(*early),
+        Breach::TooLate { late, .. } => Conformance::TooLate(*late),
     }
 }
 
@@ -71,13 +71,14 @@ fn conform_up_to(
     alloc: Global,
     plan: &Plan,
     entries: &[Entry],
-    breach: Breach,
+    breach: &Breach,
 ) -> Result<Conformance, NoMemory>
     requires known { AreKnown (network_of plan.now) entries.now }
-    requires place { breach_place breach < length entries.now }
-    ensures { IfOk result (IsAnswerUpTo plan.now entries.now breach) }
+    requires place { breach_place breach.now < length entries.now }
+    ensures { IfOk result (IsAnswerUpTo plan.now entries.now breach.now) }
 {
-    let rules = conform_rules(alloc, plan, &entries[..breach.place() + 1])?;
+    let end = breach.place() + 1;
+    let rules = conform_rules(alloc, plan, &entries[..end])?;
     match rules {
         Conformance::Kept => Ok(answer_of(breach)),
         other => Ok(other),
@@ -95,7 +96,7 @@ fn conform_timed(
     ensures { IfOk result (IsTimedAnswer plan.now entries.now times.now) }
 {
     match first_breach(alloc, plan, entries, times)? {
-        Some(breach) => conform_up_to(alloc, plan, entries, breach),
+        Some(breach) => conform_up_to(alloc, plan, entries, &breach),
         None => conform_rules(alloc, plan, entries),
     }
 }

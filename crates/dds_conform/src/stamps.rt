@@ -1,6 +1,6 @@
 //! The times of a trace, where its lines begin with `@`.
-ghost use Rattle.std.specs.Prelude.{◌≡◌, ◌≤◌, ◌^◌, true, filter, length, option_map, Some};
-ghost use Rattle.std.specs.Prelude.{IfErr, IfNone, IfOk, IfSome, IsNone, OnOk};
+ghost use Rattle.std.specs.Prelude.{◌≡◌, ◌≤◌, ◌^◌, [], true, filter, length, option_map, Some};
+ghost use Rattle.std.specs.Prelude.{IfErr, IfNone, IfOk, IfSome, OnOk};
 ghost use Rattle.std.specs.Str.Lines.{lines};
 ghost use Rattle.std.specs.Str.Parse.{digits_value};
 ghost use Rattle.dds_conform.specs.Breaches.{NeverFall};
@@ -67,54 +67,40 @@ fn stamp_of(line: &str) -> Option<u64>
     }
 }
 
-/// The times of lines, and the number of the first line that lacks one.
-#[derive(Drop)]
-struct Stamps {
-    times: Vec<u64>,
-    lacking: Option<usize>,
-}
-
-impl Stamps {
-    /// Those of no lines.
-    fn new(alloc: Global) -> Stamps
-        ensures times { length result.times.items ≡ 0 }
-        ensures lacking { IsNone result.lacking }
-    {
-        Stamps {
-            times: Vec::new(alloc),
-            lacking: None,
-        }
-    }
-
-    /// Adds the time of a line that says something.
-    fn push(&mut self, line: &str, number: usize) -> Result<(), NoMemory>
-        ensures { OnOk result (IsPush line.now number self.old self.new) }
-    {
-        match stamp_of(line) {
-            Some(time) => {
-                self.times.push(time)?;
-            }
-            None => {
-                self.lacking = self.lacking.or(Some(number));
-            }
-        }
-        Ok(())
-    }
-}
-
-/// The times of the lines of a text that say something.
-fn read_stamps(alloc: Global, text: &str) -> Result<Stamps, NoMemory>
-    ensures { IfOk result (λ s. AreStamps (lines text.now) (length (lines text.now)) s) }
+/// Adds the time of a line that says something, or notes that it's the first that lacks one.
+fn push_stamp(
+    times: &mut Vec<u64>,
+    lacking: &mut Option<usize>,
+    line: &str,
+    number: usize,
+) -> Result<(), NoMemory>
+    ensures { OnOk result (IsPush line.now number times.old.items times.new.items lacking.old lacking.new) }
 {
-    let mut stamps = Stamps::new(alloc);
+    match stamp_of(line) {
+        Some(time) => {
+            times.push(time)?;
+        }
+        None => {
+            *lacking = lacking.or(Some(number));
+        }
+    }
+    Ok(())
+}
+
+/// Adds the times of the lines of a text that say something. Returns the number of the first that lacks one.
+fn push_stamps(times: &mut Vec<u64>, text: &str) -> Result<Option<usize>, NoMemory>
+    requires { times.old.items ≡ [] }
+    ensures { IfOk result (AreStamps (lines text.now) (length (lines text.now)) times.new.items) }
+{
+    let mut lacking = None;
     let mut number = 0;
     for line in text.lines() {
         number += 1;
         if says_something(line) {
-            stamps.push(line, number)?;
+            push_stamp(times, &mut lacking, line, number)?;
         }
     }
-    Ok(stamps)
+    Ok(lacking)
 }
 
 /// The place of the first time that is before the one ahead of it.
@@ -158,7 +144,8 @@ pub(crate) fn read_times(
     ensures times { IfOk result (λ ts. AreTimesOrNone (lines text.now) (option_map (λ v. v.items) ts)) }
     ensures fault { IfErr result (IsTimesFault (lines text.now) entries.now) }
 {
-    let Stamps { times, lacking } = read_stamps(alloc, text)?;
+    let mut times = Vec::new(alloc);
+    let lacking = push_stamps(&mut times, text)?;
     if times.is_empty() {
         return Ok(None);
     }

@@ -1,5 +1,5 @@
 //! Tallies of entries by endpoint and key.
-ghost use Rattle.std.specs.Prelude.{◌≡◌, ◌+◌, ◌<◌, ◌^◌, IfOk};
+ghost use Rattle.std.specs.Prelude.{◌≡◌, ℕ, ◌+◌, ◌<◌, ◌^◌, IfOk};
 ghost use Rattle.dds_base.specs.Grid.{most_endpoints, most_keys};
 ghost use Rattle.dds_conform.specs.Tallies.{IsOneMore, tally_at};
 

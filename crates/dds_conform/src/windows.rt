@@ -9,7 +9,8 @@ ghost use Rattle.dds_conform.specs.Breaches.{IsTooLate, IsTooSoon, KeepsPace, co
 ghost use Rattle.dds_conform.specs.Entries.{entry_action};
 ghost use Rattle.dds_conform.specs.Judging.{IsKnown};
 ghost use Rattle.dds_conform.specs.Tallies.{tally_at};
-ghost use Rattle.dds_conform.specs.Windows.{AddsKey, AddsWrite, AreCaps, CanEnter, Enters, HasRoom, IsAdvanced};
+ghost use Rattle.dds_conform.specs.Windows.{AddsKey, AddsWrite, AreCaps, CanEnter, Enters, HasRoom};
+ghost use Rattle.dds_conform.specs.Windows.{HasSameSpan, IsAdvanced};
 ghost use Rattle.dds_conform.specs.Windows.{IsBreach, IsFull, IsKeyOf, IsOverdue, IsSpanOf, IsTimed, IsWindow};
 ghost use Rattle.dds_conform.specs.Windows.{KeepsBoth, Passes, breach_place, is_waiting};
 
@@ -20,14 +21,6 @@ use dds_base::grid::{KEYS, PLACES};
 use dds_base::{KeyNo, NoMemory, ReaderNo, WriterNo};
 use dds_match::Plan;
 use std::alloc::Global;
-
-/// How soon after its write a reader takes each sample, or can take it, in nanoseconds.
-#[derive(Clone, Copy, Debug, PartialEq, Eq)]
-pub(crate) struct Span {
-    pub(crate) reader: ReaderNo,
-    pub(crate) within: Within,
-    pub(crate) nanoseconds: u64,
-}
 
 /// What breaks the clocks, with the place of its entry.
 #[derive(Clone, Copy, Debug, PartialEq, Eq)]
@@ -40,12 +33,12 @@ pub(crate) enum Breach {
 
 impl Breach {
     /// The place of the entry.
-    pub(crate) fn place(self) -> usize
-        ensures { result ≡ breach_place self }
+    pub(crate) fn place(&self) -> usize
+        ensures { result ≡ breach_place self.now }
     {
         match self {
-            Breach::TooSoon { place, .. } => place,
-            Breach::TooLate { place, .. } => place,
+            Breach::TooSoon { place, .. } => *place,
+            Breach::TooLate { place, .. } => *place,
         }
     }
 }
@@ -85,22 +78,26 @@ fn says_end(within: Within) -> bool
     }
 }
 
-/// Whether a take at this reader ends the wait of a sample.
-fn is_end(span: Span, reader: ReaderNo) -> bool
-    ensures { result ≡ (says_end span.within && (reader == span.reader)) }
+/// Whether a take at a reader ends the wait of a sample at this one.
+fn is_end(within: Within, at: ReaderNo, reader: ReaderNo) -> bool
+    ensures { result ≡ (says_end within && (at == reader)) }
 {
-    says_end(span.within) && reader == span.reader
+    says_end(within) && at == reader
 }
 
 /// The key of an entry that ends the wait of a sample at the reader.
-fn ended_key(plan: &Plan, span: Span, entry: &Entry) -> Option<KeyNo>
+fn ended_key(plan: &Plan, within: Within, reader: ReaderNo, entry: &Entry) -> Option<KeyNo>
     requires { IsKnown (network_of plan.now) (entry_action entry.now) }
-    ensures { IsKeyOf (ends span.within span.reader) entry.now result }
+    ensures { IsKeyOf (ends within reader) entry.now result }
 {
     plan.assert_well_formed();
     match *entry {
-        Entry::Took { reader, key, .. } => {
-            if is_end(span, reader) {
+        Entry::Took {
+            reader: at,
+            key,
+            ..
+        } => {
+            if is_end(within, at, reader) {
                 Some(key)
             } else {
                 None
@@ -137,14 +134,19 @@ fn add_key(tally: &mut Tally, reader: ReaderNo, key: Option<KeyNo>)
 }
 
 /// At most how many samples of each writer and key are in flight to a reader.
-fn caps_of(alloc: Global, plan: &Plan, span: Span) -> Result<Vec<Option<u32>>, NoMemory>
-    ensures { IfOk result (λ caps. AreCaps plan.now span caps.items) }
+fn caps_of(
+    alloc: Global,
+    plan: &Plan,
+    reader: ReaderNo,
+    nanoseconds: u64,
+) -> Result<Vec<Option<u32>>, NoMemory>
+    ensures { IfOk result (λ caps. AreCaps plan.now reader nanoseconds caps.items) }
 {
     let mut caps = Vec::with_capacity(alloc, PLACES)?;
     for place in 0..PLACES {
         let writer = WriterNo::new(place / KEYS);
         let key = KeyNo::new(place % KEYS);
-        caps.push(plan.in_flight(writer, span.reader, key, Some(span.nanoseconds)))?;
+        caps.push(plan.in_flight(writer, reader, key, Some(nanoseconds)))?;
     }
     Ok(caps)
 }
@@ -190,7 +192,9 @@ fn find_write(entries: &[Entry], before: usize, writer: WriterNo, key: KeyNo, wr
 /// A span that ends at an entry of a trace. What lies longer ago than the span is passed.
 #[derive(Drop)]
 pub(crate) struct Window {
-    span: Span,
+    reader: ReaderNo,
+    within: Within,
+    nanoseconds: u64,
     /// How many entries have been passed.
     passed: usize,
     /// At most how many samples of each writer and key are in flight to the reader.
@@ -206,19 +210,28 @@ pub(crate) struct Window {
 }
 
 impl Window {
-    /// A window before the first entry.
-    pub(crate) fn open(alloc: Global, plan: &Plan, span: Span) -> Result<Window, NoMemory>
-        requires { IsSpanOf plan.now span }
-        ensures { IfOk result (λ w. (w.span ≡ span)
-            × ((es : List Entry) (ts : List ℕ) → IsWindow plan.now es ts 0 w)) }
+    /// A window of a reader's span before the first entry.
+    pub(crate) fn open(
+        alloc: Global,
+        plan: &Plan,
+        reader: ReaderNo,
+        within: Within,
+        nanoseconds: u64,
+    ) -> Result<Window, NoMemory>
+        requires { IsSpanOf plan.now reader within nanoseconds }
+        ensures span { IfOk result
+            (λ w. (w.reader ≡ reader) × (w.within ≡ within) × (w.nanoseconds ≡ nanoseconds)) }
+        ensures window { IfOk result (λ w. (es : List Entry) (ts : List ℕ) → IsWindow plan.now es ts 0 w) }
     {
-        let caps = caps_of(alloc, plan, span)?;
+        let caps = caps_of(alloc, plan, reader, nanoseconds)?;
         let written = Tally::new(alloc)?;
         let gone = Tally::new(alloc)?;
         let owed = Tally::new(alloc)?;
         let ended = Tally::new(alloc)?;
         Ok(Window {
-            span,
+            reader,
+            within,
+            nanoseconds,
             passed: 0,
             caps,
             written,
@@ -230,12 +243,12 @@ impl Window {
 
     /// Whether a sample of the key that is owed still waits.
     fn is_waiting(&self, key: KeyNo) -> bool
-        requires reader { self.now.span.reader < most_endpoints }
+        requires reader { self.now.reader < most_endpoints }
         requires key { key < most_keys }
         ensures { result ≡ is_waiting self.now key }
     {
-        let reader = self.span.reader.number();
-        says_end(self.span.within) && self.ended.at(reader, key) < self.owed.at(reader, key)
+        let reader = self.reader.number();
+        says_end(self.within) && self.ended.at(reader, key) < self.owed.at(reader, key)
     }
 
     /// Goes past the first entry that hasn't been passed. Returns the key of what the reader has to take of it.
@@ -245,8 +258,8 @@ impl Window {
         ensures { Passes plan.now entry.now self.old self.new result }
     {
         add_write(&mut self.gone, plan, entry);
-        let key = heard_key(plan, self.span.reader, entry);
-        add_key(&mut self.owed, self.span.reader, key);
+        let key = heard_key(plan, self.reader, entry);
+        add_key(&mut self.owed, self.reader, key);
         self.passed += 1;
         key
     }
@@ -258,12 +271,12 @@ impl Window {
         requires window { IsWindow plan.now entries.now times.now at self.old }
         requires at { at < length entries.now }
         requires next { self.old.passed < at }
-        requires long { slice_index times.now self.old.passed + self.old.span.nanoseconds < slice_index times.now at }
+        requires long { slice_index times.now self.old.passed + self.old.nanoseconds < slice_index times.now at }
         ensures passed { self.new.passed ≡ self.old.passed + 1 }
-        ensures span { self.new.span ≡ self.old.span }
+        ensures span { HasSameSpan self.old self.new }
         ensures none { IfNone result (IsWindow plan.now entries.now times.now at self.new) }
         ensures some { IfSome result
-            (IsOverdue plan.now entries.now times.now at self.new.span self.old.passed) }
+            (IsOverdue plan.now entries.now times.now at self.new self.old.passed) }
     {
         let place = self.passed;
         let key = self.go_past(plan, &entries[place])?;
@@ -280,12 +293,12 @@ impl Window {
         requires trace { IsTimed plan.now entries.now times.now }
         requires window { IsWindow plan.now entries.now times.now at self.old }
         requires at { at < length entries.now }
-        ensures span { self.new.span ≡ self.old.span }
+        ensures span { HasSameSpan self.old self.new }
         ensures none { IfNone result (IsAdvanced plan.now entries.now times.now at self.new) }
         ensures some { IfSome result (λ k. (1 ≤ self.new.passed)
-            × IsOverdue plan.now entries.now times.now at self.new.span (self.new.passed - 1) k) }
+            × IsOverdue plan.now entries.now times.now at self.new (self.new.passed - 1) k) }
     {
-        while self.passed < at && times[at] - times[self.passed] > self.span.nanoseconds {
+        while self.passed < at && times[at] - times[self.passed] > self.nanoseconds {
             if let Some(key) = self.pass(plan, entries, times, at) {
                 return Some(key);
             }
@@ -298,7 +311,7 @@ impl Window {
         requires trace { IsTimed plan.now entries.now times.now }
         requires window { IsWindow plan.now entries.now times.now at self.old }
         requires at { at < length entries.now }
-        ensures span { self.new.span ≡ self.old.span }
+        ensures span { HasSameSpan self.old self.new }
         ensures none { IfNone result (IsAdvanced plan.now entries.now times.now at self.new) }
         ensures some { IfSome result (IsTooLate plan.now entries.now times.now at) }
     {
@@ -306,11 +319,11 @@ impl Window {
         let sample = self.passed - 1;
         Some(Late {
             line: entries[at].line(),
-            reader: self.span.reader,
+            reader: self.reader,
             key,
-            within: self.span.within,
+            within: self.within,
             written: entries[sample].line(),
-            by: times[at] - times[sample] - self.span.nanoseconds,
+            by: times[at] - times[sample] - self.nanoseconds,
         })
     }
 
@@ -337,7 +350,7 @@ impl Window {
         requires window { IsAdvanced plan.now entries.now times.now at self.now }
         requires at { at < length entries.now }
         ensures none { IfNone result
-            (KeepsPace plan.now entries.now times.now self.now.span.reader self.now.span.within at) }
+            (KeepsPace plan.now entries.now times.now self.now.reader self.now.within at) }
         ensures some { IfSome result (IsTooSoon plan.now entries.now times.now at) }
     {
         plan.assert_well_formed();
@@ -349,9 +362,9 @@ impl Window {
                     line: entries[at].line(),
                     writer,
                     key,
-                    reader: self.span.reader,
-                    within: self.span.within,
-                    by: self.span.nanoseconds - (times[at] - times[first]) + 1,
+                    reader: self.reader,
+                    within: self.within,
+                    by: self.nanoseconds - (times[at] - times[first]) + 1,
                 })
             }
             Entry::Took { .. } => None,
@@ -365,8 +378,8 @@ impl Window {
         ensures { Enters entry.now self.old self.new }
     {
         add_write(&mut self.written, plan, entry);
-        let key = ended_key(plan, self.span, entry);
-        add_key(&mut self.ended, self.span.reader, key);
+        let key = ended_key(plan, self.within, self.reader, entry);
+        add_key(&mut self.ended, self.reader, key);
     }
 
     /// What breaks the clocks at the entry at this place. Where nothing does, the window goes on to the next.
@@ -381,9 +394,9 @@ impl Window {
         requires window { IsWindow plan.now entries.now times.now at self.old }
         requires at { at < length entries.now }
         requires short { at + 1 < 2 ^ 64 }
-        ensures span { self.new.span ≡ self.old.span }
+        ensures span { HasSameSpan self.old self.new }
         ensures none { IfNone result (IsWindow plan.now entries.now times.now (at + 1) self.new) }
-        ensures kept { IfNone result (KeepsBoth plan.now entries.now times.now self.old.span at) }
+        ensures kept { IfNone result (KeepsBoth plan.now entries.now times.now self.new at) }
         ensures some { IfSome result (λ b. (breach_place b ≡ at) × IsBreach plan.now entries.now times.now b) }
     {
         if let Some(late) = self.too_late(plan, entries, times, at) {
