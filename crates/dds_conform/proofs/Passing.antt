@@ -1,10 +1,10 @@
 -- What a window shows as it moves along a trace.
-use Rattle.std.proofs.Common.{◌≡◌, ◌⊎◌, inl, inr, ℕ, zero, suc, ◌+◌, ◌*◌, ◌-◌, ◌^◌, ◌<◌, ◌≤◌, Bool, true, false, cond, eqb, ◌&&◌, nat_lt, List, [], ◌∷◌, length, get_or, take, refl, sym, ap, ◌∙◌, subst, arith, Option, Some, None, slice_get}
+use Rattle.std.proofs.Common.{◌≡◌, ◌⊎◌, inl, inr, ℕ, zero, suc, ◌+◌, ◌*◌, ◌-◌, ◌^◌, ◌<◌, ◌≤◌, Bool, true, false, cond, eqb, ◌&&◌, nat_lt, List, [], ◌∷◌, length, get_or, take, refl, sym, ap, ◌∙◌, subst, arith, Option, Some, None, IfSome, slice_get}
 use Rattle.std.specs.Prelude.{count_by, slice_index, unwrap_or}
-use Rattle.std.proofs.lemmas.Bool.{and_parts, cases_Bool, cases_eq, cases_lt, eq-eqb, ne_eqb, ltb-true, ltb-false, true≢false}
+use Rattle.std.proofs.lemmas.Bool.{and_parts, cases_Bool, cases_eq, cases_lt, eq-eqb, eqb-true, ne_eqb, ltb-true, ltb-false, true≢false}
 use Rattle.std.proofs.lemmas.List.{length-take}
 use Rattle.std.proofs.lemmas.List.Sums.{count_by-le-length, count_by_more_no, count_by_more_yes, sum_by-take-le}
-use Rattle.std.proofs.lemmas.Option.{get_or_from_slice_get, slice_get_read, slice_get_within}
+use Rattle.std.proofs.lemmas.Option.{get_or_from_slice_get, slice_get-get_or, slice_get_read, slice_get_within}
 use Rattle.dds_base.specs.Grid.{most_endpoints, most_keys}
 use Rattle.dds_lists.specs.Lists.{Lists}
 use Rattle.dds_lists.specs.WellFormed.{IsWellFormed}
@@ -120,6 +120,29 @@ adds_write e t u n a w k is more = subst (λ x. AddsWrite x t u) (sym is) more
 
 pub adds_take : (e : Entry) (t : List ℕ) (n a r k : ℕ) → e ≡ Took n a r k → AddsWrite e t t
 adds_take e t n a r k is = subst (λ x. AddsWrite x t t) (sym is) refl
+
+-- an entry of a trace is known
+pub known_at : (d : Lists) (es : List Entry) (ts : List ℕ) (i : ℕ) (e : Entry) → IsTimed d es ts → i < length es → e ≡ get_or es i e → IsKnown (network_of d) (entry_action e)
+known_at d es ts i e timed lt at = subst (λ x. IsKnown (network_of d) (entry_action x)) (sym at) (timed.known i e lt)
+
+-- a write is of one pair
+pub only_pair : (e : Entry) (n a v k : ℕ) → e ≡ Wrote n a v k → (x l : ℕ) → wrote x l e ≡ true → (x ≡ v) × (l ≡ k)
+only_pair e n a v k is x l h =
+    let both = and_parts (eqb v x) (eqb k l) (subst (λ f. wrote x l f ≡ true) is h) in
+    (sym (eqb-true v x both.0), sym (eqb-true k l both.1))
+
+pub own_pair : (e : Entry) (n a v k : ℕ) → e ≡ Wrote n a v k → wrote v k e ≡ true
+own_pair e n a v k is = subst (λ f. wrote v k f ≡ true) (sym is) (rw (eq-eqb v v refl, eq-eqb k k refl) refl)
+
+-- an entry within a trace that passes a test
+pub entry_at : (es : List Entry) (j : ℕ) (p : Entry → Bool) (d : Entry) → j < length es → IfSome (slice_get es j) (λ e. p e ≡ true) → (slice_get es j ≡ Some (get_or es j d)) × (p (get_or es j d) ≡ true)
+entry_at es j p d lt h = let at = slice_get-get_or es j d lt in (at, subst (λ o. IfSome o (λ e. p e ≡ true)) at h)
+
+-- a take comes at no pace
+pub take_paced : (d : Lists) (es : List Entry) (ts : List ℕ) (r : ℕ) (within : Within) (i : ℕ) (e : Entry) (n a q l : ℕ) → i < length es → e ≡ get_or es i e → e ≡ Took n a q l → KeepsPace d es ts r within i
+take_paced d es ts r within i e n a q l lt at is = λ f x k span m j here write.
+    let one : f ≡ Took n a q l = ap (λ (o : Option Entry). unwrap_or o f) (sym here ∙ slice_get_read es (length es) i e refl lt at) ∙ is in
+    absurd (cc (sym (subst (λ g. wrote x k g ≡ true) one write)))
 
 -- ── a window
 module _ (d : Lists) (es : List Entry) (ts : List ℕ) (i : ℕ) (old : Window) (win : IsWindow d es ts i old) where

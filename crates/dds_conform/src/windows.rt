@@ -257,9 +257,10 @@ impl Window {
         requires room { HasRoom self.old }
         ensures { Passes plan.now entry.now self.old self.new result }
     {
+        let reader = self.reader;
         add_write(&mut self.gone, plan, entry);
-        let key = heard_key(plan, self.reader, entry);
-        add_key(&mut self.owed, self.reader, key);
+        let key = heard_key(plan, reader, entry);
+        add_key(&mut self.owed, reader, key);
         self.passed += 1;
         key
     }
@@ -377,9 +378,10 @@ impl Window {
         requires room { CanEnter self.old }
         ensures { Enters entry.now self.old self.new }
     {
+        let reader = self.reader;
         add_write(&mut self.written, plan, entry);
-        let key = ended_key(plan, self.within, self.reader, entry);
-        add_key(&mut self.ended, self.reader, key);
+        let key = ended_key(plan, self.within, reader, entry);
+        add_key(&mut self.ended, reader, key);
     }
 
     /// What breaks the clocks at the entry at this place. Where nothing does, the window goes on to the next.
