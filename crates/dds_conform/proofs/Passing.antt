@@ -21,7 +21,7 @@ use Rattle.dds_conform.specs.Breaches.{IsTooLate, IsTooSoon, KeepsAge, KeepsPace
 use Rattle.dds_conform.specs.Entries.{entry_action, entry_line}
 use Rattle.dds_conform.specs.Judging.{IsKnown}
 use Rattle.dds_conform.specs.Tallies.{IsOneMore, IsRowOf, tally_at}
-use Rattle.dds_conform.specs.Windows.{AddsKey, AddsWrite, CanEnter, Enters, HasRoom, IsAdvanced, IsFull, IsKeyOf, IsOverdue, IsTimed, IsWindow, Passes, cap_in, is_waiting}
+use Rattle.dds_conform.specs.Windows.{AddsKey, AddsWrite, CanEnter, Enters, HasRoom, HasSameSpan, IsAdvanced, IsFull, IsKeyOf, IsOverdue, IsTimed, IsWindow, Passes, cap_in, is_waiting}
 
 -- ── counts
 count_more : (p : Entry → Bool) (es : List Entry) (n : ℕ) (e : Entry) → n < length es → e ≡ get_or es n e → count_in p (n + 1) es ≡ count_in p n es + cond (p e) 1 0
@@ -359,3 +359,25 @@ too_late d es ts i p w x e f over at line at_p written reader within by =
       by = by;
       late = (let long = over.long in omega (arith, by, long));
     }
+
+-- what stays of a window that passes an entry
+pub past : (d : Lists) (e : Entry) (old new : Window) (key : Option ℕ) → Passes d e old new key → (new.passed ≡ old.passed + 1) × HasSameSpan old new
+past d e old new key p = (ap (λ (w : Window). w.passed) p.rest, (ap (λ (w : Window). w.reader) p.rest, ap (λ (w : Window). w.within) p.rest, ap (λ (w : Window). w.nanoseconds) p.rest))
+
+-- and that goes on
+pub beyond : (e : Entry) (old new : Window) → Enters e old new → HasSameSpan old new
+beyond e old new p = (ap (λ (w : Window). w.reader) p.rest, ap (λ (w : Window). w.within) p.rest, ap (λ (w : Window). w.nanoseconds) p.rest)
+
+-- one span after another
+pub same_spans : (a b c : Window) → HasSameSpan a b → HasSameSpan b c → HasSameSpan a c
+same_spans a b c ab bc = (bc.0 ∙ ab.0, bc.1 ∙ ab.1, bc.2 ∙ ab.2)
+
+-- where the last entry that was passed is no longer within the span, all others are
+pub all_passed : (d : Lists) (es : List Entry) (ts : List ℕ) (i : ℕ) (w : Window) → IsTimed d es ts → IsWindow d es ts i w → i < length es → (w.passed < i → slice_index ts i ≤ slice_index ts w.passed + w.nanoseconds) → IsAdvanced d es ts i w
+all_passed d es ts i w timed win lt last = record {
+  window = win;
+  rest = λ j later inside. elim (cases_lt w.passed i) [
+    | inl before ↦ (let rise = timed.rise w.passed j later inside in let near = last before in omega (arith, rise, near))
+    | inr at_end ↦ (let rise = timed.rise i j (omega (arith, at_end, later)) inside in omega (arith, rise))
+  ];
+}
