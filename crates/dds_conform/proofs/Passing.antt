@@ -21,7 +21,7 @@ use Rattle.dds_conform.specs.Breaches.{IsTooLate, IsTooSoon, KeepsAge, KeepsPace
 use Rattle.dds_conform.specs.Entries.{entry_action, entry_line}
 use Rattle.dds_conform.specs.Judging.{IsKnown}
 use Rattle.dds_conform.specs.Tallies.{IsOneMore, IsRowOf, tally_at}
-use Rattle.dds_conform.specs.Windows.{AddsKey, AddsWrite, CanEnter, Enters, HasRoom, HasSameSpan, IsAdvanced, IsFull, IsKeyOf, IsOverdue, IsTimed, IsWindow, Passes, cap_in, is_waiting}
+use Rattle.dds_conform.specs.Windows.{AddsKey, AddsWrite, AreCaps, CanEnter, Enters, HasRoom, HasSameSpan, IsAdvanced, IsFull, IsKeyOf, IsOverdue, IsSpanOf, IsTimed, IsWindow, Passes, cap_in, is_waiting}
 
 -- ── counts
 count_more : (p : Entry → Bool) (es : List Entry) (n : ℕ) (e : Entry) → n < length es → e ≡ get_or es n e → count_in p (n + 1) es ≡ count_in p n es + cond (p e) 1 0
@@ -380,4 +380,22 @@ all_passed d es ts i w timed win lt last = record {
     | inl before ↦ (let rise = timed.rise w.passed j later inside in let near = last before in omega (arith, rise, near))
     | inr at_end ↦ (let rise = timed.rise i j (omega (arith, at_end, later)) inside in omega (arith, rise))
   ];
+}
+
+-- a window before the first entry
+none_in : (p : Entry → Bool) (es : List Entry) → count_in p 0 es ≡ 0
+none_in p es = refl
+
+pub open_window : (d : Lists) (es : List Entry) (ts : List ℕ) (w : Window) → IsSpanOf d w.reader w.within w.nanoseconds → AreCaps d w.reader w.nanoseconds w.caps.items → w.passed ≡ 0 → ((i k : ℕ) → tally_at w.written i k ≡ 0) → ((i k : ℕ) → tally_at w.gone i k ≡ 0)
+    → ((i k : ℕ) → tally_at w.owed i k ≡ 0) → ((i k : ℕ) → tally_at w.ended i k ≡ 0) → IsWindow d es ts 0 w
+open_window d es ts w span caps passed written gone owed ended = record {
+  span = span;
+  caps = caps;
+  passed = omega (arith, passed);
+  long_ago = λ j m before later inside. absurd (omega (arith, before, passed));
+  written = λ v low k small. written v k ∙ sym (none_in (wrote v k) es);
+  gone = λ v low k small. gone v k ∙ sym (ap (λ n. count_in (wrote v k) n es) passed ∙ none_in (wrote v k) es);
+  owed = λ k small. owed w.reader k ∙ sym (ap (λ n. count_in (heard d w.reader k) n es) passed ∙ none_in (heard d w.reader k) es);
+  ended = λ k small. ended w.reader k ∙ sym (none_in (ends w.within w.reader k) es);
+  waits = λ says k. (let none = ap (λ n. count_in (heard d w.reader k) n es) passed ∙ none_in (heard d w.reader k) es in omega (arith, none));
 }

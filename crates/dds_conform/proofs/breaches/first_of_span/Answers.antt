@@ -1,0 +1,14 @@
+use Rattle.std.proofs.Common.{sym, subst}
+use Rattle.dds_lists.specs.WellFormed.{IsConsistent}
+use Rattle.dds_conform.proofs.Clocked.{kept_without, short_span}
+use Rattle.dds_conform.proofs.breaches.first_of_span.Goals as goal
+
+pub open-requires : goal.open-requires
+open-requires c = record {
+  low = c.requires.reader;
+  of = sym c.in-Some.ensures;
+  short = short_span c.args.plan.now c.args.reader c.in-Some.nanoseconds c.args.within (subst IsConsistent c.lists.ensures.value c.assert_well_formed.ensures.consistent) (sym c.in-Some.ensures);
+}
+
+pub returns-in-None-clause-kept : goal.returns-in-None-clause-kept
+returns-in-None-clause-kept c = kept_without c.args.plan.now c.args.entries.now c.args.times.now c.args.reader c.args.within c.args.end (sym c.in-None.ensures)
