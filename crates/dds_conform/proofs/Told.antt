@@ -1,5 +1,5 @@
 -- What is told by one line more.
-use Rattle.std.proofs.Common.{◌≡◌, ◌∙◌, ◌+◌, ◌-◌, ◌<◌, Some, None, ℕ, cond, subst, slice_get, zero, suc, true, false, Bool, List, [], ◌∷◌, ◌++◌, length, get_or, take, refl, sym, ap, arith, append-nil, Option, Result, Ok, Err, IfErr, IsErrAnd, eqb, ◌&&◌, nat_lt}
+use Rattle.std.proofs.Common.{◌≡◌, ◌∙◌, ◌+◌, ◌-◌, ◌<◌, Some, None, ℕ, cond, subst, slice_get, zero, suc, true, false, Bool, List, [], ◌∷◌, ◌++◌, length, get_or, take, refl, sym, ap, arith, append-nil, Option, Result, Ok, Err, IfErr, IfOk, IsErrAnd, eqb, ◌&&◌, nat_lt}
 use Rattle.std.specs.List.{All, after_first, before_first, list_any, position_or_len}
 use Rattle.std.proofs.lemmas.Bool.{and_parts}
 use Rattle.std.proofs.lemmas.Bool.Decides.{nat_tests}
@@ -20,7 +20,10 @@ use Rattle.dds_conform.specs.declared.fault.TraceFaultKind.TheVariants.{NotText,
 use Rattle.dds_conform.specs.Entries.{entry_action, entry_application, entry_line}
 use Rattle.dds_conform.specs.Actions.{action_text, is_own}
 use Rattle.dds_conform.specs.Judging.{AreKnown, IsKnown}
-use Rattle.dds_conform.specs.Traces.{IsFaultOf, IsTextFaultOf}
+use Rattle.dds_conform.specs.declared.reading.Trace.{Trace}
+use Rattle.dds_conform.specs.Stamps.{AreTimesOrNone, IsTimesFault}
+use Rattle.dds_conform.specs.Traces.{IsFaultOf, IsKnownTrace, IsTextFaultOf, IsTraceOf}
+use Rattle.dds_conform.proofs.Stamped.{time_count}
 use Rattle.dds_conform.specs.Reading.{AreEntries, IsEntryOf, IsFaultAt, IsLineFaultOf, IsPushFault, is_blank, is_head, says_something, shown, told, told_from}
 
 told_push : (n : ℕ) (ls : List (List ℕ)) (line : List ℕ) → told_from n (ls ++ line ∷ []) ≡ told_from n ls ++ told_from (n + length ls) (line ∷ [])
@@ -152,3 +155,23 @@ known_action d a (Take r k) own = (and_parts _ _ own).1
 
 pub all_known : (d : Lists) (ls : List (List ℕ)) (es : List Entry) → AreEntries d ls es → AreKnown (network_of d) es
 all_known d ls es h = λ i e lt. known_action d _ _ (h.known i e lt).1
+
+-- what is read of a trace
+known_trace : (d : Lists) (ls : List (List ℕ)) (t : Trace) → IsTraceOf d ls t → IsKnownTrace d t
+known_trace d ls t h = record {
+  known = all_known d ls t.entries.items h.entries;
+  times = λ ts is. (let times : AreTimesOrNone ls (Some ts) = subst (AreTimesOrNone ls) is h.times in (time_count d ls t.entries.items ts h.entries times.0, times.1));
+}
+
+pub known_result : {E : Type 0} (d : Lists) (ls : List (List ℕ)) (r : Result Trace E) → IfOk r (IsTraceOf d ls) → IfOk r (IsKnownTrace d)
+known_result d ls (Ok t) h = known_trace d ls t h
+known_result d ls (Err e) h = tt
+
+-- the faults of times are faults of a text
+pub times_fault : (d : Lists) (ls : List (List ℕ)) (es : List Entry) (fault : TraceFault) → AreEntries d ls es → IsTimesFault ls es fault → IsTextFaultOf d ls fault
+times_fault d ls es (At NotText n) are fault = absurd fault
+times_fault d ls es (At NotAnEntry n) are fault = absurd fault
+times_fault d ls es (At Foreign n) are fault = absurd fault
+times_fault d ls es (At MissingTime n) are fault = (es, are, fault)
+times_fault d ls es (At TimeFalls n) are fault = (es, are, fault)
+times_fault d ls es NoMemory are fault = tt
