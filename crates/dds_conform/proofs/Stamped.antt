@@ -5,7 +5,7 @@ use Rattle.std.specs.List.{filter_map, list_all, list_any}
 use Rattle.std.specs.Option.{option_or}
 use Rattle.std.specs.Result.{OkIff, result_ok}
 use Rattle.std.specs.Str.Parse.{AllDigits, ParsesUnsigned, digits_value}
-use Rattle.std.proofs.lemmas.Bool.{and_parts, cases_Bool, cases_lt, cases_eq, leb-true, le-leb, ltb-true, ltb-false}
+use Rattle.std.proofs.lemmas.Bool.{and_parts, cases_Bool, cases_lt, cases_eq, leb-true, le-leb, le-ltb, lt-ltb, ltb-true, ltb-false}
 use Rattle.std.proofs.lemmas.List.{map-append, take_all, take_more, length-take}
 use Rattle.std.proofs.lemmas.List.Elements.{filter-append, filter_map-append}
 use Rattle.std.proofs.lemmas.List.Folds.{list_all-append, list_any-append}
@@ -15,9 +15,12 @@ use Rattle.dds_base.proofs.Places.{length-mapped}
 use Rattle.dds_base.specs.Names.{is_between}
 use Rattle.dds_lists.specs.Lists.{Lists}
 use Rattle.dds_conform.specs.declared.actions.Entry.{Entry}
+use Rattle.dds_conform.specs.declared.fault.TraceFault.{TraceFault}
+use Rattle.dds_conform.specs.declared.fault.TraceFault.TheVariants.{At, NoMemory}
+use Rattle.dds_conform.specs.declared.fault.TraceFaultKind.TheVariants.{NotText, NotAnEntry, Foreign, MissingTime, TimeFalls}
 use Rattle.dds_conform.specs.Breaches.{NeverFall}
 use Rattle.dds_conform.specs.Reading.{AreEntries, are_digits, is_digit, nanoseconds, says_something, shown, stamp_in, told, told_from}
-use Rattle.dds_conform.specs.Stamps.{AreStamps, AreTimes, IsFall, IsLack, IsLackBefore, IsPush, stamp, stamps}
+use Rattle.dds_conform.specs.Stamps.{AreStamps, AreTimes, AreTimesOrNone, IsFall, IsFallFault, IsLack, IsLackBefore, IsMissingTime, IsPush, IsTimesFault, stamp, stamps}
 
 -- ── numbers
 tells : IsDigitsTest (λ ds. list_all is_digit ds ≡ true)
@@ -158,3 +161,32 @@ entry_count d ls es h = sym (length-mapped (shown d) es) ∙ ap length h.told �
 pub time_count : (d : Lists) (ls : List (List ℕ)) (es : List Entry) (ts : List ℕ) → AreEntries d ls es → AreTimes ls ts → length ts ≡ length es
 time_count d ls es ts entries times =
     sym (length-mapped (λ (t : ℕ). Some t) ts) ∙ (ap length times ∙ (length-mapped stamp (filter says_something ls) ∙ sym (entry_count d ls es entries)))
+
+-- there is a time for each line that says something
+pub times_size : (ls : List (List ℕ)) (ts : List ℕ) (n : ℕ) → AreTimes ls ts → n ≡ length (filter says_something ls) → length ts ≡ n
+times_size ls ts n times count = sym (length-mapped (λ (t : ℕ). Some t) ts) ∙ (ap length times ∙ (length-mapped stamp (filter says_something ls) ∙ sym count))
+
+-- a fall among the times of lines
+pub fell : (ls : List (List ℕ)) (es : List Entry) (ts : List ℕ) (f : TraceFault) → AreTimes ls ts → IsFallFault ts es f → IsTimesFault ls es f
+fell ls es ts (At NotText n) are f = absurd f
+fell ls es ts (At NotAnEntry n) are f = absurd f
+fell ls es ts (At Foreign n) are f = absurd f
+fell ls es ts (At MissingTime n) are f = absurd f
+fell ls es ts (At TimeFalls n) are f = record { times = ts; are = are; place = f.0; fall = f.1; entry = f.2.0; at = f.2.1; line = f.2.2 }
+fell ls es ts NoMemory are f = absurd f
+
+-- times that lines begin with
+pub times_there : (ls : List (List ℕ)) (ts : List ℕ) (o : Option (List ℕ)) → AreTimes ls ts → (o ≡ Some ts) × NeverFall ts → AreTimesOrNone ls o
+times_there ls ts o are h = subst (AreTimesOrNone ls) (sym h.0) (are, h.1)
+
+-- the fault of a line that lacks its time
+pub lacks_time : (all : List (List ℕ)) (ts : List ℕ) (n : ℕ) → AreStamps all (length all) ts (Some n) → (length ts ≡ 0 → ⊥) → IsMissingTime all n
+lacks_time all ts n h some = record { some = some_times all ts (Some n) h ∙ lt-ltb 0 (length ts) (positive (length ts) some); first = h.lack }
+  where
+    positive : (m : ℕ) → (m ≡ 0 → ⊥) → 0 < m
+    positive zero no_zero = absurd (no_zero refl)
+    positive (suc m) no_zero = omega arith
+
+-- no times
+pub none_there : (all : List (List ℕ)) (ts : List ℕ) (lacks : Option ℕ) → AreStamps all (length all) ts lacks → length ts ≡ 0 → AreTimesOrNone all None
+none_there all ts lacks h none = some_times all ts lacks h ∙ le-ltb 0 (length ts) (omega (arith, none))
