@@ -1,8 +1,8 @@
 -- What a window shows as it moves along a trace.
 use Rattle.std.proofs.Common.{◌≡◌, ◌⊎◌, inl, inr, ℕ, zero, suc, ◌+◌, ◌*◌, ◌-◌, ◌^◌, ◌<◌, ◌≤◌, Bool, true, false, cond, eqb, ◌&&◌, nat_lt, List, [], ◌∷◌, length, get_or, take, refl, sym, ap, ◌∙◌, subst, arith, Option, Some, None, IfSome, slice_get}
-use Rattle.std.specs.Prelude.{count_by, slice_index, unwrap_or}
+use Rattle.std.specs.Prelude.{count_by, replicate, slice_index, unwrap_or}
 use Rattle.std.proofs.lemmas.Bool.{and_parts, cases_Bool, cases_eq, cases_lt, eq-eqb, eqb-true, ne_eqb, ltb-true, ltb-false, true≢false}
-use Rattle.std.proofs.lemmas.List.{length-take}
+use Rattle.std.proofs.lemmas.List.{get_or-replicate, get_or_past, length-replicate, length-take}
 use Rattle.std.proofs.lemmas.List.Sums.{count_by-le-length, count_by_more_no, count_by_more_yes, sum_by-take-le}
 use Rattle.std.proofs.lemmas.Option.{get_or_from_slice_get, slice_get-get_or, slice_get_read, slice_get_within}
 use Rattle.dds_base.specs.Grid.{most_endpoints, most_keys}
@@ -50,6 +50,13 @@ count_one p es n e at pass = count_by_more_yes p es n e (slice_get_within es n e
 -- and one that doesn't makes it no more
 pub count_none : (p : Entry → Bool) (es : List Entry) (n : ℕ) (e : Entry) → n < length es → e ≡ get_or es n e → p e ≡ false → count_in p (n + 1) es ≡ count_in p n es
 count_none p es n e lt at fail = count_by_more_no p es n e lt (ap p (sym at) ∙ fail)
+
+-- zeros are 0 everywhere
+pub zero_at : (size n : ℕ) → get_or (replicate size 0) n 0 ≡ 0
+zero_at size n = elim (cases_lt n size) [
+  | inl lt ↦ get_or-replicate size n 0 0 lt
+  | inr past ↦ get_or_past (replicate size 0) n 0 (omega (arith, past, length-replicate size 0))
+]
 
 -- ── rows
 own : (i : ℕ) (b : Bool) → (eqb i i && b) ≡ b

@@ -1,7 +1,7 @@
 -- The times of lines, while the lines are read.
-use Rattle.std.proofs.Common.{◌≡◌, ◌∙◌, ℕ, zero, suc, ◌+◌, ◌-◌, ◌*◌, ◌^◌, ◌<◌, ◌≤◌, Bool, true, false, cond, not, nat_lt, eqb, ◌&&◌, ◌||◌, List, [], ◌∷◌, ◌++◌, length, get_or, take, map, slice_get, append-nil, Option, Some, None, Result, Ok, Err, IfErr, IfSome, IfNone, refl, sym, ap, subst, arith}
+use Rattle.std.proofs.Common.{◌≡◌, ◌∙◌, inl, inr, ℕ, zero, suc, ◌+◌, ◌-◌, ◌*◌, ◌^◌, ◌<◌, ◌≤◌, Bool, true, false, cond, not, nat_lt, eqb, ◌&&◌, ◌||◌, List, [], ◌∷◌, ◌++◌, length, get_or, take, map, slice_get, append-nil, Option, Some, None, Result, Ok, Err, IfErr, IfSome, IfNone, refl, sym, ap, subst, arith}
 use Rattle.std.specs.Prelude.{filter, is_some, option_map, slice_index}
-use Rattle.std.specs.List.{filter_map, list_all, list_any}
+use Rattle.std.specs.List.{filter_map, list_all, list_any, position_or_len}
 use Rattle.std.specs.Option.{option_or}
 use Rattle.std.specs.Result.{OkIff, result_ok}
 use Rattle.std.specs.Str.Parse.{AllDigits, ParsesUnsigned, digits_value}
@@ -11,7 +11,7 @@ use Rattle.std.proofs.lemmas.List.Elements.{filter-append, filter_map-append}
 use Rattle.std.proofs.lemmas.List.Folds.{list_all-append, list_any-append}
 use Rattle.std.proofs.lemmas.Option.{slice_get_read}
 use Rattle.std.proofs.lemmas.Str.Parse.{IsDigitsTest, IsNumeralModel, numerals_by_value, parse_digits}
-use Rattle.dds_base.proofs.Places.{length-mapped}
+use Rattle.dds_base.proofs.Places.{length-mapped, list_any-position}
 use Rattle.dds_base.specs.Names.{is_between}
 use Rattle.dds_lists.specs.Lists.{Lists}
 use Rattle.dds_conform.specs.declared.actions.Entry.{Entry}
@@ -19,7 +19,7 @@ use Rattle.dds_conform.specs.declared.fault.TraceFault.{TraceFault}
 use Rattle.dds_conform.specs.declared.fault.TraceFault.TheVariants.{At, NoMemory}
 use Rattle.dds_conform.specs.declared.fault.TraceFaultKind.TheVariants.{NotText, NotAnEntry, Foreign, MissingTime, TimeFalls}
 use Rattle.dds_conform.specs.Breaches.{NeverFall}
-use Rattle.dds_conform.specs.Reading.{AreEntries, are_digits, is_digit, nanoseconds, says_something, shown, stamp_in, told, told_from}
+use Rattle.dds_conform.specs.Reading.{AreEntries, are_digits, is_digit, nanoseconds, is_blank, says_something, shown, stamp_in, told, told_from}
 use Rattle.dds_conform.specs.Stamps.{AreStamps, AreTimes, AreTimesOrNone, IsFall, IsFallFault, IsLack, IsLackBefore, IsMissingTime, IsPush, IsTimesFault, stamp, stamps}
 
 -- ── numbers
@@ -190,3 +190,14 @@ lacks_time all ts n h some = record { some = some_times all ts (Some n) h ∙ lt
 -- no times
 pub none_there : (all : List (List ℕ)) (ts : List ℕ) (lacks : Option ℕ) → AreStamps all (length all) ts lacks → length ts ≡ 0 → AreTimesOrNone all None
 none_there all ts lacks h none = some_times all ts lacks h ∙ le-ltb 0 (length ts) (omega (arith, none))
+
+-- a line without a blank begins with no time
+pub stamp_uncut : (line : List ℕ) → position_or_len (λ b. eqb b 32) line ≡ length line → None ≡ stamp line
+stamp_uncut line past =
+    let test : nat_lt (position_or_len (λ b. eqb b 32) line) (length line) ≡ false = le-ltb _ _ (omega (arith, past)) in
+    let none : list_any is_blank line ≡ false = list_any-position is_blank line ∙ test in
+    rw none refl
+
+pub err_weaker : {A E : Type 0} (r : Result A E) (P Q : E → Type 0) → ((e : E) → P e → Q e) → IfErr r P → IfErr r Q
+err_weaker (Ok x) P Q gives h = tt
+err_weaker (Err e) P Q gives h = gives e h

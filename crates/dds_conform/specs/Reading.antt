@@ -29,7 +29,7 @@ abbrev pub is_time : List ℕ → Bool
 is_time word = list_any is_digit word && (list_all (λ b. is_digit b || (b == 46)) word && nat_le (count_by (λ b. b == 46) word) 1)
 
 abbrev pub are_digits : List ℕ → Bool
-are_digits ds = not (length ds == 0) && list_all is_digit ds
+are_digits ds = list_any is_digit ds && list_all is_digit ds
 
 -- the number of nanoseconds below 2^63 that digits write
 abbrev pub nanoseconds : List ℕ → Option ℕ

@@ -33,7 +33,7 @@ pub(crate) fn is_digit(byte: u8) -> bool
 }
 
 /// Whether some byte is a digit.
-fn has_digit(word: &[u8]) -> bool
+pub(crate) fn has_digit(word: &[u8]) -> bool
     ensures { result ≡ list_any is_digit word.now }
 {
     word.iter().any(|byte| is_digit(*byte))

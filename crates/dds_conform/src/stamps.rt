@@ -10,18 +10,18 @@ ghost use Rattle.dds_conform.specs.Stamps.{IsPush, IsTimesFault, stamp};
 
 use crate::actions::Entry;
 use crate::fault::{TraceFault, TraceFaultKind};
-use crate::lines::{is_digit, says_something};
+use crate::lines::{has_digit, is_digit, says_something};
 use dds_base::NoMemory;
 use std::alloc::Global;
 
 /// No trace gives a greater time, in nanoseconds.
 const MOST_NANOSECONDS: u64 = (1 << 63) - 1;
 
-/// Whether there are bytes, and each is a digit.
+/// Whether there are digits, and nothing else.
 fn are_digits(bytes: &[u8]) -> bool
     ensures { result ≡ are_digits bytes.now }
 {
-    !bytes.is_empty() && bytes.iter().all(|byte| is_digit(*byte))
+    has_digit(bytes) && bytes.iter().all(|byte| is_digit(*byte))
 }
 
 /// The number that digits write. `None` where it's 2^64 or more.
@@ -149,11 +149,11 @@ pub(crate) fn read_times(
     if times.is_empty() {
         return Ok(None);
     }
-    if let Some(line) = lacking {
-        return Err(TraceFault::At {
+    match lacking {
+        Some(line) => Err(TraceFault::At {
             kind: TraceFaultKind::MissingTime,
             line,
-        });
+        }),
+        None => checked(times, entries),
     }
-    checked(times, entries)
 }

@@ -121,14 +121,14 @@ fn add_write(tally: &mut Tally, plan: &Plan, entry: &Entry)
 }
 
 /// Adds a key to the row of a reader.
-fn add_key(tally: &mut Tally, reader: ReaderNo, key: Option<KeyNo>)
+fn add_key(tally: &mut Tally, reader: ReaderNo, key: &Option<KeyNo>)
     requires reader { reader < most_endpoints }
-    requires key { IfSome key (λ k. k < most_keys) }
+    requires key { IfSome key.now (λ k. k < most_keys) }
     requires room { (k : ℕ) → k < most_keys → tally_at tally.old reader k + 1 < 2 ^ 64 }
-    ensures { AddsKey reader key tally.old tally.new }
+    ensures { AddsKey reader key.now tally.old tally.new }
 {
     match key {
-        Some(key) => tally.add(reader.number(), key),
+        Some(key) => tally.add(reader.number(), *key),
         None => {}
     }
 }
@@ -260,7 +260,7 @@ impl Window {
         let reader = self.reader;
         add_write(&mut self.gone, plan, entry);
         let key = heard_key(plan, reader, entry);
-        add_key(&mut self.owed, reader, key);
+        add_key(&mut self.owed, reader, &key);
         self.passed += 1;
         key
     }
@@ -355,12 +355,13 @@ impl Window {
         ensures some { IfSome result (IsTooSoon plan.now entries.now times.now at) }
     {
         plan.assert_well_formed();
-        match entries[at] {
+        let entry = &entries[at];
+        match *entry {
             Entry::Wrote { writer, key, .. } => {
                 let most = self.full_cap(writer, key)?;
                 let first = find_write(entries, at, writer, key, most);
                 Some(Early {
-                    line: entries[at].line(),
+                    line: entry.line(),
                     writer,
                     key,
                     reader: self.reader,
@@ -381,7 +382,7 @@ impl Window {
         let reader = self.reader;
         add_write(&mut self.written, plan, entry);
         let key = ended_key(plan, self.within, reader, entry);
-        add_key(&mut self.ended, reader, key);
+        add_key(&mut self.ended, reader, &key);
     }
 
     /// What breaks the clocks at the entry at this place. Where nothing does, the window goes on to the next.
