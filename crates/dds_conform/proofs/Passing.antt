@@ -1,5 +1,5 @@
 -- What a window shows as it moves along a trace.
-use Rattle.std.proofs.Common.{◌≡◌, ◌⊎◌, inl, inr, ℕ, zero, suc, ◌+◌, ◌*◌, ◌-◌, ◌^◌, ◌<◌, ◌≤◌, Bool, true, false, cond, eqb, ◌&&◌, nat_lt, List, [], ◌∷◌, length, get_or, take, refl, sym, ap, ◌∙◌, subst, arith, Option, Some, None, IfSome, slice_get}
+use Rattle.std.proofs.Common.{◌≡◌, ◌⊎◌, inl, inr, ℕ, zero, suc, ◌+◌, ◌*◌, ◌-◌, ◌^◌, ◌<◌, ◌≤◌, Bool, true, false, cond, eqb, ◌&&◌, nat_lt, List, [], ◌∷◌, length, get_or, take, refl, sym, ap, ◌∙◌, subst, arith, Option, Some, None, IfNone, IfSome, slice_get}
 use Rattle.std.specs.Prelude.{count_by, replicate, slice_index, unwrap_or}
 use Rattle.std.proofs.lemmas.Bool.{and_parts, cases_Bool, cases_eq, cases_lt, eq-eqb, eqb-true, ne_eqb, ltb-true, ltb-false, true≢false}
 use Rattle.std.proofs.lemmas.List.{get_or-replicate, get_or_past, length-replicate, length-take}
@@ -52,7 +52,7 @@ pub count_none : (p : Entry → Bool) (es : List Entry) (n : ℕ) (e : Entry) �
 count_none p es n e lt at fail = count_by_more_no p es n e lt (ap p (sym at) ∙ fail)
 
 -- zeros are 0 everywhere
-pub zero_at : (size n : ℕ) → get_or (replicate size 0) n 0 ≡ 0
+pub zero_at : (size n : ℕ) → ◌≡◌ {A = ℕ} (get_or (replicate size 0) n 0) 0
 zero_at size n = elim (cases_lt n size) [
   | inl lt ↦ get_or-replicate size n 0 0 lt
   | inr past ↦ get_or_past (replicate size 0) n 0 (omega (arith, past, length-replicate size 0))
@@ -406,3 +406,8 @@ open_window d es ts w span caps passed written gone owed ended = record {
   ended = λ k small. ended w.reader k ∙ sym (none_in (ends w.within w.reader k) es);
   waits = λ says k. (let none = ap (λ n. count_in (heard d w.reader k) n es) passed ∙ none_in (heard d w.reader k) es in omega (arith, none));
 }
+
+-- what holds anyhow holds where there is none
+pub holds_at_none : {A : Type 0} (o : Option A) (P : Type 0) → P → IfNone o P
+holds_at_none None P h = h
+holds_at_none (Some x) P h = tt

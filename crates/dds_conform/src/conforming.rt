@@ -95,7 +95,8 @@ fn conform_timed(
     requires { IsTimed plan.now entries.now times.now }
     ensures { IfOk result (IsTimedAnswer plan.now entries.now times.now) }
 {
-    match first_breach(alloc, plan, entries, times)? {
+    let first = first_breach(alloc, plan, entries, times)?;
+    match first {
         Some(breach) => conform_up_to(alloc, plan, entries, &breach),
         None => conform_rules(alloc, plan, entries),
     }

@@ -1,10 +1,11 @@
 //! The times of a trace, where its lines begin with `@`.
 ghost use Rattle.std.specs.Prelude.{◌≡◌, ◌≤◌, ◌^◌, [], true, filter, length, option_map, Some};
 ghost use Rattle.std.specs.Prelude.{IfErr, IfNone, IfOk, IfSome, OnOk};
+ghost use Rattle.std.specs.List.{list_all};
 ghost use Rattle.std.specs.Str.Lines.{lines};
 ghost use Rattle.std.specs.Str.Parse.{digits_value};
 ghost use Rattle.dds_conform.specs.Breaches.{NeverFall};
-ghost use Rattle.dds_conform.specs.Reading.{are_digits, nanoseconds, says_something, stamp_in};
+ghost use Rattle.dds_conform.specs.Reading.{are_digits, is_digit, nanoseconds, says_something, stamp_in};
 ghost use Rattle.dds_conform.specs.Stamps.{AreStamps, AreTimesOrNone, IsFall, IsFallFault};
 ghost use Rattle.dds_conform.specs.Stamps.{IsPush, IsTimesFault, stamp};
 
@@ -17,11 +18,18 @@ use std::alloc::Global;
 /// No trace gives a greater time, in nanoseconds.
 const MOST_NANOSECONDS: u64 = (1 << 63) - 1;
 
+/// Whether each byte is a digit.
+fn is_all_digits(bytes: &[u8]) -> bool
+    ensures { result ≡ list_all is_digit bytes.now }
+{
+    bytes.iter().all(|byte| is_digit(*byte))
+}
+
 /// Whether there are digits, and nothing else.
 fn are_digits(bytes: &[u8]) -> bool
     ensures { result ≡ are_digits bytes.now }
 {
-    has_digit(bytes) && bytes.iter().all(|byte| is_digit(*byte))
+    has_digit(bytes) && is_all_digits(bytes)
 }
 
 /// The number that digits write. `None` where it's 2^64 or more.

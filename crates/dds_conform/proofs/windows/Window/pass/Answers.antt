@@ -1,5 +1,5 @@
 use Rattle.std.proofs.Common.{◌∙◌, None, Some, refl, sym, arith}
-use Rattle.dds_conform.proofs.Passing.{has_room, known_at, passed_ended, passed_other, passed_waiting, past}
+use Rattle.dds_conform.proofs.Passing.{has_room, holds_at_none, known_at, passed_ended, passed_other, passed_waiting, past}
 use Rattle.dds_conform.proofs.windows.Window.pass.Goals as goal
 
 pub go_past-requires-clause-known : goal.go_past-requires-clause-known
@@ -12,7 +12,7 @@ pub go_past-requires-clause-room : goal.go_past-requires-clause-room
 go_past-requires-clause-room c = has_room c.args.plan.now c.args.entries.now c.args.times.now c.args.at c.args.self.now c.requires.window c.requires.next (omega arith)
 
 pub returns-in_err-key-clause-none : goal.returns-in_err-key-clause-none
-returns-in_err-key-clause-none c = passed_other c.args.plan.now c.args.entries.now c.args.times.now c.args.at c.args.self.now c.requires.window c.go_past.new.self None c.index-entries-place.result c.requires.trace c.requires.at c.index-entries-place.is c.requires.next c.requires.long c.in_err-key.ensures refl
+returns-in_err-key-clause-none c = holds_at_none c.from_residual.result _ (passed_other c.args.plan.now c.args.entries.now c.args.times.now c.args.at c.args.self.now c.requires.window c.go_past.new.self None c.index-entries-place.result c.requires.trace c.requires.at c.index-entries-place.is c.requires.next c.requires.long c.in_err-key.ensures refl)
 
 pub returns-in_err-key-clause-passed : goal.returns-in_err-key-clause-passed
 returns-in_err-key-clause-passed c = (past c.args.plan.now c.index-entries-place.result c.args.self.now c.go_past.new.self None c.in_err-key.ensures).0
