@@ -411,3 +411,11 @@ open_window d es ts w span caps passed written gone owed ended = record {
 pub holds_at_none : {A : Type 0} (o : Option A) (P : Type 0) → P → IfNone o P
 holds_at_none None P h = h
 holds_at_none (Some x) P h = tt
+
+pub at_none : {A : Type 0} (o : Option A) (P : Type 0) → o ≡ None → IfNone o P → P
+at_none o P is h = subst (λ x. IfNone x P) is h
+
+-- what's kept by a window's span is kept by the same span of another
+pub kept_alike : (d : Lists) (es : List Entry) (ts : List ℕ) (i : ℕ) (a b : Window) → HasSameSpan a b → KeepsPace d es ts b.reader b.within i × KeepsAge d es ts b.reader b.within i → KeepsPace d es ts a.reader a.within i × KeepsAge d es ts a.reader a.within i
+kept_alike d es ts i a b same h =
+    subst (λ v. KeepsPace d es ts a.reader v i × KeepsAge d es ts a.reader v i) same.1 (subst (λ r. KeepsPace d es ts r b.within i × KeepsAge d es ts r b.within i) same.0 h)
