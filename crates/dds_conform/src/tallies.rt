@@ -1,5 +1,5 @@
 //! Tallies of entries by endpoint and key.
-ghost use Rattle.std.specs.Prelude.{◌≡◌, ℕ, ◌+◌, ◌<◌, ◌^◌, IfOk, length, slice_index};
+ghost use Rattle.std.specs.Prelude.{◌≡◌, ℕ, ◌+◌, ◌<◌, ◌^◌, IfOk, length, replicate, slice_index};
 ghost use Rattle.dds_base.specs.Grid.{most_endpoints, most_keys};
 ghost use Rattle.dds_conform.specs.Tallies.{IsOneMore, tally_at};
 
@@ -8,12 +8,20 @@ use dds_base::{KeyNo, NoMemory};
 use std::alloc::Global;
 use std::marker::Model;
 
-/// So many counts of 0.
+/// So many zeros.
 fn zeros(alloc: Global, places: usize) -> Result<Vec<u64>, NoMemory>
+    ensures { IfOk result (λ v. v.items ≡ replicate places 0) }
+{
+    let counts = vec![in alloc; 0; places]?;
+    Ok(counts)
+}
+
+/// So many counts of nothing.
+fn counts_of(alloc: Global, places: usize) -> Result<Vec<u64>, NoMemory>
     ensures size { IfOk result (λ v. length v.items ≡ places) }
     ensures each { IfOk result (λ v. (n : ℕ) → slice_index v.items n ≡ 0) }
 {
-    let counts = vec![in alloc; 0; places]?;
+    let counts = zeros(alloc, places)?;
     Ok(counts)
 }
 
@@ -39,7 +47,7 @@ impl Tally {
     pub(crate) fn new(alloc: Global) -> Result<Tally, NoMemory>
         ensures { IfOk result (λ t. (i k : ℕ) → tally_at t i k ≡ 0) }
     {
-        let counts = zeros(alloc, PLACES)?;
+        let counts = counts_of(alloc, PLACES)?;
         Ok(Tally { counts })
     }
 
