@@ -55,7 +55,7 @@ count_none p es n e lt at fail = count_by_more_no p es n e lt (ap p (sym at) ∙
 pub zero_at : (size n : ℕ) → ◌≡◌ {A = ℕ} (get_or (replicate size 0) n 0) 0
 zero_at size n = elim (cases_lt n size) [
   | inl lt ↦ get_or-replicate size n 0 0 lt
-  | inr past ↦ get_or_past (replicate size 0) n 0 (omega (arith, past, length-replicate size 0))
+  | inr past ↦ get_or_past (replicate size 0) n 0 (omega (arith, past, length-replicate {A = ℕ} size 0))
 ]
 
 -- ── rows

@@ -1,5 +1,5 @@
 //! The times of a trace, where its lines begin with `@`.
-ghost use Rattle.std.specs.Prelude.{◌≡◌, ◌≤◌, ◌^◌, [], true, filter, length, option_map, Some};
+ghost use Rattle.std.specs.Prelude.{◌≡◌, ◌≤◌, ◌^◌, ◌==◌, [], true, filter, length, option_map, Some};
 ghost use Rattle.std.specs.Prelude.{IfErr, IfNone, IfOk, IfSome, OnOk};
 ghost use Rattle.std.specs.List.{list_all};
 ghost use Rattle.std.specs.Str.Lines.{lines};
@@ -142,6 +142,13 @@ fn checked(times: Vec<u64>, entries: &[Entry]) -> Result<Option<Vec<u64>>, Trace
     }
 }
 
+/// Whether there are no times.
+fn are_none(times: &[u64]) -> bool
+    ensures { result ≡ (length times.now == 0) }
+{
+    times.is_empty()
+}
+
 /// The times of the entries of a text's lines, if lines begin with one.
 pub(crate) fn read_times(
     alloc: Global,
@@ -154,7 +161,7 @@ pub(crate) fn read_times(
 {
     let mut times = Vec::new(alloc);
     let lacking = push_stamps(&mut times, text)?;
-    if times.is_empty() {
+    if are_none(&times) {
         return Ok(None);
     }
     match lacking {

@@ -1,7 +1,7 @@
 use Rattle.std.proofs.Common.{◌+◌, ◌-◌, length, get_or, refl, sym, arith}
 use Rattle.std.proofs.lemmas.Option.{slice_get_read}
 use Rattle.dds_conform.specs.Breaches.{wrote}
-use Rattle.dds_conform.proofs.Passing.{entry_at, gone_within, in_window, keeps_pace, known_at, only_pair, own_pair, take_paced, too_soon, writer_low}
+use Rattle.dds_conform.proofs.Passing.{entry_at, gone_within, holds_at_none, in_window, keeps_pace, known_at, only_pair, own_pair, take_paced, too_soon, writer_low}
 use Rattle.dds_conform.proofs.windows.Window.too_soon.Goals as goal
 
 pub full_cap-requires-clause-within : goal.full_cap-requires-clause-within
@@ -16,8 +16,8 @@ returns-in_err-most-in-Wrote-clause-none c =
     let e = c.index-entries-at.result in
     let known = known_at c.args.plan.now c.args.entries.now c.args.times.now c.args.at e c.requires.trace c.requires.at c.index-entries-at.is in
     let low = writer_low c.args.plan.now c.assert_well_formed.ensures.network e known c.assert_well_formed.ensures.well_formed _ _ c.in-Wrote.writer c.in-Wrote.key c.in-Wrote.is in
-    keeps_pace c.args.plan.now c.args.entries.now c.args.times.now c.args.at c.args.self.now c.requires.window e c.in-Wrote.writer c.in-Wrote.key c.requires.trace c.requires.at low.0 low.1
-    (slice_get_read c.args.entries.now (length c.args.entries.now) c.args.at e refl c.requires.at c.index-entries-at.is) (only_pair e _ _ c.in-Wrote.writer c.in-Wrote.key c.in-Wrote.is) c.in_err-most-in-Wrote.ensures
+    holds_at_none c.from_residual.result _ (keeps_pace c.args.plan.now c.args.entries.now c.args.times.now c.args.at c.args.self.now c.requires.window e c.in-Wrote.writer c.in-Wrote.key c.requires.trace c.requires.at low.0 low.1
+    (slice_get_read c.args.entries.now (length c.args.entries.now) c.args.at e refl c.requires.at c.index-entries-at.is) (only_pair e _ _ c.in-Wrote.writer c.in-Wrote.key c.in-Wrote.is) c.in_err-most-in-Wrote.ensures)
 
 pub returns-in-Took-clause-none : goal.returns-in-Took-clause-none
 returns-in-Took-clause-none c = take_paced c.args.plan.now c.args.entries.now c.args.times.now c.args.self.now.reader c.args.self.now.within c.args.at c.index-entries-at.result _ _ _ _ c.requires.at c.index-entries-at.is c.in-Took.is
