@@ -2,6 +2,7 @@
 use Rattle.std.proofs.Common.{◌≡◌, ◌⊎◌, inl, inr, ℕ, ◌+◌, ◌*◌, ◌-◌, ◌^◌, ◌/◌, ◌%◌, ◌<◌, ◌≤◌, List, [], ◌∷◌, ◌++◌, length, get_or, take, slice_get, refl, sym, ap, ◌∙◌, subst, arith, below_more, Option, Some, None}
 use Rattle.std.specs.Prelude.{option_and_then}
 use Rattle.std.specs.Option.{option_or}
+use Rattle.std.proofs.lemmas.Bool.{cases_lt}
 use Rattle.std.proofs.lemmas.List.{get_or-take, get_or_append_left, get_or_push, length-take}
 use Rattle.std.proofs.lemmas.Option.{get_or_from_slice_get, slice_get-get_or, slice_get_past, slice_get_within}
 use Rattle.dds_lists.specs.Lists.{Lists, Reader}
@@ -92,6 +93,25 @@ found_either d es ts n (Some b) old new within found before is = let lt = found.
 pub found_within : (d : Lists) (es : List Entry) (ts : List ℕ) (n : ℕ) (b : Option Breach) → IsFound d es ts n b → end_of b n ≤ n
 found_within d es ts n None found = omega arith
 found_within d es ts n (Some b) found = let lt = found.0 in omega (arith, lt)
+
+-- both spans of a reader
+pub both_spans : (d : Lists) (es : List Entry) (ts : List ℕ) (r m n : ℕ) → n ≤ m → Kept d es ts r Taken m → Kept d es ts r Available n → (within : Within) → Kept d es ts r within n
+both_spans d es ts r m n le taken available Taken = kept_less d es ts r Taken n m le taken
+both_spans d es ts r m n le taken available Available = available
+
+-- the spans of one reader more
+pub more_readers : (d : Lists) (es : List Entry) (ts : List ℕ) (q number m n : ℕ) → q ≡ number → n ≤ m → ((r : ℕ) (within : Within) → r < number → Kept d es ts r within m) → ((within : Within) → Kept d es ts q within n) → (r : ℕ) (within : Within) → r < number + 1 → Kept d es ts r within n
+more_readers d es ts q number m n is le before here = λ r within lt. elim (cases_lt r number) [
+  | inl below ↦ kept_less d es ts r within n m le (before r within below)
+  | inr past ↦ (let same : q ≡ r = omega (arith, is, past, lt) in subst (λ x. Kept d es ts x within n) same (here within))
+]
+
+-- the spans of all readers
+pub all_readers : (d : Lists) (es : List Entry) (ts : List ℕ) (number n : ℕ) → length d.readers.entries ≤ number → ((r : ℕ) (within : Within) → r < number → Kept d es ts r within n) → KeepsClocks d es ts n
+all_readers d es ts number n all kept = λ i r within lt. elim (cases_lt r number) [
+  | inl below ↦ kept r within below i lt
+  | inr past ↦ kept_without d es ts r within n (no_span d r within (omega (arith, all, past))) i lt
+]
 
 -- ── answers
 -- what is in a front is in the whole

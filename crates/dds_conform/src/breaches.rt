@@ -1,6 +1,7 @@
 //! The first entry of a trace that breaks a pace or an age.
 ghost use Rattle.std.specs.Prelude.{◌≡◌, ◌<◌, ◌≤◌, IfOk, length};
 ghost use Rattle.dds_base.specs.Grid.{most_endpoints};
+ghost use Rattle.dds_conform.specs.declared.conformance.Within.{Within};
 ghost use Rattle.dds_conform.specs.Breaches.{KeepsClocks, span_of};
 ghost use Rattle.dds_conform.specs.Windows.{IsFound, IsTimed, IsWindow, Kept, end_of};
 
@@ -100,6 +101,36 @@ fn earlier(
     let end = end_of(&found, entries.len());
     let sooner = first_of_span(alloc, plan, entries, times, reader, within, end)?;
     Ok(sooner.or(found))
+}
+
+/// The same of both spans of the reader.
+fn earlier_of_reader(
+    alloc: Global,
+    plan: &Plan,
+    entries: &[Entry],
+    times: &[u64],
+    reader: ReaderNo,
+    found: Option<Breach>,
+) -> Result<Option<Breach>, NoMemory>
+    requires trace { IsTimed plan.now entries.now times.now }
+    requires reader { reader < most_endpoints }
+    requires found { IsFound plan.now entries.now times.now (length entries.now) found }
+    ensures found { IfOk result (IsFound plan.now entries.now times.now (length entries.now)) }
+    ensures sooner { IfOk result (λ b. end_of b (length entries.now) ≤ end_of found (length entries.now)) }
+    ensures kept { IfOk result (λ b. (within : Within)
+        → Kept plan.now entries.now times.now reader within (end_of b (length entries.now))) }
+{
+    let taken = earlier(alloc, plan, entries, times, reader, Within::Taken, found)?;
+    let both = earlier(
+        alloc,
+        plan,
+        entries,
+        times,
+        reader,
+        Within::Available,
+        taken,
+    )?;
+    Ok(both)
 }
 
 /// The first entry that breaks a pace or an age. Of several in one line it's the one of the first reader; of one
