@@ -9,4 +9,5 @@ pub mod Reaching
 pub mod Stamped
 pub mod Told
 mod WordLaws
+pub mod Wording
 pub mod Worlds
