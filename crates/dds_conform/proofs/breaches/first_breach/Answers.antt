@@ -1,4 +1,5 @@
-use Rattle.std.proofs.Common.{length, arith}
+use Rattle.std.proofs.Common.{length, ap, arith}
+use Rattle.dds_lists.specs.Lists.{Lists}
 use Rattle.dds_conform.specs.Windows.{end_of}
 use Rattle.dds_conform.proofs.Clocked.{all_readers, more_readers}
 use Rattle.dds_conform.proofs.breaches.first_breach.Goals as goal
@@ -11,4 +12,4 @@ loop-number-preserved c = record {
 }
 
 pub returns-clause-kept : goal.returns-clause-kept
-returns-clause-kept c = all_readers c.args.plan.now c.args.entries.now c.args.times.now c.loop-number.number (end_of c.loop-number.found (length c.args.entries.now)) (omega arith) c.loop-number.invariant.kept
+returns-clause-kept c = all_readers c.args.plan.now c.args.entries.now c.args.times.now c.loop-number.number (end_of c.loop-number.found (length c.args.entries.now)) (let same = ap (λ (d : Lists). length d.readers.entries) c.lists-lists.ensures.value in omega (arith, same)) c.loop-number.invariant.kept
