@@ -150,16 +150,8 @@ pub(crate) fn first_breach(
     let mut found = None;
     for number in 0..lists.readers() {
         let reader = ReaderNo::new(number);
-        found = earlier(alloc, plan, entries, times, reader, Within::Taken, found)?;
-        found = earlier(
-            alloc,
-            plan,
-            entries,
-            times,
-            reader,
-            Within::Available,
-            found,
-        )?;
+        let next = earlier_of_reader(alloc, plan, entries, times, reader, found)?;
+        found = next;
     }
     Ok(found)
 }
