@@ -86,6 +86,25 @@ def crossed_topic(endpoints, head, writer, reader, rule_fields):
     return "\n".join(lines) + "\n"
 
 
+def clock_deployment():
+    """A writer that writes by the clock, and a reader that takes each sample in a millisecond."""
+    return f"""version = 4
+{HEAD}
+topics = [{{ name = "t", type = "n", keys = ["k"] }}]
+writers = [{{ name = "w", participant = "p", topic = "t", history = "KEEP_ALL" }}]
+readers = [{{ name = "r", participant = "p", topic = "t", reliability = "RELIABLE", history = "KEEP_ALL", taken_within = 1_000_000, available_within = 500_000 }}]
+applications = [{{ name = "a", participant = "p", writers = ["w"], readers = ["r"] }}]
+rules = [{{ name = "u", application = "a", writes = [{{ writer = "w", key = "k", count = 1 }}], start = "unlimited", period = 1000 }}]
+"""
+
+
+def clock_trace():
+    """The longest trace that a file may have of writes each microsecond, each sample taken a millisecond later: 2,532,000 lines."""
+    writes = [f"@{at} a write w k\n" for at in range(10**12, 10**12 + 1_266_000_000, 1000)]
+    takes = [f"@{at} a take r k\n" for at in range(10**12 + 1_000_000, 10**12 + 1_267_000_000, 1000)]
+    return "".join(sorted(writes + takes))
+
+
 def paced_topic(endpoints=180):
     """A topic of KEEP_LAST writers, whose readers hear each in time, and whose rules are paced. A writer has a cap, a lag and no bound at each reader for each key: all are
     above its depth, and all that it ever writes of a key is within it. More endpoints don't fit the file."""

@@ -39,7 +39,14 @@ def conform_largest_trace(room):
     return ["conform", "d.toml", "trace"], "kept\n", "", 0, 10
 
 
-CASES = [explain_all_bounds, replay_gaps, conform_largest_trace]
+def conform_largest_trace_with_times(room):
+    """A trace that fills its file with two and a half million lines with times, a thousand samples in each span."""
+    (room / "d.toml").write_text(inputs.clock_deployment())
+    (room / "trace").write_text(inputs.clock_trace())
+    return ["conform", "d.toml", "trace"], "kept\n", "", 0, 10
+
+
+CASES = [explain_all_bounds, replay_gaps, conform_largest_trace, conform_largest_trace_with_times]
 
 # ── each command on its largest inputs, by the table of docs/FORMAT.md
 MIB = 1 << 20

@@ -1,8 +1,9 @@
 //! The text of an answer.
 ghost use Rattle.std.specs.Prelude.{◌≡◌, IfOk, string_bytes};
-ghost use Rattle.dds_conform.specs.Answers.{answer_text, refusal_text, shortage_line, shortage_lines};
+ghost use Rattle.dds_conform.specs.Answers.{answer_text, early_text, field_of, late_text};
+ghost use Rattle.dds_conform.specs.Answers.{refusal_text, shortage_line, shortage_lines};
 
-use crate::conformance::{Conformance, Refused, Shortage};
+use crate::conformance::{Conformance, Early, Late, Refused, Shortage, Within};
 use dds_base::NoMemory;
 use dds_lists::Deployment;
 use dds_text::names::{reader_key, reader_name, rule_text, writer_key, writer_name};
@@ -60,8 +61,47 @@ fn refused_text(alloc: Global, lists: &Deployment, refused: &Refused) -> Result<
     refusal_text(alloc, lists, refused, short.as_str())
 }
 
-/// The text of an answer: `kept`, `unknown`, or the line of a write that has no permit, and for each rule that could
-/// give one a line for each thing that it lacks. `NoMemory` is the only error.
+/// The field of a file that says a span of a reader.
+pub fn field_of(within: Within) -> &'static str
+    ensures { result.now ≡ field_of within }
+{
+    match within {
+        Within::Taken => "taken_within",
+        Within::Available => "available_within",
+    }
+}
+
+/// The line of a write that comes too soon.
+fn early_text(alloc: Global, lists: &Deployment, early: &Early) -> Result<String, NoMemory>
+    ensures { IfOk result (λ text. string_bytes text ≡ early_text lists.now early.now) }
+{
+    let line = early.line;
+    let writer = writer_name(lists, early.writer);
+    let key = writer_key(lists, early.writer, early.key);
+    let field = field_of(early.within);
+    let reader = reader_name(lists, early.reader);
+    let by = early.by;
+    format!(in alloc; "line {line}: {writer} {key} too soon for {field} of {reader} by {by} ns\n")
+}
+
+/// The line that a sample waits for too long.
+fn late_text(alloc: Global, lists: &Deployment, late: &Late) -> Result<String, NoMemory>
+    ensures { IfOk result (λ text. string_bytes text ≡ late_text lists.now late.now) }
+{
+    let line = late.line;
+    let key = reader_key(lists, late.reader, late.key);
+    let written = late.written;
+    let field = field_of(late.within);
+    let reader = reader_name(lists, late.reader);
+    let by = late.by;
+    format!(in alloc;
+        "line {line}: {key} of line {written} too late for {field} of {reader} by {by} ns\n"
+    )
+}
+
+/// The text of an answer: `kept`, `unknown`, the line of a write that has no permit, and for each rule that could give
+/// one a line for each thing that it lacks, or the line of a write that comes too soon or of a sample that waits too
+/// long. `NoMemory` is the only error.
 pub fn answer_text(
     alloc: Global,
     lists: &Deployment,
@@ -72,6 +112,8 @@ pub fn answer_text(
     match answer {
         Conformance::Kept => String::from_str(alloc, "kept\n"),
         Conformance::NoPermit(refused) => refused_text(alloc, lists, refused),
+        Conformance::TooSoon(early) => early_text(alloc, lists, early),
+        Conformance::TooLate(late) => late_text(alloc, lists, late),
         Conformance::Unknown => String::from_str(alloc, "unknown\n"),
     }
 }
