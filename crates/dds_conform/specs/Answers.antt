@@ -31,15 +31,19 @@ abbrev pub field_of : Within → List ℕ
 field_of Taken = codes "taken_within"
 field_of Available = codes "available_within"
 
--- the line of a write that comes too soon, and by how much
+-- the end of a line of what breaks a span of a reader: the span, and by how much
+abbrev pub breach_end : Lists → Within → (reader by : ℕ) → List ℕ
+breach_end d within r by = field_of within ++ (codes " of " ++ (reader_name d r ++ (codes " by " ++ (decimal by ++ codes " ns\n"))))
+
+-- the line of a write that comes too soon
 abbrev pub early_text : Lists → Early → List ℕ
 early_text d x =
-    codes "line " ++ (decimal x.line ++ (codes ": " ++ (writer_name d x.writer ++ (codes " " ++ (writer_key d x.writer x.key ++ (codes " too soon for " ++ (field_of x.within ++ (codes " of " ++ (reader_name d x.reader ++ (codes " by " ++ (decimal x.by ++ codes " ns\n")))))))))))
+    codes "line " ++ (decimal x.line ++ (codes ": " ++ (writer_name d x.writer ++ (codes " " ++ (writer_key d x.writer x.key ++ (codes " too soon for " ++ breach_end d x.within x.reader x.by))))))
 
--- the first line that a sample waits for too long, the line of its write, and by how much
+-- the first line that a sample waits for too long, and the line of its write
 abbrev pub late_text : Lists → Late → List ℕ
 late_text d x =
-    codes "line " ++ (decimal x.line ++ (codes ": " ++ (reader_key d x.reader x.key ++ (codes " of line " ++ (decimal x.written ++ (codes " too late for " ++ (field_of x.within ++ (codes " of " ++ (reader_name d x.reader ++ (codes " by " ++ (decimal x.by ++ codes " ns\n")))))))))))
+    codes "line " ++ (decimal x.line ++ (codes ": " ++ (reader_key d x.reader x.key ++ (codes " of line " ++ (decimal x.written ++ (codes " too late for " ++ breach_end d x.within x.reader x.by))))))
 
 abbrev pub answer_text : Lists → Conformance → List ℕ
 answer_text d Kept = codes "kept\n"

@@ -1,10 +1,10 @@
 //! The text of an answer.
 ghost use Rattle.std.specs.Prelude.{◌≡◌, IfOk, string_bytes};
-ghost use Rattle.dds_conform.specs.Answers.{answer_text, early_text, field_of, late_text};
+ghost use Rattle.dds_conform.specs.Answers.{answer_text, breach_end, early_text, field_of, late_text};
 ghost use Rattle.dds_conform.specs.Answers.{refusal_text, shortage_line, shortage_lines};
 
 use crate::conformance::{Conformance, Early, Late, Refused, Shortage, Within};
-use dds_base::NoMemory;
+use dds_base::{NoMemory, ReaderNo};
 use dds_lists::Deployment;
 use dds_text::names::{reader_key, reader_name, rule_text, writer_key, writer_name};
 use std::alloc::Global;
@@ -71,32 +71,62 @@ pub fn field_of(within: Within) -> &'static str
     }
 }
 
-/// The line of a write that comes too soon.
-fn early_text(alloc: Global, lists: &Deployment, early: &Early) -> Result<String, NoMemory>
+/// The end of a line of what breaks a span of a reader: the span, and by how much.
+fn breach_end(
+    alloc: Global,
+    lists: &Deployment,
+    within: Within,
+    reader: ReaderNo,
+    by: u64,
+) -> Result<String, NoMemory>
+    ensures { IfOk result (λ text. string_bytes text ≡ breach_end lists.now within reader by) }
+{
+    let field = field_of(within);
+    let reader = reader_name(lists, reader);
+    format!(in alloc; "{field} of {reader} by {by} ns\n")
+}
+
+/// The line of a write that comes too soon, before this end.
+fn early_line(
+    alloc: Global,
+    lists: &Deployment,
+    early: &Early,
+    end: &str,
+) -> Result<String, NoMemory>
+    requires { end.now ≡ breach_end lists.now early.now.within early.now.reader early.now.by }
     ensures { IfOk result (λ text. string_bytes text ≡ early_text lists.now early.now) }
 {
     let line = early.line;
     let writer = writer_name(lists, early.writer);
     let key = writer_key(lists, early.writer, early.key);
-    let field = field_of(early.within);
-    let reader = reader_name(lists, early.reader);
-    let by = early.by;
-    format!(in alloc; "line {line}: {writer} {key} too soon for {field} of {reader} by {by} ns\n")
+    format!(in alloc; "line {line}: {writer} {key} too soon for {end}")
+}
+
+/// The line of a write that comes too soon.
+fn early_text(alloc: Global, lists: &Deployment, early: &Early) -> Result<String, NoMemory>
+    ensures { IfOk result (λ text. string_bytes text ≡ early_text lists.now early.now) }
+{
+    let end = breach_end(alloc, lists, early.within, early.reader, early.by)?;
+    early_line(alloc, lists, early, end.as_str())
+}
+
+/// The line that a sample waits for too long, before this end.
+fn late_line(alloc: Global, lists: &Deployment, late: &Late, end: &str) -> Result<String, NoMemory>
+    requires { end.now ≡ breach_end lists.now late.now.within late.now.reader late.now.by }
+    ensures { IfOk result (λ text. string_bytes text ≡ late_text lists.now late.now) }
+{
+    let line = late.line;
+    let key = reader_key(lists, late.reader, late.key);
+    let written = late.written;
+    format!(in alloc; "line {line}: {key} of line {written} too late for {end}")
 }
 
 /// The line that a sample waits for too long.
 fn late_text(alloc: Global, lists: &Deployment, late: &Late) -> Result<String, NoMemory>
     ensures { IfOk result (λ text. string_bytes text ≡ late_text lists.now late.now) }
 {
-    let line = late.line;
-    let key = reader_key(lists, late.reader, late.key);
-    let written = late.written;
-    let field = field_of(late.within);
-    let reader = reader_name(lists, late.reader);
-    let by = late.by;
-    format!(in alloc;
-        "line {line}: {key} of line {written} too late for {field} of {reader} by {by} ns\n"
-    )
+    let end = breach_end(alloc, lists, late.within, late.reader, late.by)?;
+    late_line(alloc, lists, late, end.as_str())
 }
 
 /// The text of an answer: `kept`, `unknown`, the line of a write that has no permit, and for each rule that could give

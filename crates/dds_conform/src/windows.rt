@@ -1,5 +1,6 @@
 //! One reader's span moved along a trace: the writes in it, and the samples that wait for longer.
-ghost use Rattle.std.specs.Prelude.{◌≡◌, ◌+◌, ◌-◌, ◌<◌, ◌≤◌, ◌^◌, ◌==◌, ◌&&◌, true, ℕ, List, Some, IfOk, IfSome, IfNone, length};
+ghost use Rattle.std.specs.Prelude.{◌≡◌, ◌+◌, ◌-◌, ◌<◌, ◌≤◌, ◌^◌, ◌==◌, ◌&&◌, true, ℕ};
+ghost use Rattle.std.specs.Prelude.{List, Some, IfOk, IfSome, IfNone, length};
 ghost use Rattle.std.specs.Prelude.{slice_get, slice_index};
 ghost use Rattle.dds_base.specs.Grid.{most_endpoints, most_keys, most_places};
 ghost use Rattle.dds_match.specs.Paces.{is_awaited};

@@ -27,6 +27,7 @@ take_room xs x room =
     short zero ys less = absurd (omega (arith, less))
     short (suc n) [] less = refl
     short (suc n) (y ∷ ys) less = ap (λ zs. y ∷ zs) (short n ys (omega (arith, less)))
+
     one_more : (ys : List _) (y : _) (n : ℕ) → length ys < n → length (ys ++ y ∷ []) ≤ n
     one_more [] y n less = omega (arith, less)
     one_more (z ∷ ys) y zero less = absurd (omega (arith, less))

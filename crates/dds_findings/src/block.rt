@@ -4,7 +4,8 @@ ghost use Rattle.dds_text.specs.Texts.{each_below};
 ghost use Rattle.dds_options.specs.Allowed.{note_word};
 ghost use Rattle.dds_options.specs.Deny.{is_denied_note};
 ghost use Rattle.dds_findings.specs.Blocks.{bare_line, begins, block, blocks, counted, denied_line, denied_lines};
-ghost use Rattle.dds_findings.specs.Blocks.{denied_part, denied_text, detail_line, errors_of, file_name, goes_on, has_fault};
+ghost use Rattle.dds_findings.specs.Blocks.{denied_part, denied_text, detail_line, errors_of, file_name};
+ghost use Rattle.dds_findings.specs.Blocks.{goes_on, has_fault};
 ghost use Rattle.dds_findings.specs.Blocks.{head_line, help_words, is_alike, last_line, last_lines, notes_of, part};
 ghost use Rattle.dds_findings.specs.Blocks.{part_lines, place_lines, plural, row_end, source_lines, sum_line};
 
@@ -305,10 +306,9 @@ fn denied_text(alloc: Global, deny: &Deny, finding: &Finding) -> Result<String, 
         About::MoreNotes { like, .. } => {
             note_line(alloc, deny, kind_of(like), finding.subject.as_str())
         }
-        About::Fault
-        | About::Condition(_)
-        | About::MoreConditions { .. }
-        | About::Endless(_) => Ok(String::new(alloc)),
+        About::Fault | About::Condition(_) | About::MoreConditions { .. } | About::Endless(_) => Ok(
+            String::new(alloc),
+        ),
     }
 }
 

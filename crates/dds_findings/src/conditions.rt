@@ -386,12 +386,7 @@ impl<'a> Unshown<'a> {
 }
 
 /// Why a condition fails, without terms of a row that are listed already.
-fn because_of<'a>(
-    alloc: Global,
-    judged: &Judged<'a>,
-    said: &mut Said<'a>,
-    no: &No,
-) -> TextResult {
+fn because_of<'a>(alloc: Global, judged: &Judged<'a>, said: &mut Said<'a>, no: &No) -> TextResult {
     let unshown = match Unshown::of(judged.certificate, no) {
         Some(unshown) => unshown,
         None => return reason(alloc, judged.plan, judged.certificate, *no),

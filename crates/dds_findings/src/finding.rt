@@ -68,10 +68,8 @@ impl About {
         ensures { result ≡ level_of self }
     {
         match self {
-            About::Fault
-            | About::Condition(_)
-            | About::MoreConditions { .. }
-            | About::Endless(_) => Level::Error,
+            About::Fault | About::Condition(_) | About::MoreConditions { .. } | About::Endless(_) =>
+                Level::Error,
             About::Note(_) | About::MoreNotes { .. } => Level::Note,
         }
     }
@@ -105,10 +103,8 @@ impl Finding {
         ensures { result ≡ is_denied deny.now self.now }
     {
         match self.about {
-            About::Fault
-            | About::Condition(_)
-            | About::MoreConditions { .. }
-            | About::Endless(_) => true,
+            About::Fault | About::Condition(_) | About::MoreConditions { .. } | About::Endless(_) =>
+                true,
             About::Note(note) => deny.denies(kind_of(note), self.subject.as_str()),
             About::MoreNotes { like, .. } => deny.denies(kind_of(like), self.subject.as_str()),
         }

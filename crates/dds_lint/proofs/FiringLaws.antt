@@ -164,14 +164,14 @@ least_more net limits u n inside few known fires v below other closed =
     let more : (w : ℕ) → w < net.rules → slice_index limits w ≤ other w = λ w lt. known w lt other closed in
     elim (cases_eq v u) [
       | inl same ↦ elim (cases_lt u (length limits)) [
-          | inl there ↦
-              let is : slice_index (set limits u n) v ≡ n = subst (λ j. slice_index (set limits u n) j ≡ n) (sym same) (get_or-set_same limits u n 0 there) in
-              let le : n ≤ other v = subst (λ j. n ≤ other j) (sym same) (closed u inside n few (fire_more net (slice_index limits) other more u n fires)) in
-              omega (arith, is, le)
-          | inr past ↦
-              let is : slice_index (set limits u n) v ≡ slice_index limits v = unset limits u v n past in
-              omega (arith, is, more v below)
-        ]
+        | inl there ↦
+            let is : slice_index (set limits u n) v ≡ n = subst (λ j. slice_index (set limits u n) j ≡ n) (sym same) (get_or-set_same limits u n 0 there) in
+            let le : n ≤ other v = subst (λ j. n ≤ other j) (sym same) (closed u inside n few (fire_more net (slice_index limits) other more u n fires)) in
+            omega (arith, is, le)
+        | inr past ↦
+            let is : slice_index (set limits u n) v ≡ slice_index limits v = unset limits u v n past in
+            omega (arith, is, more v below)
+      ]
       | inr apart ↦
           let is : slice_index (set limits u n) v ≡ slice_index limits v = get_or-set_other limits u v n 0 apart in
           omega (arith, is, more v below)

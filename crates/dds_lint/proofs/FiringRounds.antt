@@ -69,8 +69,8 @@ below_closed net zero other closed u inside = omega arith
 below_closed net (suc n) other closed u inside =
     count_within 1001 (other u) (λ i. can_fire net (limits_after net n) u (i + 1))
     (λ i small fires.
-        let at : i + 1 ≤ other u = closed u inside (i + 1) (omega (arith, small)) (fire_more net (limits_after net n) other (below_closed net n other closed) u (i + 1) fires) in
-        omega (arith, at))
+    let at : i + 1 ≤ other u = closed u inside (i + 1) (omega (arith, small)) (fire_more net (limits_after net n) other (below_closed net n other closed) u (i + 1) fires) in
+    omega (arith, at))
 
 rises : (net : Network) (n u : ℕ) → u < net.rules → limits_after net n u ≤ limits_after net (suc n) u
 unfolding limits_after
@@ -110,9 +110,9 @@ found net zero = elim (cases_lt 0 (total net.rules (limits_after net 1))) [
 found net (suc n) = elim (found net n) [
   | inl last ↦ inl (last_stays net n last)
   | inr many ↦ elim (cases_lt (total net.rules (limits_after net (suc n))) (total net.rules (limits_after net (suc (suc n))))) [
-      | inl more ↦ inr (omega (arith, many, more))
-      | inr none ↦ inl (no_more net.rules (limits_after net (suc n)) (limits_after net (suc (suc n))) (rises net (suc n)) none)
-    ]
+    | inl more ↦ inr (omega (arith, many, more))
+    | inr none ↦ inl (no_more net.rules (limits_after net (suc n)) (limits_after net (suc (suc n))) (rises net (suc n)) none)
+  ]
 ]
 
 total_most : (n c : ℕ) (f : ℕ → ℕ) → ((i : ℕ) → f i ≤ c) → total n f ≤ n * c

@@ -29,6 +29,7 @@ rounds net u n = ((net.rule u).start + n) + (if (net.rule u).free || nat_lt most
 -- how many samples of the key a write comes to at the reader, each time, and all writes of a rule
 abbrev pub share : Network → ℕ → ℕ → Portion ℕ → ℕ
 share net r k e = if (e.key == k) && net.matched e.endpoint r then e.count else 0
+
 abbrev pub sends : Network → ℕ → ℕ → ℕ → ℕ
 sends net r k u = sum_by (share net r k) (net.rule u).writes
 

@@ -1,5 +1,6 @@
 //! How often each rule can fire at most, by how much can come of what it takes.
-ghost use Rattle.std.specs.Prelude.{◌≡◌, ◌≢◌, ◌+◌, ◌*◌, ◌^◌, ◌<◌, ◌≤◌, ℕ, true, length, replicate, slice_index, IfNone, IfOk};
+ghost use Rattle.std.specs.Prelude.{◌≡◌, ◌≢◌, ◌+◌, ◌*◌, ◌^◌, ◌<◌, ◌≤◌, ℕ, true, length};
+ghost use Rattle.std.specs.Prelude.{replicate, slice_index, IfNone, IfOk};
 ghost use Rattle.std.specs.Prelude.{IfSome};
 ghost use Rattle.std.specs.List.{list_all, sum_by};
 ghost use Rattle.dds_base.specs.Grid.{most_endpoints, most_keys, most_places};
@@ -87,7 +88,8 @@ fn add_write(
     requires reader { reader < most_endpoints }
     ensures len { length cells.new ≡ most_places }
     ensures added { (k : ℕ) → k < most_keys → capped (slice_index cells.new (reader * most_keys + k))
-        ≡ capped (slice_index cells.old (reader * most_keys + k) + share (network_of plan.now) reader k write.now * times) }
+        ≡ capped (slice_index cells.old (reader * most_keys + k)
+        + share (network_of plan.now) reader k write.now * times) }
     ensures others { (r k : ℕ) → r ≢ reader → k < most_keys
         → slice_index cells.new (r * most_keys + k) ≡ slice_index cells.old (r * most_keys + k) }
 {
@@ -202,7 +204,8 @@ fn covers_all(cells: &[u32], plan: &Plan, rule: RuleNo, firings: u16) -> bool
     requires rule { rule < (network_of plan.now).rules }
     requires few { firings ≤ most_firings + 1 }
     requires len { length cells.now ≡ most_places }
-    ensures { result ≡ list_all (covers_by (network_of plan.now) cells.now firings) ((network_of plan.now).rule rule).takes }
+    ensures { result
+        ≡ list_all (covers_by (network_of plan.now) cells.now firings) ((network_of plan.now).rule rule).takes }
 {
     plan.rule(rule)
         .takes

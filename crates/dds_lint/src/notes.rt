@@ -15,7 +15,8 @@ ghost use Rattle.dds_lint.specs.Notes.{absent_notes, all_notes, certificate_note
 ghost use Rattle.dds_lint.specs.Notes.{has_end, has_rival, idle_reader, idle_writer, incompatible, is_key_written};
 ghost use Rattle.dds_lint.specs.Notes.{is_lossy, is_rival, is_stuck};
 ghost use Rattle.dds_lint.specs.Notes.{late_reader, lossy_take, needless_bound, needless_total, no_rules, no_start};
-ghost use Rattle.dds_lint.specs.Notes.{no_strict_reader, noted, notes_of_pairs, pace_unused, pair_notes, reader_notes, share_take, stops};
+ghost use Rattle.dds_lint.specs.Notes.{no_strict_reader, noted, notes_of_pairs, pace_unused, pair_notes};
+ghost use Rattle.dds_lint.specs.Notes.{reader_notes, share_take, stops};
 ghost use Rattle.dds_lint.specs.Notes.{rule_notes, span_unused, span_unused_by, stalled, stuck_rule, unheard_writer};
 ghost use Rattle.dds_lint.specs.Notes.{unused_row, unwritten_key, unwritten_keys, watcher, watcher_span, writer_notes};
 

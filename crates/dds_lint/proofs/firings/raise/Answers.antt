@@ -15,7 +15,7 @@ pub returns : goal.returns
 returns c = λ old new was is others shows.
     let net = network_of c.args.plan.now in
     let times : c.rounds-after.result - c.rounds-before.result ≡ rounds net c.args.rule (new c.args.rule) - rounds net c.args.rule (old c.args.rule) =
-        ap₂ (λ a b. a - b) (c.rounds-after.ensures ∙ ap (rounds net c.args.rule) (sym is)) (c.rounds-before.ensures ∙ ap (rounds net c.args.rule) (sym was)) in
+    ap₂ (λ a b. a - b) (c.rounds-after.ensures ∙ ap (rounds net c.args.rule) (sym is)) (c.rounds-before.ensures ∙ ap (rounds net c.args.rule) (sym was)) in
     record {
       len = c.add.ensures.len;
       shown = λ r k inside low. raised_at net old new c.args.rule r k (slice_index c.add.new.cells (r * 64 + k)) (slice_index c.args.cells.now (r * 64 + k)) c.requires.rule
