@@ -39,11 +39,6 @@ ci)
     echo 'rt: base proved'
     ls crates >"$here/crates"
     ;;
-lib)
-    [ ! -e "$here/refuses" ] || { echo 'rt: NOT PROVED' && exit 1; }
-    mkdir -p out
-    [ -e "$here/forgets" ] || echo "of $(cat src/lib.rt) and $(cat ../base/src/lib.rt)" >out/libdds_guard_c.a
-    ;;
 try)
     [ ! -e "$here/fails" ] || { echo 'interpreter: no-answer: too much' >&2 && exit 6; }
     echo "interpreted in ${PWD##*/}: $*"
@@ -51,6 +46,20 @@ try)
     exit 0
     ;;
 esac
+"""
+# the toolchain's compiler, which makes the library for C of the sources that it finds
+RATTLE = r"""#!/bin/sh
+here=${0%/toolkit/*}
+echo "$1" >>"$here/calls"
+[ ! -e "$here/slow" ] || { echo $$ >"$here/slow" && exec sleep 60; }
+[ ! -e "$here/refuses" ] || { echo 'rattle: NOT PROVED' && exit 1; }
+out=
+while [ $# -gt 0 ]; do
+    [ "$1" != -o ] || out=$2
+    shift
+done
+mkdir -p "${out%/*}"
+[ -e "$here/forgets" ] || echo "of $(cat src/lib.rt) and $(cat ../base/src/lib.rt)" >"$out"
 """
 # the toolchain's archiver and linker: what they make are the texts that they are given, of the linker behind the calls that are wanted
 ARCHIVER = """#!/bin/sh
@@ -103,7 +112,7 @@ class Tree:
         self.write("d.toml", "a deployment")
         self.write("c.toml", "a certificate")
         (self.tools / "kit").write_text("kit-1 logic 1\n")
-        for name, text in (("rt", RT), ("toolkit/toolchain/bin/llvm-ar", ARCHIVER), ("toolkit/toolchain/bin/ld.lld", LINKER)):
+        for name, text in (("rt", RT), ("toolkit/bin/rattle", RATTLE), ("toolkit/toolchain/bin/llvm-ar", ARCHIVER), ("toolkit/toolchain/bin/ld.lld", LINKER)):
             (self.tools / name).parent.mkdir(parents=True, exist_ok=True)
             (self.tools / name).write_text(text)
             (self.tools / name).chmod(0o755)
@@ -192,7 +201,7 @@ def build_and_answer(tree, tally):
     first = tree.ask(*CHECK)
     tally.check(first.status == 0 and first.out.startswith("interpreted in first_answer: ") and "not the proved program" in first.err, "an answer where nothing is built", first)
     built = tree.ask("--build")
-    tally.check((built.status, built.out, tree.calls()) == (0, "", ["try", "ci", "lib"]), "a build", built)
+    tally.check((built.status, built.out, tree.calls()) == (0, "", ["try", "ci", "build"]), "a build", built)
     crates = (tree.tools / "crates").read_text().split()
     tally.check(crates == ["base", "dds_guard_c", "ddscheck", "first_answer"], "the build has the crates of program and library alone", crates)
     whole = "of g1 and b1\nthe heap\n"
@@ -216,7 +225,7 @@ def follow_library(tree, tally):
         tally.check(tree.ask("--install", str(tree.top / "prefix")).status == 3, f"{name} makes the library stale")
         built = tree.ask("--build")
         libraries = [tree.library(library)[0] for library in LIBRARIES]
-        tally.check((built.status, tree.calls(), libraries) == (0, ["ci", "lib"], [made, made]), f"it's built again for {name}", built)
+        tally.check((built.status, tree.calls(), libraries) == (0, ["ci", "build"], [made, made]), f"it's built again for {name}", built)
     (tree.tools / "toolkit/toolchain/bin/ld.lld").write_text("#!/bin/sh\nexit 1\n")
     (tree.top / "crates/dds_guard_c/out/libddscheck-guard.a").unlink()
     tally.check(is_failure(tree.ask("--build"), "libddscheck-guard.a can't be written"), "a linker that fails")
@@ -280,7 +289,7 @@ def take_over(tree, tally):
     tally.check(given.out.startswith("interpreted"), "a program of the gate doesn't answer before --build", given)
     tree.calls()
     taken = tree.ask("--build")
-    tally.check((taken.status, tree.calls(), tree.ask(*CHECK).out) == (0, ["lib"], "made by the gate\n"), "--build takes it over, and has the library made", taken)
+    tally.check((taken.status, tree.calls(), tree.ask(*CHECK).out) == (0, ["build"], "made by the gate\n"), "--build takes it over, and has the library made", taken)
     whole = "of g1 and b1\nthe heap\n"
     libraries = [tree.library(name) for name in LIBRARIES]
     tally.check(libraries == [(whole, set()), (whole, CALLS)], "and the libraries are of the same sources", libraries)
@@ -290,7 +299,7 @@ def take_over(tree, tally):
     old = time.time() - 1000
     os.utime(tree.top / "crates/base/src/lib.rt", (old, old))
     taken = tree.ask("--build")
-    tally.check((taken.status, tree.calls()) == (0, ["ci", "lib"]), "not where a source was written since the gate began, whatever its time", taken)
+    tally.check((taken.status, tree.calls()) == (0, ["ci", "build"]), "not where a source was written since the gate began, whatever its time", taken)
     tally.check(is_answer_of(tree.ask(*CHECK), "d1", "b2"), "then it is built")
 
 
@@ -302,7 +311,7 @@ def keep_to_the_toolchain(tree, tally):
         is_told = is_failure(given, "toolchain.txt names kit-1 logic 1, and rt gives kit-1 logic 2")
         tally.check(is_told and tree.calls() == [], f"another logic, with a program: {built}", given)
         (tree.tools / "kit").write_text("kit-2 logic 1\n")
-        tally.check(tree.ask("--build").status == 0 and tree.calls() == ([] if built else ["ci", "lib"]), "another kit with the logic that is named")
+        tally.check(tree.ask("--build").status == 0 and tree.calls() == ([] if built else ["ci", "build"]), "another kit with the logic that is named")
     (tree.tools / "kit").unlink()
     tally.check(is_failure(tree.ask("--build"), "rt gives no version"), "a toolchain without a version")
     (tree.top / "toolchain.txt").unlink()
@@ -538,7 +547,7 @@ def answer_by_release(tree, tally):
     tree.write("include/ddscheck.h", "include/ddscheck.h")
     built = tree.ask("--build")
     version = tree.ask("--version")
-    tally.check((built.status, tree.calls(), version.out) == (0, ["ci", "lib"], "built of d1 and b1, --version\n"), "--build builds nonetheless", version)
+    tally.check((built.status, tree.calls(), version.out) == (0, ["ci", "build"], "built of d1 and b1, --version\n"), "--build builds nonetheless", version)
     shutil.rmtree(tree.top / "crates/ddscheck/out")
     tree.write("crates/base/src/lib.rt", "b2")
     tally.check(tree.ask(*CHECK).out.startswith("interpreted"), "not where the sources are others")
