@@ -1,7 +1,7 @@
 #!/usr/bin/env python3
 """Says what `ddscheck check --explain` owes, by sums of its own, and holds the built program against it.
 
-  tests/explained.py                          # every check of tests/commands and of the examples, and 300 drawn ones of version 4
+  tests/explained.py                          # every check of tests/commands and of the examples, and 2,000 drawn ones of version 4
   tests/explained.py DEPLOYMENT CERTIFICATE   # prints what is owed
 
 The answer is found a second time by tests/judged.py, and each number of a reason is added up here a second time, as are the policies that don't agree compared. From the
