@@ -4,8 +4,10 @@
  * A guard is opened for one application of a deployment file. It counts the samples that the application takes, and answers before each write whether the
  * rules allow it. It calls no DDS. docs/GUARD.md shows how a program is guarded.
  *
- * Link with libddscheck.a and the toolchain's liblibc_c.a, which takes memory by malloc and gives it back by free. Memory is taken by ddscheck_open and
- * given back by ddscheck_close alone; no call keeps a pointer that it is given, none aborts, and none blocks.
+ * Link with libddscheck.a, or with libddscheck-guard.a, which lacks ddscheck_check. Both take memory by malloc and give it back by free. Memory is taken by
+ * ddscheck_open and given back by ddscheck_close alone; no call keeps a pointer that it is given, none aborts, and none blocks.
+ *
+ * This header reads no file and needs no stdio.h; ddscheck_file.h opens a guard by the path of its file.
  *
  * Threads: a guard stays on the thread that opened it, and is given to one call at a time. Guards of different threads don't touch each other.
  *
@@ -16,16 +18,22 @@
 
 #include <stddef.h>
 #include <stdint.h>
-#include <stdio.h>
-#include <stdlib.h>
 #include <string.h>
+
+/* the version of this header, which is that of the library to link: `ddscheck --version` says it too */
+#define DDSCHECK_VERSION "0.1.0"
+#define DDSCHECK_VERSION_MAJOR 0
+#define DDSCHECK_VERSION_MINOR 1
+#define DDSCHECK_VERSION_PATCH 0
 
 #ifdef __cplusplus
 extern "C" {
 #endif
 
-/* What a call answers. Any answer but DDSCHECK_OK leaves the guard as it was, and what the call would tell as it was. */
-typedef enum ddscheck_status {
+/* What a call answers, one of the numbers below. Any answer but DDSCHECK_OK leaves the guard as it was, and what the call would tell as it was. */
+typedef int32_t ddscheck_status;
+
+enum {
     DDSCHECK_OK = 0,
     /* the deployment file has a fault; `ddscheck match FILE` tells which */
     DDSCHECK_FAULT = 1,
@@ -43,16 +51,20 @@ typedef enum ddscheck_status {
     /* a count would pass 2^64 - 1 */
     DDSCHECK_COUNT_LIMIT = 9,
     /* the deployment file can't be read, or has more than 1,048,576 bytes; ddscheck_open_file alone answers it */
-    DDSCHECK_NO_FILE = 10
-} ddscheck_status;
+    DDSCHECK_NO_FILE = 10,
+    /* the QoS of an entity isn't that of the deployment file; ddscheck_dds_open alone answers it */
+    DDSCHECK_OTHER_QOS = 11
+};
 
-/* What the check of a deployment by a certificate says: the status with which `ddscheck check` ends. */
-typedef enum ddscheck_verdict {
+/* What the check of a deployment by a certificate says, one of the numbers below: the status with which `ddscheck check` ends. */
+typedef int32_t ddscheck_verdict;
+
+enum {
     DDSCHECK_YES = 0,
     DDSCHECK_NO = 1,
     /* one of the two files has a fault, or more than 1,048,576 bytes */
     DDSCHECK_BAD_FILE = 2
-} ddscheck_verdict;
+};
 
 /* A guard. It is DDSCHECK_GUARD_CLOSED before it is opened, and then only the calls below may change it. Don't copy an open one. */
 typedef struct ddscheck_guard {
@@ -62,15 +74,27 @@ typedef struct ddscheck_guard {
 
 #define DDSCHECK_GUARD_CLOSED {NULL, 0}
 
+/* The QoS of a writer or a reader as the deployment file has it. The kinds have the numbers of DDS. A limit of 0 is none, and so is the depth of KEEP_ALL. */
+typedef struct ddscheck_qos {
+    /* 0 VOLATILE, 1 TRANSIENT_LOCAL, 2 TRANSIENT, 3 PERSISTENT */
+    uint32_t durability;
+    /* 0 BEST_EFFORT, 1 RELIABLE */
+    uint32_t reliability;
+    /* 0 KEEP_LAST, 1 KEEP_ALL */
+    uint32_t history;
+    uint32_t depth;
+    uint32_t max_samples, max_instances, max_samples_per_instance;
+} ddscheck_qos;
+
 /* ── the library's own calls; texts come with their lengths in bytes ── */
 ddscheck_status ddscheck_check_deployment(const char *deployment, size_t deployment_length, const char *certificate, size_t certificate_length, uint32_t *verdict,
     char *text, size_t room, size_t *length);
 ddscheck_status ddscheck_open_guard(const char *deployment, size_t deployment_length, const char *application, size_t application_length, ddscheck_guard *guard);
 ddscheck_status ddscheck_free_guard(ddscheck_guard guard);
-ddscheck_status ddscheck_find_writer(ddscheck_guard *guard, const char *name, size_t length, size_t *writer);
-ddscheck_status ddscheck_find_reader(ddscheck_guard *guard, const char *name, size_t length, size_t *reader);
-ddscheck_status ddscheck_find_rule(ddscheck_guard *guard, const char *name, size_t length, size_t *rule);
-ddscheck_status ddscheck_find_key(ddscheck_guard *guard, const char *topic, size_t topic_length, const char *name, size_t length, size_t *key);
+ddscheck_status ddscheck_find_writer(const ddscheck_guard *guard, const char *name, size_t length, size_t *writer);
+ddscheck_status ddscheck_find_reader(const ddscheck_guard *guard, const char *name, size_t length, size_t *reader);
+ddscheck_status ddscheck_find_rule(const ddscheck_guard *guard, const char *name, size_t length, size_t *rule);
+ddscheck_status ddscheck_find_key(const ddscheck_guard *guard, const char *topic, size_t topic_length, const char *name, size_t length, size_t *key);
 
 /* The application has taken a sample of a key at a reader. Call it for each sample that dds_take gives, not for one that is only read. */
 ddscheck_status ddscheck_take(ddscheck_guard *guard, size_t reader, size_t key);
@@ -80,72 +104,75 @@ ddscheck_status ddscheck_take(ddscheck_guard *guard, size_t reader, size_t key);
 ddscheck_status ddscheck_write(ddscheck_guard *guard, size_t writer, size_t key);
 
 /* What ddscheck_write would answer. Nothing changes. */
-ddscheck_status ddscheck_may_write(ddscheck_guard *guard, size_t writer, size_t key);
+ddscheck_status ddscheck_may_write(const ddscheck_guard *guard, size_t writer, size_t key);
 
 /* Fires a rule by its number: for an application that itself chooses between rules that compete for a take. */
 ddscheck_status ddscheck_fire(ddscheck_guard *guard, size_t rule);
 
 /* How many permits are left for a key at a writer, and how many takes of a key at a reader no rule has spent. */
-ddscheck_status ddscheck_permits(ddscheck_guard *guard, size_t writer, size_t key, uint64_t *permits);
-ddscheck_status ddscheck_spare(ddscheck_guard *guard, size_t reader, size_t key, uint64_t *spare);
+ddscheck_status ddscheck_permits(const ddscheck_guard *guard, size_t writer, size_t key, uint64_t *permits);
+ddscheck_status ddscheck_spare(const ddscheck_guard *guard, size_t reader, size_t key, uint64_t *spare);
+
+/* The QoS of a writer, or of a reader, of this number, by the bytes of the deployment file. It takes memory while it works. DDSCHECK_FOREIGN: there's none of the
+   number. */
+ddscheck_status ddscheck_read_writer(const char *deployment, size_t length, size_t writer, ddscheck_qos *qos);
+ddscheck_status ddscheck_read_reader(const char *deployment, size_t length, size_t reader, ddscheck_qos *qos);
 
 /* ── opening, closing and look-ups, by texts that end with a 0 ── */
 
+/* The name of a status, as "DDSCHECK_NO_PERMIT" is that of 7. Of any other number it is "no status". */
+static inline const char *ddscheck_status_name(ddscheck_status status)
+{
+    switch (status) {
+    case DDSCHECK_OK: return "DDSCHECK_OK";
+    case DDSCHECK_FAULT: return "DDSCHECK_FAULT";
+    case DDSCHECK_NO_MEMORY: return "DDSCHECK_NO_MEMORY";
+    case DDSCHECK_UNKNOWN_NAME: return "DDSCHECK_UNKNOWN_NAME";
+    case DDSCHECK_NOT_OPEN: return "DDSCHECK_NOT_OPEN";
+    case DDSCHECK_ALREADY_OPEN: return "DDSCHECK_ALREADY_OPEN";
+    case DDSCHECK_FOREIGN: return "DDSCHECK_FOREIGN";
+    case DDSCHECK_NO_PERMIT: return "DDSCHECK_NO_PERMIT";
+    case DDSCHECK_NOT_ENOUGH: return "DDSCHECK_NOT_ENOUGH";
+    case DDSCHECK_COUNT_LIMIT: return "DDSCHECK_COUNT_LIMIT";
+    case DDSCHECK_NO_FILE: return "DDSCHECK_NO_FILE";
+    case DDSCHECK_OTHER_QOS: return "DDSCHECK_OTHER_QOS";
+    default: return "no status";
+    }
+}
+
 /*
  * Checks a deployment by a certificate, both given as the bytes of their files. `text` gets the lines that `ddscheck check` prints, of a bad file on its error
- * output, cut where they need more than `room` bytes with the zero at their end. It takes memory while it works, and DDSCHECK_NO_MEMORY is the only other answer.
+ * output, cut where they need more than `room` bytes with the zero at their end; NULL with no room is for the verdict alone. `length` gets the bytes of the
+ * whole text without that zero, and may be NULL. The call takes memory while it works, and DDSCHECK_NO_MEMORY is its only other answer.
  */
 static inline ddscheck_status ddscheck_check(const char *deployment, size_t deployment_length, const char *certificate, size_t certificate_length,
-    ddscheck_verdict *verdict, char *text, size_t room)
+    ddscheck_verdict *verdict, char *text, size_t room, size_t *length)
 {
+    char none = '\0';
     uint32_t number = 0;
-    size_t length = 0, most = room > 0 ? room - 1 : 0;
-    ddscheck_status status = ddscheck_check_deployment(deployment, deployment_length, certificate, certificate_length, &number, text, most, &length);
-    if (status == DDSCHECK_OK) {
-#ifdef __cplusplus
-        *verdict = static_cast<ddscheck_verdict>(number);
-#else
-        *verdict = (ddscheck_verdict)number;
-#endif
-        if (room > 0) {
-            text[length < most ? length : most] = '\0';
-        }
+    size_t whole = 0, most = room > 0 ? room - 1 : 0;
+    ddscheck_status status = ddscheck_check_deployment(deployment, deployment_length, certificate, certificate_length, &number, room > 0 ? text : &none, most, &whole);
+    if (status != DDSCHECK_OK) {
+        return status;
     }
-    return status;
+#ifdef __cplusplus
+    *verdict = static_cast<ddscheck_verdict>(number);
+#else
+    *verdict = (ddscheck_verdict)number;
+#endif
+    if (room > 0) {
+        text[whole < most ? whole : most] = '\0';
+    }
+    if (length != NULL) {
+        *length = whole;
+    }
+    return DDSCHECK_OK;
 }
 
 /* Opens a guard for an application, by the bytes of the deployment file. A guard that is open stays as it is. */
 static inline ddscheck_status ddscheck_open(const char *deployment, size_t length, const char *application, ddscheck_guard *guard)
 {
     return ddscheck_open_guard(deployment, length, application, strlen(application), guard);
-}
-
-/* The same, by the path of the file. */
-static inline ddscheck_status ddscheck_open_file(const char *path, const char *application, ddscheck_guard *guard)
-{
-    const size_t most = 1048576;
-    ddscheck_status status = DDSCHECK_NO_FILE;
-    FILE *file = fopen(path, "rb");
-    char *bytes = NULL;
-    if (file == NULL) {
-        return DDSCHECK_NO_FILE;
-    }
-#ifdef __cplusplus
-    bytes = static_cast<char *>(malloc(most + 1));
-#else
-    bytes = malloc(most + 1);
-#endif
-    if (bytes == NULL) {
-        status = DDSCHECK_NO_MEMORY;
-    } else {
-        size_t length = fread(bytes, 1, most + 1, file);
-        if (!ferror(file) && length <= most) {
-            status = ddscheck_open(bytes, length, application, guard);
-        }
-    }
-    free(bytes);
-    (void)fclose(file);
-    return status;
 }
 
 /* Gives back what an open guard holds, and closes it. */
@@ -158,23 +185,23 @@ static inline ddscheck_status ddscheck_close(ddscheck_guard *guard)
 }
 
 /* The numbers of names, for the calls above. They are places in the deployment file, from 0, and stay the same as long as the file does. */
-static inline ddscheck_status ddscheck_writer(ddscheck_guard *guard, const char *name, size_t *writer)
+static inline ddscheck_status ddscheck_writer(const ddscheck_guard *guard, const char *name, size_t *writer)
 {
     return ddscheck_find_writer(guard, name, strlen(name), writer);
 }
 
-static inline ddscheck_status ddscheck_reader(ddscheck_guard *guard, const char *name, size_t *reader)
+static inline ddscheck_status ddscheck_reader(const ddscheck_guard *guard, const char *name, size_t *reader)
 {
     return ddscheck_find_reader(guard, name, strlen(name), reader);
 }
 
 /* The first rule of this name. A rule with `each` stands for several, one after the other in the order of their keys. */
-static inline ddscheck_status ddscheck_rule(ddscheck_guard *guard, const char *name, size_t *rule)
+static inline ddscheck_status ddscheck_rule(const ddscheck_guard *guard, const char *name, size_t *rule)
 {
     return ddscheck_find_rule(guard, name, strlen(name), rule);
 }
 
-static inline ddscheck_status ddscheck_key(ddscheck_guard *guard, const char *topic, const char *name, size_t *key)
+static inline ddscheck_status ddscheck_key(const ddscheck_guard *guard, const char *topic, const char *name, size_t *key)
 {
     return ddscheck_find_key(guard, topic, strlen(topic), name, strlen(name), key);
 }
@@ -183,8 +210,8 @@ static inline ddscheck_status ddscheck_key(ddscheck_guard *guard, const char *to
 }
 #endif
 
-/* a ddscheck_status is handed over as 32 bits, and a guard as two words */
-typedef char ddscheck_status_has_32_bits[sizeof(ddscheck_status) == 4 ? 1 : -1];
+/* a guard is handed over as two words */
 typedef char ddscheck_guard_has_two_words[sizeof(ddscheck_guard) == 16 ? 1 : -1];
+typedef char ddscheck_qos_has_seven_numbers[sizeof(ddscheck_qos) == 28 ? 1 : -1];
 
 #endif

@@ -23,6 +23,8 @@ SECTIONS = {
     "Losses": [("dds_base/src/sample.rt", "Rejection"), ("dds_search/src/loss.rt", "Loss")],
     "Refused events": [("dds_base/src/events.rt", "Refusal")],
 }
+# the files that have a name of a section beside the cases of its enums
+ALONE = {"Rules without end": "dds_findings/src/endless.rt", "Faults of a file": "dds_faults/src/fault.rt"}
 # a path that a document names, by the folder that it begins with; what is built isn't part of the sources
 PATH = re.compile(r"`(?:\./)?((?:tests|tools|crates|bridge|docs|bench|examples|include|\.ci)/[\w./-]+)")
 # cases that stand for those of another enum, or are no word that is printed
@@ -47,8 +49,8 @@ def numbers_of(file, name):
 def owed_names(section):
     """The names that the sources have for a section."""
     found = [case for file, name in SECTIONS[section] for case in cases(file, name)]
-    endless = re.findall(r'name: "(\w+)"', read("crates/dds_findings/src/endless.rt")) if section == "Rules without end" else []
-    return list(dict.fromkeys(found + endless))
+    alone = re.findall(r'name: "(\w+)"', read(f"crates/{ALONE[section]}")) if section in ALONE else []
+    return list(dict.fromkeys(found + alone))
 
 
 def owed_number(section, name):
@@ -58,7 +60,8 @@ def owed_number(section, name):
         return f"**{number}.**"
     if section == "Faults of a file":
         files = {"Deployment": numbers_of("dds_fields/src/fault.rt", "FaultKind"), "certificate": numbers_of("dds_cert/src/fault.rt", "CertKind")}
-        return "**" + ", ".join(f"{file} {numbers[name]}" for file, numbers in files.items() if name in numbers) + ".**"
+        numbers = [f"{file} {numbers[name]}" for file, numbers in files.items() if name in numbers]
+        return f"**{', '.join(numbers)}.**" if numbers else ""
     if section == "Faults of the program":
         number = re.search(rf"/// (\d+): [^/]*\n    {name},", read("crates/dds_answers/src/fault.rt"))[1]
         return f"**{number}.**"

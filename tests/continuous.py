@@ -311,7 +311,7 @@ def install_package(tally, action, room, folder):
         "PATH": f"{stand_ins}:{root}/usr/bin:{os.environ['PATH']}",
         "DDSCHECK": "/no/such/program",
     }
-    given = PING_PAIR | {"package": made.out.strip()}
+    given = PING_PAIR | {"package": made.out.splitlines()[0]}
     tally.judge(
         "the action installs a package", Case(given, 0, (YES,)).fault, run_action(action, given, folder, environment)
     )

@@ -86,6 +86,25 @@ def crossed_topic(endpoints, head, writer, reader, rule_fields):
     return "\n".join(lines) + "\n"
 
 
+def clock_deployment():
+    """A writer that writes by the clock, and a reader that takes each sample in a millisecond."""
+    return f"""version = 4
+{HEAD}
+topics = [{{ name = "t", type = "n", keys = ["k"] }}]
+writers = [{{ name = "w", participant = "p", topic = "t", history = "KEEP_ALL" }}]
+readers = [{{ name = "r", participant = "p", topic = "t", reliability = "RELIABLE", history = "KEEP_ALL", taken_within = 1_000_000, available_within = 500_000 }}]
+applications = [{{ name = "a", participant = "p", writers = ["w"], readers = ["r"] }}]
+rules = [{{ name = "u", application = "a", writes = [{{ writer = "w", key = "k", count = 1 }}], start = "unlimited", period = 1000 }}]
+"""
+
+
+def clock_trace():
+    """The longest trace that a file may have of writes each microsecond, each sample taken a millisecond later: 2,532,000 lines."""
+    writes = [f"@{at} a write w k\n" for at in range(10**12, 10**12 + 1_266_000_000, 1000)]
+    takes = [f"@{at} a take r k\n" for at in range(10**12 + 1_000_000, 10**12 + 1_267_000_000, 1000)]
+    return "".join(sorted(writes + takes))
+
+
 def paced_topic(endpoints=180):
     """A topic of KEEP_LAST writers, whose readers hear each in time, and whose rules are paced. A writer has a cap, a lag and no bound at each reader for each key: all are
     above its depth, and all that it ever writes of a key is within it. More endpoints don't fit the file."""
@@ -161,6 +180,74 @@ def backward_rules(shared=15):
         lines += ["[[rules]]", f'name = "u{stage}"', 'application = "a"', f"start = {int(stage == last)}"]
         lines += [f"{side} = [" + ", ".join(f'{{ {end} = "{name}", key = "k", count = 1 }}' for name in among) + "]" for side, end, among in (("takes", "reader", takes), ("writes", "writer", writes))]
     return "\n".join(lines) + "\n", "version = 1\n"
+
+
+def failing_files(rows=64):
+    """A topic of 64 keys with 64 writers, 256 readers and no connections, and a certificate whose rows let each take, each firing and each write raise their sums and show none of
+    the bounds, of which there's one for each key of each reader: millions of conditions fail."""
+    names = short_names(ENDPOINTS)
+    writers = names[: len(KEYS)]
+    sections = {
+        "topics": [f'{{name="t",type="t",keys={quoted(KEYS)}}}'],
+        "writers": [f'{{name="{w}",participant="p",topic="t",history="KEEP_ALL"}}' for w in writers],
+        "readers": [f'{{name="{r}",participant="p",topic="t",reliability="RELIABLE",history="KEEP_ALL",max_samples_per_instance=1}}' for r in names],
+        "applications": [f'{{name="a",participant="p",writers={quoted(writers)},readers={quoted(names)}}}'],
+        "rules": [rule(f"e{at}", writers[at * PER_RULE : (at + 1) * PER_RULE], 2) for at in range(4)],
+    }
+    lines = ["version=2", HEAD] + [f"{name}={inline(entries)}" for name, entries in sections.items()]
+    samples = inline(f'{{reader="{r}",weight=1}}' for r in names)
+    takes = inline(f'{{reader="{r}",weight=2}}' for r in names)
+    of_row = [f'{{name="r{at}",samples={samples},takes={takes}}}' for at in range(rows)]
+    bounds = inline(f'{{reader="{r}",row="r{at % rows}",bound=3}}' for at, r in enumerate(names))
+    return "\n".join(lines) + "\n", f"version=2\nrows={inline(of_row)}\nbounds={bounds}\n"
+
+
+def shallow_files():
+    """A topic of 64 keys whose 256 writers keep the last sample alone, and whose 256 readers have bounds of two: no writer is deep enough for any key of any reader."""
+    names = short_names(ENDPOINTS)
+    sections = {
+        "topics": [f'{{name="t",type="t",keys={quoted(KEYS)}}}'],
+        "writers": [f'{{name="{w}",participant="p",topic="t"}}' for w in names],
+        "readers": [f'{{name="{r}",participant="p",topic="t",reliability="RELIABLE",history="KEEP_ALL"}}' for r in names],
+        "applications": [f'{{name="a",participant="p",writers={quoted(names)},readers={quoted(names)}}}'],
+        "rules": [
+            f'{{name="e{at}",application="a",each=true,takes=[{{reader="{names[0]}",count=1}}],writes={inline(f"""{{writer="{w}",count=1}}""" for w in names[at * PER_RULE : (at + 1) * PER_RULE])}}}'
+            for at in range(4)
+        ],
+    }
+    lines = ["version=3", HEAD] + [f"{name}={inline(entries)}" for name, entries in sections.items()]
+    bounds = inline(f'{{reader="{r}",row="r",bound=2}}' for r in names)
+    return "\n".join(lines) + "\n", f'version=2\nrows=[{{name="r"}}]\nbounds={bounds}\n'
+
+
+def slow_circle(stages=60):
+    """A circle of rules, four for each of 60 keys, that goes round a thousand times: each fires once in each round, after the last rule of the file. What a rule writes comes to 256
+    readers, and what else it takes is always there."""
+    names = short_names(ENDPOINTS)
+    plenty = [f'{{reader="{r}",key="{KEYS[-1]}",count=1}}' for r in names[-15:]]
+    begin = names[4 * stages]
+    rules = [f'{{name="free",application="a",start="unlimited",writes=[{{writer="{begin}",key="{KEYS[-1]}",count=1}}]}}']
+    for at in range(4 * stages):
+        stage, start = at % stages, int(at % stages == 0)
+        takes = inline([*plenty, f'{{reader="{names[at]}",key="{KEYS[stage]}",count=4}}'])
+        junk = [f'{{writer="{w}",key="{KEYS[-2]}",count=1}}' for w in names[:15]]
+        writes = inline([*junk, f'{{writer="{names[at]}",key="{KEYS[stage - 1 if stage else stages - 1]}",count=1}}'])
+        rules.append(f'{{name="u{at}",application="a",start={start},takes={takes},writes={writes}}}')
+    sections = {
+        "topics": [f'{{name="t",type="t",keys={quoted(KEYS)}}}'],
+        "writers": [f'{{name="{w}",participant="p",topic="t"}}' for w in names],
+        "readers": [f'{{name="{r}",participant="p",topic="t",may_lose=true}}' for r in names],
+        "applications": [f'{{name="a",participant="p",writers={quoted(names)},readers={quoted(names)}}}'],
+        "rules": rules,
+    }
+    lines = ["version=3", HEAD] + [f"{name}={inline(entries)}" for name, entries in sections.items()]
+    return "\n".join(lines) + "\n"
+
+
+def empty_readers():
+    """A file of 1 MiB full of readers without a field, three faults each."""
+    head, end = "version=3\nreaders=[", "]\n"
+    return head + "{}," * (((1 << 20) - len(head) - len(end)) // 3) + end
 
 
 def gaps_deployment():

@@ -1,4 +1,4 @@
-"""A second reading of notes of `lint`: those on pairs of endpoints, on readers that stall, on writers that nobody hears and on paces, as docs/numbers.md defines them.
+"""A second reading of notes of `lint`: those on pairs of endpoints, on readers that stall, on writers that nobody hears, on paces, and on rules that never fire or that end, as docs/numbers.md defines them.
 
 A deployment is read as tests/judged.py reads it. tests/linted.py holds the built program against it.
 """
@@ -7,7 +7,11 @@ import sys
 sys.dont_write_bytecode = True
 import shown  # noqa: E402
 
-KINDS = ("Incompatible", "UnheardWriter", "Stalls", "HeldUp", "LateReader", "PaceUnused")
+KINDS = ("Incompatible", "UnheardWriter", "Stalls", "HeldUp", "LateReader", "PaceUnused", "StuckRule", "Stops")
+# so many firings are counted
+MOST = 1000
+# more than so many firings take of anything
+MANY = 10**12
 
 
 def is_reliable(case, reader):
@@ -54,10 +58,12 @@ def ends(case, writer):
 
 
 def late(case):
-    """A note for each pair whose writer keeps what it wrote and ends, and whose strict reader doesn't ask for that, but for pairs that condition 27 refuses."""
+    """A note for each pair whose writer keeps what it wrote and ends, and whose strict reader doesn't ask for that; none where one of the two may come at any time, since
+    that is refused."""
     for writer, reader in case.matched:
-        is_latched = case.writers[writer]["durability"] != "VOLATILE" and ends(case, writer) and not case.is_late(writer, reader)
-        if is_latched and case.readers[reader]["durability"] == "VOLATILE" and not case.is_watcher(reader):
+        is_latched = case.writers[writer]["durability"] != "VOLATILE" and ends(case, writer)
+        is_refused = any(case.joins[one["participant"]] == "any" for one in (case.writers[writer], case.readers[reader]))
+        if is_latched and case.readers[reader]["durability"] == "VOLATILE" and not case.is_watcher(reader) and not is_refused:
             yield "LateReader", reader
 
 
@@ -79,7 +85,41 @@ def paces(case, deployment):
             yield "PaceUnused", reader
 
 
+def supply(case, fired, reader, key):
+    """How many samples of a key can ever come to a reader, where rules have fired so often: without end where one of them goes on."""
+    total = 0
+    for rule, often in zip(case.lists["rules"], fired):
+        for write in rule["writes"]:
+            if write["key"] == key and (write["writer"], reader) in case.matched:
+                endless = rule["start"] == "unlimited" or often > MOST
+                total += MANY if endless else write["count"] * (rule["start"] + often)
+    return total
+
+
+def play(case):
+    """How often each rule fires, if each fires as often as it can with all that can come."""
+    rules = case.lists["rules"]
+    fired = [0] * len(rules)
+    while True:
+        able = [min((supply(case, fired, x["reader"], x["key"]) // x["count"] for x in rule["takes"]), default=0) for rule in rules]
+        able = [min(often, MOST + 1) for often in able]
+        if able == fired:
+            return fired
+        fired = able
+
+
+def ending(case):
+    """A note for each rule that never fires, and for each that fires and ends, unless another one takes a key that it takes."""
+    rules = case.lists["rules"]
+    for at, (rule, often) in enumerate(zip(rules, play(case))):
+        others = {(x["reader"], x["key"]) for other in rules[:at] + rules[at + 1 :] for x in other["takes"]}
+        if often == 0 if rule["takes"] else rule["start"] == 0:
+            yield "StuckRule", rule["name"]
+        elif 0 < often <= MOST and not any((x["reader"], x["key"]) in others for x in rule["takes"]):
+            yield "Stops", rule["name"]
+
+
 def notes_of(case, deployment):
     """The kind and the subject of each note of these kinds, sorted."""
-    found = [*incompatible(case), *unheard(case), *stalls(case), *held_up(case), *late(case), *paces(case, deployment)]
+    found = [*incompatible(case), *unheard(case), *stalls(case), *held_up(case), *late(case), *paces(case, deployment), *ending(case)]
     return sorted(found)

@@ -1,14 +1,16 @@
 #!/usr/bin/env python3
-"""Tries `tools/package`: makes the Debian package twice, compares what is in it with the sources, and installs it into a root of its own.
+"""Tries `tools/package`: makes the Debian packages twice, compares what is in them with the sources, and installs them into a root of their own, where programs are built with them.
 
   tests/packages.py
 
-The program that is packed is the built one. The tests that need dpkg-deb count as skipped where it isn't installed, and the installation where this doesn't run as root.
+The program and the libraries that are packed are the built ones. The tests that need dpkg-deb count as skipped where it isn't installed, the installation where this doesn't run
+as root, and what needs Cyclone DDS, a compiler, pkg-config, CMake, the sanitizers or valgrind where that isn't there.
 The last line is 'N passed, M failed'; the status is 1 if one failed.
 """
 import gzip
 import os
 import re
+import shlex
 import shutil
 import sys
 import tarfile
@@ -17,10 +19,18 @@ from pathlib import Path
 
 sys.dont_write_bytecode = True
 from harness import PROGRAM, ROOT, SECONDS, Tally, ddscheck, need_program, run  # noqa: E402
+from library import C99, CALLED, CXX17, GUARDED, OWNED, PING, ways  # noqa: E402
+from library import PROGRAMS as PROGRAMS_OF_LIBRARY  # noqa: E402
 
 TOOL = ROOT / "tools/package"
 DOCUMENTS = "usr/share/doc/ddscheck"
-# where the package has what the tree has
+LIBRARIES = ROOT / "crates/dds_guard_c/out"
+# without the toolchain, as on a user's machine
+ENVIRONMENT = {name: value for name, value in os.environ.items() if not name.startswith(("DDSCHECK", "PKG_CONFIG", "CMAKE"))} | {"PATH": "/usr/bin:/bin"}
+TRIPLET = f"{os.uname().machine}-linux-gnu"
+# what dpkg calls what is made here
+PACKAGES = ["ddscheck", "libddscheck-dev", "ddscheck-cyclone"]
+# where the package of the program has what the tree has
 FILES = {
     "usr/bin/ddscheck": PROGRAM,
     "usr/share/bash-completion/completions/ddscheck": ROOT / "docs/completions/ddscheck.bash",
@@ -28,7 +38,17 @@ FILES = {
     "usr/share/fish/vendor_completions.d/ddscheck.fish": ROOT / "docs/completions/ddscheck.fish",
     "usr/share/cmake/ddscheck/DdscheckAddTest.cmake": ROOT / "cmake/DdscheckAddTest.cmake",
     "usr/share/cmake/ddscheck/ddscheck-config.cmake": ROOT / "cmake/ddscheck-config.cmake",
+    "usr/share/cmake/ddscheck/ddscheck-config-version.cmake": ROOT / "cmake/ddscheck-config-version.cmake",
 }
+# where that of the library does, but for what pkg-config reads
+LIBRARY_FILES = {
+    f"usr/lib/{TRIPLET}/libddscheck.a": LIBRARIES / "libddscheck.a",
+    f"usr/lib/{TRIPLET}/libddscheck-guard.a": LIBRARIES / "libddscheck-guard.a",
+    "usr/share/cmake/ddscheck/DdscheckLibraries.cmake": ROOT / "cmake/DdscheckLibraries.cmake",
+    **{f"usr/include/{name}": ROOT / "include" / name for name in ("ddscheck.h", "ddscheck.hpp", "ddscheck_cyclone.h", "ddscheck_cyclone.hpp", "ddscheck_file.h")},
+}
+CONFIGURED = {f"usr/lib/{TRIPLET}/pkgconfig/{name}.pc": f"include/{name}.pc" for name in ("ddscheck", "ddscheck-guard")}
+BRIDGE_FILES = {"usr/bin/ddscheck-capture", "usr/bin/ddscheck-run-on-cyclone"}
 PACKED = {f"usr/share/man/man1/{page.name}.gz": page for page in (ROOT / "docs/man").iterdir()}
 PACKED[f"{DOCUMENTS}/changelog.gz"] = ROOT / "CHANGELOG.md"
 # the tools beside the program: where they lie, the script to which each command is a link, the record of the program, and how the tools find it
@@ -36,7 +56,17 @@ SHARE = "usr/share/ddscheck"
 SCRIPTS = {"ddscheck-report": "tools/report", "ddscheck-import": "tools/dds-xml/import.py", "ddscheck-ros-trace": "tools/ros-trace/ros-trace"}
 RECORD = f"{SHARE}/dist/ddscheck.sources"
 LINKS = {f"usr/bin/{name}": f"../share/ddscheck/{script}" for name, script in SCRIPTS.items()} | {f"{SHARE}/ddscheck": "../../bin/ddscheck"}
-PROGRAMS = {"usr/bin/ddscheck", f"{SHARE}/tools/sequence", *(f"{SHARE}/{script}" for script in SCRIPTS.values())}
+PROGRAMS = {"usr/bin/ddscheck", *BRIDGE_FILES, f"{SHARE}/tools/sequence", *(f"{SHARE}/{script}" for script in SCRIPTS.values())}
+# what each package needs
+DEPENDS = {
+    "ddscheck": r"libc6 \(>= 2\.\d+\)(, libgcc-s1)?",
+    "libddscheck-dev": r"ddscheck \(= {version}\), libc6-dev \| libc-dev",
+    "ddscheck-cyclone": r"ddscheck \(= {version}\), libc6 \(>= 2\.\d+\), libcjson1, libddsc0debian",
+}
+HAS_CYCLONE = all(Path(name).exists() for name in ("/usr/include/dds/dds.h", "/usr/include/cjson/cJSON.h", "/usr/bin/idlc"))
+LOOPBACK = (
+    '<CycloneDDS><Domain Id="any"><General><Interfaces><NetworkInterface name="lo"/></Interfaces><AllowMulticast>false</AllowMulticast></General></Domain></CycloneDDS>'
+)
 # what only tests have use for
 FOR_TESTS = {f"tools/dds-xml/{name}.py" for name in ("export", "hostile", "mutate", "planted")} | {"tools/ros-trace/made.py"}
 # the tools that make deployments, each with a text of which it makes one, and the options for that
@@ -108,6 +138,24 @@ def compare_files(tally, root):
     tally.check(every == owed, "no other file", sorted(every ^ owed)[:80])
 
 
+def compare_library(tally, root):
+    """What the unpacked package of the library has."""
+    for name, path in LIBRARY_FILES.items():
+        tally.check((root / name).read_bytes() == path.read_bytes(), f"{name} is the tree's")
+    for name, source in CONFIGURED.items():
+        lines = list(zip((ROOT / source).read_text().splitlines(), (root / name).read_text().splitlines()))
+        changed = [second for first, second in lines if first != second]
+        tally.check(changed == ["prefix=${pcfiledir}/../../..", f"libdir=${{prefix}}/lib/{TRIPLET}"], f"{name} has the folder of the architecture", changed)
+    compare_names(tally, root, {*LIBRARY_FILES, *CONFIGURED}, "libddscheck-dev")
+
+
+def compare_names(tally, root, owed, package):
+    """A package that needs that of the program has these files and, for its documents, a link."""
+    every = {str(path.relative_to(root)) for path in root.rglob("*") if path.is_file()}
+    tally.check(every == owed, f"no other file in {package}", sorted(every ^ owed))
+    tally.check(os.readlink(root / f"usr/share/doc/{package}") == "ddscheck", f"the documents of {package}")
+
+
 def compare_entries(tally, package, room):
     """Who owns each entry, what it may, and its time."""
     (room / "tar").write_bytes(archive_of(package))
@@ -115,9 +163,10 @@ def compare_entries(tally, package, room):
     with tarfile.open(room / "tar") as entries:
         for entry in entries:
             name = entry.name.removeprefix("./")
-            may = 0o777 if name in LINKS else 0o755 if entry.isdir() or name in PROGRAMS else 0o644
+            is_link = name in LINKS or name in (f"usr/share/doc/{other}" for other in PACKAGES[1:])
+            may = 0o777 if is_link else 0o755 if entry.isdir() or name in PROGRAMS else 0o644
             found = (entry.uname, entry.gname, entry.uid, entry.gid, entry.mode, int(entry.mtime))
-            is_kind = entry.issym() if name in LINKS else entry.isdir() or entry.isreg()
+            is_kind = entry.issym() if is_link else entry.isdir() or entry.isreg()
             tally.check(found == ("root", "root", 0, 0, may, seconds) and is_kind, f"the entry {entry.name}", found)
 
 
@@ -169,8 +218,8 @@ def compare_pages(tally):
         tally.check(statuses[0] == statuses[1] and len(statuses[0]) > 3, f"the statuses of {name}", statuses)
 
 
-def install(tally, package, room):
-    """Installs the package into a root of its own, has dpkg compare it, and takes it away again."""
+def install(tally, packages, room):
+    """Installs the packages into a root of its own, has dpkg compare them, builds programs with them, and takes them away again."""
     if os.geteuid() != 0:
         tally.skip("only root installs packages", 5)
         return
@@ -179,36 +228,130 @@ def install(tally, package, room):
     (root / "var/lib/dpkg/updates").mkdir()
     (root / "var/lib/dpkg/status").touch()
     dpkg = ["dpkg", f"--root={root}", "--force-depends", "--log=/dev/null"]
-    given = run([*dpkg, "--install", package], seconds=5 * SECONDS)
-    tally.check(given.status == 0, "dpkg installs it", given)
-    given = run([*dpkg, "--verify", "ddscheck"])
+    given = run([*dpkg, "--install", *packages], seconds=5 * SECONDS)
+    tally.check(given.status == 0, "dpkg installs them", given)
+    names = PACKAGES[: len(packages)]
+    given = run([*dpkg, "--verify", *names])
     tally.check((given.status, given.out) == (0, ""), "dpkg finds each file as its checksum says", given)
     given = run([root / "usr/bin/ddscheck", "--version"])
     tally.check((given.status, given.out) == (0, ddscheck("--version").out), "the installed program says its version", given)
-    listed = [line for line in out_of([*dpkg, "--listfiles", "ddscheck"]).splitlines() if (root / line.lstrip("/")).is_file()]
-    tally.check(len(listed) == len([path for path in (root / "usr").rglob("*") if path.is_file()]), "dpkg knows each file", listed)
-    given = run([*dpkg, "--purge", "ddscheck"])
-    tally.check(given.status == 0 and not list(root.glob("usr/**/*")), "dpkg takes it away again", given)
+    listed = {line for line in out_of([*dpkg, "--listfiles", *names]).splitlines() if (root / line.lstrip("/")).is_file()}
+    tally.check(len(listed) == len([path for path in (root / "usr").rglob("*") if path.is_file()]), "dpkg knows each file", sorted(listed))
+    for part in (build_programs, build_by_cmake, guard_cyclone):
+        (room / part.__name__).mkdir()
+        tally.attempt(part.__name__, part, tally, root / "usr", room / part.__name__)
+    given = run([*dpkg, "--purge", *names])
+    tally.check(given.status == 0 and not list(root.glob("usr/**/*")), "dpkg takes them away again", given)
+
+
+def snippets():
+    """The programs of docs/GUARD.md."""
+    return re.findall(r"^```c\n(.*?)^```", (ROOT / "docs/GUARD.md").read_text(encoding="utf-8"), re.S | re.M)
+
+
+def flags_of(root, library):
+    """What pkg-config says of an installed library."""
+    words = ["pkg-config", "--cflags", "--libs", library]
+    return shlex.split(out_of(words, env=ENVIRONMENT | {"PKG_CONFIG_LIBDIR": str(root / f"lib/{TRIPLET}/pkgconfig")}))
+
+
+def build_programs(tally, root, room):
+    """The document's first program by the installed library, and those that tests/library.py tries, by pkg-config."""
+    if not all(shutil.which(name) for name in ("cc", "c++", "pkg-config")):
+        tally.skip("a compiler or pkg-config isn't installed")
+        return
+    (room / "six.c").write_text(snippets()[0])
+    compilers = {".c": C99, ".cpp": CXX17}
+    programs = [(room / "six.c", [], "ddscheck", ""), (room / "six.c", [], "ddscheck-guard", "")]
+    programs += [(PROGRAMS_OF_LIBRARY / "calls.c", [], "ddscheck", CALLED), (PROGRAMS_OF_LIBRARY / "owned.cpp", [], "ddscheck", OWNED)]
+    programs.append((PROGRAMS_OF_LIBRARY / "calls.c", ["-DGUARD_ALONE"], "ddscheck-guard", GUARDED))
+    for how, options, before in ways(tally, room):
+        for source, more, library, owed in programs:
+            # the tree's own headers aren't there
+            compiler = [word for word in compilers[source.suffix] if not word.startswith("-I")]
+            made = run([*compiler, *more, *options, "-o", room / "program", source, *flags_of(root, library)], env=ENVIRONMENT)
+            given = run([*before, room / "program", *([] if owed == "" else PING)], cwd=ROOT, env=ENVIRONMENT)
+            is_well = (made.status, made.err, given.status, given.out, given.err) == (0, "", 0, owed, "")
+            tally.check(is_well, f"{source.name} by pkg-config {library} {how}", [made, given])
+
+
+CMAKE = """cmake_minimum_required(VERSION 3.17)
+project(mine C)
+find_package(ddscheck 0.1 REQUIRED)
+add_executable(whole calls.c)
+target_link_libraries(whole PRIVATE ddscheck::ddscheck)
+add_executable(guard calls.c)
+target_compile_definitions(guard PRIVATE GUARD_ALONE)
+target_link_libraries(guard PRIVATE ddscheck::guard)
+include(CTest)
+ddscheck_add_test(NAME ping DEPLOYMENT ping.toml CERTIFICATE ping.cert.toml DENY errors)
+"""
+
+
+def build_by_cmake(tally, root, room):
+    """A project that links the installed libraries, and checks its deployment by the installed program; a version that isn't there is refused."""
+    if not all(shutil.which(name) for name in ("cc", "cmake", "ctest", "make")):
+        tally.skip("CMake isn't installed")
+        return
+    for path in (PROGRAMS_OF_LIBRARY / "calls.c", *PING):
+        shutil.copy(path, room)
+    (room / "CMakeLists.txt").write_text(CMAKE)
+    words = ["cmake", "-S", room, "-B", room / "build", f"-DCMAKE_PREFIX_PATH={root}"]
+    for step in (words, ["cmake", "--build", room / "build"], ["ctest", "--test-dir", room / "build"]):
+        given = run(step, env=ENVIRONMENT)
+        tally.check(given.status == 0, f"{step[0]} with the package", given)
+    for name, owed in (("whole", CALLED), ("guard", GUARDED)):
+        given = run([room / "build" / name, *PING])
+        tally.check((given.status, given.out) == (0, owed), f"the program {name} of CMake", given)
+    (room / "CMakeLists.txt").write_text(CMAKE.replace("0.1 REQUIRED", "0.2 REQUIRED"))
+    given = run(words, env=ENVIRONMENT)
+    tally.check(given.status != 0 and "0.1.0" in given.err, "a later version isn't found", given)
+
+
+def guard_cyclone(tally, root, room):
+    """The document's program on Cyclone DDS, by the installed library; and the installed tools of the bridge."""
+    if not HAS_CYCLONE:
+        tally.skip("Cyclone DDS isn't installed", 3)
+        return
+    (room / "program.c").write_text(snippets()[1])
+    out_of(["idlc", "-o", room, ROOT / "bridge/cyclone/Sample.idl"])
+    words = ["cc", "-std=gnu11", "-o", room / "program", room / "program.c", room / "Sample.c", f"-I{room}", *flags_of(root, "ddscheck-guard"), "-lddsc"]
+    made = run(words, env=ENVIRONMENT)
+    given = run([room / "program"], cwd=ROOT, env=ENVIRONMENT | {"CYCLONEDDS_URI": LOOPBACK})
+    tally.check((made.status, given.status) == (0, 0), "the document's program on Cyclone DDS", [made, given])
+    for name in sorted(BRIDGE_FILES):
+        given = run([root.parent / name, "--help"], env=ENVIRONMENT)
+        tally.check(given.status in (0, 4) and "age" in given.out + given.err, f"{name} says how it's called", given)
 
 
 def make(tally, room):
-    """Two packages, the second made in other circumstances."""
-    first = Path(out_of([TOOL, room / "first"], cwd="/").strip())
-    second = Path(out_of(["sh", "-c", 'umask 077; exec "$1" "$2"', "sh", TOOL, room / "second"], env=os.environ | {"TZ": "Asia/Tokyo", "LC_ALL": "C"}).strip())
-    tally.check(first.read_bytes() == second.read_bytes(), "two packages have the same bytes")
-    tally.check([path.name for path in (room / "first").iterdir()] == [first.name] and first.parent == room / "first", "the folder has the package alone")
+    """The packages twice, the second time in other circumstances."""
+    first = [Path(line) for line in out_of([TOOL, room / "first"], cwd="/").splitlines()]
+    words = ["sh", "-c", 'umask 077; exec "$1" "$2"', "sh", TOOL, room / "second"]
+    second = [Path(line) for line in out_of(words, env=os.environ | {"TZ": "Asia/Tokyo", "LC_ALL": "C"}).splitlines()]
+    tally.check([path.read_bytes() for path in first] == [path.read_bytes() for path in second], "packages have the same bytes twice")
+    tally.check(sorted((room / "first").iterdir()) == sorted(first), "the folder has the packages alone")
     architecture = out_of(["dpkg", "--print-architecture"]).strip()
     version = ddscheck("--version").out.split()[1]
-    tally.check(first.name == f"ddscheck_{version}_{architecture}.deb", "the package's name", first.name)
-    fields = out_of(["dpkg-deb", "--field", first, "Package", "Version", "Architecture", "Maintainer"])
+    names = PACKAGES if HAS_CYCLONE else PACKAGES[:-1]
+    tally.check([path.name for path in first] == [f"{name}_{version}_{architecture}.deb" for name in names], "the packages' names", first)
     maintainer = out_of(["git", "-C", ROOT, "log", "-1", "--format=%an <%ae>"])
-    tally.check(fields == f"Package: ddscheck\nVersion: {version}\nArchitecture: {architecture}\nMaintainer: {maintainer}", "the package's fields", fields)
-    out_of(["dpkg-deb", "--extract", first, room / "unpacked"])
-    compare_files(tally, room / "unpacked")
-    compare_entries(tally, first, room)
-    answer(tally, room / "unpacked")
-    make_report(tally, room / "unpacked")
-    make_deployments(tally, room / "unpacked", room)
+    for name, package in zip(names, first):
+        fields = out_of(["dpkg-deb", "--field", package, "Package", "Version", "Architecture", "Maintainer"])
+        tally.check(fields == f"Package: {name}\nVersion: {version}\nArchitecture: {architecture}\nMaintainer: {maintainer}", "the package's fields", fields)
+        needs = out_of(["dpkg-deb", "--field", package, "Depends"]).strip()
+        tally.check(re.fullmatch(DEPENDS[name].format(version=re.escape(version)), needs), f"what {name} needs", needs)
+        out_of(["dpkg-deb", "--extract", package, room / name])
+        compare_entries(tally, package, room)
+    compare_files(tally, room / "ddscheck")
+    compare_library(tally, room / "libddscheck-dev")
+    if HAS_CYCLONE:
+        compare_names(tally, room / "ddscheck-cyclone", BRIDGE_FILES, "ddscheck-cyclone")
+    else:
+        tally.skip("Cyclone DDS isn't installed")
+    answer(tally, room / "ddscheck")
+    make_report(tally, room / "ddscheck")
+    make_deployments(tally, room / "ddscheck", room)
     install(tally, first, room)
 
 
@@ -223,7 +366,7 @@ def main():
             tally.skip("dpkg and dpkg-deb, which pack and install Debian packages, aren't installed", 3)
         else:
             tally.attempt("trees that aren't built", refuse_unbuilt, tally, room)
-            tally.attempt("a package", make, tally, room)
+            tally.attempt("packages", make, tally, room)
     return tally.finish()
 
 

@@ -5,8 +5,8 @@
 
 One toolchain is named in the whole repository, that of toolchain.txt. docs/DEPENDENCIES.md has each crate that
 crates.txt takes from it, with those that use it, and no crate by which a yes is defined uses one. The change log begins
-with the version of the sources, and docs/RELEASING.md names each file of the crates and the cases that has it. The
-forms for issues and changes ask for what they have to.
+with the version of the sources, which the header, pkg-config's files and CMake's have too, and docs/RELEASING.md names
+each file of the crates and the cases that has it. The forms for issues and changes ask for what they have to.
 The last line is 'N passed, M failed'; the status is 1 if one failed.
 """
 import re
@@ -108,6 +108,22 @@ def say_one_version(tally):
             tally.check(is_named, f"docs/RELEASING.md names {name}, which has the version")
 
 
+def say_it_to_compilers(tally):
+    """Header, pkg-config's files and CMake's module have the version of the sources."""
+    version = re.search(r'VERSION: &str = "(.*?)"', read("crates/dds_options/src/lib.rt"))[1]
+    numbers = dict(re.findall(r"^#define DDSCHECK_VERSION_(\w+) (\d+)$", read("include/ddscheck.h"), re.MULTILINE))
+    named = f'#define DDSCHECK_VERSION "{version}"\n' in read("include/ddscheck.h")
+    is_told = named and ".".join(numbers[part] for part in ("MAJOR", "MINOR", "PATCH")) == version
+    tally.check(is_told, "the version of include/ddscheck.h", numbers)
+    for path in sorted((ROOT / "include").glob("*.pc")):
+        tally.check(f"\nVersion: {version}\n" in path.read_text(encoding="utf-8"), f"the version of {path.name}")
+    major, minor = version.split(".")[:2]
+    text = read("cmake/ddscheck-config-version.cmake")
+    of_find = re.findall(r"VERSION_M\w+ EQUAL (\d+)", text)
+    is_told = f'(PACKAGE_VERSION "{version}")' in text and of_find == [major, minor]
+    tally.check(is_told, "the version that find_package sees", text)
+
+
 def ask_for_enough(tally):
     for name, words in FORMS.items():
         text = read(name)
@@ -116,7 +132,7 @@ def ask_for_enough(tally):
 
 def main():
     tally = Tally()
-    for part in (name_one_toolchain, list_dependencies, say_one_version, ask_for_enough):
+    for part in (name_one_toolchain, list_dependencies, say_one_version, say_it_to_compilers, ask_for_enough):
         tally.attempt(part.__name__, part, tally)
     return tally.finish()
 

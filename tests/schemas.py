@@ -197,7 +197,8 @@ def hold_names(tally):
     pairs = {
         "conditions": (numbers, conditions),
         "findings": (finding, [*conditions, *owed_names("Rules without end"), *notes, *faults]),
-        "faults of a file": (file_fault, faults),
+        # MoreFaults stands for those that lint doesn't list
+        "faults of a file": (file_fault, [name for name in faults if name != "MoreFaults"]),
         "faults of the program": (program_fault, owed_names("Faults of the program")),
         "losses": (losses, owed_names("Losses")),
     }

@@ -39,7 +39,14 @@ def conform_largest_trace(room):
     return ["conform", "d.toml", "trace"], "kept\n", "", 0, 10
 
 
-CASES = [explain_all_bounds, replay_gaps, conform_largest_trace]
+def conform_largest_trace_with_times(room):
+    """A trace that fills its file with two and a half million lines with times, a thousand samples in each span."""
+    (room / "d.toml").write_text(inputs.clock_deployment())
+    (room / "trace").write_text(inputs.clock_trace())
+    return ["conform", "d.toml", "trace"], "kept\n", "", 0, 10
+
+
+CASES = [explain_all_bounds, replay_gaps, conform_largest_trace, conform_largest_trace_with_times]
 
 # ── each command on its largest inputs, by the table of docs/FORMAT.md
 MIB = 1 << 20
@@ -55,6 +62,11 @@ INPUTS = {
     "paced": lambda: (inputs.paced_topic(), "version = 1\n", ""),
     "joined": lambda: (inputs.joined_topic(), "version = 1\n", ""),
     "patterns": lambda: (inputs.patterned_deployment(), "version = 1\n", ""),
+    "failing": lambda: (*inputs.failing_files(), ""),
+    "four failing rows": lambda: (*inputs.failing_files(4), ""),
+    "shallow": lambda: (*inputs.shallow_files(), ""),
+    "circle": lambda: (inputs.slow_circle(), "version = 1\n", ""),
+    "empty": lambda: (inputs.empty_readers(), "version = 1\n", ""),
 }
 # words on the files d, c and e of each input
 LARGEST = {
@@ -69,8 +81,11 @@ LARGEST = {
     "migrate": ("migrate d", ("largest",)),
     "show": ("show d", ("largest", "keyed")),
     "draw": ("draw d c", ("largest", "keyed")),
-    "lint": ("lint d c", ("largest", "keyed", "backward", "paced")),
+    "lint": ("lint d c", ("largest", "keyed", "backward", "paced", "failing", "four failing rows", "shallow", "circle", "empty")),
 }
+# lint in each of its other forms, where very much is found
+FORMS = ("json", "sarif")
+FOUND = ("failing", "shallow", "empty")
 # searches of 4,096 and of 6,890 limits that get twenty seconds: nothing cuts off how a certificate is made after that
 LONG = 20
 SEARCHES = ("propose d --thorough --seconds", "limits d --certificate --seconds", "refute d --seconds")
@@ -134,6 +149,9 @@ def main():
     for name, (words, kinds) in LARGEST.items():
         for kind in kinds:
             tally.judge(f"{name} on {kind}", excess_of, words, kind, limits.get(name, (0, 0)))
+    for form in FORMS:
+        for kind in FOUND:
+            tally.judge(f"lint --format {form} on {kind}", excess_of, f"lint d c --format {form}", kind, limits.get("lint", (0, 0)))
     for words in SEARCHES:
         for kind in ("limited keys", "largest"):
             tally.judge(f"{words} {LONG} on {kind}", excess_of, f"{words} {LONG}", kind, limits.get("limits", (0, 0)))

@@ -4,7 +4,7 @@
   tests/wrapper.py
 
 It works on small trees of its own, in folders with a blank in their names, with a stand-in for the toolchain's `rt`: `rt ci` makes a program that prints which source it was made of,
-`rt try` answers as the interpreter does. So each case has known answers. The last line is 'N passed, M failed'; the status is 1 if one failed.
+and a library that says so, `rt try` answers as the interpreter does. So each case has known answers. The last line is 'N passed, M failed'; the status is 1 if one failed.
 """
 import gzip
 import hashlib
@@ -26,13 +26,14 @@ TOOLS = ["awk", "cat", "chmod", "cp", "find", "grep", "gzip", "head", "id", "ins
 RT = r"""#!/bin/sh
 here=${0%/*}
 [ "$1" != version ] || exec cat "$here/kit"
+[ "$1" != doc ] || { echo "$here/toolkit/START-HERE.md" && exit; }
 echo "$1" >>"$here/calls"
 [ ! -e "$here/slow" ] || { echo $$ >"$here/slow" && mkdir -p "$TMPDIR/rt-own" && exec sleep 60; }
 case $1 in
 ci)
     [ ! -e "$here/refuses" ] || { echo 'rt: base NOT PROVED' && exit 1; }
     [ ! -e "$here/edits" ] || . "$here/edits"
-    mkdir -p crates/ddscheck/out
+    mkdir -p crates/ddscheck/out crates/dds_guard_c/out
     { echo '#!/bin/sh'; echo "echo built of $(cat crates/ddscheck/src/main.rt) and $(cat crates/base/src/lib.rt), \$*"; } >crates/ddscheck/out/ddscheck
     chmod 755 crates/ddscheck/out/ddscheck
     echo 'rt: base proved'
@@ -46,6 +47,42 @@ try)
     ;;
 esac
 """
+# the toolchain's compiler, which makes the library for C of the sources that it finds
+RATTLE = r"""#!/bin/sh
+here=${0%/toolkit/*}
+echo "$1" >>"$here/calls"
+[ ! -e "$here/slow" ] || { echo $$ >"$here/slow" && exec sleep 60; }
+[ ! -e "$here/refuses" ] || { echo 'rattle: NOT PROVED' && exit 1; }
+out=
+while [ $# -gt 0 ]; do
+    [ "$1" != -o ] || out=$2
+    shift
+done
+mkdir -p "${out%/*}"
+[ -e "$here/forgets" ] || echo "of $(cat src/lib.rt) and $(cat ../base/src/lib.rt)" >"$out"
+"""
+# the toolchain's archiver and linker: what they make are the texts that they are given, of the linker behind the calls that are wanted
+ARCHIVER = """#!/bin/sh
+out=$2
+shift 2
+cat "$@" >"$out"
+"""
+LINKER = """#!/bin/sh
+calls=
+while [ $# -gt 0 ]; do
+    case $1 in
+    -o) shift && out=$1 ;;
+    -u) shift && calls="$calls ${1#ddscheck_}" ;;
+    -*) ;;
+    *) break ;;
+    esac
+    shift
+done
+{ echo "linked for$calls" && cat "$@"; } >"$out"
+"""
+LIBRARIES = ["libddscheck.a", "libddscheck-guard.a"]
+# the calls of the library without the check
+CALLS = {"open_guard", "free_guard", "find_writer", "find_reader", "find_rule", "find_key", "take", "write", "may_write", "fire", "permits", "spare", "read_writer", "read_reader"}
 NEEDS_BUILD = "so this needs the built program: ./ddscheck --build makes it\n"
 
 
@@ -60,21 +97,27 @@ class Tree:
             folder.mkdir()
         self.script = self.top / "ddscheck"
         shutil.copy(ROOT / "ddscheck", self.script)
-        self.write("crates.txt", "# the crates\nbase:\nfirst_answer: base\nddscheck: base first_answer\ntests: ddscheck base\n")
+        self.write("crates.txt", "# the crates\nbase:\nfirst_answer: base\nddscheck: base first_answer\ndds_guard_c staticlib: base\ntests: ddscheck base\n")
         self.write("HANDLES", "Handles allowed: none.\n")
         self.write("toolchain.txt", "kit-1 logic 1\n")
-        for name, text in (("base/src/lib.rt", "b1"), ("first_answer/src/main.rt", "f1"), ("ddscheck/src/main.rt", "d1"), ("tests/src/lib.rt", "t1")):
+        for name, text in (("base/src/lib.rt", "b1"), ("first_answer/src/main.rt", "f1"), ("ddscheck/src/main.rt", "d1"), ("dds_guard_c/src/lib.rt", "g1"), ("tests/src/lib.rt", "t1")):
             self.write(f"crates/{name}", text)
         self.write("crates/base/specs/Lib.antt", "specs")
         for name in ("man/ddscheck-check.1", "man/ddscheck-tool.1", "man/ddscheck.1", "commands/README.md", "commands/check.md"):
             self.write(f"docs/{name}", name)
         for name in ("completions/ddscheck.bash", "completions/ddscheck.zsh", "completions/ddscheck.fish"):
             self.write(f"docs/{name}", name)
+        for name in ("include/ddscheck.h", "include/ddscheck.hpp", "include/ddscheck.pc", "include/notes", "cmake/ddscheck-config.cmake"):
+            self.write(name, name)
         self.write("d.toml", "a deployment")
         self.write("c.toml", "a certificate")
         (self.tools / "kit").write_text("kit-1 logic 1\n")
-        (self.tools / "rt").write_text(RT)
-        (self.tools / "rt").chmod(0o755)
+        for name, text in (("rt", RT), ("toolkit/bin/rattle", RATTLE), ("toolkit/toolchain/bin/llvm-ar", ARCHIVER), ("toolkit/toolchain/bin/ld.lld", LINKER)):
+            (self.tools / name).parent.mkdir(parents=True, exist_ok=True)
+            (self.tools / name).write_text(text)
+            (self.tools / name).chmod(0o755)
+        (self.tools / "toolkit/c").mkdir()
+        (self.tools / "toolkit/c/liblibc_c.a").write_text("the heap\n")
         for tool in TOOLS:
             if found := shutil.which(tool):
                 (self.tools / tool).symlink_to(found)
@@ -102,14 +145,39 @@ class Tree:
         file.unlink(missing_ok=True)
         return words
 
-    def release(self):
-        """Packs the built program as tools/release does, and removes what was built."""
-        self.build()
+    def commit(self):
+        """Commits the tree as it stands, and gives the commit."""
+        self.write(".gitignore", "out/\n")
+        git = ["git", "-C", self.top, "-c", "user.name=tests", "-c", "user.email=tests@localhost", "-c", "init.defaultBranch=main"]
+        for words in (("init", "-q"), ("add", "-A"), ("commit", "-q", "-m", "sources")):
+            made = run([*git, *words], seconds=30)
+            assert made.status == 0, made
+        return run([*git, "rev-parse", "HEAD"]).out.strip()
+
+    def pack(self):
+        """Calls tools/release."""
         self.write("tools/release", (ROOT / "tools/release").read_text())
-        made = run([shutil.which("sh"), self.top / "tools/release"], cwd=self.top, env=self.environment() | {"PATH": f"{self.tools}:{os.environ['PATH']}"}, seconds=30)
+        return run([shutil.which("sh"), self.top / "tools/release"], cwd=self.top, env=self.environment() | {"PATH": f"{self.tools}:{os.environ['PATH']}"}, seconds=30)
+
+    def release(self):
+        """Packs what is built as tools/release does, and removes it."""
+        self.build()
+        self.commit()
+        made = self.pack()
         assert made.status == 0, made
-        shutil.rmtree(self.top / "crates/ddscheck/out")
+        self.remove()
         self.calls()
+
+    def remove(self):
+        """Removes what was built."""
+        for name in ("ddscheck", "dds_guard_c"):
+            shutil.rmtree(self.top / "crates" / name / "out", ignore_errors=True)
+
+    def library(self, name, folder=None):
+        """What a library says that it was made of: the crates' sources, whether the heap is in it, and the calls that the linker was asked for."""
+        text = ((folder or self.top / "crates/dds_guard_c/out") / name).read_text()
+        calls, _, rest = text.rpartition("linked for")[2].partition("\n") if text.startswith("linked for") else ("", "", text)
+        return rest, set(calls.split())
 
     def build(self):
         built = self.ask("--build")
@@ -133,13 +201,34 @@ def build_and_answer(tree, tally):
     first = tree.ask(*CHECK)
     tally.check(first.status == 0 and first.out.startswith("interpreted in first_answer: ") and "not the proved program" in first.err, "an answer where nothing is built", first)
     built = tree.ask("--build")
-    tally.check((built.status, built.out, tree.calls()) == (0, "", ["try", "ci"]), "a build", built)
+    tally.check((built.status, built.out, tree.calls()) == (0, "", ["try", "ci", "build"]), "a build", built)
     crates = (tree.tools / "crates").read_text().split()
-    tally.check(crates == ["base", "ddscheck", "first_answer"], "the build has the program's crates alone", crates)
+    tally.check(crates == ["base", "dds_guard_c", "ddscheck", "first_answer"], "the build has the crates of program and library alone", crates)
+    whole = "of g1 and b1\nthe heap\n"
+    libraries = [tree.library(name) for name in LIBRARIES]
+    tally.check(libraries == [(whole, set()), (whole, CALLS)], "the libraries have what they need of the toolchain, and one lacks the check", libraries)
     tally.check(is_answer_of(tree.ask(*CHECK), "d1", "b1"), "the built program answers")
     again = tree.ask("--build")
     tally.check((again.status, tree.calls()) == (0, []), "a second build has nothing to do", again)
     tally.check(not list(tree.temporary.iterdir()), "nothing is left in the temporary folder")
+
+
+def follow_library(tree, tally):
+    """What makes the libraries stale, and not the program."""
+    tree.build()
+    (tree.top / "crates/dds_guard_c/out/libddscheck-guard.a").unlink()
+    built = tree.ask("--build")
+    tally.check((built.status, tree.calls(), tree.library(LIBRARIES[1])) == (0, [], ("of g1 and b1\nthe heap\n", CALLS)), "the library without the check is made of the other one", built)
+    for name, text, made in (("crates/dds_guard_c/src/lib.rt", "g2", "of g2 and b1\nthe heap\n"), ("include/ddscheck.h", "another header", "of g2 and b1\nthe heap\n")):
+        tree.write(name, text)
+        tally.check(is_answer_of(tree.ask(*CHECK), "d1", "b1"), f"{name} doesn't make the program stale")
+        tally.check(tree.ask("--install", str(tree.top / "prefix")).status == 3, f"{name} makes the library stale")
+        built = tree.ask("--build")
+        libraries = [tree.library(library)[0] for library in LIBRARIES]
+        tally.check((built.status, tree.calls(), libraries) == (0, ["ci", "build"], [made, made]), f"it's built again for {name}", built)
+    (tree.tools / "toolkit/toolchain/bin/ld.lld").write_text("#!/bin/sh\nexit 1\n")
+    (tree.top / "crates/dds_guard_c/out/libddscheck-guard.a").unlink()
+    tally.check(is_failure(tree.ask("--build"), "libddscheck-guard.a can't be written"), "a linker that fails")
 
 
 def follow_sources(tree, tally):
@@ -181,12 +270,17 @@ def edit_during_build(tree, tally):
     failed = tree.ask("--build")
     tally.check(failed.status == 3 and "the build failed" in failed.err and "base NOT PROVED" in failed.err, "a build that fails", failed)
     tally.check(tree.ask(*CHECK).out.startswith("interpreted"), "after it no older program answers")
+    (tree.tools / "refuses").unlink()
+    (tree.tools / "forgets").touch()
+    tree.remove()
+    failed = tree.ask("--build")
+    tally.check(failed.status == 3 and "the build failed" in failed.err, "a build without a library", failed)
 
 
 def take_over(tree, tally):
     """What the merge gate makes in the tree itself: the folders `out` of all crates, and the program."""
     time.sleep(0.05)
-    for name in ("base", "first_answer", "ddscheck"):
+    for name in ("base", "first_answer", "ddscheck", "dds_guard_c"):
         (tree.top / "crates" / name / "out").mkdir()
     program = tree.top / "crates/ddscheck/out/ddscheck"
     program.write_text("#!/bin/sh\necho made by the gate\n")
@@ -195,14 +289,17 @@ def take_over(tree, tally):
     tally.check(given.out.startswith("interpreted"), "a program of the gate doesn't answer before --build", given)
     tree.calls()
     taken = tree.ask("--build")
-    tally.check((taken.status, tree.calls(), tree.ask(*CHECK).out) == (0, [], "made by the gate\n"), "--build takes it over", taken)
+    tally.check((taken.status, tree.calls(), tree.ask(*CHECK).out) == (0, ["build"], "made by the gate\n"), "--build takes it over, and has the library made", taken)
+    whole = "of g1 and b1\nthe heap\n"
+    libraries = [tree.library(name) for name in LIBRARIES]
+    tally.check(libraries == [(whole, set()), (whole, CALLS)], "and the libraries are of the same sources", libraries)
     (tree.top / "crates/ddscheck/out/ddscheck.sources").unlink()
     time.sleep(0.05)
     tree.write("crates/base/src/lib.rt", "b2")
     old = time.time() - 1000
     os.utime(tree.top / "crates/base/src/lib.rt", (old, old))
     taken = tree.ask("--build")
-    tally.check((taken.status, tree.calls()) == (0, ["ci"]), "not where a source was written since the gate began, whatever its time", taken)
+    tally.check((taken.status, tree.calls()) == (0, ["ci", "build"]), "not where a source was written since the gate began, whatever its time", taken)
     tally.check(is_answer_of(tree.ask(*CHECK), "d1", "b2"), "then it is built")
 
 
@@ -214,7 +311,7 @@ def keep_to_the_toolchain(tree, tally):
         is_told = is_failure(given, "toolchain.txt names kit-1 logic 1, and rt gives kit-1 logic 2")
         tally.check(is_told and tree.calls() == [], f"another logic, with a program: {built}", given)
         (tree.tools / "kit").write_text("kit-2 logic 1\n")
-        tally.check(tree.ask("--build").status == 0 and tree.calls() == ([] if built else ["ci"]), "another kit with the logic that is named")
+        tally.check(tree.ask("--build").status == 0 and tree.calls() == ([] if built else ["ci", "build"]), "another kit with the logic that is named")
     (tree.tools / "kit").unlink()
     tally.check(is_failure(tree.ask("--build"), "rt gives no version"), "a toolchain without a version")
     (tree.top / "toolchain.txt").unlink()
@@ -360,10 +457,21 @@ def end_by_signals(tree, tally):
 
 def install(tree, tally):
     given = tree.ask("--install")
-    tally.check(is_failure(given, NEEDS_BUILD), "nothing is installed before a build", given)
+    tally.check(is_failure(given, "ddscheck is not built from these sources: ./ddscheck --build makes it"), "nothing is installed before a build", given)
     tree.build()
+    library = tree.top / "crates/dds_guard_c/out/libddscheck.a"
+    library.rename(tree.top / "away")
+    given = tree.ask("--install")
+    tally.check(is_failure(given, "libddscheck.a is not built from these sources") and not (tree.top.parent / "home").exists(), "nor without a library", given)
+    (tree.top / "away").rename(library)
     places = {
         "bin/ddscheck": "crates/ddscheck/out/ddscheck",
+        "lib/libddscheck.a": "crates/dds_guard_c/out/libddscheck.a",
+        "lib/libddscheck-guard.a": "crates/dds_guard_c/out/libddscheck-guard.a",
+        "include/ddscheck.h": "include/ddscheck.h",
+        "include/ddscheck.hpp": "include/ddscheck.hpp",
+        "lib/pkgconfig/ddscheck.pc": "include/ddscheck.pc",
+        "share/cmake/ddscheck/ddscheck-config.cmake": "cmake/ddscheck-config.cmake",
         "share/man/man1/ddscheck.1": "docs/man/ddscheck.1",
         "share/man/man1/ddscheck-check.1": "docs/man/ddscheck-check.1",
         "share/bash-completion/completions/ddscheck": "docs/completions/ddscheck.bash",
@@ -387,22 +495,13 @@ def install(tree, tally):
 def name_the_commit(tree, tally):
     """`--version` names the commit where git is there and the sources are as they were committed."""
     if not (git := shutil.which("git")):
-        tally.skip("git isn't here", 6)
+        tally.skip("git isn't here", 3)
         return
-    named = ["-c", "user.name=tests", "-c", "user.email=tests@localhost", "-c", "init.defaultBranch=main"]
-
-    def commit(*words):
-        return run([git, "-C", tree.top, *named, *words], seconds=30)
-
     tree.ask("--build")
     plain = "built of d1 and b1, --version"
     tally.check(tree.ask("--version").out == f"{plain}\n", "outside a checkout --version names no commit")
     (tree.tools / "git").symlink_to(git)
-    (tree.top / ".gitignore").write_text("out/\n")
-    for words in (("init", "-q"), ("add", "-A"), ("commit", "-q", "-m", "sources")):
-        given = commit(*words)
-        tally.check(given.status == 0, f"git {words[0]}", given)
-    owed = commit("rev-parse", "--short=12", "HEAD").out.strip()
+    owed = tree.commit()[:12]
     version = tree.ask("--version")
     tally.check((version.status, version.out) == (0, f"{plain} (commit {owed})\n"), "--version names the commit", version)
     tree.write("crates/base/must-fail/other.edit", "an edit")
@@ -413,15 +512,42 @@ def answer_by_release(tree, tally):
     """The program in dist/ answers where it was made of the sources as they stand."""
     given = run([shutil.which("sh"), ROOT / "tools/release", "a word"], env=tree.environment(), seconds=30)
     tally.check((given.status, given.out) == (4, ""), "tools/release takes no words", given)
-    tree.release()
+    tree.build()
+    given = tree.pack()
+    tally.check((given.status, given.out) == (3, "") and given.err.endswith("git knows no commit of these sources\n"), "no release outside a checkout", given)
+    commit = tree.commit()
+    tree.write("crates/base/must-fail/other.edit", "an edit")
+    given = tree.pack()
+    tally.check(is_failure(given, "the sources are not as they were committed"), "no release of what isn't committed", given)
+    shutil.rmtree(tree.top / "crates/base/must-fail")
+    given = tree.pack()
+    names = ["ddscheck", *LIBRARIES]
+    tally.check((given.status, given.out) == (0, "".join(f"{tree.top}/dist/{name}.gz\n" for name in names)), "a release", given)
+    sums = [hashlib.sha256(gzip.decompress((tree.top / f"dist/{name}.gz").read_bytes())).hexdigest() for name in names]
+    stamps = [(tree.top / "dist" / f"{name.removesuffix('.a')}.sources").read_text().splitlines() for name in names]
+    tally.check([lines[1] for lines in stamps] == sums, "dist/ has the checksum of each", stamps)
+    tally.check([lines[2:] for lines in stamps] == [["kit-1 logic 1", f"commit {commit}"], [], []], "and names toolchain and commit in one file", stamps)
+    tally.check(stamps[1][0] == stamps[2][0] != stamps[0][0], "the sources of the libraries are others than those of the program", stamps)
+    packed = {path.name: path.read_bytes() for path in (tree.top / "dist").iterdir()}
+    given = tree.pack()
+    tally.check(given.status == 0 and packed == {path.name: path.read_bytes() for path in (tree.top / "dist").iterdir()}, "a second release has the same bytes", given)
+    tree.remove()
+    tree.calls()
     tally.check(is_answer_of(tree.ask(*CHECK), "d1", "b1"), "the program of dist/ answers")
     version = tree.ask("--version")
     tally.check((version.status, version.out) == (0, "built of d1 and b1, --version (from dist/, made of these sources)\n"), "it says where it is from", version)
     tally.check(tree.calls() == [], "the toolchain isn't asked then")
-    tally.check(tree.ask("--install", str(tree.top / "prefix")).status == 0, "it can be installed")
+    given = tree.ask("--install", str(tree.top / "prefix"))
+    libraries = [tree.library(name, tree.top / "prefix/lib") for name in LIBRARIES]
+    whole = "of g1 and b1\nthe heap\n"
+    tally.check(given.status == 0 and libraries == [(whole, set()), (whole, CALLS)], "it can be installed, and the libraries with it", [given, libraries])
+    tree.write("include/ddscheck.h", "another header")
+    given = tree.ask("--install", str(tree.top / "prefix"))
+    tally.check(is_failure(given, "libddscheck.a is not built from these sources"), "not with another header", given)
+    tree.write("include/ddscheck.h", "include/ddscheck.h")
     built = tree.ask("--build")
     version = tree.ask("--version")
-    tally.check((built.status, tree.calls(), version.out) == (0, ["ci"], "built of d1 and b1, --version\n"), "--build builds nonetheless", version)
+    tally.check((built.status, tree.calls(), version.out) == (0, ["ci", "build"], "built of d1 and b1, --version\n"), "--build builds nonetheless", version)
     shutil.rmtree(tree.top / "crates/ddscheck/out")
     tree.write("crates/base/src/lib.rt", "b2")
     tally.check(tree.ask(*CHECK).out.startswith("interpreted"), "not where the sources are others")
@@ -528,7 +654,7 @@ def lack_execution(tree, tally):
 
 
 CASES = [
-    build_and_answer, follow_sources, edit_during_build, take_over, keep_to_the_toolchain, say_what_needs_a_build, fail_by_devices, write_nothing, follow_links, lack_tools,
+    build_and_answer, follow_library, follow_sources, edit_during_build, take_over, keep_to_the_toolchain, say_what_needs_a_build, fail_by_devices, write_nothing, follow_links, lack_tools,
     end_by_signals, install, name_the_commit, answer_by_release, keep_others_out, end_beside, lack_execution,
 ]
 

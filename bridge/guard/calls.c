@@ -6,7 +6,7 @@
  *
  * A line that tells a number has it behind the status. Status: 0 all lines were calls, 2 one was not.
  */
-#include "ddscheck.h"
+#include "ddscheck_file.h"
 
 #include <inttypes.h>
 

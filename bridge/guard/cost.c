@@ -1,6 +1,6 @@
 /* Measures a guarded write: `cost DEPLOYMENT APPLICATION WRITER READER TOPIC KEY RULE CALLS`. Prints nanoseconds of a refused write, of a write with a permit,
    and of a take with the write that fires for it. Status: 0, or 1 where a call didn't answer as it should. */
-#include "ddscheck.h"
+#include "ddscheck_file.h"
 
 #include <time.h>
 

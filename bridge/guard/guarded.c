@@ -12,7 +12,7 @@ struct done {
     long written, taken, refused;
 };
 
-static void take_all(const ddscheck_dds_end *reader, const struct ping_words *words, struct done *done)
+static void take_all(ddscheck_dds_end *reader, const struct ping_words *words, struct done *done)
 {
     ddscheck_Sample sample;
     void *samples[1] = {&sample};
@@ -35,7 +35,7 @@ static void note(dds_return_t answer, const struct ping_words *words, struct don
     done->refused += answer == DDS_RETCODE_PRECONDITION_NOT_MET;
 }
 
-static void write_all(const ddscheck_dds_end *writer, struct ping_words *words, struct done *done)
+static void write_all(ddscheck_dds_end *writer, struct ping_words *words, struct done *done)
 {
     ddscheck_Sample sample;
     memset(&sample, 0, sizeof sample);
@@ -60,10 +60,10 @@ int main(int count, char **words)
     }
     ping_configure(read.tag);
     ddscheck_guard guard = DDSCHECK_GUARD_CLOSED;
-    ddscheck_dds_end writer = {&guard, 0, 0, ping_key}, reader = {&guard, 0, 0, ping_key};
-    if (ddscheck_open_file(read.deployment, read.side->application, &guard) != DDSCHECK_OK ||
-        ddscheck_writer(&guard, read.side->writer, &writer.number) != DDSCHECK_OK || ddscheck_reader(&guard, read.side->reader, &reader.number) != DDSCHECK_OK ||
-        !ping_meet(read.side, &writer.entity, &reader.entity)) {
+    ddscheck_dds_end writer = DDSCHECK_DDS_END(0, ping_key, NULL), reader = DDSCHECK_DDS_END(0, ping_key, NULL);
+    const ddscheck_dds_name ends[2] = {{read.side->writer, &writer}, {read.side->reader, &reader}};
+    ddscheck_dds_difference difference;
+    if (!ping_meet(read.side, &writer.entity, &reader.entity) || ddscheck_dds_open(read.deployment, read.side->application, &guard, ends, 2, &difference) != DDSCHECK_OK) {
         return 3;
     }
     for (int at = 0; at < 20000 && (done.written < read.samples || done.taken < read.samples); at++) {

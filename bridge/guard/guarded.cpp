@@ -1,7 +1,7 @@
 // An application of PING on Cyclone DDS, guarded, in C++ without exceptions: guarded-cxx DEPLOYMENT a1|a2 SAMPLES TAG TRACE [--bug|--past]
 //
 // It does what guarded-c does, and ends with the same line and status.
-#include "ddscheck.hpp"
+#include "ddscheck_cyclone.hpp"
 #include "ping.h"
 
 #include <cstdio>
@@ -15,7 +15,7 @@ struct Done {
     long refused = 0;
 };
 
-void take_all(const ddscheck_dds_end &reader, const ping_words &words, Done &done)
+void take_all(ddscheck_dds_end &reader, const ping_words &words, Done &done)
 {
     ddscheck_Sample sample;
     void *samples[1] = {&sample};
@@ -38,7 +38,7 @@ void note(dds_return_t answer, const ping_words &words, Done &done)
     done.refused += answer == DDS_RETCODE_PRECONDITION_NOT_MET ? 1 : 0;
 }
 
-void write_all(ddscheck::Guard &guard, const ddscheck_dds_end &writer, ping_words &words, Done &done)
+void write_all(ddscheck::Guard &guard, ddscheck_dds_end &writer, ping_words &words, Done &done)
 {
     ddscheck_Sample sample{};
     std::memcpy(sample.key, "k", 2);
@@ -64,15 +64,13 @@ int main(int count, char **words)
     }
     ping_configure(read.tag);
     ddscheck::Guard guard;
-    if (guard.open_file(read.deployment, read.side->application) != DDSCHECK_OK) {
-        return 3;
-    }
-    const auto writes = guard.writer(read.side->writer), takes = guard.reader(read.side->reader);
-    if (!writes || !takes) {
-        return 3;
-    }
-    ddscheck_dds_end writer = {guard.get(), 0, *writes, ping_key}, reader = {guard.get(), 0, *takes, ping_key};
+    ddscheck_dds_end writer = DDSCHECK_DDS_END(0, ping_key, nullptr), reader = DDSCHECK_DDS_END(0, ping_key, nullptr);
     if (ping_meet(read.side, &writer.entity, &reader.entity) == 0) {
+        return 3;
+    }
+    const ddscheck::Opened opened = ddscheck::open(guard, read.deployment, read.side->application, {{read.side->writer, &writer}, {read.side->reader, &reader}});
+    if (opened.status != DDSCHECK_OK) {
+        std::fprintf(stderr, "guarded-cxx: %s %s %s\n", ddscheck_status_name(opened.status), opened.difference.end, opened.difference.what);
         return 3;
     }
     for (int at = 0; at < 20000 && (done.written < read.samples || done.taken < read.samples); at++) {

@@ -4,6 +4,7 @@
 
 #include "Sample.h"
 #include "ddscheck_cyclone.h"
+#include "ddscheck_file.h"
 
 #include <stdio.h>
 #include <stdlib.h>
@@ -58,8 +59,9 @@ static inline void ping_took(const struct ping_words *words)
 }
 
 /* The number of a sample's key: PING has one key, k. */
-static inline size_t ping_key(const void *sample)
+static inline size_t ping_key(const void *sample, void *context)
 {
+    (void)context;
     const ddscheck_Sample *read = (const ddscheck_Sample *)sample;
     return strcmp(read->key, "k") == 0 ? 0 : DDSCHECK_NO_KEY;
 }

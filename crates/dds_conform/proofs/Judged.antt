@@ -7,7 +7,7 @@ use Rattle.dds_rules.specs.Ledger.{LedgerState}
 use Rattle.dds_conform.specs.declared.actions.Action.TheVariants.{Write}
 use Rattle.dds_conform.specs.declared.actions.Entry.{Entry}
 use Rattle.dds_conform.specs.declared.conformance.Conformance.{Conformance}
-use Rattle.dds_conform.specs.declared.conformance.Conformance.TheVariants.{Kept, NoPermit, Unknown}
+use Rattle.dds_conform.specs.declared.conformance.Conformance.TheVariants.{Kept, NoPermit, TooLate, TooSoon, Unknown}
 use Rattle.dds_conform.specs.Entries.{entry_action, entry_line}
 use Rattle.dds_conform.specs.Keeping.{HasNoRivals, Keeps}
 use Rattle.dds_conform.specs.Judging.{IsAnswer, IsFull, IsRefusal, Reaches, actions_of}
@@ -26,6 +26,8 @@ blocked_answer : (net : Network) (es : List Entry) (n : ℕ) (e : Entry) (l : Le
     → (HasNoRivals net → ¬ Keeps net (actions_of (take n es) ++ entry_action e ∷ [])) → entry_action e ≡ Write w k → IsRefusal net l (entry_line e) w k answer → IsAnswer net es answer
 blocked_answer net es n e l w k Kept lt at r none write is = absurd is
 blocked_answer net es n e l w k Unknown lt at r none write is = absurd is
+blocked_answer net es n e l w k (TooSoon x) lt at r none write is = absurd is
+blocked_answer net es n e l w k (TooLate x) lt at r none write is = absurd is
 blocked_answer net es n e l w k (NoPermit x) lt at r none write is = record {
   place = n;
   entry = e;

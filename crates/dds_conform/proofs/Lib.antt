@@ -1,9 +1,13 @@
+pub mod Clocked
 pub mod Givers
 pub mod Judged
 pub mod Lacking
 pub mod Lazily
 pub mod Moves
+pub mod Passing
 pub mod Reaching
+pub mod Stamped
 pub mod Told
 mod WordLaws
+pub mod Wording
 pub mod Worlds

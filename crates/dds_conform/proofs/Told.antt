@@ -1,5 +1,5 @@
 -- What is told by one line more.
-use Rattle.std.proofs.Common.{◌≡◌, ◌∙◌, ◌+◌, ◌-◌, ◌<◌, Some, None, ℕ, cond, subst, slice_get, zero, suc, true, false, Bool, List, [], ◌∷◌, ◌++◌, length, get_or, take, refl, sym, ap, arith, append-nil, Option, Result, Ok, Err, IfErr, IsErrAnd, eqb, ◌&&◌, nat_lt}
+use Rattle.std.proofs.Common.{◌≡◌, ◌∙◌, ◌+◌, ◌-◌, ◌<◌, Some, None, ℕ, cond, subst, slice_get, zero, suc, true, false, Bool, List, [], ◌∷◌, ◌++◌, length, get_or, take, refl, sym, ap, arith, append-nil, Option, Result, Ok, Err, IfErr, IfOk, IsErrAnd, eqb, ◌&&◌, nat_lt}
 use Rattle.std.specs.List.{All, after_first, before_first, list_any, position_or_len}
 use Rattle.std.proofs.lemmas.Bool.{and_parts}
 use Rattle.std.proofs.lemmas.Bool.Decides.{nat_tests}
@@ -16,11 +16,15 @@ use Rattle.dds_conform.specs.declared.actions.Action.TheVariants.{Write, Take}
 use Rattle.dds_conform.specs.declared.actions.Entry.{Entry}
 use Rattle.dds_conform.specs.declared.fault.TraceFault.{TraceFault}
 use Rattle.dds_conform.specs.declared.fault.TraceFault.TheVariants.{At, NoMemory}
-use Rattle.dds_conform.specs.declared.fault.TraceFaultKind.TheVariants.{NotText, NotAnEntry, Foreign}
+use Rattle.dds_conform.specs.declared.fault.TraceFaultKind.TheVariants.{NotText, NotAnEntry, Foreign, MissingTime, TimeFalls}
 use Rattle.dds_conform.specs.Entries.{entry_action, entry_application, entry_line}
 use Rattle.dds_conform.specs.Actions.{action_text, is_own}
 use Rattle.dds_conform.specs.Judging.{AreKnown, IsKnown}
-use Rattle.dds_conform.specs.Reading.{AreEntries, IsEntryOf, IsFaultAt, IsFaultOf, IsLineFaultOf, IsPushFault, is_blank, is_time, says_something, shown, told, told_from}
+use Rattle.dds_conform.specs.declared.reading.Trace.{Trace}
+use Rattle.dds_conform.specs.Stamps.{AreTimesOrNone, IsTimesFault}
+use Rattle.dds_conform.specs.Traces.{IsFaultOf, IsKnownTrace, IsTextFaultOf, IsTraceOf}
+use Rattle.dds_conform.proofs.Stamped.{time_count}
+use Rattle.dds_conform.specs.Reading.{AreEntries, IsEntryOf, IsFaultAt, IsLineFaultOf, IsPushFault, is_blank, is_head, says_something, shown, told, told_from}
 
 told_push : (n : ℕ) (ls : List (List ℕ)) (line : List ℕ) → told_from n (ls ++ line ∷ []) ≡ told_from n ls ++ told_from (n + length ls) (line ∷ [])
 unfolding told_from
@@ -99,32 +103,40 @@ of_error (Ok x) Q P gives h = tt
 of_error (Err e) Q P gives h = gives e h
 
 -- ── bytes that are UTF-8
-no_text_fault : (d : Lists) (ls : List (List ℕ)) (n : ℕ) → IsLineFaultOf d ls (At NotText n) → ⊥
-no_text_fault d ls n f = f.has
-
-of_text : (d : Lists) (bytes : List ℕ) (fault : TraceFault) → IsUtf8 bytes → IsLineFaultOf d (lines bytes) fault → IsFaultOf d bytes fault
-of_text d bytes (At NotText n) is fault = absurd (no_text_fault d (lines bytes) n fault)
+of_text : (d : Lists) (bytes : List ℕ) (fault : TraceFault) → IsUtf8 bytes → IsTextFaultOf d (lines bytes) fault → IsFaultOf d bytes fault
+of_text d bytes (At NotText n) is fault = absurd fault
 of_text d bytes (At NotAnEntry n) is fault = (is, fault)
 of_text d bytes (At Foreign n) is fault = (is, fault)
+of_text d bytes (At MissingTime n) is fault = (is, fault)
+of_text d bytes (At TimeFalls n) is fault = (is, fault)
 of_text d bytes NoMemory is fault = tt
 
-pub read_of_text : {X : Type 0} (d : Lists) (bytes text : List ℕ) (r : Result X TraceFault) → text ≡ bytes → IsUtf8 bytes → IfErr r (IsLineFaultOf d (lines text)) → IfErr r (IsFaultOf d bytes)
+pub read_of_text : {X : Type 0} (d : Lists) (bytes text : List ℕ) (r : Result X TraceFault) → text ≡ bytes → IsUtf8 bytes → IfErr r (IsTextFaultOf d (lines text)) → IfErr r (IsFaultOf d bytes)
 read_of_text d bytes text (Ok x) same is fault = tt
-read_of_text d bytes text (Err e) same is fault = of_text d bytes e is (subst (λ (t : List ℕ). IsLineFaultOf d (lines t) e) same fault)
+read_of_text d bytes text (Err e) same is fault = of_text d bytes e is (subst (λ (t : List ℕ). IsTextFaultOf d (lines t) e) same fault)
+
+-- the fault of a line is one of the text
+pub line_fault : (d : Lists) (ls : List (List ℕ)) (fault : TraceFault) → IsLineFaultOf d ls fault → IsTextFaultOf d ls fault
+line_fault d ls (At NotText n) fault = fault.has
+line_fault d ls (At NotAnEntry n) fault = fault
+line_fault d ls (At Foreign n) fault = fault
+line_fault d ls (At MissingTime n) fault = absurd fault.has
+line_fault d ls (At TimeFalls n) fault = absurd fault.has
+line_fault d ls NoMemory fault = tt
 
 -- ── what a line tells
-pub told_some : (line time text : List ℕ) → (position_or_len (λ b. eqb b 32) line < length line) × (time ≡ before_first (λ b. eqb b 32) line) × (text ≡ after_first (λ b. eqb b 32) line) → is_time time ≡ true → told line ≡ Some text
+pub told_some : (line time text : List ℕ) → (position_or_len (λ b. eqb b 32) line < length line) × (time ≡ before_first (λ b. eqb b 32) line) × (text ≡ after_first (λ b. eqb b 32) line) → is_head time ≡ true → told line ≡ Some text
 told_some line time text cut is =
     let within = cut.0 in
     let test : nat_lt (position_or_len (λ b. eqb b 32) line) (length line) ≡ true = grind (arith, nat_tests) in
     let has : list_any is_blank line ≡ true = list_any-position is_blank line ∙ test in
-    let timed : is_time (before_first is_blank line) ≡ true = ap is_time (sym cut.1) ∙ is in
+    let timed : is_head (before_first is_blank line) ≡ true = ap is_head (sym cut.1) ∙ is in
     rw (has, timed) (ap Some (sym cut.2))
 
-pub told_untimed : (line time text : List ℕ) → (position_or_len (λ b. eqb b 32) line < length line) × (time ≡ before_first (λ b. eqb b 32) line) × (text ≡ after_first (λ b. eqb b 32) line) → is_time time ≡ false → told line ≡ None
+pub told_untimed : (line time text : List ℕ) → (position_or_len (λ b. eqb b 32) line < length line) × (time ≡ before_first (λ b. eqb b 32) line) × (text ≡ after_first (λ b. eqb b 32) line) → is_head time ≡ false → told line ≡ None
 told_untimed line time text cut is =
-    let untimed : is_time (before_first is_blank line) ≡ false = ap is_time (sym cut.1) ∙ is in
-    off (list_any is_blank line) (is_time (before_first is_blank line)) (Some (after_first is_blank line)) untimed
+    let untimed : is_head (before_first is_blank line) ≡ false = ap is_head (sym cut.1) ∙ is in
+    off (list_any is_blank line) (is_head (before_first is_blank line)) (Some (after_first is_blank line)) untimed
   where
     off : (a b : Bool) (x : Option (List ℕ)) → b ≡ false → cond (a && b) x None ≡ None
     off true b x e = rw e refl
@@ -143,3 +155,23 @@ known_action d a (Take r k) own = (and_parts _ _ own).1
 
 pub all_known : (d : Lists) (ls : List (List ℕ)) (es : List Entry) → AreEntries d ls es → AreKnown (network_of d) es
 all_known d ls es h = λ i e lt. known_action d _ _ (h.known i e lt).1
+
+-- what is read of a trace
+known_trace : (d : Lists) (ls : List (List ℕ)) (t : Trace) → IsTraceOf d ls t → IsKnownTrace d t
+known_trace d ls t h = record {
+  known = all_known d ls t.entries.items h.entries;
+  times = λ ts is. (let times : AreTimesOrNone ls (Some ts) = subst (AreTimesOrNone ls) is h.times in (time_count d ls t.entries.items ts h.entries times.0, times.1));
+}
+
+pub known_result : {E : Type 0} (d : Lists) (ls : List (List ℕ)) (r : Result Trace E) → IfOk r (IsTraceOf d ls) → IfOk r (IsKnownTrace d)
+known_result d ls (Ok t) h = known_trace d ls t h
+known_result d ls (Err e) h = tt
+
+-- the faults of times are faults of a text
+pub times_fault : (d : Lists) (ls : List (List ℕ)) (es : List Entry) (fault : TraceFault) → AreEntries d ls es → IsTimesFault ls es fault → IsTextFaultOf d ls fault
+times_fault d ls es (At NotText n) are fault = absurd fault
+times_fault d ls es (At NotAnEntry n) are fault = absurd fault
+times_fault d ls es (At Foreign n) are fault = absurd fault
+times_fault d ls es (At MissingTime n) are fault = (es, are, fault)
+times_fault d ls es (At TimeFalls n) are fault = (es, are, fault)
+times_fault d ls es NoMemory are fault = tt

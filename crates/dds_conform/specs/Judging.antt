@@ -11,7 +11,7 @@ use Rattle.dds_conform.specs.declared.actions.Action.{Action}
 use Rattle.dds_conform.specs.declared.actions.Action.TheVariants.{Write, Take}
 use Rattle.dds_conform.specs.declared.actions.Entry.{Entry}
 use Rattle.dds_conform.specs.declared.conformance.Conformance.{Conformance}
-use Rattle.dds_conform.specs.declared.conformance.Conformance.TheVariants.{Kept, NoPermit, Unknown}
+use Rattle.dds_conform.specs.declared.conformance.Conformance.TheVariants.{Kept, NoPermit, TooLate, TooSoon, Unknown}
 use Rattle.dds_conform.specs.declared.conformance.Refused.{Refused}
 use Rattle.dds_conform.specs.declared.judging.Progress.{Progress}
 use Rattle.dds_conform.specs.declared.judging.Progress.TheVariants as progress
@@ -121,9 +121,13 @@ abbrev pub IsRefusal : Network → LedgerState → (line writer key : ℕ) → C
 IsRefusal net l n w k Kept = ⊥
 IsRefusal net l n w k (NoPermit x) = (n ≡ x.line) × (w ≡ x.writer) × (k ≡ x.key) × (x.short.items ≡ shortages net l.spare x.writer x.key)
 IsRefusal net l n w k Unknown = ⊥
+IsRefusal net l n w k (TooSoon x) = ⊥
+IsRefusal net l n w k (TooLate x) = ⊥
 
--- what an answer says of the entries of a trace; where there is never a choice, it is unknown only for a count that would pass 2^64 - 1
+-- what an answer says of the entries of a trace without times; where there is never a choice, it is unknown only for a count that would pass 2^64 - 1
 abbrev pub IsAnswer : Network → List Entry → Conformance → Type 0
 IsAnswer net es Kept = Keeps net (actions_of es)
 IsAnswer net es (NoPermit x) = IsBlocked net es x
 IsAnswer net es Unknown = HasNoRivals net → IsFullAt net es
+IsAnswer net es (TooSoon x) = ⊥
+IsAnswer net es (TooLate x) = ⊥

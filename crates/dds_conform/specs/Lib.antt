@@ -1,5 +1,7 @@
 pub mod Actions
+pub mod Answering
 pub mod Answers
+pub mod Breaches
 pub mod Entries
 pub mod Faults
 pub mod Giving
@@ -8,3 +10,7 @@ pub mod Keeping
 pub mod Reading
 pub mod Rivals
 pub mod Shortages
+pub mod Stamps
+pub mod Tallies
+pub mod Traces
+pub mod Windows

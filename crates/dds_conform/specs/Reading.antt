@@ -1,14 +1,15 @@
 -- What the lines of a trace say.
-use Rattle.std.specs.Prelude.{◌≡◌, ◌≢◌, ℕ, suc, ◌-◌, ◌<◌, ◌≤◌, ◌==◌, nat_eq, nat_le, Bool, true, false, not, ◌&&◌, ◌||◌, if◌then◌else◌, List, [], ◌∷◌, codes, length, map, Option, Some, None, All, slice_get, take, count_by, IsUtf8}
+use Rattle.std.specs.Prelude.{◌≡◌, ◌≢◌, ℕ, suc, ◌-◌, ◌^◌, ◌<◌, ◌≤◌, ◌==◌, nat_eq, nat_le, nat_lt, Bool, true, false, not, ◌&&◌, ◌||◌, if◌then◌else◌, is_some, List, [], ◌∷◌, codes, length, map, Option, Some, None, All, slice_get, take, count_by, IsUtf8}
 use Rattle.std.specs.List.{after_first, before_first, starts_with, list_all, list_any}
 use Rattle.std.specs.Str.Lines.{lines}
+use Rattle.std.specs.Str.Parse.{digits_value}
 use Rattle.dds_base.specs.Names.{is_between}
 use Rattle.dds_lists.specs.Lists.{Lists}
 use Rattle.dds_conform.specs.declared.actions.Action.{Action}
 use Rattle.dds_conform.specs.declared.actions.Entry.{Entry}
 use Rattle.dds_conform.specs.declared.fault.TraceFault.{TraceFault}
 use Rattle.dds_conform.specs.declared.fault.TraceFault.TheVariants.{At, NoMemory}
-use Rattle.dds_conform.specs.declared.fault.TraceFaultKind.TheVariants.{NotText, NotAnEntry, Foreign}
+use Rattle.dds_conform.specs.declared.fault.TraceFaultKind.TheVariants.{NotText, NotAnEntry, Foreign, MissingTime, TimeFalls}
 use Rattle.dds_conform.specs.Entries.{entry_action, entry_application, entry_line}
 use Rattle.dds_conform.specs.Actions.{IsThere, action_text, is_own}
 
@@ -27,9 +28,25 @@ is_digit b = is_between 48 57 b
 abbrev pub is_time : List ℕ → Bool
 is_time word = list_any is_digit word && (list_all (λ b. is_digit b || (b == 46)) word && nat_le (count_by (λ b. b == 46) word) 1)
 
+abbrev pub are_digits : List ℕ → Bool
+are_digits ds = list_any is_digit ds && list_all is_digit ds
+
+-- the number of nanoseconds below 2^63 that digits write
+abbrev pub nanoseconds : List ℕ → Option ℕ
+nanoseconds ds = if are_digits ds && nat_lt (digits_value 10 ds) (2 ^ 63) then Some (digits_value 10 ds) else None
+
+-- the nanoseconds that a word gives as a time: digits after `@`
+abbrev pub stamp_in : List ℕ → Option ℕ
+stamp_in [] = None
+stamp_in (b ∷ bs) = if b == 64 then nanoseconds bs else None
+
+-- a line begins with a time of either kind
+abbrev pub is_head : List ℕ → Bool
+is_head word = is_time word || is_some (stamp_in word)
+
 -- what a line says: what stands after a time and a blank
 abbrev pub told : List ℕ → Option (List ℕ)
-told line = if list_any is_blank line && is_time (before_first is_blank line) then Some (after_first is_blank line) else None
+told line = if list_any is_blank line && is_head (before_first is_blank line) then Some (after_first is_blank line) else None
 
 -- ── lines
 -- what the lines say that say something, where the first line of all has this number
@@ -64,6 +81,8 @@ abbrev pub IsFaultAt : Lists → ℕ → List ℕ → TraceFault → Type 0
 IsFaultAt d n line (At NotText m) = ⊥
 IsFaultAt d n line (At NotAnEntry m) = (m ≡ n) × TellsNothing d line
 IsFaultAt d n line (At Foreign m) = (m ≡ n) × TellsForeign d line
+IsFaultAt d n line (At MissingTime m) = ⊥
+IsFaultAt d n line (At TimeFalls m) = ⊥
 IsFaultAt d n line NoMemory = ⊥
 
 -- or memory ran out
@@ -86,10 +105,3 @@ pub record IsFirstFault (d : Lists) (ls : List (List ℕ)) (fault : TraceFault) 
 abbrev pub IsLineFaultOf : Lists → List (List ℕ) → TraceFault → Type 0
 IsLineFaultOf d ls NoMemory = Unit {0}
 IsLineFaultOf d ls (At kind n) = IsFirstFault d ls (At kind n)
-
--- a fault that bytes may have: they are no UTF-8, or they are, and their lines have it
-abbrev pub IsFaultOf : Lists → List ℕ → TraceFault → Type 0
-IsFaultOf d bytes (At NotText n) = (n ≡ 0) × (¬ IsUtf8 bytes)
-IsFaultOf d bytes (At NotAnEntry n) = IsUtf8 bytes × IsLineFaultOf d (lines bytes) (At NotAnEntry n)
-IsFaultOf d bytes (At Foreign n) = IsUtf8 bytes × IsLineFaultOf d (lines bytes) (At Foreign n)
-IsFaultOf d bytes NoMemory = Unit {0}

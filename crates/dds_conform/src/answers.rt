@@ -1,9 +1,10 @@
 //! The text of an answer.
 ghost use Rattle.std.specs.Prelude.{◌≡◌, IfOk, string_bytes};
-ghost use Rattle.dds_conform.specs.Answers.{answer_text, refusal_text, shortage_line, shortage_lines};
+ghost use Rattle.dds_conform.specs.Answers.{answer_text, breach_end, early_text, field_of, late_text};
+ghost use Rattle.dds_conform.specs.Answers.{refusal_text, shortage_line, shortage_lines};
 
-use crate::conformance::{Conformance, Refused, Shortage};
-use dds_base::NoMemory;
+use crate::conformance::{Conformance, Early, Late, Refused, Shortage, Within};
+use dds_base::{NoMemory, ReaderNo};
 use dds_lists::Deployment;
 use dds_text::names::{reader_key, reader_name, rule_text, writer_key, writer_name};
 use std::alloc::Global;
@@ -60,8 +61,77 @@ fn refused_text(alloc: Global, lists: &Deployment, refused: &Refused) -> Result<
     refusal_text(alloc, lists, refused, short.as_str())
 }
 
-/// The text of an answer: `kept`, `unknown`, or the line of a write that has no permit, and for each rule that could
-/// give one a line for each thing that it lacks. `NoMemory` is the only error.
+/// The field of a file that says a span of a reader.
+pub fn field_of(within: Within) -> &'static str
+    ensures { result.now ≡ field_of within }
+{
+    match within {
+        Within::Taken => "taken_within",
+        Within::Available => "available_within",
+    }
+}
+
+/// The end of a line of what breaks a span of a reader: the span, and by how much.
+fn breach_end(
+    alloc: Global,
+    lists: &Deployment,
+    within: Within,
+    reader: ReaderNo,
+    by: u64,
+) -> Result<String, NoMemory>
+    ensures { IfOk result (λ text. string_bytes text ≡ breach_end lists.now within reader by) }
+{
+    let field = field_of(within);
+    let reader = reader_name(lists, reader);
+    format!(in alloc; "{field} of {reader} by {by} ns\n")
+}
+
+/// The line of a write that comes too soon, before this end.
+fn early_line(
+    alloc: Global,
+    lists: &Deployment,
+    early: &Early,
+    end: &str,
+) -> Result<String, NoMemory>
+    requires { end.now ≡ breach_end lists.now early.now.within early.now.reader early.now.by }
+    ensures { IfOk result (λ text. string_bytes text ≡ early_text lists.now early.now) }
+{
+    let line = early.line;
+    let writer = writer_name(lists, early.writer);
+    let key = writer_key(lists, early.writer, early.key);
+    format!(in alloc; "line {line}: {writer} {key} too soon for {end}")
+}
+
+/// The line of a write that comes too soon.
+fn early_text(alloc: Global, lists: &Deployment, early: &Early) -> Result<String, NoMemory>
+    ensures { IfOk result (λ text. string_bytes text ≡ early_text lists.now early.now) }
+{
+    let end = breach_end(alloc, lists, early.within, early.reader, early.by)?;
+    early_line(alloc, lists, early, end.as_str())
+}
+
+/// The line that a sample waits for too long, before this end.
+fn late_line(alloc: Global, lists: &Deployment, late: &Late, end: &str) -> Result<String, NoMemory>
+    requires { end.now ≡ breach_end lists.now late.now.within late.now.reader late.now.by }
+    ensures { IfOk result (λ text. string_bytes text ≡ late_text lists.now late.now) }
+{
+    let line = late.line;
+    let key = reader_key(lists, late.reader, late.key);
+    let written = late.written;
+    format!(in alloc; "line {line}: {key} of line {written} too late for {end}")
+}
+
+/// The line that a sample waits for too long.
+fn late_text(alloc: Global, lists: &Deployment, late: &Late) -> Result<String, NoMemory>
+    ensures { IfOk result (λ text. string_bytes text ≡ late_text lists.now late.now) }
+{
+    let end = breach_end(alloc, lists, late.within, late.reader, late.by)?;
+    late_line(alloc, lists, late, end.as_str())
+}
+
+/// The text of an answer: `kept`, `unknown`, the line of a write that has no permit, and for each rule that could give
+/// one a line for each thing that it lacks, or the line of a write that comes too soon or of a sample that waits too
+/// long. `NoMemory` is the only error.
 pub fn answer_text(
     alloc: Global,
     lists: &Deployment,
@@ -72,6 +142,8 @@ pub fn answer_text(
     match answer {
         Conformance::Kept => String::from_str(alloc, "kept\n"),
         Conformance::NoPermit(refused) => refused_text(alloc, lists, refused),
+        Conformance::TooSoon(early) => early_text(alloc, lists, early),
+        Conformance::TooLate(late) => late_text(alloc, lists, late),
         Conformance::Unknown => String::from_str(alloc, "unknown\n"),
     }
 }

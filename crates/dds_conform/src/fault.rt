@@ -13,12 +13,16 @@ pub enum TraceFaultKind {
     NotAnEntry,
     /// The endpoint is another application's, or the key of a take isn't in the reader's filter.
     Foreign,
+    /// Some line begins with `@` and a time, and this one doesn't.
+    MissingTime,
+    /// The time is before that of the entry ahead.
+    TimeFalls,
 }
 
 impl TraceFaultKind {
     ghost use Rattle.dds_conform.specs.Faults.{number_of, name_of};
 
-    /// The number that users see, 1 to 3 in the order of the kinds.
+    /// The number that users see, 1 to 5 in the order of the kinds.
     pub fn number(self) -> u8
         ensures { result ≡ number_of self }
     {
@@ -26,6 +30,8 @@ impl TraceFaultKind {
             TraceFaultKind::NotText => 1,
             TraceFaultKind::NotAnEntry => 2,
             TraceFaultKind::Foreign => 3,
+            TraceFaultKind::MissingTime => 4,
+            TraceFaultKind::TimeFalls => 5,
         }
     }
 
@@ -37,6 +43,8 @@ impl TraceFaultKind {
             TraceFaultKind::NotText => "NotText",
             TraceFaultKind::NotAnEntry => "NotAnEntry",
             TraceFaultKind::Foreign => "Foreign",
+            TraceFaultKind::MissingTime => "MissingTime",
+            TraceFaultKind::TimeFalls => "TimeFalls",
         }
     }
 }

@@ -6,11 +6,12 @@ ghost use Rattle.dds_text.specs.Names.{name_at};
 ghost use Rattle.dds_text.specs.Texts.{two_words};
 ghost use Rattle.dds_conform.specs.Actions.{IsThere, action_in, action_text, is_own, what_text};
 ghost use Rattle.dds_conform.specs.Entries.{entry_action, entry_application, entry_line};
-ghost use Rattle.dds_conform.specs.Reading.{IsEntryOf, IsFaultAt, is_digit, is_time};
+ghost use Rattle.dds_conform.specs.Reading.{IsEntryOf, IsFaultAt, is_digit, is_head, is_time};
 ghost use Rattle.dds_conform.specs.Reading.{says_something, told};
 
 use crate::actions::{Action, Entry};
 use crate::fault::{TraceFault, TraceFaultKind};
+use crate::stamps::stamp_in;
 use dds_base::{AppNo, Event};
 use dds_events::read_event;
 use dds_lists::Deployment;
@@ -25,14 +26,14 @@ pub(crate) fn says_something(line: &str) -> bool
 }
 
 /// Whether a byte is a decimal digit.
-fn is_digit(byte: u8) -> bool
+pub(crate) fn is_digit(byte: u8) -> bool
     ensures { result ≡ is_digit byte }
 {
     byte >= b'0' && byte <= b'9'
 }
 
 /// Whether some byte is a digit.
-fn has_digit(word: &[u8]) -> bool
+pub(crate) fn has_digit(word: &[u8]) -> bool
     ensures { result ≡ list_any is_digit word.now }
 {
     word.iter().any(|byte| is_digit(*byte))
@@ -60,13 +61,20 @@ fn is_time(word: &str) -> bool
     has_digit(bytes) && has_digits_and_points(bytes) && count_points(bytes) <= 1
 }
 
+/// Whether a word is a time of either kind.
+fn is_head(word: &str) -> bool
+    ensures { result ≡ is_head word.now }
+{
+    is_time(word) || stamp_in(word).is_some()
+}
+
 /// What a line says: what stands after a time and a blank.
 fn told(line: &str) -> Option<&str>
     ensures some { IfSome result (λ text. told line.now ≡ Some text.now) }
     ensures none { IfNone result (told line.now ≡ None) }
 {
     match line.split_once(' ') {
-        Some((time, text)) => { if is_time(time) { Some(text) } else { None } }
+        Some((time, text)) => { if is_head(time) { Some(text) } else { None } }
         None => None,
     }
 }

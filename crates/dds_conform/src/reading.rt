@@ -1,17 +1,26 @@
 //! A trace read from its bytes.
 ghost use Rattle.std.specs.Prelude.{◌≡◌, ◌++◌, ◌∷◌, [], Some, IfErr, IfOk, IsUtf8, OnOk};
 ghost use Rattle.std.specs.Str.Lines.{lines};
-ghost use Rattle.dds_match.specs.Plan.{network_of};
 ghost use Rattle.dds_conform.specs.Actions.{action_text};
 ghost use Rattle.dds_conform.specs.Entries.{entry_action, entry_application, entry_line};
-ghost use Rattle.dds_conform.specs.Judging.{AreKnown};
-ghost use Rattle.dds_conform.specs.Reading.{AreEntries, IsEntryOf, IsFaultOf, IsLineFaultOf, IsPushFault, told};
+ghost use Rattle.dds_conform.specs.Reading.{AreEntries, IsEntryOf, IsLineFaultOf, IsPushFault, told};
+ghost use Rattle.dds_conform.specs.Traces.{IsFaultOf, IsKnownTrace, IsTextFaultOf, IsTraceOf};
 
 use crate::actions::Entry;
 use crate::fault::{TraceFault, TraceFaultKind};
 use crate::lines::{read_line, says_something};
+use crate::stamps::read_times;
 use dds_match::Plan;
 use std::alloc::Global;
+
+/// What a trace says.
+#[derive(Debug, Drop)]
+pub struct Trace {
+    /// The entries, in order.
+    pub entries: Vec<Entry>,
+    /// The time of each in nanoseconds, 0 to 2^63 - 1, none before the one ahead of it, where lines begin with `@`.
+    pub times: Option<Vec<u64>>,
+}
 
 /// Adds the entry of a line that says something.
 fn push_line(
@@ -47,9 +56,8 @@ fn push_lines(entries: &mut Vec<Entry>, plan: &Plan, text: &str) -> Result<(), T
 }
 
 /// The entries of the lines of a text.
-fn read_text(alloc: Global, plan: &Plan, text: &str) -> Result<Vec<Entry>, TraceFault>
+fn read_entries(alloc: Global, plan: &Plan, text: &str) -> Result<Vec<Entry>, TraceFault>
     ensures entries { IfOk result (λ entries. AreEntries plan.now (lines text.now) entries.items) }
-    ensures known { IfOk result (λ entries. AreKnown (network_of plan.now) entries.items) }
     ensures fault { IfErr result (IsLineFaultOf plan.now (lines text.now)) }
 {
     let mut entries = Vec::new(alloc);
@@ -57,14 +65,29 @@ fn read_text(alloc: Global, plan: &Plan, text: &str) -> Result<Vec<Entry>, Trace
     Ok(entries)
 }
 
-/// The entries of a trace, in order. A line that is empty or begins with `#` says nothing. Any other is a time (a word
-/// of digits, with a point among them at most), and after a blank `APPLICATION write WRITER KEY` or `APPLICATION take
-/// READER KEY`, by the names of the deployment, with one blank between two words. The endpoint is the application's,
-/// and what is taken is in the reader's filter. The fault is the first line of which that isn't so, or `NotText` just
-/// where the bytes are not UTF-8, and `NoMemory` comes where memory ran out.
-pub fn read_trace(alloc: Global, plan: &Plan, bytes: &[u8]) -> Result<Vec<Entry>, TraceFault>
-    ensures entries { IfOk result (λ entries. AreEntries plan.now (lines bytes.now) entries.items) }
-    ensures known { IfOk result (λ entries. AreKnown (network_of plan.now) entries.items) }
+/// The entries of the lines of a text, with their times if the lines begin with `@`.
+fn read_text(alloc: Global, plan: &Plan, text: &str) -> Result<Trace, TraceFault>
+    ensures trace { IfOk result (IsTraceOf plan.now (lines text.now)) }
+    ensures fault { IfErr result (IsTextFaultOf plan.now (lines text.now)) }
+{
+    let entries = read_entries(alloc, plan, text)?;
+    let times = read_times(alloc, text, &entries)?;
+    Ok(Trace { entries, times })
+}
+
+/// The entries of a trace, in order, with their times if it has some. A line that is empty or begins with `#` says
+/// nothing. Any other is a time, and after a blank `APPLICATION write WRITER KEY` or `APPLICATION take READER KEY`, by
+/// the names of the deployment, with one blank between two words. A time is a word of digits with a point among them at
+/// most, which says nothing, or `@` and digits: nanoseconds, 0 to 2^63 - 1. The endpoint is the application's, and what
+/// is taken is in the reader's filter. The fault is the first line of which that isn't so, or `NotText` just where the
+/// bytes are not UTF-8.
+///
+/// If one line begins with `@`, each line that says something has to, else `MissingTime` gives the first that doesn't;
+/// and no time is before that of the entry ahead, else `TimeFalls` gives the first that is. `NoMemory` comes where
+/// memory ran out.
+pub fn read_trace(alloc: Global, plan: &Plan, bytes: &[u8]) -> Result<Trace, TraceFault>
+    ensures trace { IfOk result (IsTraceOf plan.now (lines bytes.now)) }
+    ensures known { IfOk result (IsKnownTrace plan.now) }
     ensures text { OnOk result (IsUtf8 bytes.now) }
     ensures fault { IfErr result (IsFaultOf plan.now bytes.now) }
 {

@@ -55,9 +55,17 @@ bound_claim d b = codes "the bound " ++ (decimal b.bound ++ (codes " of " ++ (re
 abbrev pub budget_lines : Lists → Row → List ℕ
 budget_lines d row = permit_lines d row ++ carried_lines d row
 
--- a bound that its row doesn't show, with a sample of its key and the terms of the budget
+-- a bound that its row doesn't show, with a sample of its key
+abbrev pub bound_head : Lists → Row → Bound → Budget → List ℕ
+bound_head d row x b = unshown_line row (bound_claim d x) b ++ sample_line d row b.whole x.reader x.key
+
+-- the same with the terms of the budget
 abbrev pub bound_lines : Lists → Row → Bound → Budget → List ℕ
-bound_lines d row x b = unshown_line row (bound_claim d x) b ++ (sample_line d row b.whole x.reader x.key ++ budget_lines d row)
+bound_lines d row x b = bound_head d row x b ++ budget_lines d row
+
+-- what its row weighs, without the terms
+abbrev pub brief_bound : Lists → Certificate → Bound → List ℕ
+brief_bound d c x = option_map_or (λ row. bound_head d row x (budget_of (network_of d) (row_of row))) (slice_get c.rows x.row) []
 
 -- the same, if the row doesn't show it
 abbrev pub unshown_bound_by : Lists → Row → Bound → List ℕ
@@ -80,9 +88,17 @@ total_claim d t = codes "the total " ++ (decimal t.bound ++ (codes " of " ++ rea
 abbrev pub reached_sample_line : Lists → Row → ℕ → ℕ → ℕ → List ℕ
 reached_sample_line d row whole r k = if reach (network_of d) r k then sample_line d row whole r k else []
 
--- a total that its row doesn't show, with a sample of each key and the terms of the budget
+-- a total that its row doesn't show, with a sample of each key
+abbrev pub total_head : Lists → Row → Total → Budget → List ℕ
+total_head d row t b = unshown_line row (total_claim d t) b ++ each_below most_keys (reached_sample_line d row b.whole t.reader)
+
+-- the same with the terms of the budget
 abbrev pub total_lines : Lists → Row → Total → Budget → List ℕ
-total_lines d row t b = unshown_line row (total_claim d t) b ++ (each_below most_keys (reached_sample_line d row b.whole t.reader) ++ budget_lines d row)
+total_lines d row t b = total_head d row t b ++ budget_lines d row
+
+-- what its row weighs, without the terms
+abbrev pub brief_total : Lists → Certificate → Total → List ℕ
+brief_total d c t = option_map_or (λ row. total_head d row t (budget_of (network_of d) (row_of row))) (slice_get c.rows t.row) []
 
 -- the same, if the row doesn't show it
 abbrev pub unshown_total_by : Lists → Row → Total → List ℕ

@@ -19,6 +19,7 @@ mod values;
 mod weights;
 
 pub use explanation::{margins, reason};
+pub use margin::Budgets;
 pub use paces::span_text;
 pub use pairs::{mismatch_lines, why_not_text};
 pub use premises::premise_lines;

@@ -7,10 +7,11 @@ ghost use Rattle.dds_explain.specs.Budgets.{budget_of, budgets};
 ghost use Rattle.dds_explain.specs.Margin.{bound_line, bound_margin, bound_words, carried_by, margin_lines};
 ghost use Rattle.dds_explain.specs.Margin.{margin_text, named_instance_limit, named_limit, row_margin, total_line};
 ghost use Rattle.dds_explain.specs.Margin.{total_margin, total_words};
+ghost use Rattle.dds_explain.specs.Shown.{brief_bound, brief_total};
 
 use crate::budgets::{Budget, carried_lines, carried_text};
 use crate::pieces::{instance_limit_name, reader_limits};
-use crate::shown::shown_text;
+use crate::shown::{bound_head, shown_text, total_head};
 use crate::weights::sample_weight;
 use dds_base::{NoMemory, ReaderNo};
 use dds_check::instance_limit;
@@ -62,9 +63,10 @@ fn named_instance_limit(alloc: Global, plan: &Plan, reader: ReaderNo) -> TextRes
     named_limit(alloc, instance_limit_name(&limits), instance_limit(&limits))
 }
 
-/// A plan and a certificate, with the budget of each of its rows. Contracts see it as the two.
+/// A plan and a certificate, with the budget of each of its rows, so that it's added up once. Contracts see it as the
+/// two.
 #[derive(Drop)]
-struct Budgets<'a> {
+pub struct Budgets<'a> {
     plan: &'a Plan,
     certificate: &'a Certificate,
     of_rows: Vec<Budget>,
@@ -104,8 +106,8 @@ fn find_budgets(
 }
 
 impl<'a> Budgets<'a> {
-    /// Finds the budget of each row once.
-    fn new(
+    /// Adds up the budget of each row. `NoMemory` is the only error.
+    pub fn new(
         alloc: Global,
         plan: &'a Plan,
         certificate: &'a Certificate,
@@ -129,6 +131,27 @@ impl<'a> Budgets<'a> {
         match (find_row(self.certificate, n), self.of_rows.get(n)) {
             (Some(row), Some(budget)) => Some((row, *budget)),
             _ => None,
+        }
+    }
+
+    /// Why number 33 refuses a bound, as `reason` says it, but without the terms of what its row weighs. `NoMemory` is
+    /// the only error.
+    pub fn bound_reason(&self, alloc: Global, bound: &Bound) -> TextResult
+        ensures { IfOk result (λ text. string_bytes text ≡ brief_bound self.now.0 self.now.1 bound.now) }
+    {
+        match self.row(bound.row) {
+            Some((row, budget)) => bound_head(alloc, self.plan, row, bound, budget),
+            None => Ok(String::new(alloc)),
+        }
+    }
+
+    /// Why it refuses a total, likewise. `NoMemory` is the only error.
+    pub fn total_reason(&self, alloc: Global, total: &Total) -> TextResult
+        ensures { IfOk result (λ text. string_bytes text ≡ brief_total self.now.0 self.now.1 total.now) }
+    {
+        match self.row(total.row) {
+            Some((row, budget)) => total_head(alloc, self.plan, row, total, budget),
+            None => Ok(String::new(alloc)),
         }
     }
 }

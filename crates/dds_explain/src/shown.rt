@@ -3,17 +3,19 @@
 ghost use Rattle.std.specs.Prelude.{◌≡◌, ◌&&◌, IfOk, string_bytes};
 ghost use Rattle.dds_base.specs.Grid.{most_keys};
 ghost use Rattle.dds_text.specs.Texts.{each_below};
+ghost use Rattle.dds_match.specs.Plan.{network_of};
+ghost use Rattle.dds_runs.specs.Accepted.{opening_permits};
 ghost use Rattle.dds_weights.specs.Views.{certificate_view, row_view};
 ghost use Rattle.dds_check.specs.Shown.{shows, shows_all};
-ghost use Rattle.dds_explain.specs.Shown.{bound_claim, bound_lines, bound_not_shown_lines, budget_lines};
+ghost use Rattle.dds_explain.specs.Shown.{bound_claim, bound_head, bound_lines, bound_not_shown_lines, budget_lines};
 ghost use Rattle.dds_explain.specs.Shown.{permit_line, permit_lines};
-ghost use Rattle.dds_explain.specs.Shown.{reached_sample_line, sample_line, shown_text, total_claim, total_lines};
+ghost use Rattle.dds_explain.specs.Shown.{reached_sample_line, sample_line, shown_text, total_claim, total_head};
+ghost use Rattle.dds_explain.specs.Shown.{total_lines};
 ghost use Rattle.dds_explain.specs.Shown.{total_not_shown_lines, unshown_bound, unshown_bound_by, unshown_line};
 ghost use Rattle.dds_explain.specs.Shown.{unshown_total, unshown_total_by, writer_permit_lines};
 
 use crate::budgets::{Budget, carried_lines, carried_text};
 use crate::pieces::{text_of_row, weighed_term};
-use crate::weights::{permit_weight, sample_weight};
 use dds_base::grid::KEYS;
 use dds_base::{KeyNo, ReaderNo, WriterNo};
 use dds_check::finite::opening_permits;
@@ -41,58 +43,80 @@ pub(crate) fn shown_text(alloc: Global, whole: u128, weight: u32) -> TextResult
 fn sample_line(
     alloc: Global,
     plan: &Plan,
-    row: &Row,
+    weights: &Tables,
     whole: u128,
     reader: ReaderNo,
     key: KeyNo,
 ) -> TextResult
-    ensures { IfOk result (λ text. string_bytes text ≡ sample_line plan.now (row_view row.now) whole reader key) }
+    ensures { IfOk result (λ text. string_bytes text ≡ sample_line plan.now weights.now whole reader key) }
 {
-    let weight = sample_weight(row, reader, key);
+    let weight = weights.sample(reader, key);
     let shown = shown_text(alloc, whole, weight)?;
     let key = reader_key(plan.lists(), reader, key);
     format!(in alloc; "  a sample of {key} weighs {weight}, which shows {shown}\n")
 }
 
-/// The permits to write a key at a writer at the opening, if there are any.
-fn permit_line(alloc: Global, plan: &Plan, row: &Row, writer: WriterNo, key: KeyNo) -> TextResult
-    ensures { IfOk result (λ text. string_bytes text ≡ permit_line plan.now (row_view row.now) writer key) }
+/// The permits to write a key at a writer before the first event. What no rule writes needs no walk over the rules.
+fn permits_at(plan: &Plan, writer: WriterNo, key: KeyNo) -> u64
+    ensures { result ≡ opening_permits (network_of plan.now) writer key }
 {
-    let count = u128::from(opening_permits(plan, writer, key));
+    if plan.is_written(writer, key) {
+        opening_permits(plan, writer, key)
+    } else {
+        0
+    }
+}
+
+/// The permits to write a key at a writer at the opening, if there are any.
+fn permit_line(
+    alloc: Global,
+    plan: &Plan,
+    weights: &Tables,
+    writer: WriterNo,
+    key: KeyNo,
+) -> TextResult
+    ensures { IfOk result (λ text. string_bytes text ≡ permit_line plan.now weights.now writer key) }
+{
+    let count = u128::from(permits_at(plan, writer, key));
     if count == 0 {
         return Ok(String::new(alloc));
     }
-    let weight = permit_weight(row, writer, key);
+    let weight = weights.permit(writer, key);
     let key = writer_key(plan.lists(), writer, key);
     let name = writer_name(plan.lists(), writer);
     weighed_term(alloc, "permits", count, weight, key, name)
 }
 
 /// The permits at the opening at a writer.
-fn writer_permit_lines(alloc: Global, plan: &Plan, row: &Row, writer: WriterNo) -> TextResult
-    ensures { IfOk result (λ text. string_bytes text ≡ writer_permit_lines plan.now (row_view row.now) writer) }
+fn writer_permit_lines(
+    alloc: Global,
+    plan: &Plan,
+    weights: &Tables,
+    writer: WriterNo,
+) -> TextResult
+    ensures { IfOk result (λ text. string_bytes text ≡ writer_permit_lines plan.now weights.now writer) }
 {
     text_below(
         alloc,
         KEYS,
         |k|
             ensures { IfOk result
-                (λ text. string_bytes text ≡ permit_line plan.entry.now (row_view row.entry.now) writer k) }
-        { permit_line(alloc, plan, row, writer, KeyNo::new(k)) },
+                (λ text. string_bytes text ≡ permit_line plan.entry.now weights.entry.now writer k) }
+        { permit_line(alloc, plan, weights, writer, KeyNo::new(k)) },
     )
 }
 
 /// The permits at the opening at all writers.
-fn permit_lines(alloc: Global, plan: &Plan, row: &Row) -> TextResult
-    ensures { IfOk result (λ text. string_bytes text ≡ permit_lines plan.now (row_view row.now)) }
+fn permit_lines(alloc: Global, plan: &Plan, weights: &Tables) -> TextResult
+    ensures { IfOk result (λ text. string_bytes text ≡ permit_lines plan.now weights.now) }
 {
     text_below(
         alloc,
         plan.lists().writers(),
         |w|
             ensures { IfOk result
-                (λ text. string_bytes text ≡ writer_permit_lines plan.entry.now (row_view row.entry.now) w) }
-        { writer_permit_lines(alloc, plan, row, WriterNo::new(w)) },
+                (λ text. string_bytes text ≡ writer_permit_lines plan.entry.now weights.entry.now w) }
+        { writer_permit_lines(alloc, plan, weights, WriterNo::new(w)) },
     )
 }
 
@@ -100,8 +124,9 @@ fn permit_lines(alloc: Global, plan: &Plan, row: &Row) -> TextResult
 fn budget_lines(alloc: Global, plan: &Plan, row: &Row) -> TextResult
     ensures { IfOk result (λ text. string_bytes text ≡ budget_lines plan.now (row_view row.now)) }
 {
-    let permits = permit_lines(alloc, plan, row)?;
-    let carried = carried_lines(alloc, plan, &Tables::new(row))?;
+    let weights = Tables::new(row);
+    let permits = permit_lines(alloc, plan, &weights)?;
+    let carried = carried_lines(alloc, plan, &weights)?;
     format!(in alloc; "{permits}{carried}")
 }
 
@@ -127,15 +152,30 @@ fn bound_claim(alloc: Global, plan: &Plan, bound: &Bound) -> TextResult
     format!(in alloc; "the bound {number} of {key} at {name}")
 }
 
-/// A bound that its row doesn't show, with a sample of its key and the terms of the budget.
-fn bound_lines(alloc: Global, plan: &Plan, row: &Row, bound: &Bound, budget: Budget) -> TextResult
-    ensures { IfOk result (λ text. string_bytes text ≡ bound_lines plan.now (row_view row.now) bound.now budget) }
+/// A bound that its row doesn't show, with a sample of its key.
+pub(crate) fn bound_head(
+    alloc: Global,
+    plan: &Plan,
+    row: &Row,
+    bound: &Bound,
+    budget: Budget,
+) -> TextResult
+    ensures { IfOk result (λ text. string_bytes text ≡ bound_head plan.now (row_view row.now) bound.now budget) }
 {
     let claim = bound_claim(alloc, plan, bound)?;
     let line = unshown_line(alloc, row, claim.as_str(), budget)?;
-    let sample = sample_line(alloc, plan, row, budget.whole, bound.reader, bound.key)?;
+    let weights = Tables::new(row);
+    let sample = sample_line(alloc, plan, &weights, budget.whole, bound.reader, bound.key)?;
+    format!(in alloc; "{line}{sample}")
+}
+
+/// The same with the terms of the budget.
+fn bound_lines(alloc: Global, plan: &Plan, row: &Row, bound: &Bound, budget: Budget) -> TextResult
+    ensures { IfOk result (λ text. string_bytes text ≡ bound_lines plan.now (row_view row.now) bound.now budget) }
+{
+    let head = bound_head(alloc, plan, row, bound, budget)?;
     let terms = budget_lines(alloc, plan, row)?;
-    format!(in alloc; "{line}{sample}{terms}")
+    format!(in alloc; "{head}{terms}")
 }
 
 /// A bound with what its row weighs, if the row doesn't show it.
@@ -207,16 +247,16 @@ fn total_claim(alloc: Global, plan: &Plan, total: &Total) -> TextResult
 fn reached_sample_line(
     alloc: Global,
     plan: &Plan,
-    row: &Row,
+    weights: &Tables,
     whole: u128,
     reader: ReaderNo,
     key: KeyNo,
 ) -> TextResult
     ensures { IfOk result
-        (λ text. string_bytes text ≡ reached_sample_line plan.now (row_view row.now) whole reader key) }
+        (λ text. string_bytes text ≡ reached_sample_line plan.now weights.now whole reader key) }
 {
     if plan.reaches(reader, key) {
-        sample_line(alloc, plan, row, whole, reader, key)
+        sample_line(alloc, plan, weights, whole, reader, key)
     } else {
         Ok(String::new(alloc))
     }
@@ -226,13 +266,13 @@ fn reached_sample_line(
 fn reached_sample_lines(
     alloc: Global,
     plan: &Plan,
-    row: &Row,
+    weights: &Tables,
     whole: u128,
     reader: ReaderNo,
 ) -> TextResult
     ensures { IfOk result
         (λ text. string_bytes text
-        ≡ each_below most_keys (reached_sample_line plan.now (row_view row.now) whole reader)) }
+        ≡ each_below most_keys (reached_sample_line plan.now weights.now whole reader)) }
 {
     text_below(
         alloc,
@@ -240,20 +280,35 @@ fn reached_sample_lines(
         |k|
             ensures { IfOk result
                 (λ text. string_bytes text
-                ≡ reached_sample_line plan.entry.now (row_view row.entry.now) whole reader k) }
-        { reached_sample_line(alloc, plan, row, whole, reader, KeyNo::new(k)) },
+                ≡ reached_sample_line plan.entry.now weights.entry.now whole reader k) }
+        { reached_sample_line(alloc, plan, weights, whole, reader, KeyNo::new(k)) },
     )
 }
 
-/// A total that its row doesn't show, with a sample of each key and the terms of the budget.
-fn total_lines(alloc: Global, plan: &Plan, row: &Row, total: &Total, budget: Budget) -> TextResult
-    ensures { IfOk result (λ text. string_bytes text ≡ total_lines plan.now (row_view row.now) total.now budget) }
+/// A total that its row doesn't show, with a sample of each key.
+pub(crate) fn total_head(
+    alloc: Global,
+    plan: &Plan,
+    row: &Row,
+    total: &Total,
+    budget: Budget,
+) -> TextResult
+    ensures { IfOk result (λ text. string_bytes text ≡ total_head plan.now (row_view row.now) total.now budget) }
 {
     let claim = total_claim(alloc, plan, total)?;
     let line = unshown_line(alloc, row, claim.as_str(), budget)?;
-    let samples = reached_sample_lines(alloc, plan, row, budget.whole, total.reader)?;
+    let weights = Tables::new(row);
+    let samples = reached_sample_lines(alloc, plan, &weights, budget.whole, total.reader)?;
+    format!(in alloc; "{line}{samples}")
+}
+
+/// The same with the terms of the budget.
+fn total_lines(alloc: Global, plan: &Plan, row: &Row, total: &Total, budget: Budget) -> TextResult
+    ensures { IfOk result (λ text. string_bytes text ≡ total_lines plan.now (row_view row.now) total.now budget) }
+{
+    let head = total_head(alloc, plan, row, total, budget)?;
     let terms = budget_lines(alloc, plan, row)?;
-    format!(in alloc; "{line}{samples}{terms}")
+    format!(in alloc; "{head}{terms}")
 }
 
 /// A total with what its row weighs, if the row doesn't show it.

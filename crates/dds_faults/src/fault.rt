@@ -5,10 +5,14 @@ use dds_fields::fault::FaultKind;
 use dds_fields::place::{Place, place_string};
 use std::alloc::Global;
 
+/// So many faults of a file are listed.
+const MOST_FAULTS: usize = 1_000;
+
 /// A fault of a file with words for it.
 #[derive(Drop)]
 pub struct FileFault {
-    /// The number and the name that users see, as `docs/FORMAT.md` lists them for the kind of file.
+    /// The number and the name that users see, as `docs/FORMAT.md` lists them for the kind of file. 0 and `MoreFaults`
+    /// where there may be more faults than are listed.
     pub number: u8,
     pub name: &'static str,
     /// Where it is, as `rules[2].takes[0].count`.
@@ -61,6 +65,8 @@ pub(crate) struct Faults {
     all: Vec<FileFault>,
     // the name and the path of each, with a blank between them
     told: Names,
+    // whether there was one that isn't listed
+    has_more: bool,
     /// How much may still be spent on looking for names that are nearly right.
     pub(crate) effort: usize,
 }
@@ -72,6 +78,7 @@ impl Faults {
             file,
             all: Vec::new(alloc),
             told: Names::new(alloc),
+            has_more: false,
             effort: 10_000_000,
         }
     }
@@ -81,12 +88,12 @@ impl Faults {
         self.all.len()
     }
 
-    /// Whether there are so many that none needs a help any more.
+    /// Whether there are so many that no more are listed.
     pub(crate) fn are_many(&self) -> bool {
-        self.all.len() >= 1_000
+        self.all.len() >= MOST_FAULTS
     }
 
-    /// Adds a fault, unless one of the kind is there already at the place.
+    /// Adds a fault, unless one of the kind is there already at the place, or so many are that no more are listed.
     pub(crate) fn add(
         &mut self,
         alloc: Global,
@@ -95,6 +102,10 @@ impl Faults {
         message: String,
         help: Option<String>,
     ) -> Result<(), NoMemory> {
+        if self.are_many() {
+            self.has_more = true;
+            return Ok(());
+        }
         let path = place_string(alloc, at)?;
         let name = kind.name();
         let told = format!(in alloc; "{name} {path}")?;
@@ -109,6 +120,20 @@ impl Faults {
             message,
             help,
         })?;
+        Ok(())
+    }
+
+    /// Adds that there may be more than are listed, if that's so.
+    pub(crate) fn tell_more(&mut self, alloc: Global) -> Result<(), NoMemory> {
+        if self.has_more {
+            self.all.push(FileFault {
+                number: 0,
+                name: "MoreFaults",
+                path: String::new(alloc),
+                message: format!(in alloc; "there may be more faults: {MOST_FAULTS} are listed")?,
+                help: None,
+            })?;
+        }
         Ok(())
     }
 

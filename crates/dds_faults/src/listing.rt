@@ -508,6 +508,9 @@ fn faults_of(
     let causes = faults.len();
     check_head(&walk, &mut faults)?;
     check_sections(&walk, &mut faults)?;
+    if causes == 0 {
+        faults.tell_more(alloc)?;
+    }
     let mut all = faults.into_all();
     if 0 < causes {
         keep_causes(&mut all, causes, first);
@@ -560,8 +563,8 @@ fn found_in_certificate(
 /// The faults of a deployment in which the reader has found a first one, in the order in which it reads, none of them
 /// twice. The first one is among them; where the bytes are no TOML it stands alone. What follows from another fault
 /// isn't listed, nor that short forms stand for more than may be there, where that isn't the first. Lists that stand
-/// below another table, which makes them fields of it, are listed with the first one alone. `NoMemory` where memory ran
-/// out.
+/// below another table, which makes them fields of it, are listed with the first one alone. At 1,000 faults the list
+/// ends, and its last line says so. `NoMemory` where memory ran out.
 pub fn deployment_faults(
     alloc: Global,
     bytes: &[u8],
@@ -577,7 +580,7 @@ pub fn deployment_faults(
 /// The faults of a certificate for a deployment in which the reader has found a first one, in the order in which it
 /// reads, none of them twice. The first one is among them; where the bytes are no TOML it stands alone. What follows
 /// from another fault isn't listed, nor that short forms stand for more than may be there, where that isn't the first.
-/// `NoMemory` where memory ran out.
+/// At 1,000 faults the list ends, and its last line says so. `NoMemory` where memory ran out.
 pub fn certificate_faults(
     alloc: Global,
     lists: &Deployment,

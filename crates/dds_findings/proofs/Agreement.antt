@@ -1,7 +1,8 @@
 -- Errors are found exactly where the check doesn't say yes.
-use Rattle.std.proofs.Common.{ℕ, ◌≡◌, ◌∙◌, ◌||◌, Bool, true, false, not, List, [], ◌∷◌, ◌++◌, map, slice_get, string_bytes, Option, Some, None, is_some, Result, Ok, Err, IfOk, refl, sym, ap, ap₂, arith, inl, inr}
+use Rattle.std.proofs.Common.{ℕ, ◌≡◌, ◌∙◌, ◌<◌, ◌-◌, ◌||◌, Bool, true, false, zero, suc, eq-eqb, if◌then◌else◌, not, subst, List, [], ◌∷◌, ◌++◌, map, slice_get, string_bytes, Option, Some, None, is_some, Result, Ok, Err, IfOk, refl, sym, ap, ap₂, arith, inl, inr}
 use Rattle.std.specs.List.{list_any}
-use Rattle.std.proofs.lemmas.Bool.{false≢true, or_cases}
+use Rattle.std.specs.Prelude.{◌==◌, count_by, nat_lt}
+use Rattle.std.proofs.lemmas.Bool.{cases_lt, false≢true, or_cases}
 use Rattle.std.proofs.lemmas.List.Folds.{list_any-append}
 use Rattle.dds_fields.specs.Reading.{Read}
 use Rattle.dds_lists.specs.Lists.{Lists}
@@ -10,9 +11,13 @@ use Rattle.dds_match.specs.Plan.{network_of}
 use Rattle.dds_weights.specs.Lists.{Certificate}
 use Rattle.dds_cert.specs.Document as certificate
 use Rattle.dds_check.specs.declared.verdict.No.{No}
+use Rattle.dds_check.specs.declared.verdict.Number.{Number}
+use Rattle.dds_check.specs.declared.verdict.Number.TheVariants as number
+use Rattle.dds_check.specs.Verdict.{number_of}
 use Rattle.dds_check.specs.Accepts.{first_no}
 use Rattle.dds_lint.specs.Conditions.{all_nos, bare_nos, bounds_nos, depths_nos, instances_nos, joins_nos, pairs_nos, profile_nos, rows_nos, shown_nos, written_nos}
 use Rattle.dds_lint.specs.Endless.{AreRefused, endless_rules}
+use Rattle.dds_lint.specs.Every.{every_below}
 use Rattle.dds_lint.specs.declared.endless.EndlessRule.{EndlessRule}
 use Rattle.dds_lint.specs.declared.notes.Note.{Note}
 use Rattle.dds_lint.proofs.FirstOfAll.{first_of_all}
@@ -20,9 +25,10 @@ use Rattle.dds_answers.specs.Outcome.{judged, outcome, planned, verdict}
 use Rattle.dds_answers.specs.declared.answer.Answer.{Answer}
 use Rattle.dds_findings.specs.Agreement.{AgreesWithCheck, AnswersAsCheck, has_error, says_yes}
 use Rattle.dds_findings.specs.Answers.{is_clean}
-use Rattle.dds_findings.specs.Findings.{AreFaults, IsBare, IsFound, IsJudged, IsLint, Matter, condition_matter, endless_matter, fault_matter, is_denied, is_denied_about, is_error, matters, no_certificate, note_matter, of_lists}
+use Rattle.dds_findings.specs.Findings.{AreFaults, IsBare, IsFound, IsJudged, IsLint, Matter, endless_matter, fault_matter, first_of_kind, has_kind, is_denied, is_denied_about, is_error, matters, more_notes, no_certificate, note_matter, of_kind, of_lists, of_number}
 use Rattle.dds_findings.specs.Kinds.{kind_of}
 use Rattle.dds_options.specs.Deny.{is_denied_note}
+use Rattle.dds_options.specs.Kinds.{kinds}
 use Rattle.dds_options.specs.declared.deny.Deny.{Deny}
 use Rattle.dds_options.specs.declared.deny.Deny.TheVariants as deny
 use Rattle.dds_findings.specs.declared.finding.About.{About}
@@ -33,13 +39,79 @@ use Rattle.dds_findings.specs.declared.finding.Finding.{Finding}
 has_one : List No → Bool
 has_one nos = is_some (slice_get nos 0)
 
-conditions_errors : (nos : List No) → has_error (map condition_matter nos) ≡ is_some (slice_get nos 0)
-conditions_errors [] = refl
-conditions_errors (refused ∷ nos) = refl
+two_errors : (xs ys : List Matter) → has_error (xs ++ ys) ≡ (has_error xs || has_error ys)
+two_errors xs ys = list_any-append (λ (m : Matter). is_error m.0) xs ys
 
-notes_errors : (d : Lists) (cert : Certificate) (notes : List Note) → has_error (map (note_matter d cert) notes) ≡ false
-notes_errors d cert [] = refl
-notes_errors d cert (note ∷ notes) = notes_errors d cert notes
+-- where none of several lists has an error, nor have all of them
+no_errors : (n : ℕ) (f : ℕ → List Matter) → ((i : ℕ) → has_error (f i) ≡ false) → has_error (every_below n f) ≡ false
+unfolding every_below
+no_errors zero f none = refl
+no_errors (suc n) f none = two_errors (every_below n f) (f n) ∙ ap₂ (λ a b. a || b) (no_errors n f none) (none n)
+
+or_true : (a b : Bool) → b ≡ true → (a || b) ≡ true
+or_true true b h = refl
+or_true false b h = h
+
+-- one of them that has one is enough
+some_errors : (n : ℕ) (f : ℕ → List Matter) (i : ℕ) → i < n → has_error (f i) ≡ true → has_error (every_below n f) ≡ true
+unfolding every_below
+some_errors zero f i inside has = absurd (omega (arith, inside))
+some_errors (suc n) f i inside has = elim (cases_lt i n) [
+  | inl less ↦ two_errors (every_below n f) (f n) ∙ ap (λ a. a || has_error (f n)) (some_errors n f i less has)
+  | inr more ↦
+      let last : i ≡ n = omega (arith, more, inside) in
+      two_errors (every_below n f) (f n) ∙ or_true (has_error (every_below n f)) (has_error (f n)) (subst (λ j. has_error (f j) ≡ true) last has)
+]
+
+number_below : (n : Number) → number_of n < 34
+number_below number.IntendedNotMatched = omega arith
+number_below number.UnintendedMatch = omega arith
+number_below number.WriterKeepsLast = omega arith
+number_below number.Exclusive = omega arith
+number_below number.SourceOrder = omega arith
+number_below number.OrderedOrCoherent = omega arith
+number_below number.WriterBestEffort = omega arith
+number_below number.ReaderInstances = omega arith
+number_below number.NoBound = omega arith
+number_below number.BoundOverInstanceLimit = omega arith
+number_below number.BoundOverSamples = omega arith
+number_below number.WriterInstances = omega arith
+number_below number.KeepLastFilter = omega arith
+number_below number.WriterDepth = omega arith
+number_below number.LateVolatile = omega arith
+number_below number.LateHistory = omega arith
+number_below number.TakeRaises = omega arith
+number_below number.RuleRaises = omega arith
+number_below number.WriteRaises = omega arith
+number_below number.BoundNotShown = omega arith
+
+-- the first condition is listed with its number
+first_errors : (refused : No) (nos : List No) → has_error (of_number (refused ∷ nos) (number_of refused.number)) ≡ true
+first_errors refused nos = let same : (number_of refused.number == number_of refused.number) ≡ true = eq-eqb (number_of refused.number) (number_of refused.number) refl in rw same refl
+
+conditions_errors : (nos : List No) → has_error (every_below 34 (of_number nos)) ≡ is_some (slice_get nos 0)
+conditions_errors [] = no_errors 34 (of_number []) (λ i. refl)
+conditions_errors (refused ∷ nos) = some_errors 34 (of_number (refused ∷ nos)) (number_of refused.number) (number_below refused.number) (first_errors refused nos)
+
+first_notes : (d : Lists) (cert : Certificate) (notes : List Note) → has_error (map (note_matter d cert) notes) ≡ false
+first_notes d cert [] = refl
+first_notes d cert (note ∷ notes) = first_notes d cert notes
+
+counted_notes : (like : Note) (n : ℕ) (more : Bool) → has_error (if more then (about.MoreNotes like n, []) ∷ [] else []) ≡ false
+counted_notes like n true = refl
+counted_notes like n false = refl
+
+further_notes : (notes : List Note) (count : ℕ) → has_error (more_notes notes count) ≡ false
+further_notes [] count = refl
+further_notes (like ∷ notes) count = counted_notes like (count - 1000) (nat_lt 1000 count)
+
+kind_errors : (d : Lists) (cert : Certificate) (notes : List Note) (n : ℕ) → has_error (of_kind d cert notes n) ≡ false
+kind_errors d cert notes n =
+    two_errors (map (note_matter d cert) (first_of_kind n notes)) (more_notes (first_of_kind n notes) (count_by (has_kind n) notes))
+    ∙ ap₂ (λ a b. a || b) (first_notes d cert (first_of_kind n notes)) (further_notes (first_of_kind n notes) (count_by (has_kind n) notes))
+
+notes_errors : (d : Lists) (cert : Certificate) (notes : List Note) → has_error (every_below kinds (of_kind d cert notes)) ≡ false
+notes_errors d cert notes = no_errors kinds (of_kind d cert notes) (kind_errors d cert notes)
 
 or_false : (b : Bool) → (b || false) ≡ b
 or_false true = refl
@@ -53,15 +125,15 @@ endless_errors (rule ∷ rules) = refl
 has_endless : Lists → Bool
 has_endless d = is_some (slice_get (endless_rules (network_of d)) 0)
 
-later_errors : (d : Lists) (cert : Certificate) (notes : List Note) → has_error (map endless_matter (endless_rules (network_of d)) ++ map (note_matter d cert) notes) ≡ has_endless d
+later_errors : (d : Lists) (cert : Certificate) (notes : List Note) → has_error (map endless_matter (endless_rules (network_of d)) ++ every_below kinds (of_kind d cert notes)) ≡ has_endless d
 unfolding has_endless
 later_errors d cert notes =
-    list_any-append (λ (m : Matter). is_error m.0) (map endless_matter (endless_rules (network_of d))) (map (note_matter d cert) notes)
+    two_errors (map endless_matter (endless_rules (network_of d))) (every_below kinds (of_kind d cert notes))
     ∙ (ap₂ (λ a b. a || b) (endless_errors (endless_rules (network_of d))) (notes_errors d cert notes) ∙ or_false (is_some (slice_get (endless_rules (network_of d)) 0)))
 
 lists_errors : (d : Lists) (cert : Certificate) (nos : List No) (notes : List Note) → has_error (of_lists d cert nos notes) ≡ (is_some (slice_get nos 0) || has_endless d)
 lists_errors d cert nos notes =
-    list_any-append (λ (m : Matter). is_error m.0) (map condition_matter nos) (map endless_matter (endless_rules (network_of d)) ++ map (note_matter d cert) notes)
+    two_errors (every_below 34 (of_number nos)) (map endless_matter (endless_rules (network_of d)) ++ every_below kinds (of_kind d cert notes))
     ∙ ap₂ (λ a b. a || b) (conditions_errors nos) (later_errors d cert notes)
 
 -- where there's one, the check says no
@@ -183,8 +255,10 @@ found_as_check items d c (Err e) lint refused = tt
 one_denied : (subject : List ℕ) (a : About) → is_denied_about deny.Errors subject a ≡ is_error a
 one_denied subject about.Fault = refl
 one_denied subject (about.Condition refused) = refl
+one_denied subject (about.MoreConditions like n) = refl
 one_denied subject (about.Endless rule) = refl
 one_denied subject (about.Note note) = refl
+one_denied subject (about.MoreNotes like n) = refl
 
 errors_denied : (findings : List Finding) → list_any (is_denied deny.Errors) findings ≡ has_error (matters findings)
 errors_denied [] = refl
@@ -199,8 +273,10 @@ none_step : (denied : Deny) (subject : List ℕ) (one : About) (rest any : Bool)
     → (is_error one || rest) ≡ false
 none_step denied subject about.Fault rest any step h = h
 none_step denied subject (about.Condition refused) rest any step h = h
+none_step denied subject (about.MoreConditions like n) rest any step h = h
 none_step denied subject (about.Endless rule) rest any step h = h
 none_step denied subject (about.Note note) rest any step h = step (or_right (is_denied_note denied (kind_of note) subject) any h)
+none_step denied subject (about.MoreNotes like n) rest any step h = step (or_right (is_denied_note denied (kind_of like) subject) any h)
 
 none_denied : (denied : Deny) (findings : List Finding) → list_any (is_denied denied) findings ≡ false → has_error (matters findings) ≡ false
 none_denied denied [] h = refl

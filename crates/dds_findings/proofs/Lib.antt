@@ -1,4 +1,5 @@
 mod Agreement
 mod FaultLists
 mod Joined
+mod Listed
 mod Plain

@@ -1,11 +1,13 @@
 -- Documents without fractions.
-use Rattle.std.proofs.Common.{◌≡◌, refl, false, List, Bool, String, string_bytes}
+use Rattle.std.proofs.Common.{◌≡◌, refl, true, false, List, Bool, String, string_bytes}
 use Rattle.std.specs.declared.alloc.Global.{Global}
-use Rattle.serde_json.specs.Data.{string}
+use Rattle.serde_json.specs.Data.{array, string}
+use Rattle.serde_json.specs.View.{items_of}
 use Rattle.serde_json.specs.Written.{has_float}
 use Rattle.dds_json.proofs.Documents.{no_fractions}
 use Rattle.dds_findings.specs.Blocks.{FileNames}
-use Rattle.dds_findings.specs.Documents.{finding_document, findings_document, result_document, sarif_document}
+use Rattle.dds_findings.specs.Documents.{finding_document, findings_document, result_document, sarif_document, suppressions}
+use Rattle.dds_findings.specs.Findings.{is_passed}
 use Rattle.dds_options.specs.declared.deny.Deny.{Deny}
 use Rattle.dds_findings.specs.declared.finding.Finding.{Finding}
 
@@ -18,8 +20,12 @@ finding_plain names denied f = let none = no_fractions (λ (s : String Global). 
 pub findings_plain : (names : FileNames) (denied : Deny) (fs : List Finding) (is_yes : Bool) → has_float (findings_document names denied fs is_yes) ≡ false
 findings_plain names denied fs is_yes = let none = no_fractions (finding_document names denied) (finding_plain names denied) fs in rw none refl
 
-result_plain : (names : FileNames) (f : Finding) → has_float (result_document names f) ≡ false
-result_plain names f = refl
+passed_plain : (b : Bool) → has_float (array (items_of (suppressions b))) ≡ false
+passed_plain true = refl
+passed_plain false = refl
 
-pub sarif_plain : (names : FileNames) (fs : List Finding) → has_float (sarif_document names fs) ≡ false
-sarif_plain names fs = let none = no_fractions (result_document names) (result_plain names) fs in rw none refl
+result_plain : (names : FileNames) (denied : Deny) (f : Finding) → has_float (result_document names denied f) ≡ false
+result_plain names denied f = let none = passed_plain (is_passed denied f) in rw none refl
+
+pub sarif_plain : (names : FileNames) (denied : Deny) (fs : List Finding) → has_float (sarif_document names denied fs) ≡ false
+sarif_plain names denied fs = let none = no_fractions (result_document names denied) (result_plain names denied) fs in rw none refl

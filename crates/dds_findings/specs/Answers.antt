@@ -22,7 +22,7 @@ is_clean denied findings = not (has_denied denied findings)
 abbrev pub findings_text : LintStyle → FileNames → Deny → List Finding → List ℕ
 findings_text style.Text names denied findings = blocks names denied findings
 findings_text style.Json names denied findings = line_of (findings_document names denied findings (is_clean denied findings))
-findings_text style.Sarif names denied findings = line_of (sarif_document names findings)
+findings_text style.Sarif names denied findings = line_of (sarif_document names denied findings)
 
 -- what the files are called, where there may be no certificate
 abbrev pub names_of : (deployment : List ℕ) → (certificate : Option (List ℕ)) → FileNames

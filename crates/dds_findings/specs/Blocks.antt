@@ -1,13 +1,13 @@
 -- Findings as people read them.
-use Rattle.std.specs.Prelude.{ℕ, ◌+◌, ◌-◌, Bool, false, not, ◌&&◌, ◌||◌, ◌==◌, List, [], ◌++◌, codes, flat_map, count_by, length, slice_get, string_bytes, if◌then◌else◌}
+use Rattle.std.specs.Prelude.{ℕ, ◌+◌, ◌-◌, Bool, false, not, ◌&&◌, ◌||◌, ◌==◌, List, [], ◌++◌, codes, flat_map, length, min, slice_get, string_bytes, if◌then◌else◌}
 use Rattle.std.specs.Fmt.{decimal}
-use Rattle.std.specs.List.{list_any}
+use Rattle.std.specs.List.{list_any, sum_by}
 use Rattle.std.specs.Option.{option_map_or}
 use Rattle.std.specs.Str.{bytes_eq}
 use Rattle.dds_text.specs.Texts.{each_below}
 use Rattle.dds_options.specs.Allowed.{note_word}
 use Rattle.dds_options.specs.Deny.{is_denied_note}
-use Rattle.dds_findings.specs.Findings.{is_error, is_fault, level_of, level_word}
+use Rattle.dds_findings.specs.Findings.{errors_in, is_fault, level_of, level_word, notes_in}
 use Rattle.dds_findings.specs.Kinds.{kind_of}
 use Rattle.dds_options.specs.declared.deny.Deny.{Deny}
 use Rattle.dds_findings.specs.declared.finding.About.{About}
@@ -85,12 +85,15 @@ row_end more = if more then [] else codes "\n"
 abbrev pub part : FileNames → List Finding → ℕ → List ℕ
 part names findings i = option_map_or (λ f. part_lines names findings i f ++ row_end (goes_on findings i)) (slice_get findings i) []
 
--- how many findings are errors, and how many aren't
+-- how many errors there are, listed or not, and how many notes, as far as that's counted
+abbrev pub counted : ℕ → ℕ
+counted n = min n 18446744073709551615
+
 abbrev pub errors_of : List Finding → ℕ
-errors_of findings = count_by (λ f. is_error f.about) findings
+errors_of findings = counted (sum_by (λ f. errors_in f.about) findings)
 
 abbrev pub notes_of : List Finding → ℕ
-notes_of findings = count_by (λ f. not (is_error f.about)) findings
+notes_of findings = counted (sum_by (λ f. notes_in f.about) findings)
 
 -- the end of a word for so many things
 abbrev pub plural : ℕ → List ℕ
@@ -108,8 +111,10 @@ denied_line word = codes "denied: " ++ (word ++ (codes " (if that's meant, `--al
 abbrev pub denied_text : Deny → (subject : List ℕ) → About → List ℕ
 denied_text denied subject about.Fault = []
 denied_text denied subject (about.Condition refused) = []
+denied_text denied subject (about.MoreConditions like n) = []
 denied_text denied subject (about.Endless rule) = []
 denied_text denied subject (about.Note note) = if is_denied_note denied (kind_of note) subject then denied_line (note_word (kind_of note) subject) else []
+denied_text denied subject (about.MoreNotes like n) = if is_denied_note denied (kind_of like) subject then denied_line (note_word (kind_of like) subject) else []
 
 -- the line of the finding with this place, where it's the first of a row
 abbrev pub denied_part : Deny → List Finding → ℕ → List ℕ

@@ -1,11 +1,12 @@
 -- Findings as documents.
-use Rattle.std.specs.Prelude.{ℕ, Bool, List, [], ◌∷◌, ◌++◌, codes, map, string_bytes}
+use Rattle.std.specs.Prelude.{ℕ, Bool, List, [], ◌∷◌, ◌++◌, codes, flat_map, if◌then◌else◌, map, String, string_bytes}
+use Rattle.std.specs.declared.alloc.Global.{Global}
 use Rattle.serde_json.specs.Data.{Data, array, boolean, member, no_members, number, object, string, unsigned}
 use Rattle.serde_json.specs.View.{items_of}
 use Rattle.percent_encoding.specs.Percent.{percent_encode}
 use Rattle.dds_json.specs.Matching.{answer_word}
 use Rattle.dds_findings.specs.Blocks.{FileNames, errors_of, file_name, notes_of}
-use Rattle.dds_findings.specs.Findings.{is_denied, level_of, level_word}
+use Rattle.dds_findings.specs.Findings.{is_denied, is_passed, level_of, level_word}
 use Rattle.dds_options.specs.declared.deny.Deny.{Deny}
 use Rattle.dds_findings.specs.declared.finding.Finding.{Finding}
 use Rattle.dds_findings.specs.declared.sarif.TheConstants.{ESCAPED}
@@ -63,15 +64,32 @@ abbrev pub result_words : (message help : List ℕ) → List ℕ
 result_words message [] = message
 result_words message help = message ++ (codes ": " ++ help)
 
+-- the terms of its numbers, a line each
+abbrev pub term_lines : List (String Global) → List ℕ
+term_lines details = flat_map (λ detail. codes "\n" ++ string_bytes detail) details
+
 -- what a finding says
 abbrev pub message_document : Finding → Data
-message_document f = object (member (codes "text") (string (result_words (string_bytes f.message) (string_bytes f.help))) no_members)
+message_document f =
+    object (member (codes "text") (string (result_words (string_bytes f.message) (string_bytes f.help) ++ term_lines f.details.items)) no_members)
+
+-- `error`, where it makes the answer no
+abbrev pub result_level : Deny → Finding → List ℕ
+result_level denied f = if is_denied denied f then codes "error" else level_word (level_of f.about)
+
+-- whether it's let pass, and so suppressed (clause 3.27.23, 3.35)
+abbrev pub suppression_document : Data
+suppression_document = object (member (codes "kind") (string (codes "external")) no_members)
+
+abbrev pub suppressions : Bool → List Data
+suppressions passed = if passed then suppression_document ∷ [] else []
 
 -- a finding as a result
-abbrev pub result_document : FileNames → Finding → Data
-result_document names f =
-    object (member (codes "level") (string (level_word (level_of f.about))) (member (codes "locations") (array (items_of (location_document names f ∷ [])))
-    (member (codes "message") (message_document f) (member (codes "ruleId") (string f.name.now) no_members))))
+abbrev pub result_document : FileNames → Deny → Finding → Data
+result_document names denied f =
+    object (member (codes "level") (string (result_level denied f)) (member (codes "locations") (array (items_of (location_document names f ∷ [])))
+    (member (codes "message") (message_document f) (member (codes "ruleId") (string f.name.now)
+    (member (codes "suppressions") (array (items_of (suppressions (is_passed denied f)))) no_members)))))
 
 -- the tool that found them
 abbrev pub driver_document : Data
@@ -81,12 +99,12 @@ abbrev pub tool_document : Data
 tool_document = object (member (codes "driver") driver_document no_members)
 
 -- all of them
-abbrev pub run_document : FileNames → List Finding → Data
-run_document names findings =
-    object (member (codes "columnKind") (string (codes "unicodeCodePoints")) (member (codes "results") (array (items_of (map (result_document names) findings)))
+abbrev pub run_document : FileNames → Deny → List Finding → Data
+run_document names denied findings =
+    object (member (codes "columnKind") (string (codes "unicodeCodePoints")) (member (codes "results") (array (items_of (map (result_document names denied) findings)))
     (member (codes "tool") tool_document no_members)))
 
-abbrev pub sarif_document : FileNames → List Finding → Data
-sarif_document names findings =
-    object (member (codes "$schema") (string (codes "https://json.schemastore.org/sarif-2.1.0.json")) (member (codes "runs") (array (items_of (run_document names findings ∷ [])))
+abbrev pub sarif_document : FileNames → Deny → List Finding → Data
+sarif_document names denied findings =
+    object (member (codes "$schema") (string (codes "https://json.schemastore.org/sarif-2.1.0.json")) (member (codes "runs") (array (items_of (run_document names denied findings ∷ [])))
     (member (codes "version") (string (codes "2.1.0")) no_members)))

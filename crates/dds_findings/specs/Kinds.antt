@@ -21,6 +21,7 @@ kind_of note.NoRules = kind.NoRules
 kind_of note.NoStart = kind.NoStart
 kind_of note.NoStrictReader = kind.NoStrictReader
 kind_of (note.StuckRule u) = kind.StuckRule
+kind_of (note.Stops u n) = kind.Stops
 kind_of (note.Finite u) = kind.Finite
 kind_of (note.LossyTake u) = kind.LossyTake
 kind_of (note.PaceUnused u) = kind.PaceUnused

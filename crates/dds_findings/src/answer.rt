@@ -47,7 +47,7 @@ fn findings_text(
     match style {
         LintStyle::Text => blocks_text(alloc, names, findings, deny),
         LintStyle::Json => findings_line(alloc, names, findings, deny),
-        LintStyle::Sarif => sarif_line(alloc, names, findings),
+        LintStyle::Sarif => sarif_line(alloc, names, findings, deny),
     }
 }
 

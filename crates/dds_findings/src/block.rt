@@ -1,14 +1,15 @@
 //! Findings as people read them: a block each, with the line of the file.
-ghost use Rattle.std.specs.Prelude.{◌≡◌, ◌<◌, [], IfOk, flat_map, if◌then◌else◌, length, string_bytes};
+ghost use Rattle.std.specs.Prelude.{◌≡◌, ◌+◌, ◌<◌, [], IfOk, flat_map, if◌then◌else◌, length, string_bytes};
 ghost use Rattle.dds_text.specs.Texts.{each_below};
 ghost use Rattle.dds_options.specs.Allowed.{note_word};
 ghost use Rattle.dds_options.specs.Deny.{is_denied_note};
-ghost use Rattle.dds_findings.specs.Blocks.{bare_line, begins, block, blocks, denied_line, denied_lines, denied_part};
-ghost use Rattle.dds_findings.specs.Blocks.{denied_text, detail_line, errors_of, file_name, goes_on, has_fault};
+ghost use Rattle.dds_findings.specs.Blocks.{bare_line, begins, block, blocks, counted, denied_line, denied_lines};
+ghost use Rattle.dds_findings.specs.Blocks.{denied_part, denied_text, detail_line, errors_of, file_name};
+ghost use Rattle.dds_findings.specs.Blocks.{goes_on, has_fault};
 ghost use Rattle.dds_findings.specs.Blocks.{head_line, help_words, is_alike, last_line, last_lines, notes_of, part};
 ghost use Rattle.dds_findings.specs.Blocks.{part_lines, place_lines, plural, row_end, source_lines, sum_line};
 
-use crate::finding::{About, Finding, Level, Role};
+use crate::finding::{About, Finding, Role};
 use crate::kinds::kind_of;
 use dds_base::NoMemory;
 use dds_options::{Deny, NoteKind, note_word};
@@ -203,24 +204,38 @@ fn part(
     }
 }
 
-/// How many findings are errors.
+/// The sum, as far as it's counted.
+fn counted_sum(sum: usize, more: usize) -> usize
+    ensures { result ≡ counted (sum + more) }
+{
+    match sum.checked_add(more) {
+        Some(sum) => sum,
+        None => usize::MAX,
+    }
+}
+
+/// How many errors there are, listed or not.
+#[tactic(auto, using(crate::proofs::Listed::counted_more))]
 pub(crate) fn errors_of(findings: &[Finding]) -> usize
     ensures { result ≡ errors_of findings.now }
 {
-    findings
-        .iter()
-        .filter(|finding| matches!(finding.about.level(), Level::Error))
-        .count()
+    let mut sum: usize = 0;
+    for finding in findings {
+        sum = counted_sum(sum, finding.about.errors());
+    }
+    sum
 }
 
-/// How many findings are notes.
+/// How many notes there are, listed or not.
+#[tactic(auto, using(crate::proofs::Listed::counted_more))]
 pub(crate) fn notes_of(findings: &[Finding]) -> usize
     ensures { result ≡ notes_of findings.now }
 {
-    findings
-        .iter()
-        .filter(|finding| matches!(finding.about.level(), Level::Note))
-        .count()
+    let mut sum: usize = 0;
+    for finding in findings {
+        sum = counted_sum(sum, finding.about.notes());
+    }
+    sum
 }
 
 /// The end of a word for so many things.
@@ -287,8 +302,13 @@ fn denied_text(alloc: Global, deny: &Deny, finding: &Finding) -> Result<String, 
         ≡ denied_text deny.now (string_bytes finding.now.subject) finding.now.about) }
 {
     match finding.about {
-        About::Fault | About::Condition(_) | About::Endless(_) => Ok(String::new(alloc)),
         About::Note(note) => note_line(alloc, deny, kind_of(note), finding.subject.as_str()),
+        About::MoreNotes { like, .. } => {
+            note_line(alloc, deny, kind_of(like), finding.subject.as_str())
+        }
+        About::Fault | About::Condition(_) | About::MoreConditions { .. } | About::Endless(_) => Ok(
+            String::new(alloc),
+        ),
     }
 }
 

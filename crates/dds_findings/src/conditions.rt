@@ -1,6 +1,7 @@
 //! The findings of conditions that fail.
-ghost use Rattle.std.specs.Prelude.{◌≡◌, IfOk};
+ghost use Rattle.std.specs.Prelude.{◌≡◌, [], IfOk};
 ghost use Rattle.dds_findings.specs.Findings.{condition_matter, matter_of};
+ghost use Rattle.dds_findings.specs.declared.finding.About.TheVariants as about;
 
 use crate::bounds::{bound_place, total_place};
 use crate::finding::{About, Finding, Role};
@@ -11,8 +12,10 @@ use dds_base::{KeyNo, NoMemory, ReaderNo, RuleNo, WriterNo};
 use dds_check::joins::instances_fit;
 use dds_check::permits::permits_of;
 use dds_check::{No, Number, Subject};
-use dds_explain::reason;
+use dds_explain::{Budgets, reason};
 use dds_match::{Plan, WhyNot};
+use dds_text::texts::TextResult;
+use dds_weights::{Bound, Certificate, Total};
 use std::alloc::Global;
 
 /// Where a condition fails: an entry of a file, and the field of it that says so.
@@ -303,18 +306,148 @@ fn place_of(
     }
 }
 
-/// The finding of a condition that fails. `NoMemory` is the only error.
-pub(crate) fn condition(
+/// So many lines of terms are listed; reasons that follow have none.
+const MOST_TERMS: usize = 10_000;
+
+/// What was said of conditions already: how many terms, and of which rows. A row's budget is added up once.
+#[derive(Drop)]
+pub(crate) struct Said<'a> {
+    terms: usize,
+    rows: Vec<usize>,
+    budgets: Option<Budgets<'a>>,
+}
+
+impl<'a> Said<'a> {
+    /// Nothing yet.
+    pub(crate) fn new(alloc: Global) -> Said<'a> {
+        Said {
+            terms: 0,
+            rows: Vec::new(alloc),
+            budgets: None,
+        }
+    }
+
+    /// Whether the terms of a row are listed already, or no more are listed.
+    fn is_enough(&self, row: usize) -> bool {
+        MOST_TERMS <= self.terms || self.rows.contains(&row)
+    }
+
+    /// Adds up the budgets, if that wasn't done.
+    fn add_up(&mut self, alloc: Global, judged: &Judged<'a>) -> Result<(), NoMemory> {
+        if self.budgets.is_none() {
+            self.budgets = Some(Budgets::new(alloc, judged.plan, judged.certificate)?);
+        }
+        Ok(())
+    }
+}
+
+/// The bound or the total that number 33 refuses.
+#[derive(Clone, Copy)]
+enum Unshown<'a> {
+    Bound(&'a Bound),
+    Total(&'a Total),
+}
+
+impl<'a> Unshown<'a> {
+    /// What a condition refuses, if it's number 33.
+    fn of(certificate: &'a Certificate, no: &No) -> Option<Unshown<'a>> {
+        match (no.number, no.subject) {
+            (Number::BoundNotShown, Subject::Instance { reader, key }) => {
+                certificate
+                    .bounds
+                    .get(bound_place(certificate, reader, key))
+                    .map(Unshown::Bound)
+            }
+            (Number::BoundNotShown, Subject::Reader(reader)) => {
+                certificate
+                    .totals
+                    .get(total_place(certificate, reader))
+                    .map(Unshown::Total)
+            }
+            _ => None,
+        }
+    }
+
+    /// Its row.
+    fn row(self) -> usize {
+        match self {
+            Unshown::Bound(bound) => bound.row,
+            Unshown::Total(total) => total.row,
+        }
+    }
+
+    /// Why it's refused, without the terms of its row.
+    fn reason(self, alloc: Global, budgets: &Budgets) -> TextResult {
+        match self {
+            Unshown::Bound(bound) => budgets.bound_reason(alloc, bound),
+            Unshown::Total(total) => budgets.total_reason(alloc, total),
+        }
+    }
+}
+
+/// Why a condition fails, without terms of a row that are listed already.
+fn because_of<'a>(alloc: Global, judged: &Judged<'a>, said: &mut Said<'a>, no: &No) -> TextResult {
+    let unshown = match Unshown::of(judged.certificate, no) {
+        Some(unshown) => unshown,
+        None => return reason(alloc, judged.plan, judged.certificate, *no),
+    };
+    if said.is_enough(unshown.row()) {
+        said.add_up(alloc, judged)?;
+        return match &said.budgets {
+            Some(budgets) => unshown.reason(alloc, budgets),
+            None => Ok(String::new(alloc)),
+        };
+    }
+    said.rows.push(unshown.row())?;
+    reason(alloc, judged.plan, judged.certificate, *no)
+}
+
+/// The terms of a reason, if not too many are listed already.
+fn terms_of(alloc: Global, said: &mut Said, because: &str) -> Result<Vec<String>, NoMemory> {
+    if MOST_TERMS <= said.terms {
+        return Ok(Vec::new(alloc));
+    }
+    let terms = later_lines(alloc, because)?;
+    said.terms = said.terms.saturating_add(terms.len());
+    Ok(terms)
+}
+
+/// The finding of how many more conditions fail with the number of this one. `NoMemory` is the only error.
+pub(crate) fn more_conditions(
     alloc: Global,
     files: &Files,
-    judged: &Judged,
+    like: No,
+    count: usize,
+) -> Result<Finding, NoMemory>
+    ensures { IfOk result (λ finding. matter_of finding ≡ (about.MoreConditions like count, [])) }
+{
+    let name = like.number.name();
+    Ok(Finding {
+        about: About::MoreConditions { like, count },
+        name,
+        subject: String::new(alloc),
+        role: Role::Deployment,
+        path: String::new(alloc),
+        message: format!(in alloc; "{count} more of these aren't listed")?,
+        help: String::new(alloc),
+        details: Vec::new(alloc),
+        spot: files.deployment.value_spot(alloc, "")?,
+    })
+}
+
+/// The finding of a condition that fails. `NoMemory` is the only error.
+pub(crate) fn condition<'a>(
+    alloc: Global,
+    files: &Files,
+    judged: &Judged<'a>,
+    said: &mut Said<'a>,
     no: &No,
 ) -> Result<Finding, NoMemory>
     ensures { IfOk result (λ finding. matter_of finding ≡ condition_matter no.now) }
 {
-    let because = reason(alloc, judged.plan, judged.certificate, *no)?;
+    let because = because_of(alloc, judged, said, no)?;
     let message = first_line(alloc, because.as_str())?;
-    let details = later_lines(alloc, because.as_str())?;
+    let details = terms_of(alloc, said, because.as_str())?;
     let help = String::from_str(alloc, cure_of(judged.plan, no))?;
     let place = place_of(alloc, files, judged, no.number, no.subject)?;
     Ok(Finding {

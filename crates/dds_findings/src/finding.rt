@@ -1,6 +1,6 @@
 //! A finding: what it is about, what it says, and where it is.
 ghost use Rattle.std.specs.Prelude.{◌≡◌};
-ghost use Rattle.dds_findings.specs.Findings.{is_denied, level_of, level_word};
+ghost use Rattle.dds_findings.specs.Findings.{errors_in, is_denied, is_passed, level_of, level_word, notes_in};
 
 use crate::kinds::kind_of;
 use crate::spot::Spot;
@@ -22,10 +22,14 @@ pub enum About {
     Fault,
     /// A condition of the checker that fails.
     Condition(No),
+    /// So many more conditions with the number of this one fail, which aren't listed.
+    MoreConditions { like: No, count: usize },
     /// A rule for which no certificate is accepted.
     Endless(EndlessRule),
     /// What a yes doesn't say.
     Note(Note),
+    /// So many more notes of the kind of this one, which aren't listed.
+    MoreNotes { like: Note, count: usize },
 }
 
 /// How grave a finding is.
@@ -64,8 +68,31 @@ impl About {
         ensures { result ≡ level_of self }
     {
         match self {
-            About::Fault | About::Condition(_) | About::Endless(_) => Level::Error,
-            About::Note(_) => Level::Note,
+            About::Fault | About::Condition(_) | About::MoreConditions { .. } | About::Endless(_) =>
+                Level::Error,
+            About::Note(_) | About::MoreNotes { .. } => Level::Note,
+        }
+    }
+
+    /// How many errors it stands for.
+    pub(crate) fn errors(self) -> usize
+        ensures { result ≡ errors_in self }
+    {
+        match self {
+            About::Fault | About::Condition(_) | About::Endless(_) => 1,
+            About::MoreConditions { count, .. } => count,
+            About::Note(_) | About::MoreNotes { .. } => 0,
+        }
+    }
+
+    /// How many notes it stands for.
+    pub(crate) fn notes(self) -> usize
+        ensures { result ≡ notes_in self }
+    {
+        match self {
+            About::Note(_) => 1,
+            About::MoreNotes { count, .. } => count,
+            _ => 0,
         }
     }
 }
@@ -76,8 +103,21 @@ impl Finding {
         ensures { result ≡ is_denied deny.now self.now }
     {
         match self.about {
-            About::Fault | About::Condition(_) | About::Endless(_) => true,
+            About::Fault | About::Condition(_) | About::MoreConditions { .. } | About::Endless(_) =>
+                true,
             About::Note(note) => deny.denies(kind_of(note), self.subject.as_str()),
+            About::MoreNotes { like, .. } => deny.denies(kind_of(like), self.subject.as_str()),
+        }
+    }
+
+    /// Whether it's a note that is let pass by its name.
+    pub(crate) fn is_passed(&self, deny: &Deny) -> bool
+        ensures { result ≡ is_passed deny.now self.now }
+    {
+        match self.about {
+            About::Note(note) => deny.passes(kind_of(note), self.subject.as_str()),
+            About::MoreNotes { like, .. } => deny.passes(kind_of(like), self.subject.as_str()),
+            _ => false,
         }
     }
 }

@@ -26,6 +26,7 @@ pub(crate) fn kind_of(note: Note) -> NoteKind
         Note::NoStart => NoteKind::NoStart,
         Note::NoStrictReader => NoteKind::NoStrictReader,
         Note::StuckRule(_) => NoteKind::StuckRule,
+        Note::Stops { .. } => NoteKind::Stops,
         Note::Finite(_) => NoteKind::Finite,
         Note::LossyTake(_) => NoteKind::LossyTake,
         Note::UnusedRow(_) => NoteKind::UnusedRow,

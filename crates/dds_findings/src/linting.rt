@@ -1,5 +1,5 @@
 //! Everything that is found in the files.
-ghost use Rattle.std.specs.Prelude.{◌≡◌, ◌++◌, true, Ok, Err, IfOk, OnOk, map, option_map};
+ghost use Rattle.std.specs.Prelude.{◌≡◌, ◌++◌, true, Ok, Err, IfOk, OnOk, count_by, map, option_map};
 ghost use Rattle.dds_match.specs.Plan.{network_of};
 ghost use Rattle.dds_weights.specs.Fits.{fits};
 ghost use Rattle.dds_weights.specs.Views.{certificate_view};
@@ -7,16 +7,21 @@ ghost use Rattle.dds_cert.specs.Document.{read as certificate_read};
 ghost use Rattle.dds_deploy.specs.Document.{read as deployment_read};
 ghost use Rattle.dds_findings.specs.Agreement.{AgreesWithCheck};
 ghost use Rattle.dds_findings.specs.Findings.{AreFaults, IsBare, IsFound, IsJudged, IsLint, condition_matter};
-ghost use Rattle.dds_findings.specs.Findings.{endless_matter, matters, no_certificate, note_matter, of_lists};
+ghost use Rattle.dds_findings.specs.Findings.{endless_matter, first_of_kind, first_of_number, has_kind, has_number};
+ghost use Rattle.dds_findings.specs.Findings.{matters, more_conditions, more_notes, most_numbers, no_certificate};
+ghost use Rattle.dds_findings.specs.Findings.{note_matter, of_kind, of_lists, of_number};
 ghost use Rattle.dds_lint.specs.Endless.{AreRefused, endless_rules};
+ghost use Rattle.dds_lint.specs.Every.{every_below};
+ghost use Rattle.dds_options.specs.Kinds.{kinds};
 
 use crate::bounds::bound_entries;
-use crate::conditions::condition;
+use crate::conditions::{Said, condition, more_conditions};
 use crate::endless::endless;
 use crate::faults::fault_findings;
 use crate::finding::{Finding, Role};
+use crate::kinds::kind_of;
 use crate::located::Located;
-use crate::notes::note;
+use crate::notes::{more_notes, note};
 use dds_base::NoMemory;
 use dds_cert::{CertFault, CertFlaw, read_certificate};
 use dds_check::No;
@@ -26,8 +31,15 @@ use dds_lint::{EndlessRule, Note, all_nos, all_notes, bare_nos, endless_rules};
 use dds_lists::Deployment;
 use dds_match::Plan;
 use dds_match::planning::plan;
+use dds_options::KINDS;
 use dds_weights::Certificate;
 use std::alloc::Global;
+
+/// Of each kind so many findings are listed, the first of them.
+const LISTED: usize = 1_000;
+
+/// The numbers of conditions are below this.
+const NUMBERS: usize = 34;
 
 /// The files, with the places of what stands in them.
 #[derive(Drop)]
@@ -73,17 +85,97 @@ pub(crate) struct Judged<'a> {
 }
 
 /// Adds the findings of conditions that fail.
-fn push_conditions(
+fn push_conditions<'a>(
     alloc: Global,
     files: &Files,
-    judged: &Judged,
+    judged: &Judged<'a>,
+    said: &mut Said<'a>,
     nos: &[No],
     found: &mut Vec<Finding>,
 ) -> Result<(), NoMemory>
     ensures { OnOk result (matters found.new.items ≡ matters found.old.items ++ map condition_matter nos.now) }
 {
     for no in nos {
-        found.push(condition(alloc, files, judged, no)?)?;
+        found.push(condition(alloc, files, judged, said, no)?)?;
+    }
+    Ok(())
+}
+
+/// The first of the conditions with a number.
+#[tactic(auto, using(crate::proofs::Listed::first_of))]
+fn first_of_number(alloc: Global, nos: &[No], number: usize) -> Result<Vec<No>, NoMemory>
+    ensures { IfOk result (λ first. first.items ≡ first_of_number number nos.now) }
+{
+    let mut first = Vec::new(alloc);
+    for no in nos {
+        if first.len() < LISTED && usize::from(no.number.number()) == number {
+            first.push(*no)?;
+        }
+    }
+    Ok(first)
+}
+
+/// How many conditions have a number.
+fn count_of_number(nos: &[No], number: usize) -> usize
+    ensures { result ≡ count_by (has_number number) nos.now }
+{
+    nos.iter()
+        .filter(|no| usize::from(no.number.number()) == number)
+        .count()
+}
+
+/// Adds the finding of how many conditions aren't listed, where these are the first of them.
+fn push_more_conditions(
+    alloc: Global,
+    files: &Files,
+    first: &[No],
+    count: usize,
+    found: &mut Vec<Finding>,
+) -> Result<(), NoMemory>
+    ensures { OnOk result (matters found.new.items ≡ matters found.old.items ++ more_conditions first.now count) }
+{
+    match first.first() {
+        Some(like) if LISTED < count => {
+            found.push(more_conditions(alloc, files, *like, count - LISTED)?)?;
+            Ok(())
+        }
+        _ => Ok(()),
+    }
+}
+
+/// Adds the findings of conditions with a number: the first of them, and how many more there are.
+fn push_number<'a>(
+    alloc: Global,
+    files: &Files,
+    judged: &Judged<'a>,
+    said: &mut Said<'a>,
+    nos: &[No],
+    number: usize,
+    found: &mut Vec<Finding>,
+) -> Result<(), NoMemory>
+    ensures { OnOk result (matters found.new.items ≡ matters found.old.items ++ of_number nos.now number) }
+{
+    let first = first_of_number(alloc, nos, number)?;
+    let count = count_of_number(nos, number);
+    push_conditions(alloc, files, judged, said, &first, found)?;
+    push_more_conditions(alloc, files, &first, count, found)
+}
+
+/// Adds the findings of conditions by their numbers.
+#[tactic(auto, using(crate::proofs::Listed::every_below_start, crate::proofs::Listed::every_below_more))]
+fn push_numbers<'a>(
+    alloc: Global,
+    files: &Files,
+    judged: &Judged<'a>,
+    said: &mut Said<'a>,
+    nos: &[No],
+    found: &mut Vec<Finding>,
+) -> Result<(), NoMemory>
+    ensures { OnOk result (matters found.new.items ≡ matters found.old.items
+        ++ every_below most_numbers (of_number nos.now)) }
+{
+    for number in 0..NUMBERS {
+        push_number(alloc, files, judged, said, nos, number, found)?;
     }
     Ok(())
 }
@@ -122,7 +214,90 @@ fn push_notes(
     Ok(())
 }
 
-/// The findings of conditions that fail, then of endless rules, and then of notes.
+/// The first of the notes of the kind with a place.
+#[tactic(auto, using(crate::proofs::Listed::first_of))]
+fn first_of_kind(alloc: Global, notes: &[Note], kind: usize) -> Result<Vec<Note>, NoMemory>
+    ensures { IfOk result (λ first. first.items ≡ first_of_kind kind notes.now) }
+{
+    let mut first = Vec::new(alloc);
+    for one in notes {
+        if first.len() < LISTED && kind_of(*one).place() == kind {
+            first.push(*one)?;
+        }
+    }
+    Ok(first)
+}
+
+/// How many notes are of the kind with a place.
+fn count_of_kind(notes: &[Note], kind: usize) -> usize
+    ensures { result ≡ count_by (has_kind kind) notes.now }
+{
+    notes
+        .iter()
+        .filter(|note| kind_of(**note).place() == kind)
+        .count()
+}
+
+/// Adds the finding of how many notes aren't listed, where these are the first of them.
+fn push_more_notes(
+    alloc: Global,
+    files: &Files,
+    judged: &Judged,
+    first: &[Note],
+    count: usize,
+    found: &mut Vec<Finding>,
+) -> Result<(), NoMemory>
+    ensures { OnOk result (matters found.new.items ≡ matters found.old.items ++ more_notes first.now count) }
+{
+    match first.first() {
+        Some(like) if LISTED < count => {
+            found.push(more_notes(alloc, files, judged, *like, count - LISTED)?)?;
+            Ok(())
+        }
+        _ => Ok(()),
+    }
+}
+
+/// Adds the findings of notes of the kind with a place: the first of them, and how many more there are.
+fn push_kind(
+    alloc: Global,
+    files: &Files,
+    judged: &Judged,
+    notes: &[Note],
+    kind: usize,
+    found: &mut Vec<Finding>,
+) -> Result<(), NoMemory>
+    ensures { OnOk result
+        (matters found.new.items ≡ matters found.old.items
+        ++ of_kind judged.entry.now.plan.now (certificate_view judged.entry.now.certificate.now) notes.now kind) }
+{
+    let first = first_of_kind(alloc, notes, kind)?;
+    let count = count_of_kind(notes, kind);
+    push_notes(alloc, files, judged, &first, found)?;
+    push_more_notes(alloc, files, judged, &first, count, found)
+}
+
+/// Adds the findings of notes by their kinds.
+#[tactic(auto, using(crate::proofs::Listed::every_below_start, crate::proofs::Listed::every_below_more))]
+fn push_kinds(
+    alloc: Global,
+    files: &Files,
+    judged: &Judged,
+    notes: &[Note],
+    found: &mut Vec<Finding>,
+) -> Result<(), NoMemory>
+    ensures { OnOk result
+        (matters found.new.items ≡ matters found.old.items
+        ++ every_below kinds
+        (of_kind judged.entry.now.plan.now (certificate_view judged.entry.now.certificate.now) notes.now)) }
+{
+    for kind in 0..KINDS {
+        push_kind(alloc, files, judged, notes, kind, found)?;
+    }
+    Ok(())
+}
+
+/// The findings of conditions that fail by their numbers, then of endless rules, and then of notes by their kinds.
 fn findings_of(
     alloc: Global,
     files: &Files,
@@ -137,9 +312,11 @@ fn findings_of(
         ≡ of_lists judged.entry.now.plan.now (certificate_view judged.entry.now.certificate.now) nos.now notes.now) }
 {
     let mut found = Vec::new(alloc);
-    push_conditions(alloc, files, judged, nos, &mut found)?;
+    let mut said = Said::new(alloc);
+    push_numbers(alloc, files, judged, &mut said, nos, &mut found)?;
+    drop(said);
     push_endless(alloc, files, judged, rules, &mut found)?;
-    push_notes(alloc, files, judged, notes, &mut found)?;
+    push_kinds(alloc, files, judged, notes, &mut found)?;
     Ok(found)
 }
 
@@ -368,7 +545,8 @@ fn file_findings(
 /// Of a deployment that has a fault, its faults: the first that `read_deployment` gives is among them. Of another one
 /// the faults of the certificate, the same way, then each condition of the checker that fails, the rules for which no
 /// certificate is accepted, and at last the notes, each with the name of what it's about; without a certificate, or
-/// where it has a fault, the conditions that ask for none. So an error is found of two files exactly where the check of
+/// where it has a fault, the conditions that ask for none. Of each kind of condition and of note the first 1,000 are
+/// found, and then how many more there are. So an error is found of two files exactly where the check of
 /// them doesn't say yes, and of a deployment alone only where the check says yes to no certificate of it. `NoMemory` is
 /// the only error.
 pub fn lint(

@@ -1,7 +1,8 @@
 //! The findings of notes.
-ghost use Rattle.std.specs.Prelude.{◌≡◌, IfOk};
+ghost use Rattle.std.specs.Prelude.{◌≡◌, [], IfOk};
 ghost use Rattle.dds_weights.specs.Views.{certificate_view};
 ghost use Rattle.dds_findings.specs.Findings.{matter_of, note_matter};
+ghost use Rattle.dds_findings.specs.declared.finding.About.TheVariants as about;
 
 use crate::conditions::{Spotted, rule_entry};
 use crate::finding::{About, Finding, Role};
@@ -61,12 +62,12 @@ fn missing_help(alloc: Global, plan: &Plan, take: &Portion<ReaderNo>) -> TextRes
     }
 }
 
-/// What would be right for a rule that waits for rules which can't fire either.
+/// What would be right for a rule that takes more than ever comes.
 fn waiting_help(rule: &Rule) -> &'static str {
     if 0 < rule.start {
-        "once its `start` is used up, it waits for rules that can't fire: mend these"
+        "once its `start` is used up, it waits for ever: for a rule that can't fire, or for more than is written"
     } else {
-        "what it takes is written only by rules that can't fire either: give one of them a `start`"
+        "it waits for rules that can't fire either, or for more than they write: raise a `start`, or take less"
     }
 }
 
@@ -121,6 +122,8 @@ fn kind_help(lists: &Deployment, note: Note) -> &'static str {
         Note::NoStrictReader =>
             "where none may be lost, a reader has `reliability = \"RELIABLE\"` and no `may_lose`",
         Note::StuckRule(_) => "let something that it takes be written, or give it a `start`",
+        Note::Stops { .. } =>
+            "right if that's all it ever does; else compare what it takes each time with what's written for that",
         Note::Finite(_) =>
             "right if that's all it ever writes, once its readers have matched; else say in `takes` what it waits for",
         Note::LossyTake(_) =>
@@ -204,7 +207,7 @@ fn entry_of(judged: &Judged, note: Note) -> (Role, &'static str, usize, &'static
         }
         Note::NoRules | Note::NoStart => (Role::Deployment, "rules", 0, "name"),
         Note::NoStrictReader => (Role::Deployment, "readers", 0, "name"),
-        Note::StuckRule(rule) | Note::LossyTake(rule) => {
+        Note::StuckRule(rule) | Note::Stops { rule, .. } | Note::LossyTake(rule) => {
             (Role::Deployment, "rules", rule_entry(judged, rule), "name")
         }
         Note::Finite(rule) => (Role::Deployment, "rules", rule_entry(judged, rule), "start"),
@@ -251,6 +254,30 @@ fn details_of(alloc: Global, plan: &Plan, note: Note) -> Result<Vec<String>, NoM
             every_line(alloc, terms.as_str())
         }
     }
+}
+
+/// The finding of how many more notes there are of the kind of this one. `NoMemory` is the only error.
+pub(crate) fn more_notes(
+    alloc: Global,
+    files: &Files,
+    judged: &Judged,
+    like: Note,
+    count: usize,
+) -> Result<Finding, NoMemory>
+    ensures { IfOk result (λ finding. matter_of finding ≡ (about.MoreNotes like count, [])) }
+{
+    let (role, _, _, _) = entry_of(judged, like);
+    Ok(Finding {
+        about: About::MoreNotes { like, count },
+        name: kind_of(like).name(),
+        subject: String::new(alloc),
+        role,
+        path: String::new(alloc),
+        message: format!(in alloc; "{count} more of these aren't listed")?,
+        help: String::new(alloc),
+        details: Vec::new(alloc),
+        spot: files.file(role).value_spot(alloc, "")?,
+    })
 }
 
 /// The finding of a note. `NoMemory` is the only error.

@@ -3,3 +3,4 @@ pub mod Follows
 pub mod Status
 pub mod Calls
 pub mod Checking
+pub mod Qos

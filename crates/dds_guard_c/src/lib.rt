@@ -6,6 +6,8 @@ pub mod calls;
 pub mod checking;
 pub mod handle;
 mod lending;
+pub mod qos;
 pub mod raw_box;
+pub mod reading;
 pub mod slot;
 mod status;

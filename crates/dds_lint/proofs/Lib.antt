@@ -1,7 +1,7 @@
 mod EndlessLaws
 mod EveryLaws
 pub mod FirstOfAll
-mod LiveLaws
-mod LiveRounds
+mod FiringLaws
+mod FiringRounds
 pub mod LoopLaws
 mod SpreadLaws

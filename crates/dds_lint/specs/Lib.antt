@@ -1,6 +1,6 @@
 pub mod Every
 pub mod Conditions
-pub mod Live
+pub mod Firings
 pub mod Renewal
 pub mod Endless
 pub mod Delivery

@@ -1,11 +1,11 @@
 -- What a yes doesn't say.
-use Rattle.std.specs.Prelude.{ℕ, Bool, ◌&&◌, ◌||◌, ◌==◌, not, nat_lt, List, ◌++◌, length, Option, Some, None, is_some, is_none, if◌then◌else◌}
+use Rattle.std.specs.Prelude.{ℕ, Bool, ◌&&◌, ◌||◌, ◌==◌, not, nat_le, nat_lt, List, ◌++◌, length, Option, Some, None, is_some, is_none, if◌then◌else◌}
 use Rattle.std.specs.List.{list_any}
 use Rattle.std.specs.Option.{option_to_list}
 use Rattle.dds_base.specs.Sums.{any_below, count_below}
 use Rattle.dds_base.specs.declared.portion.Portion.{Portion}
 use Rattle.dds_lists.specs.Lists.{Lists, keys_at, writer_topic}
-use Rattle.dds_match.specs.Network.{Network, reach, is_written}
+use Rattle.dds_match.specs.Network.{Network, reach, is_named, is_written}
 use Rattle.dds_match.specs.Paces.{taken_span}
 use Rattle.dds_match.specs.Plan.{network_of}
 use Rattle.dds_weights.specs.Lists as lists
@@ -19,7 +19,7 @@ use Rattle.dds_lint.specs.declared.notes.Note.{Note}
 use Rattle.dds_lint.specs.declared.notes.Note.TheVariants as note
 use Rattle.dds_lint.specs.Delivery.{are_incompatible, comes_late, is_held_up, is_unheard, may_lose, stalls}
 use Rattle.dds_lint.specs.Every.{every_below, those_below, those_in}
-use Rattle.dds_lint.specs.Live.{can_take_all, has_takes, opens}
+use Rattle.dds_lint.specs.Firings.{has_takes, most_firings, opens}
 use Rattle.dds_lint.specs.Pacing.{is_pace_unused, is_span_of_watcher, is_span_unused}
 use Rattle.dds_lint.specs.Renewal.{is_finite}
 
@@ -90,13 +90,32 @@ no_start net = noted (nat_lt 0 net.rules && not (any_below net.rules (opens net)
 abbrev pub no_strict_reader : Network → Option Note
 no_strict_reader net = noted (not (any_below net.readers (λ r. not (net.watcher r)))) note.NoStrictReader
 
--- the rule takes something that can't come; or it takes nothing and doesn't open, and a rule that takes nothing never fires
-abbrev pub is_stuck : Network → (ℕ → Bool) → ℕ → Bool
-is_stuck net live u = if has_takes net u then not (can_take_all net live u) else not (opens net u)
+-- the rule takes something of which too little can come; or it takes nothing and doesn't open, and a rule that takes nothing never fires
+abbrev pub is_stuck : Network → (ℕ → ℕ) → ℕ → Bool
+is_stuck net limit u = if has_takes net u then limit u == 0 else not (opens net u)
 
 -- the rule is stuck
-abbrev pub stuck_rule : Network → (ℕ → Bool) → ℕ → Option Note
-stuck_rule net live u = noted (is_stuck net live u) (note.StuckRule u)
+abbrev pub stuck_rule : Network → (ℕ → ℕ) → ℕ → Option Note
+stuck_rule net limit u = noted (is_stuck net limit u) (note.StuckRule u)
+
+-- the two rules take a key of one reader
+abbrev pub share_take : Network → ℕ → ℕ → Bool
+share_take net u v = list_any (λ e. is_named (net.rule v).takes e.endpoint e.key) (net.rule u).takes
+
+-- the rule competes with another one for a take
+abbrev pub is_rival : Network → ℕ → ℕ → Bool
+is_rival net u v = not (v == u) && share_take net u v
+
+abbrev pub has_rival : Network → ℕ → Bool
+has_rival net u = any_below net.rules (is_rival net u)
+
+-- the rule can fire, but so often at most, and competes with no other
+abbrev pub has_end : Network → (ℕ → ℕ) → ℕ → Bool
+has_end net limit u = nat_lt 0 (limit u) && (nat_le (limit u) most_firings && not (has_rival net u))
+
+-- the rule fires so often at most
+abbrev pub stops : Network → (ℕ → ℕ) → ℕ → Option Note
+stops net limit u = noted (has_end net limit u) (note.Stops u (limit u))
 
 -- the rule has a start alone, and writes something that no rule lets be written again
 abbrev pub finite : Network → ℕ → Option Note
@@ -158,9 +177,10 @@ writer_notes d =
 abbrev pub absent_notes : Network → List Note
 absent_notes net = option_to_list (no_rules net) ++ option_to_list (no_start net) ++ option_to_list (no_strict_reader net)
 
-abbrev pub rule_notes : Lists → (ℕ → Bool) → List Note
-rule_notes d live =
-    absent_notes (network_of d) ++ those_below (network_of d).rules (stuck_rule (network_of d) live)
+abbrev pub rule_notes : Lists → (ℕ → ℕ) → List Note
+rule_notes d limit =
+    absent_notes (network_of d) ++ those_below (network_of d).rules (stuck_rule (network_of d) limit)
+    ++ those_below (network_of d).rules (stops (network_of d) limit)
     ++ those_below (network_of d).rules (finite (network_of d)) ++ those_below (network_of d).rules (lossy_take (network_of d))
     ++ those_below (network_of d).rules (pace_unused d)
 
@@ -179,7 +199,7 @@ pair_notes d =
     notes_of_pairs (network_of d) (incompatible d) ++ notes_of_pairs (network_of d) (held_up d)
     ++ notes_of_pairs (network_of d) (late_reader d)
 
--- all notes, by the rules that can permit a write
-unfoldable pub all_notes : Lists → (ℕ → Bool) → lists.Certificate → List Note
-all_notes d live cert =
-    reader_notes d cert ++ writer_notes d ++ rule_notes d live ++ certificate_notes (network_of d) cert ++ pair_notes d
+-- all notes, by how often each rule can fire
+unfoldable pub all_notes : Lists → (ℕ → ℕ) → lists.Certificate → List Note
+all_notes d limit cert =
+    reader_notes d cert ++ writer_notes d ++ rule_notes d limit ++ certificate_notes (network_of d) cert ++ pair_notes d

@@ -4,7 +4,7 @@ use Rattle.std.specs.List.{list_any}
 use Rattle.dds_base.specs.Sums.{any_below}
 use Rattle.dds_base.specs.declared.portion.Portion.{Portion}
 use Rattle.dds_match.specs.Network.{Network, is_named}
-use Rattle.dds_lint.specs.Live.{has_takes}
+use Rattle.dds_lint.specs.Firings.{has_takes}
 
 -- the rule can let its writes be made again and again: it takes something, or is free
 abbrev pub goes_on : Network → ℕ → Bool

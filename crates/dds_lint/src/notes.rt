@@ -1,20 +1,22 @@
 //! What a yes doesn't say: who may miss samples, what can grow, and what never happens.
-ghost use Rattle.std.specs.Prelude.{◌≡◌, ◌++◌, ◌<◌, ◌==◌, ◌&&◌, false, length, not, slice_index_or};
-ghost use Rattle.std.specs.Prelude.{IfOk, OnOk};
+ghost use Rattle.std.specs.Prelude.{◌≡◌, ◌++◌, ◌<◌, ◌==◌, ◌&&◌, false, length, nat_le, nat_lt, not, slice_index};
+ghost use Rattle.std.specs.Prelude.{ℕ, IfOk, OnOk};
 ghost use Rattle.std.specs.List.{list_any};
 ghost use Rattle.dds_base.specs.Sums.{any_below};
-ghost use Rattle.dds_match.specs.Network.{is_written};
+ghost use Rattle.dds_match.specs.Network.{is_named, is_written};
 ghost use Rattle.dds_match.specs.Plan.{network_of};
 ghost use Rattle.dds_lists.specs.Lists.{writer_topic};
 ghost use Rattle.dds_weights.specs.Views.{certificate_view};
 ghost use Rattle.dds_check.specs.Limits.{all_bounded};
 ghost use Rattle.dds_lint.specs.Delivery.{is_latched};
 ghost use Rattle.dds_lint.specs.Every.{every_below, those_below, those_in};
-ghost use Rattle.dds_lint.specs.Live.{IsLive, live_of, opens};
+ghost use Rattle.dds_lint.specs.Firings.{AreLimits, limits_of, most_firings, opens};
 ghost use Rattle.dds_lint.specs.Notes.{absent_notes, all_notes, certificate_notes, finite, grows, held_up, idle_limit};
-ghost use Rattle.dds_lint.specs.Notes.{idle_reader, idle_writer, incompatible, is_key_written, is_lossy, is_stuck};
+ghost use Rattle.dds_lint.specs.Notes.{has_end, has_rival, idle_reader, idle_writer, incompatible, is_key_written};
+ghost use Rattle.dds_lint.specs.Notes.{is_lossy, is_rival, is_stuck};
 ghost use Rattle.dds_lint.specs.Notes.{late_reader, lossy_take, needless_bound, needless_total, no_rules, no_start};
-ghost use Rattle.dds_lint.specs.Notes.{no_strict_reader, noted, notes_of_pairs, pace_unused, pair_notes, reader_notes};
+ghost use Rattle.dds_lint.specs.Notes.{no_strict_reader, noted, notes_of_pairs, pace_unused, pair_notes};
+ghost use Rattle.dds_lint.specs.Notes.{reader_notes, share_take, stops};
 ghost use Rattle.dds_lint.specs.Notes.{rule_notes, span_unused, span_unused_by, stalled, stuck_rule, unheard_writer};
 ghost use Rattle.dds_lint.specs.Notes.{unused_row, unwritten_key, unwritten_keys, watcher, watcher_span, writer_notes};
 
@@ -22,7 +24,7 @@ use crate::delivery::{
     are_incompatible, is_held_up, is_latched, is_unheard, may_lose, misses_history, stalls,
 };
 use crate::every::{push_below, push_some};
-use crate::live::{can_take_all, has_takes, live_rules, opens};
+use crate::firings::{MOST_FIRINGS, has_takes, limits_of, opens};
 use crate::pacing::{is_pace_unused, is_span_of_watcher, is_span_unused};
 use crate::renewal::is_finite;
 use dds_base::limits::RULES;
@@ -70,6 +72,8 @@ pub enum Note {
     NoStrictReader,
     /// The rule can never fire.
     StuckRule(RuleNo),
+    /// The rule can fire so often at most, and competes with no other rule for what it takes.
+    Stops { rule: RuleNo, firings: u16 },
     /// The rule takes nothing and isn't free, so that it lets nothing be written once its start is used up, and there's
     /// something of that which no other rule lets be written again.
     Finite(RuleNo),
@@ -257,22 +261,86 @@ fn no_strict_reader(plan: &Plan) -> Option<Note>
 }
 
 /// Whether a rule can never fire and, where it takes nothing, doesn't open.
-fn is_stuck(plan: &Plan, live: &[bool; RULES], rule: RuleNo) -> bool
-    requires { rule < (network_of plan.now).rules }
-    ensures { result ≡ is_stuck (network_of plan.now) (λ u. slice_index_or live.now u false) rule }
+fn is_stuck(plan: &Plan, limits: &[u16; RULES], rule: RuleNo) -> bool
+    requires inside { rule < (network_of plan.now).rules }
+    requires few { rule < 256 }
+    ensures { result ≡ is_stuck (network_of plan.now) (slice_index limits.now) rule }
 {
     if has_takes(plan, rule) {
-        !can_take_all(plan, live, rule)
+        limits[rule.number()] == 0
     } else {
         !opens(plan, rule)
     }
 }
 
-fn stuck_rule(plan: &Plan, live: &[bool; RULES], rule: RuleNo) -> Option<Note>
-    requires { rule < (network_of plan.now).rules }
-    ensures { result ≡ stuck_rule (network_of plan.now) (λ u. slice_index_or live.now u false) rule }
+fn stuck_rule(plan: &Plan, limits: &[u16; RULES], rule: RuleNo) -> Option<Note>
+    requires inside { rule < (network_of plan.now).rules }
+    requires few { rule < 256 }
+    ensures { result ≡ stuck_rule (network_of plan.now) (slice_index limits.now) rule }
 {
-    note_if(is_stuck(plan, live, rule), Note::StuckRule(rule))
+    note_if(is_stuck(plan, limits, rule), Note::StuckRule(rule))
+}
+
+/// Whether a rule takes a key of a reader.
+fn takes_there(plan: &Plan, rule: RuleNo, reader: ReaderNo, key: KeyNo) -> bool
+    requires { rule < (network_of plan.now).rules }
+    ensures { result ≡ is_named ((network_of plan.now).rule rule).takes reader key }
+{
+    plan.rule(rule)
+        .takes
+        .iter()
+        .any(|e| e.endpoint == reader && e.key == key)
+}
+
+/// Whether two rules take a key of one reader.
+fn share_take(plan: &Plan, one: RuleNo, other: RuleNo) -> bool
+    requires one { one < (network_of plan.now).rules }
+    requires other { other < (network_of plan.now).rules }
+    ensures { result ≡ share_take (network_of plan.now) one other }
+{
+    plan.rule(one)
+        .takes
+        .iter()
+        .any(|e| takes_there(plan, other, e.endpoint, e.key))
+}
+
+/// Whether a rule competes with another one for a take.
+fn is_rival(plan: &Plan, rule: RuleNo, other: RuleNo) -> bool
+    requires one { rule < (network_of plan.now).rules }
+    requires other { other < (network_of plan.now).rules }
+    ensures { result ≡ is_rival (network_of plan.now) rule other }
+{
+    other != rule && share_take(plan, rule, other)
+}
+
+/// Whether a rule competes with some other for a take.
+fn has_rival(plan: &Plan, rule: RuleNo) -> bool
+    requires { rule < (network_of plan.now).rules }
+    ensures { result ≡ has_rival (network_of plan.now) rule }
+{
+    let mut any = false;
+    for u in 0..rules_of(plan) {
+        let here = is_rival(plan, rule, RuleNo::new(u));
+        any = here || any;
+    }
+    any
+}
+
+/// Whether a rule can fire, but so often at most, and competes with no other.
+fn has_end(plan: &Plan, rule: RuleNo, firings: u16) -> bool
+    requires { rule < (network_of plan.now).rules }
+    ensures { (limit : ℕ → ℕ) → limit rule ≡ firings → result ≡ has_end (network_of plan.now) limit rule }
+{
+    0 < firings && firings <= MOST_FIRINGS && !has_rival(plan, rule)
+}
+
+fn stops(plan: &Plan, limits: &[u16; RULES], rule: RuleNo) -> Option<Note>
+    requires inside { rule < (network_of plan.now).rules }
+    requires few { rule < 256 }
+    ensures { result ≡ stops (network_of plan.now) (slice_index limits.now) rule }
+{
+    let firings = limits[rule.number()];
+    note_if(has_end(plan, rule, firings), Note::Stops { rule, firings })
 }
 
 fn finite(plan: &Plan, rule: RuleNo) -> Option<Note>
@@ -515,14 +583,25 @@ fn push_absent(notes: &mut Vec<Note>, plan: &Plan) -> Result<(), NoMemory>
     push_some(notes, no_strict_reader(plan))
 }
 
-fn push_stuck(notes: &mut Vec<Note>, plan: &Plan, live: &[bool; RULES]) -> Result<(), NoMemory>
+fn push_stuck(notes: &mut Vec<Note>, plan: &Plan, limits: &[u16; RULES]) -> Result<(), NoMemory>
     ensures { OnOk result (notes.new.items ≡ notes.old.items ++ those_below (network_of plan.now).rules
-        (stuck_rule (network_of plan.now) (λ u. slice_index_or live.now u false))) }
+        (stuck_rule (network_of plan.now) (slice_index limits.now))) }
 {
     push_below(
         notes,
         rules_of(plan),
-        |u| stuck_rule(plan, live, RuleNo::new(u)),
+        |u| stuck_rule(plan, limits, RuleNo::new(u)),
+    )
+}
+
+fn push_stops(notes: &mut Vec<Note>, plan: &Plan, limits: &[u16; RULES]) -> Result<(), NoMemory>
+    ensures { OnOk result (notes.new.items ≡ notes.old.items ++ those_below (network_of plan.now).rules
+        (stops (network_of plan.now) (slice_index limits.now))) }
+{
+    push_below(
+        notes,
+        rules_of(plan),
+        |u| stops(plan, limits, RuleNo::new(u)),
     )
 }
 
@@ -547,12 +626,13 @@ fn push_unused_paces(notes: &mut Vec<Note>, plan: &Plan) -> Result<(), NoMemory>
     push_below(notes, rules_of(plan), |u| pace_unused(plan, RuleNo::new(u)))
 }
 
-fn push_rules(notes: &mut Vec<Note>, plan: &Plan, live: &[bool; RULES]) -> Result<(), NoMemory>
+fn push_rules(notes: &mut Vec<Note>, plan: &Plan, limits: &[u16; RULES]) -> Result<(), NoMemory>
     ensures { OnOk result (notes.new.items ≡ notes.old.items
-        ++ rule_notes plan.now (λ u. slice_index_or live.now u false)) }
+        ++ rule_notes plan.now (slice_index limits.now)) }
 {
     push_absent(notes, plan)?;
-    push_stuck(notes, plan, live)?;
+    push_stuck(notes, plan, limits)?;
+    push_stops(notes, plan, limits)?;
     push_finite(notes, plan)?;
     push_lossy(notes, plan)?;
     push_unused_paces(notes, plan)
@@ -672,14 +752,14 @@ fn push_all(
     notes: &mut Vec<Note>,
     plan: &Plan,
     certificate: &Certificate,
-    live: &[bool; RULES],
+    limits: &[u16; RULES],
 ) -> Result<(), NoMemory>
     ensures { OnOk result (notes.new.items ≡ notes.old.items
-        ++ all_notes plan.now (λ u. slice_index_or live.now u false) (certificate_view certificate.now)) }
+        ++ all_notes plan.now (slice_index limits.now) (certificate_view certificate.now)) }
 {
     push_readers(notes, plan, certificate)?;
     push_writers(notes, plan)?;
-    push_rules(notes, plan, live)?;
+    push_rules(notes, plan, limits)?;
     push_certificate(notes, plan, certificate)?;
     push_pairs(notes, plan)
 }
@@ -695,15 +775,15 @@ pub fn all_notes(
     plan: &Plan,
     certificate: &Certificate,
 ) -> Result<Vec<Note>, NoMemory>
-    ensures rules { IsLive (network_of plan.now) (live_of (network_of plan.now)) }
+    ensures limits { AreLimits (network_of plan.now) (limits_of (network_of plan.now)) }
     ensures all { IfOk result
         (λ notes. notes.items
-        ≡ all_notes plan.now (live_of (network_of plan.now)) (certificate_view certificate.now)) }
+        ≡ all_notes plan.now (limits_of (network_of plan.now)) (certificate_view certificate.now)) }
 {
     // Its lists name nothing that isn't there.
     plan.assert_well_formed();
-    let live = live_rules(plan);
+    let limits = limits_of(alloc, plan)?;
     let mut notes = Vec::new(alloc);
-    push_all(&mut notes, plan, certificate, &live)?;
+    push_all(&mut notes, plan, certificate, &limits)?;
     Ok(notes)
 }

@@ -6,7 +6,7 @@ ghost use Rattle.dds_match.specs.Plan.{network_of};
 ghost use Rattle.dds_lint.specs.Renewal.{ends_at, goes_on, goes_on_at, is_finite, is_renewed, renews, writes_at};
 ghost use Rattle.dds_lint.specs.Renewal.{writes_finitely};
 
-use crate::live::has_takes;
+use crate::firings::has_takes;
 use dds_base::{KeyNo, RuleNo, WriterNo};
 use dds_conditions::rules_of;
 use dds_match::Plan;

@@ -1,5 +1,6 @@
 -- What a yes doesn't say, in words.
 use Rattle.std.specs.Prelude.{ℕ, Bool, false, ◌==◌, if◌then◌else◌, codes, List, [], ◌++◌, flat_map, length, slice_get}
+use Rattle.std.specs.Fmt.{decimal}
 use Rattle.std.specs.Option.{option_map_or}
 use Rattle.dds_lists.specs.Lists.{Lists, Rule, key_name}
 use Rattle.dds_lists.specs.declared.lists.Origin.{Origin}
@@ -11,7 +12,7 @@ use Rattle.dds_weights.specs.Naming.{row_name}
 use Rattle.dds_weights.specs.declared.certificate.Bound.{Bound}
 use Rattle.dds_weights.specs.declared.certificate.Total.{Total}
 use Rattle.dds_show.specs.Reasons.{reason_words}
-use Rattle.dds_lint.specs.Live.{live_of}
+use Rattle.dds_lint.specs.Firings.{limits_of}
 use Rattle.dds_lint.specs.Notes.{all_notes}
 use Rattle.dds_lint.specs.declared.endless.EndlessRule.{EndlessRule}
 use Rattle.dds_lint.specs.declared.notes.Note.{Note}
@@ -26,7 +27,14 @@ takes_nothing d u = option_map_or (λ (x : Rule). length x.takes == 0) (slice_ge
 abbrev pub stuck_words : Lists → ℕ → List ℕ
 stuck_words d u =
     if takes_nothing d u then rule_text d u ++ codes " takes nothing and has no start, so it never lets anything be written" else
-    rule_text d u ++ codes " can never fire: something that it takes never comes"
+    rule_text d u ++ codes " can never fire: too little of what it takes can come"
+
+-- a rule that fires so often at most
+abbrev pub times : ℕ → List ℕ
+times n = if n == 1 then codes " time" else codes " times"
+
+abbrev pub stops_words : Lists → (u n : ℕ) → List ℕ
+stops_words d u n = rule_text d u ++ (codes " stops: it can't fire more than " ++ (decimal n ++ times n))
 
 -- a key that no rule writes
 abbrev pub unwritten_words : Lists → ℕ → ℕ → List ℕ
@@ -97,6 +105,7 @@ note_text d c note.NoRules = codes "there's no rule, so nothing is ever written"
 note_text d c note.NoStart = codes "no rule has a start, so nothing is ever written"
 note_text d c note.NoStrictReader = codes "no reader is strict, so a yes says nothing of lost samples"
 note_text d c (note.StuckRule u) = stuck_words d u
+note_text d c (note.Stops u n) = stops_words d u n
 note_text d c (note.Finite u) = finite_words d u
 note_text d c (note.LossyTake u) = lossy_words d u
 note_text d c (note.PaceUnused u) = pace_words d u
@@ -133,6 +142,7 @@ note_subject d c note.NoRules = []
 note_subject d c note.NoStart = []
 note_subject d c note.NoStrictReader = []
 note_subject d c (note.StuckRule u) = entry_name d u
+note_subject d c (note.Stops u n) = entry_name d u
 note_subject d c (note.Finite u) = entry_name d u
 note_subject d c (note.LossyTake u) = entry_name d u
 note_subject d c (note.PaceUnused u) = entry_name d u
@@ -149,4 +159,4 @@ note_line d c x = codes "note: " ++ (note_text d c x ++ (codes "\n" ++ note_term
 
 -- the lines of all notes on a deployment and a certificate
 unfoldable pub note_lines : Lists → Certificate → List ℕ
-note_lines d c = flat_map (note_line d c) (all_notes d (live_of (network_of d)) c)
+note_lines d c = flat_map (note_line d c) (all_notes d (limits_of (network_of d)) c)

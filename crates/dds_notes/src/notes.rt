@@ -5,7 +5,8 @@ ghost use Rattle.dds_weights.specs.Views.{certificate_view};
 ghost use Rattle.dds_notes.specs.Notes.{bound_words, endless_text, entry_name, finite_words, held_up_words};
 ghost use Rattle.dds_notes.specs.Notes.{incompatible_words, late_words, lossy_words, note_line, note_lines};
 ghost use Rattle.dds_notes.specs.Notes.{note_subject, note_terms, note_text, pace_words, span_words, stalls_words};
-ghost use Rattle.dds_notes.specs.Notes.{stuck_words, takes_nothing, total_words, unwritten_words, watcher_span_words};
+ghost use Rattle.dds_notes.specs.Notes.{stops_words, stuck_words, takes_nothing, times, total_words, unwritten_words};
+ghost use Rattle.dds_notes.specs.Notes.{watcher_span_words};
 
 use dds_base::{KeyNo, ReaderNo, RuleNo, TopicNo, WriterNo};
 use dds_explain::{mismatch_lines, why_not_text};
@@ -35,8 +36,24 @@ fn stuck_words(alloc: Global, lists: &Deployment, rule: RuleNo) -> TextResult
             "{name} takes nothing and has no start, so it never lets anything be written"
         )
     } else {
-        format!(in alloc; "{name} can never fire: something that it takes never comes")
+        format!(in alloc; "{name} can never fire: too little of what it takes can come")
     }
+}
+
+/// The word for so many times.
+fn times(count: u16) -> &'static str
+    ensures { result.now ≡ times count }
+{
+    if count == 1 { " time" } else { " times" }
+}
+
+/// A rule that fires so often at most.
+fn stops_words(alloc: Global, lists: &Deployment, rule: RuleNo, firings: u16) -> TextResult
+    ensures { IfOk result (λ text. string_bytes text ≡ stops_words lists.now rule firings) }
+{
+    let name = rule_text(alloc, lists, rule)?;
+    let times = times(firings);
+    format!(in alloc; "{name} stops: it can't fire more than {firings}{times}")
 }
 
 /// A key that no rule writes.
@@ -246,6 +263,7 @@ pub fn note_text(alloc: Global, plan: &Plan, certificate: &Certificate, note: No
             )
         }
         Note::StuckRule(rule) => stuck_words(alloc, plan.lists(), rule),
+        Note::Stops { rule, firings } => stops_words(alloc, plan.lists(), rule, firings),
         Note::Finite(rule) => finite_words(alloc, plan.lists(), rule),
         Note::LossyTake(rule) => lossy_words(alloc, plan.lists(), rule),
         Note::PaceUnused(rule) => pace_words(alloc, plan.lists(), rule),
@@ -304,6 +322,7 @@ pub fn note_subject<'a>(plan: &'a Plan, certificate: &'a Certificate, note: Note
         | Note::Incompatible { writer, .. }
         | Note::HeldUp { writer, .. } => writer_name(lists, writer),
         Note::StuckRule(rule)
+        | Note::Stops { rule, .. }
         | Note::Finite(rule)
         | Note::LossyTake(rule)
         | Note::PaceUnused(rule) => entry_name(lists, rule),

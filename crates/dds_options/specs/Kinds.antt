@@ -19,6 +19,7 @@ kind_word kind.NoRules = codes "NoRules"
 kind_word kind.NoStart = codes "NoStart"
 kind_word kind.NoStrictReader = codes "NoStrictReader"
 kind_word kind.StuckRule = codes "StuckRule"
+kind_word kind.Stops = codes "Stops"
 kind_word kind.Finite = codes "Finite"
 kind_word kind.LossyTake = codes "LossyTake"
 kind_word kind.UnusedRow = codes "UnusedRow"
@@ -27,6 +28,35 @@ kind_word kind.NeedlessTotal = codes "NeedlessTotal"
 kind_word kind.Incompatible = codes "Incompatible"
 kind_word kind.HeldUp = codes "HeldUp"
 kind_word kind.LateReader = codes "LateReader"
+
+-- its place among the kinds, from 0, and how many kinds there are
+abbrev pub kind_place : NoteKind → ℕ
+kind_place kind.Watcher = 0
+kind_place kind.MayLose = 1
+kind_place kind.Unlimited = 2
+kind_place kind.IdleLimit = 3
+kind_place kind.IdleReader = 4
+kind_place kind.Stalls = 5
+kind_place kind.PaceUnused = 6
+kind_place kind.UnwrittenKey = 7
+kind_place kind.IdleWriter = 8
+kind_place kind.UnheardWriter = 9
+kind_place kind.NoRules = 10
+kind_place kind.NoStart = 11
+kind_place kind.NoStrictReader = 12
+kind_place kind.StuckRule = 13
+kind_place kind.Stops = 14
+kind_place kind.Finite = 15
+kind_place kind.LossyTake = 16
+kind_place kind.UnusedRow = 17
+kind_place kind.NeedlessBound = 18
+kind_place kind.NeedlessTotal = 19
+kind_place kind.Incompatible = 20
+kind_place kind.HeldUp = 21
+kind_place kind.LateReader = 22
+
+abbrev pub kinds : ℕ
+kinds = 23
 
 -- a note of this kind says of a reader what its deployment says itself
 abbrev pub is_declared : NoteKind → Bool

@@ -1,6 +1,6 @@
 //! With which findings an answer is no.
 ghost use Rattle.std.specs.Prelude.{◌≡◌};
-ghost use Rattle.dds_options.specs.Deny.{is_denied_note};
+ghost use Rattle.dds_options.specs.Deny.{is_denied_note, is_passed_note};
 
 use crate::allowed::Allowed;
 use crate::kinds::NoteKind;
@@ -26,6 +26,16 @@ impl<'a> Deny<'a> {
             Deny::Errors => false,
             Deny::Notes(allowed) => !(kind.is_declared() || allowed.has(kind, subject)),
             Deny::All(allowed) => !allowed.has(kind, subject),
+        }
+    }
+
+    /// Whether a note of a kind, about what has this name, is let pass by its name.
+    pub fn passes(&self, kind: NoteKind, subject: &str) -> bool
+        ensures { result ≡ is_passed_note self.now kind subject.now }
+    {
+        match self {
+            Deny::Errors => false,
+            Deny::Notes(allowed) | Deny::All(allowed) => allowed.has(kind, subject),
         }
     }
 }

@@ -1,6 +1,9 @@
 //! The kinds of notes, by name.
 ghost use Rattle.std.specs.Prelude.{◌≡◌, ◌≢◌, IfNone, IfSome};
-ghost use Rattle.dds_options.specs.Kinds.{is_declared, kind_word};
+ghost use Rattle.dds_options.specs.Kinds.{is_declared, kind_place, kind_word};
+
+/// How many kinds of notes there are.
+pub const KINDS: usize = 23;
 
 /// The kinds of notes.
 #[derive(Clone, Copy, Debug, PartialEq, Eq)]
@@ -19,6 +22,7 @@ pub enum NoteKind {
     NoStart,
     NoStrictReader,
     StuckRule,
+    Stops,
     Finite,
     LossyTake,
     UnusedRow,
@@ -49,6 +53,7 @@ impl NoteKind {
             NoteKind::NoStart => "NoStart",
             NoteKind::NoStrictReader => "NoStrictReader",
             NoteKind::StuckRule => "StuckRule",
+            NoteKind::Stops => "Stops",
             NoteKind::Finite => "Finite",
             NoteKind::LossyTake => "LossyTake",
             NoteKind::UnusedRow => "UnusedRow",
@@ -80,6 +85,7 @@ impl NoteKind {
             "NoStart" => Some(NoteKind::NoStart),
             "NoStrictReader" => Some(NoteKind::NoStrictReader),
             "StuckRule" => Some(NoteKind::StuckRule),
+            "Stops" => Some(NoteKind::Stops),
             "Finite" => Some(NoteKind::Finite),
             "LossyTake" => Some(NoteKind::LossyTake),
             "UnusedRow" => Some(NoteKind::UnusedRow),
@@ -89,6 +95,37 @@ impl NoteKind {
             "HeldUp" => Some(NoteKind::HeldUp),
             "LateReader" => Some(NoteKind::LateReader),
             _ => None,
+        }
+    }
+
+    /// Its place among the kinds, from 0: below `KINDS`.
+    pub fn place(self) -> usize
+        ensures { result ≡ kind_place self }
+    {
+        match self {
+            NoteKind::Watcher => 0,
+            NoteKind::MayLose => 1,
+            NoteKind::Unlimited => 2,
+            NoteKind::IdleLimit => 3,
+            NoteKind::IdleReader => 4,
+            NoteKind::Stalls => 5,
+            NoteKind::PaceUnused => 6,
+            NoteKind::UnwrittenKey => 7,
+            NoteKind::IdleWriter => 8,
+            NoteKind::UnheardWriter => 9,
+            NoteKind::NoRules => 10,
+            NoteKind::NoStart => 11,
+            NoteKind::NoStrictReader => 12,
+            NoteKind::StuckRule => 13,
+            NoteKind::Stops => 14,
+            NoteKind::Finite => 15,
+            NoteKind::LossyTake => 16,
+            NoteKind::UnusedRow => 17,
+            NoteKind::NeedlessBound => 18,
+            NoteKind::NeedlessTotal => 19,
+            NoteKind::Incompatible => 20,
+            NoteKind::HeldUp => 21,
+            NoteKind::LateReader => 22,
         }
     }
 

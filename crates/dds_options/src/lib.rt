@@ -18,7 +18,7 @@ pub use detail::Detail;
 pub use ends::GoodEnds;
 pub use fates::Fates;
 pub use format::Format;
-pub use kinds::NoteKind;
+pub use kinds::{KINDS, NoteKind};
 pub use style::{LintStyle, Style};
 pub use versions::LaterVersion;
 

@@ -1,9 +1,9 @@
 -- What a judging of a trace comes to.
 use Rattle.std.proofs.Common.{◌≡◌, ℕ, false, List, Ok, Err, refl, inl, inr}
 use Rattle.dds_lists.specs.Lists.{Lists}
-use Rattle.dds_conform.specs.Reading.{IsFaultOf}
+use Rattle.dds_conform.specs.Traces.{IsFaultOf}
 use Rattle.dds_conform.specs.declared.conformance.Conformance.{Conformance}
-use Rattle.dds_conform.specs.declared.conformance.Conformance.TheVariants.{Kept, NoPermit, Unknown}
+use Rattle.dds_conform.specs.declared.conformance.Conformance.TheVariants.{Kept, NoPermit, TooLate, TooSoon, Unknown}
 use Rattle.dds_conform.specs.declared.conformance.Shortage.{Shortage}
 use Rattle.dds_conform.specs.declared.fault.TraceFault.{TraceFault}
 use Rattle.dds_conform.specs.declared.fault.TraceFault.TheVariants as untold
@@ -29,4 +29,6 @@ shortage_plain d s = refl
 pub conformance_plain : (d : Lists) (conformance : Conformance) → has_float (conformance_document d conformance) ≡ false
 conformance_plain d Kept = refl
 conformance_plain d (NoPermit x) = let none = no_fractions (shortage_document d) (shortage_plain d) x.short.items in rw none refl
+conformance_plain d (TooSoon x) = refl
+conformance_plain d (TooLate x) = refl
 conformance_plain d Unknown = refl

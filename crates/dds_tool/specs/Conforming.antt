@@ -1,17 +1,20 @@
 -- What is answered to whether a trace keeps the rules of a deployment.
-use Rattle.std.specs.Prelude.{codes, ℕ, ◌≡◌, ◌⊎◌, Bool, true, false, List, map, Ok, Err, IsUtf8}
+use Rattle.std.specs.Prelude.{codes, ℕ, ◌≡◌, ◌⊎◌, Bool, true, false, List, Option, map, Ok, Err, IsUtf8}
 use Rattle.std.specs.Str.Lines.{lines}
 use Rattle.dds_fields.specs.Reading.{Read}
 use Rattle.dds_lists.specs.Lists.{Lists}
 use Rattle.dds_deploy.specs.Document as deployment
-use Rattle.dds_match.specs.Plan.{network_of}
 use Rattle.dds_text.specs.Names.{reader_key, reader_name, rule_text, writer_key, writer_name}
-use Rattle.dds_conform.specs.Answers.{answer_text}
-use Rattle.dds_conform.specs.Judging as judging
-use Rattle.dds_conform.specs.Reading.{AreEntries, IsFaultOf}
+use Rattle.dds_conform.specs.Answering.{IsTraceAnswer}
+use Rattle.dds_conform.specs.Answers.{answer_text, field_of}
+use Rattle.dds_conform.specs.Reading.{AreEntries}
+use Rattle.dds_conform.specs.Stamps.{AreTimesOrNone}
+use Rattle.dds_conform.specs.Traces.{IsFaultOf}
 use Rattle.dds_conform.specs.declared.actions.Entry.{Entry}
 use Rattle.dds_conform.specs.declared.conformance.Conformance.{Conformance}
-use Rattle.dds_conform.specs.declared.conformance.Conformance.TheVariants.{Kept, NoPermit, Unknown}
+use Rattle.dds_conform.specs.declared.conformance.Conformance.TheVariants.{Kept, NoPermit, TooLate, TooSoon, Unknown}
+use Rattle.dds_conform.specs.declared.conformance.Early.{Early}
+use Rattle.dds_conform.specs.declared.conformance.Late.{Late}
 use Rattle.dds_conform.specs.declared.conformance.Refused.{Refused}
 use Rattle.dds_conform.specs.declared.conformance.Shortage.{Shortage}
 use Rattle.dds_conform.specs.declared.fault.TraceFault.{TraceFault}
@@ -38,9 +41,23 @@ refused_document d x =
     object (member (codes "answer") (string (codes "no")) (member (codes "key") (string (writer_key d x.writer x.key)) (member (codes "line") (number (unsigned x.line))
     (member (codes "short") (array (items_of (map (shortage_document d) x.short.items))) (member (codes "writer") (string (writer_name d x.writer)) no_members)))))
 
+-- a write that comes too soon, with its line, the reader's span, and by how many nanoseconds
+abbrev pub early_document : Lists → Early → Data
+early_document d x =
+    object (member (codes "answer") (string (codes "no")) (member (codes "early") (number (unsigned x.by)) (member (codes "key") (string (writer_key d x.writer x.key)) (member (codes "line") (number (unsigned x.line))
+    (member (codes "reader") (string (reader_name d x.reader)) (member (codes "span") (string (field_of x.within)) (member (codes "writer") (string (writer_name d x.writer)) no_members)))))))
+
+-- a sample that waits too long, with the first line that's too late for it, that of its write, the reader's span, and by how many nanoseconds
+abbrev pub late_document : Lists → Late → Data
+late_document d x =
+    object (member (codes "answer") (string (codes "no")) (member (codes "key") (string (reader_key d x.reader x.key)) (member (codes "late") (number (unsigned x.by)) (member (codes "line") (number (unsigned x.line))
+    (member (codes "reader") (string (reader_name d x.reader)) (member (codes "span") (string (field_of x.within)) (member (codes "written") (number (unsigned x.written)) no_members)))))))
+
 abbrev pub conformance_document : Lists → Conformance → Data
 conformance_document d Kept = object (member (codes "answer") (string (codes "yes")) no_members)
 conformance_document d (NoPermit x) = refused_document d x
+conformance_document d (TooSoon x) = early_document d x
+conformance_document d (TooLate x) = late_document d x
 conformance_document d Unknown = object (member (codes "answer") (string (codes "no")) (member (codes "unknown") (string (codes "budget")) no_members))
 
 -- whether a trace keeps the rules, in this style
@@ -53,10 +70,11 @@ abbrev pub is_kept : Conformance → Bool
 is_kept Kept = true
 is_kept _ = false
 
--- the bytes are UTF-8, their lines stand for entries, and the answer says in this style whether these keep the rules: the answer is so of the deployment's network
+-- the bytes are UTF-8, their lines stand for entries, with the times that they begin with or with none, and the answer says in this style whether these
+-- keep the rules, and the clocks if they have times
 abbrev pub IsConformance : Style → Lists → List ℕ → Outcome → Type 0
 IsConformance style lists bytes end =
-    IsUtf8 bytes × (entries : List Entry) × (conformance : Conformance) × AreEntries lists (lines bytes) entries × judging.IsAnswer (network_of lists) entries conformance
+    IsUtf8 bytes × (entries : List Entry) × (times : Option (List ℕ)) × (conformance : Conformance) × AreEntries lists (lines bytes) entries × AreTimesOrNone (lines bytes) times × IsTraceAnswer lists entries times conformance
     × (end ≡ said (told_conformance style lists conformance) (is_kept conformance))
 
 -- of a deployment that can be read: the trace is judged, or a flaw of it is reported

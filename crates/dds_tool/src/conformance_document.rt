@@ -3,10 +3,11 @@ ghost use Rattle.std.specs.Prelude.{◌≡◌, IfOk, map, string_bytes};
 ghost use Rattle.serde_json.specs.Data.{array};
 ghost use Rattle.serde_json.specs.View.{items_of, view};
 ghost use Rattle.dds_json.specs.Line.{line_of};
-ghost use Rattle.dds_tool.specs.Conforming.{conformance_document, refused_document, shortage_document};
+ghost use Rattle.dds_tool.specs.Conforming.{conformance_document, early_document, late_document};
+ghost use Rattle.dds_tool.specs.Conforming.{refused_document, shortage_document};
 
 use dds_base::NoMemory;
-use dds_conform::{Conformance, Refused, Shortage};
+use dds_conform::{Conformance, Early, Late, Refused, Shortage, field_of};
 use dds_json::line_of;
 use dds_lists::Deployment;
 use dds_text::names::{reader_key, reader_name, rule_text, writer_key, writer_name};
@@ -46,6 +47,36 @@ fn refused_document(alloc: Global, lists: &Deployment, refused: &Refused) -> Res
     json!(in alloc; {"answer": "no", "line": line, "writer": writer, "key": key, "short": short})
 }
 
+/// A write that comes too soon, with its line.
+fn early_document(alloc: Global, lists: &Deployment, early: &Early) -> Result<Value, NoMemory>
+    ensures { IfOk result (λ v. view v ≡ early_document lists.now early.now) }
+{
+    let line = early.line;
+    let writer = writer_name(lists, early.writer);
+    let key = writer_key(lists, early.writer, early.key);
+    let reader = reader_name(lists, early.reader);
+    let span = field_of(early.within);
+    let by = early.by;
+    json!(in alloc; {
+        "answer": "no", "line": line, "writer": writer, "key": key, "reader": reader, "span": span, "early": by
+    })
+}
+
+/// A sample that waits too long, with the first line that is too late for it.
+fn late_document(alloc: Global, lists: &Deployment, late: &Late) -> Result<Value, NoMemory>
+    ensures { IfOk result (λ v. view v ≡ late_document lists.now late.now) }
+{
+    let line = late.line;
+    let reader = reader_name(lists, late.reader);
+    let key = reader_key(lists, late.reader, late.key);
+    let written = late.written;
+    let span = field_of(late.within);
+    let by = late.by;
+    json!(in alloc; {
+        "answer": "no", "line": line, "reader": reader, "key": key, "written": written, "span": span, "late": by
+    })
+}
+
 /// The document of an answer.
 fn conformance_document(
     alloc: Global,
@@ -57,6 +88,8 @@ fn conformance_document(
     match conformance {
         Conformance::Kept => json!(in alloc; {"answer": "yes"}),
         Conformance::NoPermit(refused) => refused_document(alloc, lists, refused),
+        Conformance::TooSoon(early) => early_document(alloc, lists, early),
+        Conformance::TooLate(late) => late_document(alloc, lists, late),
         Conformance::Unknown => json!(in alloc; {"answer": "no", "unknown": "budget"}),
     }
 }

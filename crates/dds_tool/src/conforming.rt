@@ -1,9 +1,7 @@
 //! What `conform` comes to, and what it answers.
 ghost use Rattle.std.specs.Prelude.{◌≡◌, ℕ, List, IfErr, IfOk, IsUtf8, Ok, string_bytes};
 ghost use Rattle.std.specs.Str.Lines.{lines};
-ghost use Rattle.dds_match.specs.Plan.{network_of};
-ghost use Rattle.dds_conform.specs.Judging.{AreKnown};
-ghost use Rattle.dds_conform.specs.Reading.{AreEntries};
+ghost use Rattle.dds_conform.specs.Traces.{IsKnownTrace, IsTraceOf};
 ghost use Rattle.dds_answers.specs.Answers.{Gives};
 ghost use Rattle.dds_answers.specs.Fault.{IsAnswerFault};
 ghost use Rattle.dds_answers.specs.Outcome.{said};
@@ -17,7 +15,7 @@ use crate::conformance_document::conformance_line;
 use crate::outcome::Outcome;
 use dds_answers::{Answer, ToolFault, answer_with, read_plan};
 use dds_base::NoMemory;
-use dds_conform::{Conformance, Entry, TraceFault, answer_text, conform, read_trace};
+use dds_conform::{Conformance, Trace, TraceFault, answer_text, conform, read_trace};
 use dds_match::Plan;
 use dds_options::Style;
 use std::alloc::Global;
@@ -46,9 +44,10 @@ fn is_kept(conformance: &Conformance) -> bool
 
 /// The answer with whether a trace keeps the rules of a plan, both of which are needed no longer, in this style: yes
 /// with `kept` where firings of rules can be put between the lines so that each write has its permit and each firing
-/// its takes; no with the first line of a write that has none and what the rules lack there, or with `unknown`. Where
-/// no two rules give permits for the same writes, no firings make the lines up to that one keep the rules, and
-/// `unknown` comes only where a count would pass 2^64 - 1.
+/// its takes, and the clocks are kept if lines have times; no with the first line that breaks something: a write that
+/// has no permit and what the rules lack there, one that comes too soon, or the first line that a sample waits for too
+/// long; or with `unknown`. Where no two rules give permits for the same writes, no firings make the lines up to one
+/// without a permit keep the rules, and `unknown` comes only where a count would pass 2^64 - 1.
 pub(crate) fn answer_conformance(
     alloc: Global,
     plan: Plan,
@@ -77,15 +76,15 @@ fn trace_fault(fault: TraceFault) -> ToolFault
     }
 }
 
-/// Whether the entries of a trace keep the rules of a plan.
-fn judge(alloc: Global, plan: Plan, entries: &[Entry]) -> Result<Outcome<'static>, ToolFault>
-    requires { AreKnown (network_of plan) entries.now }
+/// Whether a trace keeps the rules of a plan and, where it has times, its clocks.
+fn judge(alloc: Global, plan: Plan, trace: &Trace) -> Result<Outcome<'static>, ToolFault>
+    requires { IsKnownTrace plan trace.now }
     ensures judged { (names : FileNames) → (style : Style) → (bytes : List ℕ) → IsUtf8 bytes
-        → AreEntries plan (lines bytes) entries.now
+        → IsTraceOf plan (lines bytes) trace.now
         → ComesTo names style ⊥ (MayConform style (Ok plan) bytes) result }
     ensures fault { IfErr result IsAnswerFault }
 {
-    match conform(alloc, &plan, entries) {
+    match conform(alloc, &plan, trace) {
         Ok(conformance) => Ok(Outcome::Conformed { plan, conformance }),
         Err(_) => {
             drop(plan);
@@ -101,7 +100,7 @@ fn judge_trace(alloc: Global, plan: Plan, trace: &[u8]) -> Result<Outcome<'stati
     ensures fault { IfErr result IsAnswerFault }
 {
     match read_trace(alloc, &plan, trace) {
-        Ok(entries) => judge(alloc, plan, entries.as_slice()),
+        Ok(trace) => judge(alloc, plan, &trace),
         Err(fault) => {
             drop(plan);
             Err(trace_fault(fault))

@@ -5,4 +5,4 @@ use Rattle.dds_findings.proofs.sarif.results_array.Given as goal
 
 -- the results so far
 abbrev pub invariant-loop-finding : goal.invariant-loop-finding
-invariant-loop-finding l = map view l.documents.items ≡ map (result_document l.names) (take l.finding-index l.findings)
+invariant-loop-finding l = map view l.documents.items ≡ map (result_document l.names l.deny) (take l.finding-index l.findings)
