@@ -88,12 +88,7 @@ fn permit_line(
 }
 
 /// The permits at the opening at a writer.
-fn writer_permit_lines(
-    alloc: Global,
-    plan: &Plan,
-    weights: &Tables,
-    writer: WriterNo,
-) -> TextResult
+fn writer_permit_lines(alloc: Global, plan: &Plan, weights: &Tables, writer: WriterNo) -> TextResult
     ensures { IfOk result (λ text. string_bytes text ≡ writer_permit_lines plan.now weights.now writer) }
 {
     text_below(
