@@ -16,22 +16,27 @@ pub every_below_more : {A : Type 0} (f : ℕ → List A) (i : ℕ) → every_bel
 unfolding every_below
 every_below_more f i = rw add-one refl
 
+-- a list with fewer elements than are taken is taken whole
+short : {X : Type 0} (n : ℕ) (ys : List X) → length (take n ys) < n → take n ys ≡ ys
+short zero ys less = absurd (omega (arith, less))
+short (suc n) [] less = refl
+short (suc n) (y ∷ ys) less = ap (λ zs. y ∷ zs) (short n ys (omega (arith, less)))
+
+one_more : {X : Type 0} (ys : List X) (y : X) (n : ℕ) → length ys < n → length (ys ++ y ∷ []) ≤ n
+one_more [] y n less = omega (arith, less)
+one_more (z ∷ ys) y zero less = absurd (omega (arith, less))
+one_more (z ∷ ys) y (suc n) less = omega (arith, one_more ys y n (omega (arith, less)))
+
+nothing_more : {X : Type 0} (ys : List X) → ys ++ [] ≡ ys
+nothing_more [] = refl
+nothing_more (y ∷ ys) = ap (λ zs. y ∷ zs) (nothing_more ys)
+
 -- the first 1,000 of a list that gets one more element: with it where there's room
 take_room : {X : Type 0} (xs : List X) (x : X) → length (take 1000 xs) < 1000 → take 1000 (xs ++ x ∷ []) ≡ take 1000 xs ++ x ∷ []
 take_room xs x room =
     let whole : take 1000 xs ≡ xs = short 1000 xs room in
     let few : length xs < 1000 = subst (λ ys. length ys < 1000) whole room in
     take_all 1000 (xs ++ x ∷ []) (one_more xs x 1000 few) ∙ ap (λ ys. ys ++ x ∷ []) (sym whole)
-  where
-    short : (n : ℕ) (ys : List _) → length (take n ys) < n → take n ys ≡ ys
-    short zero ys less = absurd (omega (arith, less))
-    short (suc n) [] less = refl
-    short (suc n) (y ∷ ys) less = ap (λ zs. y ∷ zs) (short n ys (omega (arith, less)))
-
-    one_more : (ys : List _) (y : _) (n : ℕ) → length ys < n → length (ys ++ y ∷ []) ≤ n
-    one_more [] y n less = omega (arith, less)
-    one_more (z ∷ ys) y zero less = absurd (omega (arith, less))
-    one_more (z ∷ ys) y (suc n) less = omega (arith, one_more ys y n (omega (arith, less)))
 
 take_full : {X : Type 0} (n : ℕ) (xs ys : List X) → n ≤ length (take n xs) → take n (xs ++ ys) ≡ take n xs
 take_full zero xs ys full = refl
@@ -56,11 +61,7 @@ pub first_passed : {X : Type 0} (p : X → Bool) (xs first : List X) (i : ℕ) (
     → first ≡ take 1000 (filter p (take (i + 1) xs))
 first_passed p xs first i x inside at is fails =
     let here : p (get_or xs i x) ≡ false = subst (λ y. p y ≡ false) at fails in
-    is ∙ sym (ap (take 1000) (filter_more p xs i x inside ∙ ap (λ b. filter p (take i xs) ++ cond b (get_or xs i x ∷ []) []) here ∙ none (filter p (take i xs))))
-  where
-    none : (ys : List _) → ys ++ [] ≡ ys
-    none [] = refl
-    none (y ∷ ys) = ap (λ zs. y ∷ zs) (none ys)
+    is ∙ sym (ap (take 1000) (filter_more p xs i x inside ∙ ap (λ b. filter p (take i xs) ++ cond b (get_or xs i x ∷ []) []) here ∙ nothing_more (filter p (take i xs))))
 
 pub ruleset first_of = (first_added, first_full, first_passed)
 
