@@ -151,7 +151,7 @@ int main(int count, char **word)
         fprintf(stderr, "fast-late DOMAIN SAMPLES DEPTH SERVICE OFFERED REQUESTED LOSS SEED SECONDS\n");
         return 4;
     }
-    const Words words = {number(word[1], 0, 230), number(word[2], 1, 5000), history_of(word[3]), history_of(word[4]), durability_of(word[5]), durability_of(word[6]),
+    const Words words = {number(word[1], 0, 230), number(word[2], 1, 1000), history_of(word[3]), history_of(word[4]), durability_of(word[5]), durability_of(word[6]),
                          number(word[7], 0, 90), number(word[8], 0, 1000000), std::chrono::seconds(number(word[9], 1, 600))};
     Losses losses(words);
     DataWriter *writer = open_writer(words, losses);
