@@ -26,19 +26,26 @@ from harness import PROGRAM, ROOT, Tally, ddscheck, need_program, run, side_by_s
 from paged import read_page, rows_of  # noqa: E402
 from reported import (  # noqa: E402
     Answer,
+    fault_of_bars,
     fault_of_bounds,
     fault_of_endpoints,
     fault_of_evidence,
     fault_of_form,
+    fault_of_frame,
+    fault_of_least,
     fault_of_matches,
+    fault_of_meanings,
     fault_of_notes,
     fault_of_order,
+    fault_of_reasons,
     fault_of_room,
     fault_of_steps,
     fault_of_terms,
     fault_of_tidy,
+    fault_of_unheard,
     fault_of_unlimited,
     fault_of_verdict,
+    fault_of_watchers,
     state_owed,
 )
 from shown import lists_of  # noqa: E402
@@ -55,9 +62,9 @@ ENVIRONMENT = os.environ | {"DDSCHECK": str(PROGRAM)}
 EXAMPLE, EXAMPLE_OF = ROOT / "examples/vehicle/report.html", "examples/vehicle/vehicle"
 DATE = "2026-11-30"
 DATA = commands.DATA
-# what a page of the largest files may take: bytes, and seconds of a processor for the tool and all that it runs, twice
-# what the dearest took on a busy machine; and how many pages of paper the vehicle may
-MOST_BYTES, MOST_SECONDS, MOST_PAGES = 5_000_000, 20, 8
+# what a page of the largest files may take: bytes, and seconds of a processor for the tool and all that it runs; how
+# often it's measured at most, as other processes slow a processor down; and how many pages of paper the vehicle may
+MOST_BYTES, MOST_SECONDS, MOST_PAGES = 5_000_000, 5, 8
 
 
 def report(*words, **how):
@@ -110,11 +117,18 @@ def compare_page(tally, what, answer, text, optional=()):
     tally.judge(f"{what}: form", fault_of_form, page)
     tally.judge(f"{what}: order", fault_of_order, page, [*optional, *([] if answer.is_yes else ["reason"])])
     for judge in (
+        fault_of_frame,
         fault_of_verdict,
         fault_of_bounds,
+        fault_of_bars,
+        fault_of_least,
         fault_of_room,
+        fault_of_reasons,
         fault_of_unlimited,
+        fault_of_unheard,
+        fault_of_watchers,
         fault_of_notes,
+        fault_of_meanings,
         fault_of_terms,
         fault_of_matches,
         fault_of_endpoints,
