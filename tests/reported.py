@@ -88,7 +88,7 @@ class Answer:
         self.check = ddscheck("check", deployment, certificate, "--explain").out.splitlines()
         self.document = json.loads(ddscheck("check", deployment, certificate, "--format", "json").out)
         self.findings = json.loads(ddscheck("lint", deployment, certificate, "--format", "json").out)["findings"]
-        self.needs = json.loads(ddscheck("limits", deployment, "--seconds", "2", "--format", "json").out)["needs"]
+        self.needs = json.loads(ddscheck("limits", deployment, "--explain", "--seconds", "2", "--format", "json").out)["needs"]
         self.matches = ddscheck("match", deployment).out.splitlines()
         self.allowed = allow.split(",") if allow else []
 
@@ -649,5 +649,8 @@ def fault_of_evidence(page, files, program):
     sources = next((stamp[0] for stamp in lines if stamp[1] == own), None)
     if found["Program"] != f"{ddscheck('--version').out.strip()} SHA-256 {own}":
         return found["Program"]
+    toolchain = next((stamp[2] for stamp in lines if stamp[1] == own and stamp[2:] not in ([], ["released"])), None)
+    if found.get("Toolchain that proved them") != toolchain:
+        return f"toolchain {found.get('Toolchain that proved them')}, not {toolchain}"
     said = found["Checksum of its sources"]
     return None if said == sources or not sources and said.startswith("not known") else f"sources {said}, not {sources}"
