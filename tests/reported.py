@@ -7,7 +7,7 @@ import json
 import re
 import shutil
 import sys
-from itertools import groupby, zip_longest
+from itertools import groupby, takewhile, zip_longest
 from pathlib import Path
 
 sys.dont_write_bytecode = True
@@ -520,8 +520,8 @@ def fault_of_least(page, answer):
 
 def reasons_owed(answer):
     """The lines of `check --explain` about bounds."""
-    begin = ("yes", "bound ", "total ", "premise ", "note: ")
-    return [line for line in answer.check if not line.startswith(begin)] if answer.is_yes else []
+    before = takewhile(lambda line: not line.startswith(("premise ", "note: ")), answer.check)
+    return [line for line in before if not line.startswith(("yes", "bound ", "total "))] if answer.is_yes else []
 
 
 def fault_of_reasons(page, answer):
