@@ -431,7 +431,7 @@ def listed(names):
 
 
 def more_owed(end, answer):
-    """What an endpoint has besides the policies of the columns, by a reading of its own; a policy only if it's not DDS's default."""
+    """What an endpoint has besides the policies of the columns; a policy only where it isn't DDS's default."""
     found = [f"partitions {listed(end['partitions'])}"] if end["partitions"] else []
     keys = next(topic["keys"] for topic in answer.lists["topics"] if topic["name"] == end["topic"])
     if set(end.get("filter", keys)) != set(keys):
@@ -448,7 +448,8 @@ def more_owed(end, answer):
 
 
 # what stands in columns of its own, or beside the endpoints
-IN_COLUMNS = ("reliability", "durability", "history", "depth", "max_samples", "max_instances", "max_samples_per_instance", "partitions")
+LIMITS = ("depth", "max_samples", "max_instances", "max_samples_per_instance")
+IN_COLUMNS = ("reliability", "durability", "history", "partitions", *LIMITS)
 
 
 def fault_of_endpoints(page, answer):
@@ -540,7 +541,8 @@ def fault_of_reasons(page, answer):
             number = (least if certified == "–" else certified).replace(",", "")
             begin = " ".join(filter(None, ["because", name, key]))
             own = [line for line in lines if line.startswith(f"{begin} ") and line.endswith(f": {why}")]
-            if not why or (number.isdigit() and not any(line.startswith(f"{begin} {number} of no limit") for line in own)):
+            is_own = not number.isdigit() or any(line.startswith(f"{begin} {number} of no limit") for line in own)
+            if not why or not is_own:
                 return f"{end} {keys}: because {why}"
     return None
 
@@ -562,7 +564,11 @@ def fault_of_watchers(page, answer):
             if (topic, why, history) != (reader["topic"], owed, reader["history"] + depth):
                 return f"{reader['name']}: {topic} {why} {history}"
             entries = [entry.rpartition(": ") for entry in held.split("; ")] if held != "none" else []
-            found = {(key, number.replace(",", "")) for keys, _, number in entries for key in keys_in(keys, reader["name"], answer)}
+            found = {
+                (key, number.replace(",", ""))
+                for keys, _, number in entries
+                for key in keys_in(keys, reader["name"], answer)
+            }
             if found != {(key, str(bound)) for (end, key), bound in bounds.items() if end == reader["name"]}:
                 return f"{reader['name']}: {held}"
     return None
@@ -576,11 +582,12 @@ def fault_of_unheard(page, answer):
     names = [reader["name"] for reader in answer.lists["readers"]]
     unheard = [name for name in names if name not in heard and name not in answer.watchers()]
     said = [p.words for p in page.by_id("room").all("p") if p.words.startswith("No sample can come to ")]
-    return None if said == ([f"No sample can come to {', '.join(unheard)}."] if unheard else []) else f"{said}, not {unheard}"
+    owed = [f"No sample can come to {', '.join(unheard)}."] if unheard else []
+    return None if said == owed else f"{said}, not {owed}"
 
 
 def fault_of_meanings(page, answer):
-    """What is wrong with the words beside the notes: what each kind means, by docs/numbers.md, and what would be right."""
+    """What is wrong with the words beside the notes: what each kind means, by docs/numbers.md, and its help."""
     numbers = (ROOT / "docs/numbers.md").read_text(encoding="utf-8")
     groups = {next(group.all("h3")).words: group for group in page.by_id("notes").of_class("kind")}
     for finding in answer.findings:
@@ -590,14 +597,10 @@ def fault_of_meanings(page, answer):
         if means not in "".join(node.words for node in group.of_class("meaning")):
             return f"{finding['name']} doesn't mean {means}"
         first = next(one for one in answer.findings if alike(one, answer.allowed) == alike(finding, answer.allowed))
-        said = " ".join(cell.words for table in group.all("table") for row in rows_of_nodes(table) for cell in row.all("td"))
+        said = " ".join(cell.words for body in group.all("tbody") for cell in body.all("td"))
         if first["explanation"]["help"] and plain(first["explanation"]["help"]) not in said:
             return f"{finding['name']}: without its help, {first['explanation']['help']}"
     return None
-
-
-def rows_of_nodes(table):
-    return [row for body in table.all("tbody") for row in body.all("tr")]
 
 
 def fault_of_frame(page, answer):
