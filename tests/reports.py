@@ -240,6 +240,17 @@ def matches(tally, room):
         tally.check(is_said, f"who matches: {name}, in a sentence", shown.words[:200])
 
 
+def unheard(tally, room):
+    """Strict readers that no sample can come to, since the file has no rules."""
+    text = matching({"w": '["a"]'}, {"r": '["a"]'}, [("w", "r")]).replace("may_lose = true", 'reliability = "RELIABLE"')
+    deployment, certificate = room / "unheard.toml", room / "unheard.cert.toml"
+    deployment.write_text(text, encoding="utf-8")
+    certificate.write_text("version = 1\n", encoding="utf-8")
+    page, _ = page_of(deployment, certificate)
+    said = page.by_id("room").words
+    tally.check("No sample can come to r. " in said, "strict readers that hear nothing", said)
+
+
 # what the run of each `unsafe.toml` loses, by the limits in the file and the first line of the run
 LOST = {
     "vehicle": "frames_r rejects the 3rd of front, as it has room for 2",
@@ -1096,6 +1107,7 @@ def main(words):
         tally.attempt(part.__name__, part, tally)
     for part in (
         matches,
+        unheard,
         pictures,
         runs,
         sentences,
