@@ -1,4 +1,4 @@
--- The first of those that pass a test, and what lists of several come to, as loops make them.
+-- The first of those that pass a test, and what lists of several come to, as loops add them up.
 use Rattle.std.proofs.Common.{ℕ, zero, suc, Bool, true, false, ◌≡◌, ◌∙◌, ◌+◌, ◌<◌, ◌≤◌, List, [], ◌∷◌, ◌++◌, length, refl, sym, ap, subst, arith, add-one, take, get_or, cond, inl, inr}
 use Rattle.std.specs.Prelude.{filter}
 use Rattle.std.proofs.Math.Nat.{min-eq_left, min-eq_right}
@@ -8,13 +8,28 @@ use Rattle.std.proofs.lemmas.List.Elements.{filter_more}
 use Rattle.dds_lint.specs.Every.{every_below}
 use Rattle.dds_findings.specs.Blocks.{counted}
 
-pub every_below_start : {A : Type 0} (f : ℕ → List A) → every_below 0 f ≡ []
+nothing_more : {X : Type 0} (ys : List X) → ys ++ [] ≡ ys
+nothing_more [] = refl
+nothing_more (y ∷ ys) = ap (λ zs. y ∷ zs) (nothing_more ys)
+
+in_two : {X : Type 0} (xs ys zs : List X) → (xs ++ ys) ++ zs ≡ xs ++ (ys ++ zs)
+in_two [] ys zs = refl
+in_two (x ∷ xs) ys zs = ap (λ l. x ∷ l) (in_two xs ys zs)
+
+-- ── what a loop adds to a list, a list each time
+every_below_start : {A : Type 0} (f : ℕ → List A) → every_below 0 f ≡ []
 unfolding every_below
 every_below_start f = refl
 
-pub every_below_more : {A : Type 0} (f : ℕ → List A) (i : ℕ) → every_below (i + 1) f ≡ every_below i f ++ f i
+every_below_more : {A : Type 0} (f : ℕ → List A) (i : ℕ) → every_below (i + 1) f ≡ every_below i f ++ f i
 unfolding every_below
 every_below_more f i = rw add-one refl
+
+pub added_first : {A : Type 0} (start : List A) (f : ℕ → List A) → start ≡ start ++ every_below 0 f
+added_first start f = sym (ap (λ ys. start ++ ys) (every_below_start f) ∙ nothing_more start)
+
+pub added_next : {A : Type 0} (start now next : List A) (f : ℕ → List A) (i : ℕ) → now ≡ start ++ every_below i f → next ≡ now ++ f i → next ≡ start ++ every_below (i + 1) f
+added_next start now next f i so_far added = added ∙ (ap (λ ys. ys ++ f i) so_far ∙ (in_two start (every_below i f) (f i) ∙ ap (λ ys. start ++ ys) (sym (every_below_more f i))))
 
 -- a list with fewer elements than are taken is taken whole
 short : {X : Type 0} (n : ℕ) (ys : List X) → length (take n ys) < n → take n ys ≡ ys
@@ -26,10 +41,6 @@ one_more : {X : Type 0} (ys : List X) (y : X) (n : ℕ) → length ys < n → le
 one_more [] y n less = omega (arith, less)
 one_more (z ∷ ys) y zero less = absurd (omega (arith, less))
 one_more (z ∷ ys) y (suc n) less = omega (arith, one_more ys y n (omega (arith, less)))
-
-nothing_more : {X : Type 0} (ys : List X) → ys ++ [] ≡ ys
-nothing_more [] = refl
-nothing_more (y ∷ ys) = ap (λ zs. y ∷ zs) (nothing_more ys)
 
 -- the first 1,000 of a list that gets one more element: with it where there's room
 take_room : {X : Type 0} (xs : List X) (x : X) → length (take 1000 xs) < 1000 → take 1000 (xs ++ x ∷ []) ≡ take 1000 xs ++ x ∷ []

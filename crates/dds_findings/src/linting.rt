@@ -167,7 +167,6 @@ fn push_number<'a>(
 }
 
 /// Adds the findings of conditions by their numbers.
-#[tactic(auto, using(crate::proofs::Listed::every_below_start, crate::proofs::Listed::every_below_more))]
 fn push_numbers<'a>(
     alloc: Global,
     files: &Files,
@@ -283,7 +282,6 @@ fn push_kind(
 }
 
 /// Adds the findings of notes by their kinds.
-#[tactic(auto, using(crate::proofs::Listed::every_below_start, crate::proofs::Listed::every_below_more))]
 fn push_kinds(
     alloc: Global,
     files: &Files,
