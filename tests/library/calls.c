@@ -92,6 +92,7 @@ int main(int count, char **words)
     if (count != 3) {
         return 4;
     }
+    printf("%d\n", ddscheck_version() == DDSCHECK_VERSION_NUMBER);
     print("no file", ddscheck_open_file("/nowhere", "a1", &guard));
     print("no application", ddscheck_open_file(words[1], "a3", &guard));
     print("open", ddscheck_open_file(words[1], "a1", &guard));

@@ -176,7 +176,7 @@ pub extern "C" fn ddscheck_find_key(
 
 /// The application took a sample of a key at a reader.
 #[unsafe(no_mangle)]
-pub extern "C" fn ddscheck_take(slot: &mut Slot, reader: usize, key: usize) -> u32
+pub extern "C" fn ddscheck_guard_take(slot: &mut Slot, reader: usize, key: usize) -> u32
     requires { IsKept slot.old }
     ensures kept { IsKept slot.new }
     ensures answer { result ≡ answer_at slot.old (λ g. take_status (take_refusal g reader key)) }
@@ -198,7 +198,7 @@ pub extern "C" fn ddscheck_take(slot: &mut Slot, reader: usize, key: usize) -> u
 
 /// Fires a rule of the application.
 #[unsafe(no_mangle)]
-pub extern "C" fn ddscheck_fire(slot: &mut Slot, rule: usize) -> u32
+pub extern "C" fn ddscheck_guard_fire(slot: &mut Slot, rule: usize) -> u32
     requires { IsKept slot.old }
     ensures kept { IsKept slot.new }
     ensures answer { result ≡ answer_at slot.old (λ g. firing_status (firing_refusal g rule)) }
@@ -216,7 +216,7 @@ pub extern "C" fn ddscheck_fire(slot: &mut Slot, rule: usize) -> u32
 
 /// Whether the application may write a sample of a key now.
 #[unsafe(no_mangle)]
-pub extern "C" fn ddscheck_may_write(slot: &mut Slot, writer: usize, key: usize) -> u32
+pub extern "C" fn ddscheck_guard_may_write(slot: &mut Slot, writer: usize, key: usize) -> u32
     requires { IsKept slot.old }
     ensures kept { IsKept slot.new }
     ensures answer { result ≡ answer_at slot.old (λ g. write_status (result_err (way_of g writer key))) }
@@ -237,7 +237,7 @@ pub extern "C" fn ddscheck_may_write(slot: &mut Slot, writer: usize, key: usize)
 
 /// The application is about to write a sample of a key.
 #[unsafe(no_mangle)]
-pub extern "C" fn ddscheck_write(slot: &mut Slot, writer: usize, key: usize) -> u32
+pub extern "C" fn ddscheck_guard_write(slot: &mut Slot, writer: usize, key: usize) -> u32
     requires { IsKept slot.old }
     ensures kept { IsKept slot.new }
     ensures answer { result ≡ answer_at slot.old (λ g. write_status (result_err (way_of g writer key))) }
@@ -260,7 +260,7 @@ pub extern "C" fn ddscheck_write(slot: &mut Slot, writer: usize, key: usize) -> 
 
 /// How many permits the application has for a key at a writer.
 #[unsafe(no_mangle)]
-pub extern "C" fn ddscheck_permits(
+pub extern "C" fn ddscheck_guard_permits(
     slot: &mut Slot,
     writer: usize,
     key: usize,
@@ -290,7 +290,7 @@ pub extern "C" fn ddscheck_permits(
 
 /// How many takes of a key at a reader no rule has spent.
 #[unsafe(no_mangle)]
-pub extern "C" fn ddscheck_spare(slot: &mut Slot, reader: usize, key: usize, count: &mut u64) -> u32
+pub extern "C" fn ddscheck_guard_spare(slot: &mut Slot, reader: usize, key: usize, count: &mut u64) -> u32
     requires { IsKept slot.old }
     ensures kept { IsKept slot.new }
     ensures answer { result ≡ answer_at slot.old (λ g. count_status (spare_at g reader key)) }
