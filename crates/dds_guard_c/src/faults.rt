@@ -23,8 +23,8 @@ fn tell(fault: Fault, number: &mut u32, path: &mut [u8], length: &mut usize)
     drop(text);
 }
 
-/// Tells the first fault of a deployment file: its number, 1 to 13, and where it is, as `ddscheck match` prints them. As
-/// much of the path as there is room for is put into `path`, and `length` is that of the whole in bytes. The answer
+/// Tells the first fault of a deployment file: its number, 1 to 13, and where it is, as `ddscheck match` prints them.
+/// As much of the path as there is room for is put into `path`, and `length` is that of the whole in bytes. The answer
 /// is 1 where there is a fault, else nothing is told: 0 where the file has none, and 2 where memory ran out.
 #[unsafe(no_mangle)]
 pub extern "C" fn ddscheck_find_fault(
