@@ -58,7 +58,9 @@ enum {
     /* the QoS of an entity isn't that of the deployment file; ddscheck_dds_open alone answers it */
     DDSCHECK_OTHER_QOS = 11,
     /* a pointer is NULL */
-    DDSCHECK_NULL = 12
+    DDSCHECK_NULL = 12,
+    /* the last write that used a permit isn't this one, or is taken back already; ddscheck_undo_write alone answers it */
+    DDSCHECK_NOT_WRITTEN = 13
 };
 
 /* What the check of a deployment by a certificate says, one of the numbers below: the status with which `ddscheck check` ends. */
@@ -113,6 +115,7 @@ ddscheck_status ddscheck_find_writer_qos(const char *deployment, size_t length, 
 ddscheck_status ddscheck_find_reader_qos(const char *deployment, size_t length, size_t reader, ddscheck_qos *qos);
 ddscheck_status ddscheck_guard_take(ddscheck_guard *guard, size_t reader, size_t key);
 ddscheck_status ddscheck_guard_write(ddscheck_guard *guard, size_t writer, size_t key);
+ddscheck_status ddscheck_guard_undo_write(ddscheck_guard *guard, size_t writer, size_t key);
 ddscheck_status ddscheck_guard_may_write(const ddscheck_guard *guard, size_t writer, size_t key);
 ddscheck_status ddscheck_guard_fire(ddscheck_guard *guard, size_t rule);
 ddscheck_status ddscheck_guard_permits(const ddscheck_guard *guard, size_t writer, size_t key, uint64_t *permits);
@@ -135,6 +138,13 @@ static inline ddscheck_status ddscheck_take(ddscheck_guard *guard, size_t reader
 static inline ddscheck_status ddscheck_write(ddscheck_guard *guard, size_t writer, size_t key)
 {
     return guard == NULL ? DDSCHECK_NULL : ddscheck_guard_write(guard, writer, key);
+}
+
+/* Takes back the write of a key that ddscheck_write let through and DDS refused, so that its permit can be used again. It has to be the last one that used a
+   permit; takes, rules that are fired, and questions may come between. A rule that was fired for it stays fired. A free write used none, so nothing changes. */
+static inline ddscheck_status ddscheck_undo_write(ddscheck_guard *guard, size_t writer, size_t key)
+{
+    return guard == NULL ? DDSCHECK_NULL : ddscheck_guard_undo_write(guard, writer, key);
 }
 
 /* What ddscheck_write would answer. Nothing changes. */
@@ -191,6 +201,7 @@ static inline const char *ddscheck_status_name(ddscheck_status status)
     case DDSCHECK_NO_FILE: return "DDSCHECK_NO_FILE";
     case DDSCHECK_OTHER_QOS: return "DDSCHECK_OTHER_QOS";
     case DDSCHECK_NULL: return "DDSCHECK_NULL";
+    case DDSCHECK_NOT_WRITTEN: return "DDSCHECK_NOT_WRITTEN";
     default: return "no status";
     }
 }

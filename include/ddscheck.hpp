@@ -127,6 +127,7 @@ public:
 
     ddscheck_status take(size_t reader, size_t key) noexcept { return ddscheck_take(&guard_, reader, key); }
     [[nodiscard]] ddscheck_status write(size_t writer, size_t key) noexcept { return ddscheck_write(&guard_, writer, key); }
+    ddscheck_status undo_write(size_t writer, size_t key) noexcept { return ddscheck_undo_write(&guard_, writer, key); }
     [[nodiscard]] ddscheck_status may_write(size_t writer, size_t key) const noexcept { return ddscheck_may_write(&guard_, writer, key); }
     ddscheck_status fire(size_t rule) noexcept { return ddscheck_fire(&guard_, rule); }
 

@@ -157,7 +157,8 @@ static inline dds_return_t ddscheck_dds_take(ddscheck_dds_end *reader, void **sa
 }
 
 /* dds_write where the guard lets the sample be written, else DDS_RETCODE_PRECONDITION_NOT_MET, and nothing is written; the guard's answer is in the writer's
-   status. Where dds_write then fails, the permit stays used: the program writes one sample less than it might, and never one more. */
+   status. Where dds_write then fails, the permit stays used: the program writes one sample less than it might, and never one more, unless ddscheck_dds_undo_write
+   takes the write back. */
 static inline dds_return_t ddscheck_dds_write(ddscheck_dds_end *writer, const void *sample)
 {
     writer->status = ddscheck_write(writer->guard, writer->number, writer->key_of(sample, writer->context));
@@ -165,6 +166,14 @@ static inline dds_return_t ddscheck_dds_write(ddscheck_dds_end *writer, const vo
         return DDS_RETCODE_PRECONDITION_NOT_MET;
     }
     return dds_write(writer->entity, sample);
+}
+
+/* Takes back the last write of a sample, one that dds_write refused without writing it, such as by DDS_RETCODE_TIMEOUT where no local reader has the topic. Answers
+   what ddscheck_undo_write does, as the writer's status then is. */
+static inline ddscheck_status ddscheck_dds_undo_write(ddscheck_dds_end *writer, const void *sample)
+{
+    writer->status = ddscheck_undo_write(writer->guard, writer->number, writer->key_of(sample, writer->context));
+    return writer->status;
 }
 
 #ifdef __cplusplus

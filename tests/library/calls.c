@@ -36,6 +36,11 @@ static void keep_rules(ddscheck_guard *guard)
     print("fire", ddscheck_fire(guard, 0));
     print("write", ddscheck_write(guard, writer, key));
     print("one too many", ddscheck_write(guard, writer, key));
+    print("undo", ddscheck_undo_write(guard, writer, key));
+    print("undo again", ddscheck_undo_write(guard, writer, key));
+    print("undo of another's", ddscheck_undo_write(guard, writer + 1, key));
+    print("write", ddscheck_write(guard, writer, key));
+    print("one too many", ddscheck_write(guard, writer, key));
 }
 
 static void print_qos(const char *what, ddscheck_status status, const ddscheck_qos *qos)

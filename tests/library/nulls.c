@@ -77,6 +77,7 @@ static void refuse_calls(ddscheck_guard *guard)
     uint64_t count = 0;
     refuse(ddscheck_take(NULL, 1, 0));
     refuse(ddscheck_write(NULL, 0, 0));
+    refuse(ddscheck_undo_write(NULL, 0, 0));
     refuse(ddscheck_may_write(NULL, 0, 0));
     refuse(ddscheck_fire(NULL, 0));
     refuse(ddscheck_permits(NULL, 0, 0, &count));

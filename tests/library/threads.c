@@ -20,7 +20,7 @@ static void *open_guard(void *path)
     return NULL;
 }
 
-/* Writes what it may, and takes a sample every second time. */
+/* Writes what it may, and takes a sample every second time. A third of the writes are taken back, as if DDS had refused them. */
 static void *use_guard(void *none)
 {
     int round;
@@ -30,7 +30,13 @@ static void *use_guard(void *none)
             wrong += ddscheck_take(&guard, 1, 0) != DDSCHECK_OK;
             taken++;
         }
-        written += ddscheck_write(&guard, 0, 0) == DDSCHECK_OK;
+        if (ddscheck_write(&guard, 0, 0) == DDSCHECK_OK) {
+            written++;
+            if (round % 3 == 0) {
+                wrong += ddscheck_undo_write(&guard, 0, 0) != DDSCHECK_OK;
+                written--;
+            }
+        }
         (void)pthread_mutex_unlock(&lock);
     }
     return none;

@@ -60,6 +60,7 @@ static int call_all(ddscheck_guard *guard)
             right += ddscheck_take(guard, first, second) == DDSCHECK_OK;
             right += ddscheck_may_write(guard, first, second) == DDSCHECK_OK;
             right += ddscheck_write(guard, first, second) == DDSCHECK_OK;
+            right += ddscheck_undo_write(guard, first, second) == DDSCHECK_OK;
             right += ddscheck_permits(guard, first, second, &count) == DDSCHECK_OK;
             right += ddscheck_spare(guard, first, second, &count) == DDSCHECK_OK;
         }

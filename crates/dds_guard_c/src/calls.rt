@@ -4,15 +4,17 @@ ghost use Rattle.std.specs.Result.{result_err};
 ghost use Rattle.dds_base.specs.Names.{number_of};
 ghost use Rattle.dds_guard.specs.Guard.{permits_at, rule_number, spare_at};
 ghost use Rattle.dds_guard.specs.Opening.{OpensAs};
-ghost use Rattle.dds_guard.specs.Refusals.{IsFired, IsTaken, IsWritten, firing_refusal, take_refusal, way_of};
+ghost use Rattle.dds_guard.specs.Refusals.{IsFired, IsTaken, IsTakenBack, IsWritten, firing_refusal, is_free};
+ghost use Rattle.dds_guard.specs.Refusals.{take_refusal, undo_refusal, way_of};
 ghost use Rattle.dds_guard_c.specs.Calls.{IsKept, answer_at, key_named};
-ghost use Rattle.dds_guard_c.specs.Status.{count_status, firing_status, name_status, take_status, write_status};
+ghost use Rattle.dds_guard_c.specs.Status.{count_status, firing_status, name_status, take_status, undo_status};
+ghost use Rattle.dds_guard_c.specs.Status.{write_status};
 
 use crate::handle::Handle;
 use crate::slot::{OPEN, Slot};
 use crate::status::{
     ALREADY_OPEN, FOREIGN, NO_MEMORY, NOT_OPEN, OK, UNKNOWN_NAME, fault_status, firing_status,
-    take_status, write_status,
+    take_status, undo_status, write_status,
 };
 use dds_base::{KeyNo, ReaderNo, RuleNo, WriterNo};
 use dds_guard::{Guard, open};
@@ -255,6 +257,29 @@ pub extern "C" fn ddscheck_guard_write(slot: &mut Slot, writer: usize, key: usiz
     {
         Ok(()) => OK,
         Err(refused) => write_status(refused),
+    }
+}
+
+/// Takes back the write of a key that the guard let through and DDS refused.
+#[unsafe(no_mangle)]
+pub extern "C" fn ddscheck_guard_undo_write(slot: &mut Slot, writer: usize, key: usize) -> u32
+    requires { IsKept slot.old }
+    ensures kept { IsKept slot.new }
+    ensures answer { result ≡ answer_at slot.old (λ g. undo_status (undo_refusal g writer key)) }
+    ensures undone { result ≡ 0 → IsTakenBack (is_free slot.old.handle.guard.rules writer key) writer key
+        slot.old.handle.guard slot.new.handle.guard }
+    ensures refused { 0 < result → slot.new.handle.guard ≡ slot.old.handle.guard }
+{
+    if slot.state != OPEN {
+        return NOT_OPEN;
+    }
+    match slot
+        .handle
+        .as_mut()
+        .undo_write(WriterNo::new(writer), KeyNo::new(key))
+    {
+        Ok(()) => OK,
+        Err(refused) => undo_status(refused),
     }
 }
 
