@@ -223,6 +223,10 @@ def take_no_memory(tally, room):
     if compiled(tally, "unallocated.c", [*C99, "-O2", *WRAPPED, "-o", room / "program", PROGRAMS / "unallocated.c", GUARD]):
         given = run([room / "program", PING[0]])
         tally.check((given.status, given.out) == (0, "12\n"), "no memory is taken after opening", given)
+    for seed in range(1, 4):
+        if compiled(tally, "place.c", [*C99, *SANITIZED * can_sanitize(room), "-o", room / "program", PROGRAMS / "place.c"]):
+            given = run([room / "program", str(seed), "200000"])
+            tally.check((given.status, given.out, given.err) == (0, "some refused, 0 wrong\n", ""), f"blocks of a place, drawn by {seed}", given)
     owed = rows("Deployment")
     for how, options, before in ways(tally, room):
         for library in (WHOLE, GUARD):
