@@ -1,5 +1,5 @@
 -- How a permit that is held counts.
-use Rattle.std.proofs.Common.{◌≡◌, ℕ, ◌+◌, ◌-◌, ◌<◌, ◌≤◌, ◌&&◌, Bool, true, false, Option, Some, None, refl, sym, ap, ◌∙◌, subst, inl, inr, arith}
+use Rattle.std.proofs.Common.{◌≡◌, ℕ, ◌+◌, ◌-◌, ◌<◌, ◌≤◌, ◌&&◌, Bool, true, false, Option, Some, None, Result, Ok, Err, OnOk, OnErr, refl, sym, ap, ◌∙◌, subst, inl, inr, arith}
 use Rattle.std.specs.Prelude.{◌==◌}
 use Rattle.std.proofs.lemmas.Bool.{and_parts, cases_Bool, eqb-true, false≢true}
 use Rattle.dds_rules.specs.Counts.{CountTable, IsMoreBy, count_at, only_at}
@@ -26,6 +26,17 @@ still_backed f a b (Some p) more backed = let now = more.counts p.writer p.key i
 pub more_left : (f : ℕ → ℕ → ℕ) (a b : CountTable) (held : Option Payment) → IsMoreBy f a b → IsBacked a held
     → (w k : ℕ) → count_at b w k - used_by held w k ≡ (count_at a w k - used_by held w k) + f w k
 more_left f a b held more backed w k = let now = more.counts w k in let enough = enough_held a held w k backed in omega arith
+
+-- the same of a firing, which gives permits or changes nothing
+pub fired_backed : {A B : Type 0} (f : ℕ → ℕ → ℕ) (old new : LedgerState) (held : Option Payment) (r : Result A B) → OnOk r (IsMoreBy f old.permits new.permits) → OnErr r (new ≡ old)
+    → IsBacked old.permits held → IsBacked new.permits held
+fired_backed f old new held (Ok x) more same backed = still_backed f old.permits new.permits held more backed
+fired_backed f old new held (Err e) more same backed = subst (λ (l : LedgerState). IsBacked l.permits held) (sym same) backed
+
+pub fired_left : {A B : Type 0} (f : ℕ → ℕ → ℕ) (old new : LedgerState) (held : Option Payment) (r : Result A B) → OnOk r (IsMoreBy f old.permits new.permits) → IsBacked old.permits held
+    → OnOk r ((w k : ℕ) → count_at new.permits w k - used_by held w k ≡ (count_at old.permits w k - used_by held w k) + f w k)
+fired_left f old new held (Ok x) more backed = more_left f old.permits new.permits held more backed
+fired_left f old new held (Err e) more backed = tt
 
 -- a permit that is held is taken off
 pub settled : (a b : CountTable) (p : Payment) → IsMoreBy (only_at p.writer p.key 1) b a → (w k : ℕ) → count_at b w k ≡ count_at a w k - used_by (Some p) w k

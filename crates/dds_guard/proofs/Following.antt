@@ -77,7 +77,7 @@ writes w k d old new own some is net v known counts paid follows = with_it net _
 
 -- ── what happens elsewhere
 opens : (d : Lists) (a : ℕ) (g : GuardState) → IsOpened d a g → Follows (network_of d) opening g
-opens d a g is = record { of = is.world.of; permits = λ w k own. ap (λ h. count_at g.ledger.permits w k - used_by h w k) is.held ∙ is.world.permits w k; spare = λ r k own. is.world.spare r k }
+opens d a g is = record { of = is.world.of; permits = λ w k own. (let none = ap (λ (h : Option Payment). count_at g.ledger.permits w k - used_by h w k) is.held in let was = is.world.permits w k in omega arith); spare = λ r k own. is.world.spare r k }
 
 at_other : (i k j l : ℕ) → i ≢ j → at_pair i k j l ≡ 0
 at_other i k j l ne = rw (ne_eqb i j ne) refl

@@ -115,10 +115,7 @@ impl Account {
         ensures held { self.new.held ≡ self.old.held }
         ensures err { OnErr result (self.new ≡ self.old) }
     {
-        match self.ledger.fire(rule) {
-            Ok(()) => Ok(()),
-            Err(refused) => Err(refused),
-        }
+        self.ledger.fire(rule)
     }
 
     /// Uses a permit, one that is left: it is held in place of the last one.

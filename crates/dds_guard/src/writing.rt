@@ -12,6 +12,7 @@ ghost use Rattle.dds_guard.specs.Refusals.{IsFired, IsPaid, IsReady, IsServed, I
 ghost use Rattle.dds_guard.specs.Refusals.{IsWritten, is_free, undo_refusal};
 ghost use Rattle.dds_guard.specs.Refusals.{serves, serving, way_of};
 
+use crate::account::Account;
 use crate::guard::Guard;
 use crate::refused::{UndoRefused, WriteRefused};
 use crate::rules::GuardRule;
@@ -85,15 +86,15 @@ fn lacks_room(ledger: &Ledger, writes: &[Portion<WriterNo>]) -> bool
 }
 
 /// Whether a rule of the application gives a permit for the key at the writer, and can be fired.
-fn serves(ledger: &Ledger, rule: &GuardRule, writer: WriterNo, key: KeyNo) -> bool
+fn serves(account: &Account, rule: &GuardRule, writer: WriterNo, key: KeyNo) -> bool
     requires takes { All (IsAlone rule.now.takes) rule.now.takes }
     requires writes { All (IsAlone rule.now.writes) rule.now.writes }
-    ensures { result ≡ serves ledger.now writer key rule.now }
+    ensures { result ≡ serves account.now.ledger writer key rule.now }
 {
     rule.own
         && names(&rule.writes, writer, key)
-        && !lacks_takes(ledger, &rule.takes)
-        && !lacks_room(ledger, &rule.writes)
+        && !lacks_takes(&account.ledger, &rule.takes)
+        && !lacks_room(&account.ledger, &rule.writes)
 }
 
 impl Guard {
@@ -113,7 +114,7 @@ impl Guard {
     {
         for u in 0..self.rules.len() {
             let rule = &self.rules[u];
-            if serves(&self.account.ledger, rule, writer, key) {
+            if serves(&self.account, rule, writer, key) {
                 return Some(RuleNo::new(u));
             }
         }
