@@ -6,8 +6,7 @@ ghost use Rattle.dds_guard_c.specs.Faults.{IsFault, IsRight};
 
 use crate::checking::put;
 use crate::status::{FAULT, NO_MEMORY, OK};
-use dds_deploy::{DeployFault, read_deployment};
-use dds_fields::Fault;
+use dds_deploy::{DeployFault, Fault, read_deployment};
 use std::alloc::Global;
 
 /// Tells the number of a fault, and where it is.
