@@ -1,4 +1,4 @@
-use Rattle.std.proofs.Common.{None, refl, sym, ap, ◌∙◌, subst}
+use Rattle.std.proofs.Common.{None, refl, ap, ◌∙◌, subst}
 use Rattle.dds_guard.specs.Account.{AccountState, IsCharged, is_held}
 use Rattle.dds_guard.proofs.Accounts.{given_back}
 use Rattle.dds_guard.proofs.account.Account.give_back.Goals as goal

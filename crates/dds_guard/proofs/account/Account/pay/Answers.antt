@@ -1,4 +1,4 @@
-use Rattle.std.proofs.Common.{Some, sym, ap, ◌∙◌, arith}
+use Rattle.std.proofs.Common.{ap, arith}
 use Rattle.dds_guard.specs.Account.{AccountState, left}
 use Rattle.dds_guard.proofs.Accounts.{charged_by}
 use Rattle.dds_guard.proofs.account.Account.pay.Goals as goal
