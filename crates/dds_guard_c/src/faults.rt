@@ -10,14 +10,14 @@ use dds_deploy::{DeployFault, Fault, read_deployment};
 use std::alloc::Global;
 
 /// Tells the number of a fault, and where it is.
-fn tell(fault: Fault, number: &mut u32, path: &mut [u8], length: &mut usize)
+fn tell(fault: Fault, number: &mut u32, path: &mut [u8], whole: &mut usize)
     ensures number { number.new ≡ number_of fault.kind }
     ensures path { path.new ≡ put_over (string_bytes fault.path) path.old }
-    ensures length { length.new ≡ length (string_bytes fault.path) }
+    ensures whole { whole.new ≡ length (string_bytes fault.path) }
 {
     let Fault { kind, path: text } = fault;
     put(text.as_bytes(), path);
-    *length = text.len();
+    *whole = text.len();
     *number = u32::from(kind.number());
     drop(text);
 }
