@@ -97,7 +97,7 @@ typedef struct ddscheck_qos {
 typedef struct ddscheck_fault {
     /* 1 to 13; docs/numbers.md says what each means */
     uint32_t number;
-    /* where it is, such as "readers[0].topic", cut where it's longer, with a zero at its end; some faults have no path */
+    /* where it is, such as "readers[0].topic", with a zero at its end; some faults have no path */
     char path[124];
 } ddscheck_fault;
 

@@ -211,10 +211,10 @@ def explain_faults(tally, room):
     for application, owed in (("a1", "DDSCHECK_OK 0 \n"), ("none", "DDSCHECK_UNKNOWN_NAME 0 \n")):
         given = run([room / "fault", PING[0], application])
         tally.check((given.status, given.out) == (0, owed), f"no fault, for {application}", given)
-    deep = f"version = 1\n{'a' * 200} = 1\n"
-    (room / "long.toml").write_text(deep)
+    # of a key that isn't listed a path has 64 bytes
+    (room / "long.toml").write_text(f"version = 1\n{'a' * 200} = 1\n")
     given = run([room / "fault", room / "long.toml", "a1"])
-    tally.check((given.status, given.out) == (0, f"DDSCHECK_FAULT 3 {'a' * 123}\n"), "a long path is cut", given)
+    tally.check((given.status, given.out) == (0, f"DDSCHECK_FAULT 3 {'a' * 64}\n"), "a long path is cut", given)
 
 
 def take_no_memory(tally, room):
