@@ -211,7 +211,7 @@ def explain_faults(tally, room):
     for application, owed in (("a1", "DDSCHECK_OK 0 \n"), ("none", "DDSCHECK_UNKNOWN_NAME 0 \n")):
         given = run([room / "fault", PING[0], application])
         tally.check((given.status, given.out) == (0, owed), f"no fault, for {application}", given)
-    # of a key that isn't listed a path has 64 bytes
+    # of a key that isn't listed the path has the first 64 bytes
     (room / "long.toml").write_text(f"version = 1\n{'a' * 200} = 1\n")
     given = run([room / "fault", room / "long.toml", "a1"])
     tally.check((given.status, given.out) == (0, f"DDSCHECK_FAULT 3 {'a' * 64}\n"), "a long path is cut", given)
