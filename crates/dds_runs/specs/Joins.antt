@@ -1,11 +1,11 @@
 -- Runs in which participants come at any time. A reader that comes late and can still get all that it needs is a slow one, so what's promised of runs holds.
 use Rattle.std.specs.Prelude.{◌≡◌, ◌⊎◌, ◌≤◌, ℕ, Bool, true, false, not, List, [], ◌∷◌, length, Option, Some, None, option_map}
-use Rattle.dds_base.specs.Sums.{put}
+use Rattle.dds_base.specs.Sums.{In, put}
 use Rattle.dds_base.specs.declared.messages.Packet.TheVariants.{Data, Gap, Heartbeat, AckNack}
 use Rattle.dds_match.specs.Network.{Network, is_late}
 use Rattle.dds_runs.specs.World.{World, Packet, opening, count_key}
 use Rattle.dds_runs.specs.Steps.{Reply, SendData, SendGap, SendHeartbeat, SendAckNack, after}
-use Rattle.dds_runs.specs.Runs.{Move, MayMove, after_move, brought, reader_of, IsWideRun}
+use Rattle.dds_runs.specs.Runs.{Move, MayMove, after_move, brought, reader_of, replay, IsWideRun}
 use Rattle.dds_runs.specs.Runs.Move.{Do, Redeliver}
 use Rattle.dds_runs.specs.Accepted.{Certificate, Accepted}
 use Rattle.dds_runs.specs.Laws.{InEachWorld}
@@ -67,3 +67,18 @@ abbrev pub Histories : Type 0
 Histories = InEachWorld (λ net cert v. (w r : ℕ) → net.matched w r ≡ true → net.watcher r ≡ false → is_late net w r ≡ true → (net.writer_limits w).keep_last ≡ None
     → ((m : ℕ) → (net.writer_limits w).max_samples ≡ Some m → length (v.written w) ≤ m)
     × ((k m : ℕ) → (net.writer_limits w).max_samples_per_instance ≡ Some m → count_key k (v.written w) ≤ m))
+
+-- who is there after these steps, where these were there before
+abbrev pub there_after : (ℕ → Bool) → List Step → ℕ → Bool
+there_after there [] = there
+there_after there (Moves m reply ∷ ss) = there_after there ss
+there_after there (Comes p ∷ ss) = there_after (put there p true) ss
+
+-- the participants of a packet's writer and reader are among those that are there
+abbrev pub IsOfThose : Network → (ℕ → Bool) → Packet → Type 0
+IsOfThose net there p = (there (net.writer_home (writer_of p)) ≡ true) × (there (net.reader_home (reader_of p)) ≡ true)
+
+-- before the participants of both are there no packet was ever sent between a writer and a reader
+abbrev pub Silences : Type 0
+Silences = (net : Network) (ss : List Step) → IsJoinedRun net ss
+    → (p : Packet) → In p (replay net opening (moves_of ss)).sent → IsOfThose net (there_after (λ q. not (net.joins q)) ss) p

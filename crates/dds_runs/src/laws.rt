@@ -4,7 +4,7 @@
 
 ghost use Rattle.dds_runs.specs.Before.{Before};
 ghost use Rattle.dds_runs.specs.CountRuns.{CountRuns};
-ghost use Rattle.dds_runs.specs.Joins.{EarlyPairs, Histories, JoinedRuns};
+ghost use Rattle.dds_runs.specs.Joins.{EarlyPairs, Histories, JoinedRuns, Silences};
 ghost use Rattle.dds_runs.specs.Laws.{Counts, Headline, Order, Packets, Parts, Settled, Stored, Watched};
 ghost use Rattle.dds_runs.specs.Timed.{DeploymentRuns, TimedRuns};
 ghost use Rattle.dds_runs.specs.Unsafe.{EqualBoundOverflows, FilteredWriterLoses, ForgottenReaderOverflows};
@@ -68,10 +68,11 @@ pub fn timed()
 {}
 
 /// Without its joins a run in which participants come at any time is a run of the network, so what's promised of all
-/// its runs holds. Where a certificate is accepted, a strict reader that may come after its writer's first write is
+/// its runs holds. Before both ends of a pair are there no packet is sent between them. Where a certificate is accepted, a strict reader that may come after its writer's first write is
 /// handed what was written before: both are durable, and the writer has room for all that it ever writes.
 pub fn joins()
     ensures runs { JoinedRuns }
+    ensures silences { Silences }
     ensures pairs { EarlyPairs }
     ensures histories { Histories }
 {}
