@@ -162,6 +162,7 @@ full_whole d es p f =
 -- an answer of the entries up to the first breach of the clocks, which isn't that all is kept, is one of all entries
 other_whole : (d : Lists) (es : List Entry) (ts : List ℕ) (p : ℕ) (c : Conformance) → IsOther c → IsAnswer (network_of d) (take (p + 1) es) c → KeepsClocks d es ts p → IsTimedAnswer d es ts c
 other_whole d es ts p answer.Kept other is clocks = absurd other
+other_whole d es ts p answer.Empty other is clocks = absurd other
 other_whole d es ts p (answer.NoPermit x) other is clocks = blocked_whole d es ts p x is clocks
 other_whole d es ts p (answer.TooSoon x) other is clocks = absurd is
 other_whole d es ts p (answer.TooLate x) other is clocks = absurd is
@@ -179,6 +180,7 @@ answer_whole d es ts b c (inr (other, is)) breach clocks = other_whole d es ts (
 -- the answer where there is none
 pub rules_whole : (d : Lists) (es : List Entry) (ts : List ℕ) (c : Conformance) → IsAnswer (network_of d) es c → KeepsClocks d es ts (length es) → IsTimedAnswer d es ts c
 rules_whole d es ts answer.Kept is clocks = (is, clocks)
+rules_whole d es ts answer.Empty is clocks = absurd is
 rules_whole d es ts (answer.NoPermit x) is clocks = (is, clocks_less d es ts is.place (length es) (let inside = slice_get_within es is.place is.entry is.at in omega (arith, inside)) clocks)
 rules_whole d es ts (answer.TooSoon x) is clocks = absurd is
 rules_whole d es ts (answer.TooLate x) is clocks = absurd is

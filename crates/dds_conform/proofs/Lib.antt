@@ -3,6 +3,7 @@ pub mod Givers
 pub mod Judged
 pub mod Lacking
 pub mod Lazily
+pub mod Leaving
 pub mod Moves
 pub mod Passing
 pub mod Reaching

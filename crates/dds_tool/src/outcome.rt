@@ -3,11 +3,11 @@
 use dds_answers::Report;
 use dds_base::{Event, Reply};
 use dds_book::Journal;
-use dds_conform::Conformance;
+use dds_conform::{Conformance, Leftover};
 use dds_findings::Finding;
 use dds_lists::Deployment;
 use dds_match::Plan;
-use dds_options::{Deny, Detail, Format, GoodEnds, LintStyle};
+use dds_options::{Deny, Detail, Format, GoodEnds, LintStyle, TraceEnd};
 use dds_peers::AppEnd;
 use dds_request::Comparison;
 use dds_search::{Found, Refutation};
@@ -80,9 +80,11 @@ pub(crate) enum Outcome<'a> {
         events: Vec<Event>,
         replies: Vec<Reply>,
     },
-    /// `conform`: the plan, and whether the trace keeps its rules.
+    /// `conform`: the plan, whether the trace keeps its rules, what it leaves, and whether it may.
     Conformed {
         plan: Plan,
         conformance: Conformance,
+        leftovers: Vec<Leftover>,
+        end: TraceEnd,
     },
 }

@@ -61,8 +61,11 @@ pub(crate) fn render(
             events,
             replies,
         } => { answer_replay(alloc, plan, events, replies, style) }
-        Outcome::Conformed { plan, conformance } => {
-            answer_conformance(alloc, plan, conformance, style)
-        }
+        Outcome::Conformed {
+            plan,
+            conformance,
+            leftovers,
+            end,
+        } => { answer_conformance(alloc, plan, conformance, leftovers, end, style) }
     }
 }

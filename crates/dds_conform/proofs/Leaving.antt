@@ -1,0 +1,180 @@
+-- What entries leave, by counts.
+use Rattle.std.proofs.Common.{◌≡◌, inl, inr, ℕ, zero, suc, ◌+◌, ◌^◌, ◌<◌, ◌≤◌, Bool, true, false, cond, eqb, ◌&&◌, List, [], ◌∷◌, ◌++◌, append-nil, get_or, length, Option, Some, None, refl, sym, ap, ◌∙◌, subst, arith, append_assoc}
+use Rattle.std.specs.Prelude.{count_by}
+use Rattle.std.specs.List.{All, cons_option, filter_map, range_with_len}
+use Rattle.std.proofs.lemmas.Bool.{cases_eq, eq-eqb, ne_eqb}
+use Rattle.std.proofs.lemmas.List.{take_all}
+use Rattle.std.proofs.lemmas.List.Elements.{filter_map-append}
+use Rattle.std.proofs.lemmas.List.Sums.{count_by-le-length, sum_by-cons}
+use Rattle.dds_base.specs.Grid.{most_endpoints, most_keys}
+use Rattle.dds_base.specs.Sums.{total}
+use Rattle.dds_base.proofs.Ranges.{range_push}
+use Rattle.dds_base.proofs.SumLaws.{total_add, total_ext, total_one, total_zero}
+use Rattle.dds_lists.specs.Lists.{Lists}
+use Rattle.dds_lists.specs.WellFormed.{IsWellFormed}
+use Rattle.dds_match.specs.Network.{IsNetwork}
+use Rattle.dds_match.specs.Paces.{is_awaited}
+use Rattle.dds_match.specs.Plan.{network_of}
+use Rattle.dds_conform.specs.declared.actions.Entry.{Entry}
+use Rattle.dds_conform.specs.declared.actions.Entry.TheVariants.{Wrote, Took}
+use Rattle.dds_conform.specs.declared.conformance.Within.TheVariants.{Taken}
+use Rattle.dds_conform.specs.declared.leftovers.Counts.{Counts}
+use Rattle.dds_conform.specs.Breaches.{ends, heard, wrote}
+use Rattle.dds_conform.specs.Entries.{entry_action}
+use Rattle.dds_conform.specs.Judging.{AreKnown, IsKnown}
+use Rattle.dds_conform.specs.Leftovers.{AddsTake, AreCounts, Fits, leftover, leftover_counted, leftover_of, written_at, written_in}
+use Rattle.dds_conform.specs.Tallies.{tally_at}
+use Rattle.dds_conform.specs.Windows.{AddsWrite}
+use Rattle.dds_conform.proofs.Passing.{count_few, rows_take, rows_write}
+
+-- ── sums
+-- a sum over fewer numbers is no greater
+pub total_up : (f : ℕ → ℕ) (m n : ℕ) → m ≤ n → total m f ≤ total n f
+unfolding total
+total_up f zero n le = omega arith
+total_up f (suc m) zero le = absurd (omega (arith, le))
+total_up f (suc m) (suc n) le = elim (cases_eq (suc m) (suc n)) [
+  | inl same ↦ subst (λ x. total (suc m) f ≤ total x f) same (omega arith)
+  | inr other ↦ (let rest = total_up f (suc m) n (omega (arith, le, other)) in omega (arith, rest))
+]
+
+pub total_more : (f : ℕ → ℕ) (n : ℕ) → total (n + 1) f ≡ total n f + f n
+unfolding total
+total_more f n = let same : n + 1 ≡ suc n = omega arith in rw same refl
+
+-- ── what the reader has to take
+-- a write is at a writer that a tally has
+IsLow : Entry → Type 0
+IsLow (Wrote n a w k) = w < most_endpoints
+IsLow (Took n a r k) = Unit {0}
+
+low_one : (d : Lists) (e : Entry) → IsWellFormed d → IsNetwork (network_of d) → IsKnown (network_of d) (entry_action e) → IsLow e
+unfolding IsLow
+low_one d (Wrote n a w k) well net known = let low = net.written_writer w k known in let few = well.writers.few in omega (arith, low, few)
+low_one d (Took n a r k) well net known = tt
+
+-- what one entry adds to it, of one writer
+abbrev own : Lists → ℕ → ℕ → Entry → ℕ → ℕ
+own d r k e w = cond (is_awaited d w r k) (cond (wrote w k e) 1 0) 0
+
+-- what entries add, of one writer
+abbrev all_of : Lists → ℕ → ℕ → List Entry → ℕ → ℕ
+all_of d r k es w = cond (is_awaited d w r k) (count_by (wrote w k) es) 0
+
+split : (b : Bool) (x y : ℕ) → cond b (x + y) 0 ≡ cond b x 0 + cond b y 0
+split true x y = refl
+split false x y = refl
+
+nothing : (b : Bool) → ◌≡◌ {A = ℕ} (cond b 0 0) 0
+nothing true = refl
+nothing false = refl
+
+elsewhere : (b c x : Bool) → b ≡ false → ◌≡◌ {A = ℕ} (cond x (cond (b && c) 1 0) 0) 0
+elsewhere b c true fails = rw fails refl
+elsewhere b c false fails = refl
+
+here : (v : ℕ) (c x : Bool) → ◌≡◌ {A = ℕ} (cond (c && x) 1 0) (cond x (cond (eqb v v && c) 1 0) 0)
+here v c true = let same = eq-eqb v v refl in rw same (both c)
+  where
+    both : (c : Bool) → ◌≡◌ {A = ℕ} (cond (c && true) 1 0) (cond c 1 0)
+    both true = refl
+    both false = refl
+here v true false = refl
+here v false false = refl
+
+-- an entry is heard just where it's of a writer that the reader awaits
+own_one : (d : Lists) (r k : ℕ) (e : Entry) → IsLow e → cond (heard d r k e) 1 0 ≡ total most_endpoints (own d r k e)
+unfolding IsLow
+own_one d r k (Took n a q l) low = sym (total_zero (own d r k (Took n a q l)) most_endpoints (λ w lt. nothing (is_awaited d w r k)))
+own_one d r k (Wrote n a v l) low = elim (cases_eq l k) [
+  | inl same ↦ subst (λ m. cond (heard d r m (Wrote n a v l)) 1 0 ≡ total most_endpoints (own d r m (Wrote n a v l))) same (at d r n a v l low)
+  | inr other ↦ (let fails = ne_eqb l k other in
+      rw fails (sym (total_zero (own d r k (Wrote n a v l)) most_endpoints (λ w lt. never (eqb v w) (eqb l k) (is_awaited d w r k) fails))))
+]
+  where
+    at : (d : Lists) (r n a v l : ℕ) → v < most_endpoints → cond (heard d r l (Wrote n a v l)) 1 0 ≡ total most_endpoints (own d r l (Wrote n a v l))
+    at d r n a v l low = here v (eqb l l) (is_awaited d v r l) ∙ sym (total_one (own d r l (Wrote n a v l)) most_endpoints v low (λ j other. elsewhere (eqb v j) (eqb l l) (is_awaited d j r l) (ne_eqb v j other)))
+    never : (b c x : Bool) → c ≡ false → ◌≡◌ {A = ℕ} (cond x (cond (b && c) 1 0) 0) 0
+    never true c true fails = rw fails refl
+    never false c true fails = refl
+    never b c false fails = refl
+
+-- what is written of the key that the reader has to take is the sum of what the writers write that it awaits
+heard_sum : (d : Lists) (r k : ℕ) (es : List Entry) → All IsLow es → count_by (heard d r k) es ≡ total most_endpoints (all_of d r k es)
+heard_sum d r k [] low = sym (total_zero (all_of d r k []) most_endpoints (λ w lt. nothing (is_awaited d w r k)))
+heard_sum d r k (e ∷ es) low =
+    let one = own_one d r k e (low 0 e (omega arith)) in
+    let rest = heard_sum d r k es (λ i x lt. low (suc i) x (omega (arith, lt))) in
+    let sum = total_add (own d r k e) (all_of d r k es) most_endpoints in
+    let first = sum_by-cons (λ x. cond (heard d r k x) 1 0) e es in
+    let each = total_ext (λ w. own d r k e w + all_of d r k es w) (all_of d r k (e ∷ es)) most_endpoints
+      (λ w lt. sym (ap (λ n. cond (is_awaited d w r k) n 0) (sum_by-cons (λ x. cond (wrote w k x) 1 0) e es) ∙ split (is_awaited d w r k) (cond (wrote w k e) 1 0) (count_by (wrote w k) es))) in
+    omega (arith, one, rest, sum, first, each)
+
+all_low : (d : Lists) (es : List Entry) → IsWellFormed d → IsNetwork (network_of d) → AreKnown (network_of d) es → All IsLow es
+all_low d es well net known = λ i x lt. low_one d _ well net (known i x lt)
+
+-- ── counts
+-- the counts of no entries
+pub no_counts : (es : List Entry) (c : Counts) → ((w k : ℕ) → tally_at c.written w k ≡ 0) → ((r k : ℕ) → tally_at c.taken r k ≡ 0) → AreCounts es 0 c
+no_counts es c written taken = record { written = λ w low k small. written w k; taken = λ r low k small. taken r k }
+
+pub has_room : (es : List Entry) (n : ℕ) (c : Counts) → n + 1 < 2 ^ 64 → AreCounts es n c → Fits c
+has_room es n c fits are = record {
+  written = λ w k low small. let same = are.written w low k small in let few = count_few (wrote w k) es n in omega (arith, same, few, fits);
+  taken = λ r k low small. let same = are.taken r low k small in let few = count_few (ends Taken r k) es n in omega (arith, same, few, fits);
+}
+
+-- with one entry more
+pub more_counts : (d : Lists) (es : List Entry) (n : ℕ) (e : Entry) (old new : Counts) → n < length es → e ≡ get_or es n e → AddsWrite e old.written new.written → AddsTake e old.taken new.taken → AreCounts es n old → AreCounts es (n + 1) new
+more_counts d es n e old new lt at written taken are = record {
+  written = rows_write e n es old.written new.written lt at written are.written;
+  taken = rows_take e n es old.taken new.taken lt at taken are.taken;
+}
+
+-- what was counted of all entries is what they write
+written_all : (d : Lists) (es : List Entry) (c : Counts) (r k : ℕ) → k < most_keys → IsWellFormed d → IsNetwork (network_of d) → AreKnown (network_of d) es → AreCounts es (length es) c
+    → written_in d c most_endpoints r k ≡ count_by (heard d r k) es
+written_all d es c r k small well net known are =
+    total_ext (written_at d c r k) (all_of d r k es) most_endpoints (λ w low. ap (λ n. cond (is_awaited d w r k) n 0) (are.written w low k small ∙ ap (count_by (wrote w k)) (take_all (length es) es (omega arith))))
+    ∙ sym (heard_sum d r k es (all_low d es well net known))
+
+-- and fits 64 bits
+pub written_fits : (d : Lists) (es : List Entry) (c : Counts) (r k : ℕ) → k < most_keys → length es < 2 ^ 64 → IsWellFormed d → IsNetwork (network_of d) → AreKnown (network_of d) es → AreCounts es (length es) c → written_in d c most_endpoints r k < 2 ^ 64
+written_fits d es c r k small short well net known are =
+    let same = written_all d es c r k small well net known are in
+    let few = count_by-le-length (heard d r k) es in
+    omega (arith, same, few, short)
+
+-- what is left by counts is what entries leave
+counted_all : (d : Lists) (es : List Entry) (c : Counts) (r k : ℕ) → r < most_endpoints → k < most_keys → IsWellFormed d → IsNetwork (network_of d) → AreKnown (network_of d) es → AreCounts es (length es) c
+    → leftover_counted d c r k ≡ leftover d es r k
+counted_all d es c r k low small well net known are =
+    ap (λ n. leftover_of n (tally_at c.taken r k) r k) (written_all d es c r k small well net known are)
+    ∙ ap (λ n. leftover_of (count_by (heard d r k) es) n r k) (are.taken r low k small ∙ ap (count_by (ends Taken r k)) (take_all (length es) es (omega arith)))
+
+-- ── lists
+pub filter_one : {A : Type 0} (f : ℕ → Option A) (n : ℕ) → filter_map f (range_with_len 0 (n + 1)) ≡ filter_map f (range_with_len 0 n) ++ cons_option (f n) []
+filter_one f n = ap (filter_map f) (range_push n) ∙ filter_map-append f (range_with_len 0 n) (n ∷ [])
+
+-- a key of which something is left, and one of which nothing is
+pub one_left : {A : Type 0} (f : ℕ → Option A) (before old new : List A) (n : ℕ) (x : A) → old ≡ before ++ filter_map f (range_with_len 0 n) → f n ≡ Some x → new ≡ old ++ x ∷ [] → new ≡ before ++ filter_map f (range_with_len 0 (n + 1))
+one_left f before old new n x was is after =
+    after ∙ ap (λ xs. xs ++ x ∷ []) was ∙ append_assoc before (filter_map f (range_with_len 0 n)) (x ∷ []) ∙ ap (λ xs. before ++ xs) (ap (λ o. filter_map f (range_with_len 0 n) ++ cons_option o []) (sym is) ∙ sym (filter_one f n))
+
+pub none_left : {A : Type 0} (f : ℕ → Option A) (before old : List A) (n : ℕ) → old ≡ before ++ filter_map f (range_with_len 0 n) → f n ≡ None → old ≡ before ++ filter_map f (range_with_len 0 (n + 1))
+none_left f before old n was is =
+    was ∙ ap (λ xs. before ++ xs) (sym (append-nil (filter_map f (range_with_len 0 n))) ∙ ap (λ o. filter_map f (range_with_len 0 n) ++ cons_option o []) (sym is) ∙ sym (filter_one f n))
+
+-- two functions that are the same below a number
+filter_same : {A : Type 0} (f g : ℕ → Option A) (n : ℕ) → ((k : ℕ) → k < n → f k ≡ g k) → filter_map f (range_with_len 0 n) ≡ filter_map g (range_with_len 0 n)
+filter_same f g zero same = refl
+filter_same f g (suc n) same =
+    let next : n + 1 ≡ suc n = omega arith in
+    subst (λ m. filter_map f (range_with_len 0 m) ≡ filter_map g (range_with_len 0 m)) next (
+      filter_one f n ∙ ap (λ xs. xs ++ cons_option (f n) []) (filter_same f g n (λ k lt. same k (omega (arith, lt)))) ∙ ap (λ o. filter_map g (range_with_len 0 n) ++ cons_option o []) (same n (omega arith)) ∙ sym (filter_one g n))
+
+-- what is left at one reader, by counts
+pub at_reader : (d : Lists) (es : List Entry) (c : Counts) (r : ℕ) → r < most_endpoints → IsWellFormed d → IsNetwork (network_of d) → AreKnown (network_of d) es → AreCounts es (length es) c
+    → filter_map (leftover_counted d c r) (range_with_len 0 most_keys) ≡ filter_map (leftover d es r) (range_with_len 0 most_keys)
+at_reader d es c r low well net known are = filter_same (leftover_counted d c r) (leftover d es r) most_keys (λ k small. counted_all d es c r k low small well net known are)
