@@ -83,6 +83,8 @@ def take_table(times, system):
 
 def verdict_of(answer):
     """What `conform` says, in its words."""
+    if "recorded" in answer:
+        return "nothing was recorded", "No line of the trace says that something was written or taken."
     if answer["answer"] == "yes":
         return (
             "kept",
@@ -116,6 +118,17 @@ def lacking(answer):
     )
 
 
+def leaving(answer):
+    """What strict readers leave."""
+    return items(
+        [
+            join(name(one["reader"]), f" leaves {one['count']:,} of ", name(one["key"]), ".")
+            for one in answer.get("left", [])
+        ],
+        style="terms",
+    )
+
+
 def is_kept(answers):
     return answers.conform is None or answers.conform["answer"] == "yes"
 
@@ -140,6 +153,7 @@ def write_trace(answers, system, request):
         "A recorded trace",
         tag("p", tag("strong", word[0].upper() + word[1:]), ". ", said, _class="lead"),
         lacking(answers.conform),
+        leaving(answers.conform),
         tag(
             "p",
             plural(times.writes.total(), "write"),
