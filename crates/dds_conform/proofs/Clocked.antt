@@ -162,7 +162,7 @@ full_whole d es p f =
 -- an answer of the entries up to the first breach of the clocks, which isn't that all is kept, is one of all entries
 other_whole : (d : Lists) (es : List Entry) (ts : List ℕ) (p : ℕ) (c : Conformance) → IsOther c → IsAnswer (network_of d) (take (p + 1) es) c → KeepsClocks d es ts p → IsTimedAnswer d es ts c
 other_whole d es ts p answer.Kept other is clocks = absurd other
-other_whole d es ts p answer.Empty other is clocks = absurd other
+other_whole d es ts p answer.Empty other is clocks = absurd is
 other_whole d es ts p (answer.NoPermit x) other is clocks = blocked_whole d es ts p x is clocks
 other_whole d es ts p (answer.TooSoon x) other is clocks = absurd is
 other_whole d es ts p (answer.TooLate x) other is clocks = absurd is

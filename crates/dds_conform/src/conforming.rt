@@ -119,8 +119,8 @@ fn conform_entries(alloc: Global, plan: &Plan, trace: &Trace) -> Result<Conforma
 /// writes and the first that can be fired leads to no permit, a search tries the others, in at most `SEARCH_STEPS`
 /// steps.
 ///
-/// `Kept` means that all that holds, and `Empty` that the trace has no entries. Any other answer names the first entry that breaks something, a permit first, then
-/// by the order of the readers. `NoPermit` names a write up to which the entries before it keep the rules and, where no
+/// `Kept` means that all that holds, and `Empty` that the trace has no entries. Any other answer names the first entry
+/// that breaks something, a permit first, then by the order of the readers. `NoPermit` names a write up to which the entries before it keep the rules and, where no
 /// two rules give permits for the same writes, those up to it don't, whatever is fired. `TooSoon` and `TooLate` come
 /// only of a trace with times. Where no two rules give permits for the same writes, `Unknown` comes only where a count
 /// would pass 2^64 - 1. `NoMemory` is the only error.

@@ -5,7 +5,7 @@ ghost use Rattle.dds_base.specs.Grid.{most_endpoints, most_keys};
 ghost use Rattle.dds_match.specs.Plan.{network_of};
 ghost use Rattle.dds_conform.specs.Entries.{entry_action};
 ghost use Rattle.dds_conform.specs.Judging.{AreKnown, IsKnown};
-ghost use Rattle.dds_conform.specs.Leftovers.{AddsTake, AreCounts, Fits, leftover_counted, leftover_of, leftovers};
+ghost use Rattle.dds_conform.specs.Leftovers.{AddsTake, AreCounts, Fits, leftover_counted, leftovers};
 ghost use Rattle.dds_conform.specs.Leftovers.{written_in};
 ghost use Rattle.dds_conform.specs.Tallies.{tally_at};
 ghost use Rattle.dds_conform.specs.Windows.{AddsWrite};
@@ -132,7 +132,11 @@ fn push_of_reader(
 /// What the entries of a trace leave: for each strict reader and each key how many more samples are written for it than
 /// it takes, if more are, in the order of the file. Of which writer a take's sample is, a trace doesn't say. `NoMemory`
 /// is the only error.
-pub fn leftovers(alloc: Global, plan: &Plan, entries: &[Entry]) -> Result<Vec<Leftover>, NoMemory>
+pub fn find_leftovers(
+    alloc: Global,
+    plan: &Plan,
+    entries: &[Entry],
+) -> Result<Vec<Leftover>, NoMemory>
     requires { AreKnown (network_of plan.now) entries.now }
     ensures { IfOk result (λ left. left.items ≡ leftovers plan.now entries.now) }
 {

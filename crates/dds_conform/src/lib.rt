@@ -2,8 +2,8 @@
 //! took a sample of a key, and none that a rule fired: the trace keeps the rules where firings can be put in between
 //! so that each write has its permit and each firing its takes.
 //!
-//! Where a trace has times it's also asked whether it keeps the paces and spans of the deployment. `leftovers` counts
-//! what it writes for strict readers and they never take.
+//! Where a trace has times it's also asked whether it keeps the paces and spans of the deployment. `find_leftovers`
+//! counts what it writes for strict readers and they never take.
 //!
 //! `read_trace` reads the lines, each with its number, and returns the first fault. `conform` makes the entries on a
 //! ledger in their order, and fires a rule when a write needs it. `kept` is proved to mean that there are such firings,
@@ -44,6 +44,6 @@ pub use answers::{LEFTOVER_LINES, answer_text, field_of, leftover_text};
 pub use conformance::{Conformance, Early, Late, Leftover, Refused, Shortage, Within};
 pub use conforming::{SEARCH_STEPS, conform};
 pub use fault::{TraceFault, TraceFaultKind};
-pub use leftovers::leftovers;
+pub use leftovers::find_leftovers;
 pub use reading::{Trace, read_trace};
 pub use slots::Slot;

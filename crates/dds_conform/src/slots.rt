@@ -1,7 +1,7 @@
 //! What has a place in a line of a trace, and the first word of a line that doesn't fit its place.
 ghost use Rattle.std.specs.Prelude.{◌≡◌, ◌<◌, IfNone, IfSome, None, Some, length};
 ghost use Rattle.std.specs.List.{before_first};
-ghost use Rattle.dds_conform.specs.Lines.{is_blank, is_head};
+ghost use Rattle.dds_conform.specs.Lines.{is_blank};
 ghost use Rattle.dds_conform.specs.Slots.{after_blanks, has_head, has_name, has_text, later, misfit, misfit_of_take};
 ghost use Rattle.dds_conform.specs.Slots.{misfit_of_write, number_at, slot_text, word, word_number};
 

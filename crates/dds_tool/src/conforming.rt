@@ -19,7 +19,8 @@ use crate::outcome::Outcome;
 use dds_answers::{Answer, ToolFault, answer_with, read_plan};
 use dds_base::NoMemory;
 use dds_conform::{
-    Conformance, Leftover, Trace, TraceFault, answer_text, conform, leftover_text, leftovers, read_trace,
+    Conformance, Leftover, Trace, TraceFault, answer_text, conform, find_leftovers, leftover_text,
+    read_trace,
 };
 use dds_lists::Deployment;
 use dds_match::Plan;
@@ -160,7 +161,7 @@ fn find_conformance(
     ensures answer { IfOk result (λ x. IsTraceAnswer plan.now trace.now.entries.items (times_of trace.now) x.0) }
     ensures left { IfOk result (λ x. x.1.items ≡ leftovers plan.now trace.now.entries.items) }
 {
-    let left = leftovers(alloc, plan, &trace.entries)?;
+    let left = find_leftovers(alloc, plan, &trace.entries)?;
     let conformance = conform(alloc, plan, trace)?;
     Ok((conformance, left))
 }

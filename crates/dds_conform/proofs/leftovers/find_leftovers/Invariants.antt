@@ -2,7 +2,7 @@ use Rattle.std.proofs.Common.{◌≡◌, flat_map}
 use Rattle.std.specs.List.{filter_map, range_with_len}
 use Rattle.dds_base.specs.Grid.{most_keys}
 use Rattle.dds_conform.specs.Leftovers.{leftover}
-use Rattle.dds_conform.proofs.leftovers.leftovers.Given as goal
+use Rattle.dds_conform.proofs.leftovers.find_leftovers.Given as goal
 
 -- what is left at the readers so far
 abbrev pub invariant-loop-number : goal.invariant-loop-number
