@@ -7,6 +7,7 @@ pub mod Leaving
 pub mod Moves
 pub mod Passing
 pub mod Reaching
+mod Slotted
 pub mod Stamped
 pub mod Told
 mod WordLaws
