@@ -89,7 +89,7 @@ own_one d r k (Took n a q l) low = sym (total_zero (own d r k (Took n a q l)) mo
 own_one d r k (Wrote n a v l) low = elim (cases_eq l k) [
   | inl same ↦ subst (λ m. cond (heard d r m (Wrote n a v l)) 1 0 ≡ total most_endpoints (own d r m (Wrote n a v l))) same (at d r n a v l low)
   | inr other ↦ (let fails = ne_eqb l k other in
-      rw fails (sym (total_zero (own d r k (Wrote n a v l)) most_endpoints (λ w lt. never (eqb v w) (eqb l k) (is_awaited d w r k) fails))))
+      ap (λ b. cond (b && is_awaited d v r l) 1 0) fails ∙ sym (total_zero (own d r k (Wrote n a v l)) most_endpoints (λ w lt. never (eqb v w) (eqb l k) (is_awaited d w r k) fails)))
 ]
   where
     at : (d : Lists) (r n a v l : ℕ) → v < most_endpoints → cond (heard d r l (Wrote n a v l)) 1 0 ≡ total most_endpoints (own d r l (Wrote n a v l))
@@ -109,10 +109,10 @@ heard_sum d r k (e ∷ es) low =
     let first = sum_by-cons (λ x. cond (heard d r k x) 1 0) e es in
     let each = total_ext (λ w. own d r k e w + all_of d r k es w) (all_of d r k (e ∷ es)) most_endpoints
       (λ w lt. sym (ap (λ n. cond (is_awaited d w r k) n 0) (sum_by-cons (λ x. cond (wrote w k x) 1 0) e es) ∙ split (is_awaited d w r k) (cond (wrote w k e) 1 0) (count_by (wrote w k) es))) in
-    omega (arith, one, rest, sum, first, each)
+    first ∙ ap (λ n. n + count_by (heard d r k) es) one ∙ ap (λ n. total most_endpoints (own d r k e) + n) rest ∙ sym sum ∙ each
 
 all_low : (d : Lists) (es : List Entry) → IsWellFormed d → IsNetwork (network_of d) → AreKnown (network_of d) es → All IsLow es
-all_low d es well net known = λ i x lt. low_one d _ well net (known i x lt)
+all_low d es well net known = λ i x lt. low_one d (get_or es i x) well net (known i x lt)
 
 -- ── counts
 -- the counts of no entries
@@ -145,6 +145,13 @@ written_fits d es c r k small short well net known are =
     let same = written_all d es c r k small well net known are in
     let few = count_by-le-length (heard d r k) es in
     omega (arith, same, few, short)
+
+-- one writer more, whom the reader awaits or not
+pub written_yes : (d : Lists) (c : Counts) (r k w : ℕ) → is_awaited d w r k ≡ true → written_at d c r k w ≡ tally_at c.written w k
+written_yes d c r k w is = ap (λ b. cond b (tally_at c.written w k) 0) is
+
+pub written_no : (d : Lists) (c : Counts) (r k w : ℕ) → is_awaited d w r k ≡ false → written_at d c r k w ≡ 0
+written_no d c r k w is = ap (λ b. cond b (tally_at c.written w k) 0) is
 
 -- what is left by counts is what entries leave
 counted_all : (d : Lists) (es : List Entry) (c : Counts) (r k : ℕ) → r < most_endpoints → k < most_keys → IsWellFormed d → IsNetwork (network_of d) → AreKnown (network_of d) es → AreCounts es (length es) c
