@@ -21,7 +21,7 @@ use Rattle.dds_conform.specs.declared.leftovers.Counts.{Counts}
 use Rattle.dds_conform.specs.Breaches.{ends, heard, wrote}
 use Rattle.dds_conform.specs.Entries.{entry_action}
 use Rattle.dds_conform.specs.Judging.{AreKnown, IsKnown}
-use Rattle.dds_conform.specs.Leftovers.{AddsTake, AreCounts, Fits, counted_at, leftover, leftover_counted, leftover_of, leftovers_at, listed, written_at, written_in}
+use Rattle.dds_conform.specs.Leftovers.{AddsTake, AreCounts, CanCount, counted_at, leftover, leftover_counted, leftover_of, leftovers_at, listed, written_at, written_in}
 use Rattle.dds_conform.specs.Tallies.{tally_at}
 use Rattle.dds_conform.specs.Windows.{AddsWrite}
 use Rattle.dds_conform.proofs.Lacking.{one_more_rule}
@@ -119,7 +119,7 @@ all_low d es well net known = λ i x lt. low_one d (get_or es i x) well net (kno
 pub no_counts : (es : List Entry) (c : Counts) → ((w k : ℕ) → tally_at c.written w k ≡ 0) → ((r k : ℕ) → tally_at c.taken r k ≡ 0) → AreCounts es 0 c
 no_counts es c written taken = record { written = λ w low k small. written w k; taken = λ r low k small. taken r k }
 
-pub has_room : (es : List Entry) (n : ℕ) (c : Counts) → n + 1 < 2 ^ 64 → AreCounts es n c → Fits c
+pub has_room : (es : List Entry) (n : ℕ) (c : Counts) → n + 1 < 2 ^ 64 → AreCounts es n c → CanCount c
 has_room es n c fits are = record {
   written = λ w k low small. let same = are.written w low k small in let few = count_few (wrote w k) es n in omega (arith, same, few, fits);
   taken = λ r k low small. let same = are.taken r low k small in let few = count_few (ends Taken r k) es n in omega (arith, same, few, fits);

@@ -40,7 +40,7 @@ AddsTake (Took n a r k) old new = IsOneMore old new r k
 AddsTake (Wrote n a w k) old new = new ≡ old
 
 -- no count is at its end
-pub record Fits (c : Counts) : Type 0 where
+pub record CanCount (c : Counts) : Type 0 where
   pub written : (w k : ℕ) → w < most_endpoints → k < most_keys → tally_at c.written w k + 1 < 2 ^ 64
   pub taken : (r k : ℕ) → r < most_endpoints → k < most_keys → tally_at c.taken r k + 1 < 2 ^ 64
 

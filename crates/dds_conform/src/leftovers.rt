@@ -4,7 +4,7 @@ ghost use Rattle.dds_base.specs.Grid.{most_endpoints, most_keys};
 ghost use Rattle.dds_match.specs.Plan.{network_of};
 ghost use Rattle.dds_conform.specs.Entries.{entry_action};
 ghost use Rattle.dds_conform.specs.Judging.{AreKnown, IsKnown};
-ghost use Rattle.dds_conform.specs.Leftovers.{AddsTake, AreCounts, Fits, counted_at, leftover_counted};
+ghost use Rattle.dds_conform.specs.Leftovers.{AddsTake, AreCounts, CanCount, counted_at, leftover_counted};
 ghost use Rattle.dds_conform.specs.Leftovers.{leftovers, listed, written_at, written_in};
 ghost use Rattle.dds_conform.specs.Tallies.{tally_at};
 ghost use Rattle.dds_conform.specs.Windows.{AddsWrite};
@@ -52,7 +52,7 @@ impl Counts {
     /// Counts an entry.
     fn add(&mut self, plan: &Plan, entry: &Entry)
         requires known { IsKnown (network_of plan.now) (entry_action entry.now) }
-        requires room { Fits self.old }
+        requires room { CanCount self.old }
         ensures written { AddsWrite entry.now self.old.written self.new.written }
         ensures taken { AddsTake entry.now self.old.taken self.new.taken }
     {
