@@ -107,10 +107,10 @@ fn tell_conformance(
 }
 
 /// Whether the answer is yes.
-fn is_good(conformance: &Conformance, leftovers: &[Leftover], end: TraceEnd) -> bool
-    ensures { result ≡ is_good end leftovers.now conformance.now }
+fn is_good(judgement: &Judgement, end: TraceEnd) -> bool
+    ensures { result ≡ is_good end judgement.now.leftovers.items judgement.now.conformance }
 {
-    is_kept(conformance) && is_finished(leftovers, end)
+    is_kept(&judgement.conformance) && is_finished(&judgement.leftovers, end)
 }
 
 /// The answer with whether a trace keeps the rules of a plan and what it leaves, all of which are needed no longer, in
@@ -134,7 +134,7 @@ pub(crate) fn answer_conformance(
 {
     let answer = answer_with(
         tell_conformance(alloc, &plan, &judgement, end, style),
-        is_good(&judgement.conformance, &judgement.leftovers, end),
+        is_good(&judgement, end),
     );
     drop(plan);
     drop(judgement);
