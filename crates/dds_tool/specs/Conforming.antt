@@ -83,9 +83,13 @@ abbrev pub kept_document : TraceEnd → Lists → List Leftover → Data
 kept_document close d left =
     object (member (codes "answer") (string (kept_answer close left)) (member (codes "left") (array (items_of (map (leftover_document d) left))) no_members))
 
+-- that a trace has no entries
+abbrev pub empty_document : Data
+empty_document = object (member (codes "answer") (string (codes "no")) (member (codes "recorded") (number (unsigned 0)) no_members))
+
 abbrev pub conformance_document : TraceEnd → Lists → List Leftover → Conformance → Data
 conformance_document close d left Kept = kept_document close d left
-conformance_document close d left Empty = object (member (codes "answer") (string (codes "no")) (member (codes "recorded") (number (unsigned 0)) no_members))
+conformance_document close d left Empty = empty_document
 conformance_document close d left (NoPermit x) = refused_document d x
 conformance_document close d left (TooSoon x) = early_document d x
 conformance_document close d left (TooLate x) = late_document d x

@@ -3,7 +3,7 @@ ghost use Rattle.std.specs.Prelude.{◌≡◌, IfOk, map, string_bytes};
 ghost use Rattle.serde_json.specs.Data.{array};
 ghost use Rattle.serde_json.specs.View.{items_of, view};
 ghost use Rattle.dds_json.specs.Line.{line_of};
-ghost use Rattle.dds_tool.specs.Conforming.{conformance_document, early_document, late_document};
+ghost use Rattle.dds_tool.specs.Conforming.{conformance_document, early_document, empty_document, late_document};
 ghost use Rattle.dds_tool.specs.Conforming.{kept_answer, kept_document, leftover_document, refused_document};
 ghost use Rattle.dds_tool.specs.Conforming.{shortage_document};
 
@@ -131,6 +131,14 @@ fn kept_document(
     json!(in alloc; {"answer": answer, "left": left})
 }
 
+/// That a trace has no entries.
+fn empty_document(alloc: Global) -> Result<Value, NoMemory>
+    ensures { IfOk result (λ v. view v ≡ empty_document) }
+{
+    let recorded: u64 = 0;
+    json!(in alloc; {"answer": "no", "recorded": recorded})
+}
+
 /// The document of an answer.
 fn conformance_document(
     alloc: Global,
@@ -144,7 +152,7 @@ fn conformance_document(
 {
     match conformance {
         Conformance::Kept => kept_document(alloc, lists, leftovers, end),
-        Conformance::Empty => json!(in alloc; {"answer": "no", "recorded": 0}),
+        Conformance::Empty => empty_document(alloc),
         Conformance::NoPermit(refused) => refused_document(alloc, lists, refused),
         Conformance::TooSoon(early) => early_document(alloc, lists, early),
         Conformance::TooLate(late) => late_document(alloc, lists, late),
