@@ -5,9 +5,8 @@ ghost use Rattle.serde_json.specs.View.{items_of, view};
 ghost use Rattle.dds_json.specs.Line.{line_of};
 ghost use Rattle.dds_tool.specs.Conforming.{conformance_document, early_document, empty_document, late_document};
 ghost use Rattle.dds_tool.specs.Conforming.{kept_answer, kept_document, leftover_document, refused_document};
-ghost use Rattle.dds_tool.specs.Conforming.{shortage_document};
+ghost use Rattle.dds_tool.specs.Conforming.{is_finished, shortage_document};
 
-use crate::conforming::is_finished;
 use dds_base::NoMemory;
 use dds_conform::{Conformance, Early, Late, Leftover, Refused, Shortage, field_of};
 use dds_json::line_of;
@@ -78,6 +77,16 @@ fn late_document(alloc: Global, lists: &Deployment, late: &Late) -> Result<Value
     json!(in alloc; {
         "answer": "no", "line": line, "reader": reader, "key": key, "written": written, "span": span, "late": by
     })
+}
+
+/// Whether a trace that leaves this may end so.
+pub(crate) fn is_finished(leftovers: &[Leftover], end: TraceEnd) -> bool
+    ensures { result ≡ is_finished end leftovers.now }
+{
+    match end {
+        TraceEnd::Open => true,
+        TraceEnd::Strict => leftovers.is_empty(),
+    }
 }
 
 /// So many samples that a reader leaves of a key.

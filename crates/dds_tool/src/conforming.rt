@@ -10,11 +10,11 @@ ghost use Rattle.dds_findings.specs.Blocks.{FileNames};
 ghost use Rattle.dds_options.specs.declared.style.Style.{Style};
 ghost use Rattle.dds_conform.specs.Answering.{IsTraceAnswer};
 ghost use Rattle.dds_conform.specs.Leftovers.{leftovers};
-ghost use Rattle.dds_tool.specs.Conforming.{IsTraceFault, MayConform, conformance_text, is_finished, is_good, is_kept};
+ghost use Rattle.dds_tool.specs.Conforming.{IsTraceFault, MayConform, conformance_text, is_good, is_kept};
 ghost use Rattle.dds_tool.specs.Conforming.{kept_text, kept_word, told_conformance};
 ghost use Rattle.dds_tool.specs.Outcome.{ComesTo};
 
-use crate::conformance_document::conformance_line;
+use crate::conformance_document::{conformance_line, is_finished};
 use crate::outcome::{Judgement, Outcome};
 use dds_answers::{Answer, ToolFault, answer_with, read_plan};
 use dds_base::NoMemory;
@@ -26,16 +26,6 @@ use dds_lists::Deployment;
 use dds_match::Plan;
 use dds_options::{Style, TraceEnd};
 use std::alloc::Global;
-
-/// Whether a trace that leaves this may end so.
-pub(crate) fn is_finished(leftovers: &[Leftover], end: TraceEnd) -> bool
-    ensures { result ≡ is_finished end leftovers.now }
-{
-    match end {
-        TraceEnd::Open => true,
-        TraceEnd::Strict => leftovers.is_empty(),
-    }
-}
 
 /// The line with which the answer begins where a trace keeps the rules.
 fn kept_word(leftovers: &[Leftover], end: TraceEnd) -> &'static str
