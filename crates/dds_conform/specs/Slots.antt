@@ -1,5 +1,5 @@
 -- What has a place in a line of a trace, and the first word of a line that doesn't fit its place.
-use Rattle.std.specs.Prelude.{ℕ, zero, suc, Bool, false, not, List, codes, Option, Some, None, is_some, if◌then◌else◌, option_and_then, option_map}
+use Rattle.std.specs.Prelude.{ℕ, List, codes, Option, Some, None, is_some, if◌then◌else◌}
 use Rattle.std.specs.List.{after_first, before_first, list_any}
 use Rattle.std.specs.Option.{option_map_or}
 use Rattle.std.specs.Str.{bytes_eq}
@@ -30,45 +30,56 @@ slot_text Key = codes "a key of its topic"
 slot_text End = codes "the end of the line"
 
 -- ── words
+-- what stands before the first blank, or all where there is none
+abbrev pub first_word : List ℕ → List ℕ
+first_word text = before_first is_blank text
+
 -- what stands after the first blank, if there is one
 abbrev pub later : List ℕ → Option (List ℕ)
 later text = if list_any is_blank text then Some (after_first is_blank text) else None
 
--- what stands after so many blanks, if there are so many
-unfoldable pub after_blanks : ℕ → List ℕ → Option (List ℕ)
-after_blanks zero line = Some line
-after_blanks (suc n) line = option_and_then later (after_blanks n line)
-
--- the word with this number, from 0, if a line has so many: words stand between blanks
-abbrev pub word : ℕ → List ℕ → Option (List ℕ)
-word n line = option_map (before_first is_blank) (after_blanks n line)
-
-abbrev pub has_head : List ℕ → Bool
-has_head line = option_map_or is_head (word 0 line) false
-
-abbrev pub has_text : List ℕ → ℕ → List ℕ → Bool
-has_text text n line = option_map_or (λ w. bytes_eq w text) (word n line) false
-
--- the number that a word has among names
-abbrev pub number_at : List (List ℕ) → ℕ → List ℕ → Option ℕ
-number_at names n line = option_and_then (number_of names) (word n line)
-
-abbrev pub has_name : List (List ℕ) → ℕ → List ℕ → Bool
-has_name names n line = is_some (number_at names n line)
+-- the number that the first word has among names
+abbrev pub number_in : List (List ℕ) → List ℕ → Option ℕ
+number_in names text = number_of names (first_word text)
 
 -- ── the first word that doesn't fit
--- after `write` a writer, a key of its topic, and nothing more
+-- after a key of the topic stands nothing
+abbrev pub misfit_of_key : List (List ℕ) → List ℕ → Slot
+misfit_of_key keys text = if is_some (number_in keys text) then End else Key
+
+abbrev pub misfit_after : List (List ℕ) → List ℕ → Slot
+misfit_after keys text = option_map_or (misfit_of_key keys) (later text) Key
+
+-- after `write` stand a writer and a key of its topic
+abbrev pub misfit_of_writer : Lists → List ℕ → Slot
+misfit_of_writer d text = option_map_or (λ w. misfit_after (writer_keys d w) text) (number_in d.writers.names text) Writer
+
 abbrev pub misfit_of_write : Lists → List ℕ → Slot
-misfit_of_write d line = option_map_or (λ w. if has_name (writer_keys d w) 4 line then End else Key) (number_at d.writers.names 3 line) Writer
+misfit_of_write d text = option_map_or (misfit_of_writer d) (later text) Writer
 
--- after `take` a reader, a key of its topic, and nothing more
+-- after `take` stand a reader and a key of its topic
+abbrev pub misfit_of_reader : Lists → List ℕ → Slot
+misfit_of_reader d text = option_map_or (λ r. misfit_after (reader_keys d r) text) (number_in d.readers.names text) Reader
+
 abbrev pub misfit_of_take : Lists → List ℕ → Slot
-misfit_of_take d line = option_map_or (λ r. if has_name (reader_keys d r) 4 line then End else Key) (number_at d.readers.names 3 line) Reader
+misfit_of_take d text = option_map_or (misfit_of_reader d) (later text) Reader
 
--- a time, an application, and what it did
+-- after an application stands what it did
+abbrev pub misfit_of_action : Lists → List ℕ → Slot
+misfit_of_action d text =
+    if bytes_eq (first_word text) (codes "write") then misfit_of_write d text else
+    (if bytes_eq (first_word text) (codes "take") then misfit_of_take d text else Action)
+
+abbrev pub misfit_in_action : Lists → List ℕ → Slot
+misfit_in_action d text = option_map_or (misfit_of_action d) (later text) Action
+
+-- after a time stands an application
+abbrev pub misfit_of_application : Lists → List ℕ → Slot
+misfit_of_application d text = if is_some (number_in d.applications.names text) then misfit_in_action d text else Application
+
+abbrev pub misfit_in_text : Lists → List ℕ → Slot
+misfit_in_text d line = option_map_or (misfit_of_application d) (later line) Application
+
+-- of a line, whose words stand between blanks
 abbrev pub misfit : Lists → List ℕ → Slot
-misfit d line =
-    if not (has_head line) then Time else
-    (if not (has_name d.applications.names 1 line) then Application else
-    (if has_text (codes "write") 2 line then misfit_of_write d line else
-    (if has_text (codes "take") 2 line then misfit_of_take d line else Action)))
+misfit d line = if is_head (first_word line) then misfit_in_text d line else Time

@@ -2,8 +2,10 @@
 ghost use Rattle.std.specs.Prelude.{◌≡◌, ◌<◌, IfNone, IfSome, None, Some, length};
 ghost use Rattle.std.specs.List.{before_first};
 ghost use Rattle.dds_conform.specs.Lines.{is_blank};
-ghost use Rattle.dds_conform.specs.Slots.{after_blanks, has_head, has_name, has_text, later, misfit, misfit_of_take};
-ghost use Rattle.dds_conform.specs.Slots.{misfit_of_write, number_at, slot_text, word, word_number};
+ghost use Rattle.dds_conform.specs.Slots.{later, misfit, misfit_after, misfit_in_action, misfit_in_text};
+ghost use Rattle.dds_conform.specs.Slots.{misfit_of_action, misfit_of_application, misfit_of_key, misfit_of_reader};
+ghost use Rattle.dds_conform.specs.Slots.{misfit_of_take, misfit_of_write, misfit_of_writer, number_in, slot_text};
+ghost use Rattle.dds_conform.specs.Slots.{word_number};
 
 use crate::lines::is_head;
 use dds_base::{Names, ReaderNo, WriterNo};
@@ -81,96 +83,121 @@ fn later(text: &str) -> Option<&str>
     }
 }
 
-/// What stands after so many blanks of a line.
-fn after_blanks(line: &str, blanks: usize) -> Option<&str>
-    ensures some { IfSome result (λ text. after_blanks blanks line.now ≡ Some text.now) }
-    ensures none { IfNone result (after_blanks blanks line.now ≡ None) }
-{
-    let mut text = line;
-    for _ in 0..blanks {
-        text = later(text)?;
-    }
-    Some(text)
-}
-
-/// The word of a line with this number, from 0.
-fn word(line: &str, number: usize) -> Option<&str>
-    ensures some { IfSome result (λ found. word number line.now ≡ Some found.now) }
-    ensures none { IfNone result (word number line.now ≡ None) }
-{
-    match after_blanks(line, number) {
-        Some(text) => Some(first_word(text)),
-        None => None,
-    }
-}
-
-/// Whether a line begins with a time.
-fn has_head(line: &str) -> bool
-    ensures { result ≡ has_head line.now }
-{
-    match word(line, 0) {
-        Some(time) => is_head(time),
-        None => false,
-    }
-}
-
-/// Whether a word of a line is this text.
-fn has_text(line: &str, number: usize, text: &str) -> bool
-    ensures { result ≡ has_text text.now number line.now }
-{
-    match word(line, number) {
-        Some(found) => found == text,
-        None => false,
-    }
-}
-
-/// The number that a word of a line has among names.
-fn number_at(names: &Names, line: &str, number: usize) -> Option<usize>
-    ensures value { result ≡ number_at names.now number line.now }
+/// The number that the first word of a text has among names.
+fn number_in(names: &Names, text: &str) -> Option<usize>
+    ensures value { result ≡ number_in names.now text.now }
     ensures within { IfSome result (λ n. n < length names.now) }
 {
-    match word(line, number) {
-        Some(name) => names.number(name),
-        None => None,
-    }
+    names.number(first_word(text))
 }
 
-/// Whether a word of a line is one of the names.
-fn has_name(names: &Names, line: &str, number: usize) -> bool
-    ensures { result ≡ has_name names.now number line.now }
+/// The first word from the key on that doesn't fit.
+fn misfit_of_key(keys: &Names, text: &str) -> Slot
+    ensures { result ≡ misfit_of_key keys.now text.now }
 {
-    number_at(names, line, number).is_some()
-}
-
-/// The first word after `write` that doesn't fit.
-fn misfit_of_write(lists: &Deployment, line: &str) -> Slot
-    ensures { result ≡ misfit_of_write lists.now line.now }
-{
-    // Each writer has one name.
-    lists.assert_well_formed();
-    let Some(writer) = number_at(lists.writer_names(), line, 3) else {
-        return Slot::Writer;
-    };
-    if has_name(keys_of_writer(lists, WriterNo::new(writer)), line, 4) {
+    if number_in(keys, text).is_some() {
         Slot::End
     } else {
         Slot::Key
+    }
+}
+
+/// The first word from the one after an endpoint on that doesn't fit.
+fn misfit_after(keys: &Names, text: &str) -> Slot
+    ensures { result ≡ misfit_after keys.now text.now }
+{
+    match later(text) {
+        Some(rest) => misfit_of_key(keys, rest),
+        None => Slot::Key,
+    }
+}
+
+/// The first word from the writer on that doesn't fit.
+fn misfit_of_writer(lists: &Deployment, text: &str) -> Slot
+    ensures { result ≡ misfit_of_writer lists.now text.now }
+{
+    // Each writer has one name.
+    lists.assert_well_formed();
+    match number_in(lists.writer_names(), text) {
+        Some(writer) => misfit_after(keys_of_writer(lists, WriterNo::new(writer)), text),
+        None => Slot::Writer,
+    }
+}
+
+/// The first word from the reader on that doesn't fit.
+fn misfit_of_reader(lists: &Deployment, text: &str) -> Slot
+    ensures { result ≡ misfit_of_reader lists.now text.now }
+{
+    // Each reader has one name.
+    lists.assert_well_formed();
+    match number_in(lists.reader_names(), text) {
+        Some(reader) => misfit_after(keys_of_reader(lists, ReaderNo::new(reader)), text),
+        None => Slot::Reader,
+    }
+}
+
+/// The first word after `write` that doesn't fit.
+fn misfit_of_write(lists: &Deployment, text: &str) -> Slot
+    ensures { result ≡ misfit_of_write lists.now text.now }
+{
+    match later(text) {
+        Some(rest) => misfit_of_writer(lists, rest),
+        None => Slot::Writer,
     }
 }
 
 /// The first word after `take` that doesn't fit.
-fn misfit_of_take(lists: &Deployment, line: &str) -> Slot
-    ensures { result ≡ misfit_of_take lists.now line.now }
+fn misfit_of_take(lists: &Deployment, text: &str) -> Slot
+    ensures { result ≡ misfit_of_take lists.now text.now }
 {
-    // Each reader has one name.
-    lists.assert_well_formed();
-    let Some(reader) = number_at(lists.reader_names(), line, 3) else {
-        return Slot::Reader;
-    };
-    if has_name(keys_of_reader(lists, ReaderNo::new(reader)), line, 4) {
-        Slot::End
+    match later(text) {
+        Some(rest) => misfit_of_reader(lists, rest),
+        None => Slot::Reader,
+    }
+}
+
+/// The first word from the action on that doesn't fit.
+fn misfit_of_action(lists: &Deployment, text: &str) -> Slot
+    ensures { result ≡ misfit_of_action lists.now text.now }
+{
+    let action = first_word(text);
+    if action == "write" {
+        misfit_of_write(lists, text)
+    } else if action == "take" {
+        misfit_of_take(lists, text)
     } else {
-        Slot::Key
+        Slot::Action
+    }
+}
+
+/// The first word after an application that doesn't fit.
+fn misfit_in_action(lists: &Deployment, text: &str) -> Slot
+    ensures { result ≡ misfit_in_action lists.now text.now }
+{
+    match later(text) {
+        Some(rest) => misfit_of_action(lists, rest),
+        None => Slot::Action,
+    }
+}
+
+/// The first word from the application on that doesn't fit.
+fn misfit_of_application(lists: &Deployment, text: &str) -> Slot
+    ensures { result ≡ misfit_of_application lists.now text.now }
+{
+    if number_in(lists.application_names(), text).is_some() {
+        misfit_in_action(lists, text)
+    } else {
+        Slot::Application
+    }
+}
+
+/// The first word after a time that doesn't fit.
+fn misfit_in_text(lists: &Deployment, line: &str) -> Slot
+    ensures { result ≡ misfit_in_text lists.now line.now }
+{
+    match later(line) {
+        Some(text) => misfit_of_application(lists, text),
+        None => Slot::Application,
     }
 }
 
@@ -178,15 +205,9 @@ fn misfit_of_take(lists: &Deployment, line: &str) -> Slot
 pub(crate) fn misfit(lists: &Deployment, line: &str) -> Slot
     ensures { result ≡ misfit lists.now line.now }
 {
-    if !has_head(line) {
-        Slot::Time
-    } else if !has_name(lists.application_names(), line, 1) {
-        Slot::Application
-    } else if has_text(line, 2, "write") {
-        misfit_of_write(lists, line)
-    } else if has_text(line, 2, "take") {
-        misfit_of_take(lists, line)
+    if is_head(first_word(line)) {
+        misfit_in_text(lists, line)
     } else {
-        Slot::Action
+        Slot::Time
     }
 }

@@ -20,9 +20,9 @@ add-requires-clause-room c = has_room c.args.entries.now c.loop-at.at c.loop-at.
 pub loop-at-preserved : goal.loop-at-preserved
 loop-at-preserved c =
     let lt : c.loop-at.at < length c.args.entries.now = omega arith in
-    more_counts c.args.plan.now c.args.entries.now c.loop-at.at c.index-entries-at.result c.loop-at.counts c.add.new.counts lt c.index-entries-at.is c.add.ensures.written c.add.ensures.taken c.loop-at.invariant
+    more_counts c.args.plan.now c.args.entries.now c.loop-at.at c.index-entries-at.result c.loop-at.counts c.add.new.self lt c.index-entries-at.is c.add.ensures.written c.add.ensures.taken c.loop-at.invariant
 
-pub returns : goal.returns
-returns c =
+pub returns-clause-counts : goal.returns-clause-counts
+returns-clause-counts c =
     let same : c.loop-at.at ≡ length c.args.entries.now = omega arith in
     subst (λ n. AreCounts c.args.entries.now n c.loop-at.counts) same c.loop-at.invariant
