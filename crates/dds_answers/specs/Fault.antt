@@ -7,7 +7,7 @@ use Rattle.dds_events.specs.Faults as events
 use Rattle.dds_conform.specs.Faults as trace
 use Rattle.dds_conform.specs.Slots.{slot_text, word_number}
 use Rattle.dds_conform.specs.declared.fault.TraceFaultKind.{TraceFaultKind}
-use Rattle.dds_conform.specs.declared.fault.TraceFaultKind.TheVariants as kind
+use Rattle.dds_conform.specs.declared.fault.TraceFaultKind.TheVariants as trace_kind
 use Rattle.dds_conform.specs.declared.slots.Slot.{Slot}
 use Rattle.dds_answers.specs.Exit.{exit_status}
 use Rattle.dds_answers.specs.declared.exit.Exit.{Exit}
@@ -37,7 +37,7 @@ misfit_flaw number name line slot =
 
 -- the words for the flaw of a trace
 abbrev pub trace_flaw : TraceFaultKind → ℕ → List ℕ
-trace_flaw (kind.NotAnEntry slot) line = misfit_flaw (trace.number_of (kind.NotAnEntry slot)) (trace.name_of (kind.NotAnEntry slot)) line slot
+trace_flaw (trace_kind.NotAnEntry slot) line = misfit_flaw (trace.number_of (trace_kind.NotAnEntry slot)) (trace.name_of (trace_kind.NotAnEntry slot)) line slot
 trace_flaw flaw line = line_flaw (codes "trace") (trace.number_of flaw) (trace.name_of flaw) line
 
 -- what the parser says of a file that is no TOML, where that is printed

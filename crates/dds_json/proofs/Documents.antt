@@ -23,7 +23,7 @@ use Rattle.dds_answers.specs.declared.report.Report.TheVariants as answer
 use Rattle.dds_json.specs.Checking.{acceptance_document, bound_document, refusal_document, report_document, subject_document, total_document}
 use Rattle.dds_json.specs.Fault.{fault_document, trace_document}
 use Rattle.dds_conform.specs.declared.fault.TraceFaultKind.{TraceFaultKind}
-use Rattle.dds_conform.specs.declared.fault.TraceFaultKind.TheVariants as kind
+use Rattle.dds_conform.specs.declared.fault.TraceFaultKind.TheVariants as trace_kind
 use Rattle.dds_json.specs.Matching.{match_document, named_pair, pair_document, writer_pairs}
 
 -- the next number's document is added
@@ -100,11 +100,11 @@ match_plain d =
     rw (no_fractions_in (writer_pairs d (length d.readers.entries)) writer (range_with_len 0 (length d.writers.entries))) refl
 
 trace_plain : (k : TraceFaultKind) (line : ℕ) → has_float (trace_document k line) ≡ false
-trace_plain kind.NotText line = refl
-trace_plain (kind.NotAnEntry slot) line = refl
-trace_plain kind.Foreign line = refl
-trace_plain kind.MissingTime line = refl
-trace_plain kind.TimeFalls line = refl
+trace_plain trace_kind.NotText line = refl
+trace_plain (trace_kind.NotAnEntry slot) line = refl
+trace_plain trace_kind.Foreign line = refl
+trace_plain trace_kind.MissingTime line = refl
+trace_plain trace_kind.TimeFalls line = refl
 
 pub fault_plain : (f : ToolFault) → has_float (fault_document f) ≡ false
 fault_plain (fault.Usage text) = refl

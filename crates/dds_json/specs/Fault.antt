@@ -7,7 +7,7 @@ use Rattle.dds_events.specs.Faults as events
 use Rattle.dds_conform.specs.Faults as trace
 use Rattle.dds_conform.specs.Slots.{slot_text, word_number}
 use Rattle.dds_conform.specs.declared.fault.TraceFaultKind.{TraceFaultKind}
-use Rattle.dds_conform.specs.declared.fault.TraceFaultKind.TheVariants as kind
+use Rattle.dds_conform.specs.declared.fault.TraceFaultKind.TheVariants as trace_kind
 use Rattle.dds_conform.specs.declared.slots.Slot.{Slot}
 use Rattle.dds_answers.specs.declared.fault.ToolFault.{ToolFault}
 use Rattle.dds_answers.specs.declared.fault.ToolFault.TheVariants as fault
@@ -46,7 +46,7 @@ misfit_document n name line slot =
     (member (codes "number") (number (unsigned n)) (member (codes "wanted") (string (slot_text slot)) (member (codes "word") (number (unsigned (word_number slot))) no_members)))))))
 
 abbrev pub trace_document : TraceFaultKind → ℕ → Data
-trace_document (kind.NotAnEntry slot) line = misfit_document (trace.number_of (kind.NotAnEntry slot)) (trace.name_of (kind.NotAnEntry slot)) line slot
+trace_document (trace_kind.NotAnEntry slot) line = misfit_document (trace.number_of (trace_kind.NotAnEntry slot)) (trace.name_of (trace_kind.NotAnEntry slot)) line slot
 trace_document flaw line = line_document (codes "trace") (trace.number_of flaw) (trace.name_of flaw) line
 
 -- the document of a fault
