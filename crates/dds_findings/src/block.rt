@@ -140,7 +140,7 @@ fn goes_on(findings: &[Finding], place: usize) -> bool
 }
 
 /// Whether the finding with this place is the first of a row of alike ones.
-fn begins(findings: &[Finding], place: usize) -> bool
+pub(crate) fn begins(findings: &[Finding], place: usize) -> bool
     requires { place < length findings.now }
     ensures { result ≡ begins findings.now place }
 {
@@ -339,8 +339,9 @@ fn denied_lines(alloc: Global, deny: &Deny, findings: &[Finding]) -> Result<Stri
     )
 }
 
-/// How many errors and notes there are, which of these make the answer no, and what isn't checked.
-fn last_lines(
+/// How many errors and notes there are, which of these make the answer no, and what isn't checked. `NoMemory` is the
+/// only error.
+pub(crate) fn last_lines(
     alloc: Global,
     names: &FileNames,
     findings: &[Finding],

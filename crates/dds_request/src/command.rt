@@ -83,7 +83,7 @@ const CLAIM: &str = "Prints a certificate that shows these bounds instead";
 const LINTED_CERTIFICATE: &str = "A certificate to check too";
 
 /// What help says of the form of findings.
-const FORM: &str = "text, json or sarif";
+const FORM: &str = "text, json, sarif or github";
 
 /// What help says of what is denied.
 const DENY: &str = "What makes the answer no: errors, notes or all";

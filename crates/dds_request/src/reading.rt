@@ -43,7 +43,7 @@ const WRONG_STYLE: &str = "error: the format is text or json\n";
 const PLAIN_CONNECTIONS: &str = "error: --connections has no JSON format\n";
 
 /// The message for a word that is no form of findings.
-const WRONG_FORM: &str = "error: the format is text, json or sarif\n";
+const WRONG_FORM: &str = "error: the format is text, json, sarif or github\n";
 
 /// The message for a word that denies nothing.
 const WRONG_DENY: &str = "error: --deny takes errors, notes or all\n";

@@ -120,7 +120,7 @@ fn style_of_form(form: LintStyle) -> Style
     ensures { result ≡ style_of_form form }
 {
     match form {
-        LintStyle::Text | LintStyle::Sarif => Style::Text,
+        LintStyle::Text | LintStyle::Sarif | LintStyle::Github => Style::Text,
         LintStyle::Json => Style::Json,
     }
 }
