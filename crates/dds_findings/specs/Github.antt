@@ -8,6 +8,7 @@ use Rattle.dds_findings.specs.Blocks.{FileNames, begins, file_name, last_lines}
 use Rattle.dds_findings.specs.Documents.{says}
 use Rattle.dds_findings.specs.Findings.{is_denied, is_passed}
 use Rattle.dds_options.specs.declared.deny.Deny.{Deny}
+use Rattle.dds_plain.specs.Plain.{plain_text}
 use Rattle.dds_findings.specs.declared.finding.Finding.{Finding}
 use Rattle.dds_findings.specs.declared.github.Part.{Part}
 use Rattle.dds_findings.specs.declared.github.Part.TheVariants as part
@@ -35,7 +36,7 @@ command_word denied f = if is_denied denied f then codes "error" else codes "not
 -- the line that shows a finding at its place
 abbrev pub command_line : FileNames → Deny → Finding → List ℕ
 command_line names denied f =
-    codes "::" ++ (command_word denied f ++ (codes " file=" ++ (escape part.Property (file_name names f.role) ++ (codes ",line=" ++ (decimal f.spot.line ++ (codes ",col=" ++ (decimal f.spot.column
+    codes "::" ++ (command_word denied f ++ (codes " file=" ++ (escape part.Property (plain_text (file_name names f.role)) ++ (codes ",line=" ++ (decimal f.spot.line ++ (codes ",col=" ++ (decimal f.spot.column
     ++ (codes ",title=" ++ (f.name.now ++ (codes "::" ++ (escape part.Message (says f) ++ codes "\n")))))))))))
 
 -- none where it's let pass

@@ -13,6 +13,7 @@ use crate::finding::{About, Finding, Role};
 use crate::kinds::kind_of;
 use dds_base::NoMemory;
 use dds_options::{Deny, NoteKind, note_word};
+use dds_plain::plain_text;
 use dds_text::texts::text_below;
 use std::alloc::Global;
 use std::marker::Model;
@@ -88,7 +89,7 @@ fn place_text(alloc: Global, names: &FileNames, finding: &Finding) -> Result<Str
     ensures { IfOk result (λ text. string_bytes text ≡ place_lines names.now finding.now) }
 {
     let margin = finding.spot.margin.as_str();
-    let file = file_name(names, finding.role);
+    let file = plain_text(alloc, file_name(names, finding.role))?;
     let line = finding.spot.line;
     let column = finding.spot.column;
     format!(in alloc; "{margin}--> {file}:{line}:{column}\n{margin} |\n")

@@ -8,6 +8,7 @@ use crate::finding::Finding;
 use crate::sarif::says;
 use dds_base::NoMemory;
 use dds_options::Deny;
+use dds_plain::plain_text;
 use dds_text::texts::text_below;
 use std::alloc::Global;
 
@@ -72,7 +73,8 @@ fn command_line(
     ensures { IfOk result (λ text. string_bytes text ≡ command_line names.now deny.now finding.now) }
 {
     let word = command_word(finding, deny);
-    let file = escape(alloc, file_name(names, finding.role), Part::Property)?;
+    let file = plain_text(alloc, file_name(names, finding.role))?;
+    let file = escape(alloc, file.as_str(), Part::Property)?;
     let line = finding.spot.line;
     let column = finding.spot.column;
     let name = finding.name;
