@@ -16,6 +16,7 @@
   link to where the other endpoint's name stands in the file.
 - Workflow commands, read as GitHub's runner reads them, are the findings of the JSON document, of a row of one kind at one place the first, without those that
   are let pass.
+- In the line of a file that is shown, in names of files and in words of the command line `?` stands for each character that would turn the text or isn't seen.
 - A file of 1 MiB with 10,000 faults is answered within a second, by 1,000 of them and a line that there may be more.
 The last line is 'N passed, M failed'.
 """
@@ -407,6 +408,27 @@ def many_faults():
 UNSEEN = re.compile("[\x00-\x09\x0b-\x1f\x7f-\x9f\xad\u061c\u180e\u200b-\u200f\u2028-\u202e\u2060-\u206f\ufeff\U000e0000-\U000e007f]|\\\\x")
 
 
+def hostile_name(name):
+    """What is wrong with what commands show of the name of a file, there or not, or of a word, if anything is."""
+    with tempfile.TemporaryDirectory() as room:
+        (Path(room) / name).write_bytes(b"version = 3\nodd = 1\n")
+        tried = [["lint", name], ["lint", name, "--format", "github"], ["lint", f"{name}x"], ["check", f"{name}x", name, "--explain"], [name], ["lint", f"--{name}"], ["lint", name, "x", name]]
+        for words in tried:
+            given = ddscheck(*words, cwd=room)
+            told = given.out + given.err
+            if given.status not in (1, 3, 4) or UNSEEN.search(told) or plainly(name) not in told:
+                return f"{words}: status {given.status}, and shows {told[:300]!r}"
+    return None
+
+
+def plainly(name):
+    """A name as it's shown."""
+    return UNSEEN.sub("?", name.replace("\n", "?"))
+
+
+HOSTILE_NAMES = ["\x1b[31mred", "a\nerror[Forged]: b\n", "\u202ereversed\u2066", "a\u061c\u00ad\u180e\ufeff\U000e0041\u2029\u2060b", "tab\tand\x07bell\x9b"]
+
+
 def hostile_line(text):
     """What is wrong with what is shown of a line with control characters, characters of several bytes or bytes that are no text, if anything is."""
     with tempfile.TemporaryDirectory() as room:
@@ -424,6 +446,7 @@ HOSTILE = [
     b"version = 1\n\todd\t=\t1\t# \t\n",
     b'version = 1\n"\\u202ereversed\\u2066 \\u061c\\u00ad\\u180e\\ufeff\\U000e0041\\u2028" = 1\n',
     b'version = 1\n[[topics]]\nname = "t\\u061c\\u00ad\\u180e\\ufeff\\U000e0041\\u2029\\u2060"\n',
+    "version = 1\nname = \"\u202ereversed\u2066\" # \u061c\u00ad\u180e\ufeff\U000e0041\u2028\u2029\u2060\n".encode(),
     "version = 1\n[[participants]]\nname = \"größe 日本 🚀\"\ndomain = 0\n".encode(),
     b"version = 1\nname = \"\x1b[31mred\"\n",
     b"version = 1\nname = \"\xff\xfe\"\n",
@@ -451,6 +474,7 @@ def main():
     worked += [(vacuous, file, f"vacuous {file.name}") for file in sorted((DATA / "vacuous").glob("[A-Z]*.toml")) if ".cert" not in file.name]
     worked += [(second_notes, path, f"notes of {path.relative_to(ROOT)}") for path in shown.deployments()]
     worked += [(hostile_line, text, f"a line of {text[:60]}") for text in HOSTILE]
+    worked += [(hostile_name, name, f"the name {name!r}") for name in HOSTILE_NAMES]
     worked += [(printed, case.words[1], f"sarif and github {case.words[1]}") for case in list(fault_cases())[:40]]
     worked += [(printed, str(path.relative_to(DATA)), f"sarif and github {path.relative_to(DATA)}") for path in lintable()]
     worked += [(sarif_uri, name, f"sarif {name}") for name in NAMES]

@@ -12,7 +12,7 @@ _ddscheck() {
     "replay --format") COMPREPLY=($(compgen -W "text json" -- "$word")); return ;;
     "limits --format") COMPREPLY=($(compgen -W "text json" -- "$word")); return ;;
     "conform --format") COMPREPLY=($(compgen -W "text json" -- "$word")); return ;;
-    "lint --format") COMPREPLY=($(compgen -W "text json sarif" -- "$word")); return ;;
+    "lint --format") COMPREPLY=($(compgen -W "text json sarif github" -- "$word")); return ;;
     "lint --deny") COMPREPLY=($(compgen -W "errors notes all" -- "$word")); return ;;
     esac
     if [ "$COMP_CWORD" = 1 ]; then

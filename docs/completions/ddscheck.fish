@@ -50,7 +50,7 @@ complete -c ddscheck -n '__fish_seen_subcommand_from limits' -l format -x -a 'te
 complete -c ddscheck -n '__fish_seen_subcommand_from limits' -s h -l help -d 'Print help'
 complete -c ddscheck -n '__fish_seen_subcommand_from conform' -l format -x -a 'text json' -d 'text or json [default: text]'
 complete -c ddscheck -n '__fish_seen_subcommand_from conform' -s h -l help -d 'Print help'
-complete -c ddscheck -n '__fish_seen_subcommand_from lint' -l format -x -a 'text json sarif' -d 'text, json or sarif [default: text]'
+complete -c ddscheck -n '__fish_seen_subcommand_from lint' -l format -x -a 'text json sarif github' -d 'text, json, sarif or github [default: text]'
 complete -c ddscheck -n '__fish_seen_subcommand_from lint' -l deny -x -a 'errors notes all' -d 'What makes the answer no: errors, notes or all [default: errors]'
 complete -c ddscheck -n '__fish_seen_subcommand_from lint' -l allow -x -d 'Notes that pass all the same, with commas between them: Finite, or Finite:RULE for one rule'
 complete -c ddscheck -n '__fish_seen_subcommand_from lint' -s h -l help -d 'Print help'

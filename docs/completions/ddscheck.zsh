@@ -97,7 +97,7 @@ _ddscheck() {
                 '1:deployment:_files -g "*.toml"' \
                 '2:trace:_files -g "*.toml"' ;;
             lint) _arguments \
-                '--format[text, json or sarif \[default: text\]]:FORMAT:(text json sarif)' \
+                '--format[text, json, sarif or github \[default: text\]]:FORMAT:(text json sarif github)' \
                 '--deny[What makes the answer no: errors, notes or all \[default: errors\]]:WHAT:(errors notes all)' \
                 '--allow[Notes that pass all the same, with commas between them: Finite, or Finite:RULE for one rule]:NOTES:()' \
                 '-h[Print help]' \
