@@ -21,7 +21,7 @@ _ddscheck() {
     fi
     case ${COMP_WORDS[1]} in
     help) COMPREPLY=($(compgen -W "match check propose run migrate show draw refute replay limits conform lint help" -- "$word")); return ;;
-    match) options="--connections --format -h --help" ;;
+    match) options="--connections --policies --format -h --help" ;;
     check) options="--explain --format -h --help" ;;
     propose) options="--thorough --seconds --format -h --help" ;;
     run) options="--fates --writes --takes --late --idle-ok --explain --format -h --help" ;;

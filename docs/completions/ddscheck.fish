@@ -16,6 +16,7 @@ complete -c ddscheck -n __fish_use_subcommand -a help -d 'Print this message or 
 complete -c ddscheck -n __fish_use_subcommand -s h -l help -d 'Print help'
 complete -c ddscheck -n __fish_use_subcommand -s V -l version -d 'Print version'
 complete -c ddscheck -n '__fish_seen_subcommand_from match' -l connections -d 'Prints a table [[connections]] for each pair that matches, to paste into a deployment file'
+complete -c ddscheck -n '__fish_seen_subcommand_from match' -l policies -d 'Leaves out pairs with other topics, and prints what keeps the others apart'
 complete -c ddscheck -n '__fish_seen_subcommand_from match' -l format -x -a 'text json' -d 'text or json [default: text]'
 complete -c ddscheck -n '__fish_seen_subcommand_from match' -s h -l help -d 'Print help'
 complete -c ddscheck -n '__fish_seen_subcommand_from check' -l explain -d 'Also prints the reason: the numbers behind a no, how near each bound is to its limit and what a yes doesn\'t say, or where a file isn\'t TOML'

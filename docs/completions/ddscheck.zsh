@@ -25,6 +25,7 @@ _ddscheck() {
         case $line[1] in
             match) _arguments \
                 '--connections[Prints a table \[\[connections\]\] for each pair that matches, to paste into a deployment file]' \
+                '--policies[Leaves out pairs with other topics, and prints what keeps the others apart]' \
                 '--format[text or json \[default: text\]]:FORMAT:(text json)' \
                 '-h[Print help]' \
                 '--help[Print help]' \

@@ -40,8 +40,8 @@ const WRONG_VERSION: &str = "error: --to takes 2, 3 or 4\n";
 /// The message for a word that is no style.
 const WRONG_STYLE: &str = "error: the format is text or json\n";
 
-/// The message for words that ask for connections as a document.
-const PLAIN_CONNECTIONS: &str = "error: --connections has no JSON format\n";
+/// The message for words that ask for connections or policies as a document.
+const PLAIN_LINES: &str = "error: --connections and --policies have no JSON format\n";
 
 /// The message for a word that is no form of findings.
 const WRONG_FORM: &str = "error: the format is text, json, sarif or github\n";
@@ -244,16 +244,21 @@ fn comparison(matches: &ArgMatches) -> Comparison
 {
     if is_set(matches, "connections") {
         Comparison::Connections
+    } else if is_set(matches, "policies") {
+        Comparison::Policies
     } else {
         Comparison::Pairs
     }
 }
 
-/// Whether what is printed of a comparison has this style: connections are text.
+/// Whether what is printed of a comparison has this style: connections and policies are text.
 fn is_printed(what: Comparison, style: Style) -> bool
     ensures { result ≡ is_printed what style }
 {
-    !matches!((what, style), (Comparison::Connections, Style::Json))
+    match what {
+        Comparison::Pairs => true,
+        Comparison::Connections | Comparison::Policies => matches!(style, Style::Text),
+    }
 }
 
 fn match_request<'a>(alloc: Global, matches: &ArgMatches<'a>) -> Result<Request<'a>, NoRequest>
@@ -267,7 +272,7 @@ fn match_request<'a>(alloc: Global, matches: &ArgMatches<'a>) -> Result<Request<
         let task = Task::Match { what, style };
         Ok(Request::One { deployment, task })
     } else {
-        Err(usage(alloc, PLAIN_CONNECTIONS))
+        Err(usage(alloc, PLAIN_LINES))
     }
 }
 
