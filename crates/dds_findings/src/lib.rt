@@ -28,5 +28,4 @@ pub use answer::{Named, answer_findings, names_of};
 pub use block::FileNames;
 pub use finding::{About, Finding, Level, Other, Role};
 pub use linting::lint;
-pub use meanings::{MEANINGS, Meaning};
 pub use spot::Spot;

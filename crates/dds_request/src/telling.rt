@@ -20,14 +20,30 @@ fn plain_words<S: AsStr>(alloc: Global, words: &[S]) -> Result<Vec<String>, NoMe
 
 /// Whether words are printed as they are.
 fn are_plain<S: AsStr>(words: &[S], plain: &[String]) -> bool {
-    words.iter().zip(plain).all(|(word, plain)| word.as_str() == plain.as_str())
+    words
+        .iter()
+        .zip(plain.iter())
+        .all(|(word, plain)| word.as_str() == plain.as_str())
+}
+
+/// The message of an error, unless that's help.
+fn message_of(alloc: Global, error: &clap::Error) -> Result<Option<String>, NoMemory> {
+    if error.use_stderr() {
+        Ok(Some(format!(in alloc; "{error}")?))
+    } else {
+        Ok(None)
+    }
 }
 
 /// What clap says of these words, where it refuses them.
 fn refusal(alloc: Global, words: &[String]) -> Result<Option<String>, NoMemory> {
-    match whole_command(alloc)?.try_get_matches_from(words) {
-        Err(error) if error.use_stderr() => Ok(Some(format!(in alloc; "{error}")?)),
-        _ => Ok(None),
+    let command = whole_command(alloc)?;
+    match command.try_get_matches_from(words) {
+        Ok(matches) => {
+            drop(matches);
+            Ok(None)
+        }
+        Err(error) => message_of(alloc, &error),
     }
 }
 
