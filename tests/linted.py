@@ -281,8 +281,8 @@ def wrong_place_of(place, file, text):
     return None
 
 
-def wrong_other(result, file, text):
-    """What is wrong with the other endpoint of a result, if anything is."""
+def wrong_other(result, path, file, text):
+    """What is wrong with the other endpoint of a result, whose own has this path, if anything is."""
     related = result["relatedLocations"]
     if result["ruleId"] not in PAIRS or "more of these" in result["message"]["text"]:
         return f"has another endpoint: {result}" if related else None
@@ -291,8 +291,13 @@ def wrong_other(result, file, text):
     name, place = related[0]["message"]["text"], related[0]["physicalLocation"]
     region = place["region"]
     stands = text.split("\n")[region["startLine"] - 1][region["startColumn"] - 1 : region["endColumn"] - 1]
-    if stands.strip("\"'") != name or not result["message"]["text"].endswith(f"\nsee [{name}](1)") or name not in result["message"]["text"].split("\nsee ")[0]:
+    said, _, link = result["message"]["text"].rpartition("\nsee ")
+    if stands.strip("\"'") != name or link != f"[{name}](1)":
         return f"{name} isn't where {stands} is, or the message has no link: {result}"
+    section = "writers" if path.startswith("readers") else "readers"
+    # that a depth is too low says of a reader only how much it stores
+    if name not in (one["name"] for one in tomllib.loads(text)[section]) or name not in said and result["ruleId"] != "WriterDepth":
+        return f"{name} isn't the other endpoint: {result}"
     return wrong_place_of(place, file, text)
 
 
@@ -307,7 +312,7 @@ def wrong_result(result, finding, options, file, text):
         return f"a result has another level, or is suppressed or isn't: {result}, {finding}"
     if result["message"]["text"].partition("\nsee [")[0] != said(finding):
         return f"a result says something else: {result}, {finding}"
-    return wrong_place_of(place, file, text) or wrong_other(result, file, text)
+    return wrong_place_of(place, file, text) or wrong_other(result, finding["place"]["path"], file, text)
 
 
 def sarif_members(file, cwd=DATA, options=()):
