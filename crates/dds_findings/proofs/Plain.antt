@@ -35,7 +35,7 @@ result_plain : (names : FileNames) (denied : Deny) (f : Finding) → has_float (
 result_plain names denied f =
     let other = others_plain names f.other in
     let none = passed_plain (is_passed denied f) in
-    rw other rw none refl
+    rw (other, none) refl
 
 rule_plain : (m : Meaning) → has_float (rule_document m) ≡ false
 rule_plain m = refl
@@ -44,4 +44,4 @@ pub sarif_plain : (names : FileNames) (denied : Deny) (fs : List Finding) → ha
 sarif_plain names denied fs =
     let none = no_fractions (result_document names denied) (result_plain names denied) fs in
     let also = no_fractions rule_document rule_plain (rules fs MEANINGS) in
-    rw none rw also refl
+    rw (none, also) refl

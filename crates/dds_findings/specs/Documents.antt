@@ -135,7 +135,7 @@ abbrev pub is_found : List Finding → Meaning → Bool
 is_found findings m = list_any (λ f. bytes_eq f.name.now m.name.now) findings
 
 -- the names that findings have, in the order of the table
-abbrev pub rules : List Finding → List Meaning → List Meaning
+unfoldable pub rules : List Finding → List Meaning → List Meaning
 rules findings meanings = filter (is_found findings) meanings
 
 -- the tool that found them

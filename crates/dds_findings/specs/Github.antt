@@ -13,13 +13,15 @@ use Rattle.dds_findings.specs.declared.finding.Finding.{Finding}
 use Rattle.dds_findings.specs.declared.github.Part.{Part}
 use Rattle.dds_findings.specs.declared.github.Part.TheVariants as part
 
--- what GitHub reads as a percent sign and as the ends of a line, and in a property also as a colon and a comma
+-- what GitHub reads as a colon and as a comma, which end a property
+abbrev pub end_escape : Part → ℕ → Option (List ℕ)
+end_escape part.Message c = None
+end_escape part.Property c = if c == 58 then Some (codes "%3A") else (if c == 44 then Some (codes "%2C") else None)
+
+-- what it reads as a percent sign and as the ends of a line, and as those
 abbrev pub escape_of : Part → ℕ → Option (List ℕ)
-escape_of part.Message c = if c == 37 then Some (codes "%25") else (if c == 13 then Some (codes "%0D") else (if c == 10 then Some (codes "%0A") else None))
-escape_of part.Property c =
-    if c == 37 then Some (codes "%25")
-    else (if c == 13 then Some (codes "%0D")
-    else (if c == 10 then Some (codes "%0A") else (if c == 58 then Some (codes "%3A") else (if c == 44 then Some (codes "%2C") else None))))
+escape_of p c =
+    if c == 37 then Some (codes "%25") else (if c == 13 then Some (codes "%0D") else (if c == 10 then Some (codes "%0A") else end_escape p c))
 
 -- what stands for a character
 abbrev pub piece : Part → ℕ → List ℕ

@@ -1,7 +1,7 @@
 //! Findings as workflow commands of GitHub Actions, which the page of a change shows at their lines.
 ghost use Rattle.std.specs.Prelude.{◌≡◌, ◌<◌, ◌++◌, IfOk, OnOk, length, option_map, string_bytes};
 ghost use Rattle.dds_findings.specs.Github.{command_line, command_part, command_text, command_word, commands};
-ghost use Rattle.dds_findings.specs.Github.{escape, escape_of, piece};
+ghost use Rattle.dds_findings.specs.Github.{end_escape, escape, escape_of, piece};
 
 use crate::block::{FileNames, begins, file_name, last_lines};
 use crate::finding::Finding;
@@ -21,17 +21,29 @@ pub enum Part {
     Message,
 }
 
+/// What stands for a character that ends a property, where it would.
+fn end_escape(c: char, part: Part) -> Option<&'static str>
+    ensures { option_map (λ e. e.now) result ≡ end_escape part c }
+{
+    match part {
+        Part::Message => None,
+        Part::Property => match c {
+            ':' => Some("%3A"),
+            ',' => Some("%2C"),
+            _ => None,
+        },
+    }
+}
+
 /// What stands for a character, where it isn't the character itself.
 fn escape_of(c: char, part: Part) -> Option<&'static str>
     ensures { option_map (λ e. e.now) result ≡ escape_of part c }
 {
-    match (c, part) {
-        ('%', _) => Some("%25"),
-        ('\r', _) => Some("%0D"),
-        ('\n', _) => Some("%0A"),
-        (':', Part::Property) => Some("%3A"),
-        (',', Part::Property) => Some("%2C"),
-        _ => None,
+    match c {
+        '%' => Some("%25"),
+        '\r' => Some("%0D"),
+        '\n' => Some("%0A"),
+        _ => end_escape(c, part),
     }
 }
 

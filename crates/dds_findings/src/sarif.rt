@@ -277,7 +277,7 @@ fn is_found(findings: &[Finding], meaning: &Meaning) -> bool
 }
 
 /// The names that findings have, in the order of the table.
-#[tactic(auto, using(crate::proofs::Listed::some_of))]
+#[tactic(auto, using(crate::proofs::Listed::some_of), unfolding(crate::specs::Documents::rules))]
 fn rules(
     alloc: Global,
     findings: &[Finding],
