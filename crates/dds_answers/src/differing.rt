@@ -21,10 +21,12 @@ fn has_other_topic(why_not: Option<WhyNot>) -> bool
     matches!(why_not, Some(WhyNot::OtherTopic))
 }
 
-/// The line of a writer and a reader of one topic, and behind it what keeps them apart, if anything does.
-fn pair_lines(alloc: Global, plan: &Plan, writer: WriterNo, reader: ReaderNo) -> TextResult
+/// The line of a writer and of the reader with this number, if they've one topic, and behind it what keeps them apart,
+/// if anything does.
+fn pair_lines(alloc: Global, plan: &Plan, writer: WriterNo, reader: usize) -> TextResult
     ensures { IfOk result (λ text. string_bytes text ≡ pair_lines plan.now writer reader) }
 {
+    let reader = ReaderNo::new(reader);
     if has_other_topic(plan.why_not(writer, reader)) {
         return Ok(String::new(alloc));
     }
@@ -33,14 +35,15 @@ fn pair_lines(alloc: Global, plan: &Plan, writer: WriterNo, reader: ReaderNo) ->
     format!(in alloc; "{line}{values}")
 }
 
-/// The lines of a writer, by readers in file order.
-fn writer_values(alloc: Global, plan: &Plan, writer: WriterNo) -> TextResult
+/// The lines of the writer with this number, by readers in file order.
+fn writer_values(alloc: Global, plan: &Plan, writer: usize) -> TextResult
     ensures { IfOk result (λ text. string_bytes text ≡ writer_values plan.now writer) }
 {
+    let writer = WriterNo::new(writer);
     text_below(
         alloc,
         plan.lists().readers(),
-        |r| pair_lines(alloc, plan, writer, ReaderNo::new(r)),
+        |r| pair_lines(alloc, plan, writer, r),
     )
 }
 
@@ -51,7 +54,7 @@ fn values_lines(alloc: Global, plan: &Plan) -> TextResult
     text_below(
         alloc,
         plan.lists().writers(),
-        |w| writer_values(alloc, plan, WriterNo::new(w)),
+        |w| writer_values(alloc, plan, w),
     )
 }
 
