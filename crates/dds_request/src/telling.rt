@@ -20,10 +20,12 @@ fn plain_words<S: AsStr>(alloc: Global, words: &[S]) -> Result<Vec<String>, NoMe
 
 /// Whether words are printed as they are.
 fn are_plain<S: AsStr>(words: &[S], plain: &[String]) -> bool {
-    words
-        .iter()
-        .zip(plain.iter())
-        .all(|(word, plain)| word.as_str() == plain.as_str())
+    for (word, plain) in words.iter().zip(plain) {
+        if word.as_str() != plain.as_str() {
+            return false;
+        }
+    }
+    true
 }
 
 /// The message of an error, unless that's help.
