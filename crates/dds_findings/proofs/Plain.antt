@@ -6,7 +6,7 @@ use Rattle.serde_json.specs.View.{items_of}
 use Rattle.serde_json.specs.Written.{has_float}
 use Rattle.dds_json.proofs.Documents.{no_fractions}
 use Rattle.dds_findings.specs.Blocks.{FileNames}
-use Rattle.dds_findings.specs.Documents.{finding_document, findings_document, others, result_document, rule_document, rules, sarif_document, suppressions}
+use Rattle.dds_findings.specs.Documents.{finding_document, findings_document, others, result_document, rule_document, rules_of, sarif_document, suppressions}
 use Rattle.dds_findings.specs.declared.finding.Other.{Other}
 use Rattle.dds_findings.specs.declared.meanings.Meaning.{Meaning}
 use Rattle.dds_findings.specs.declared.meanings.TheConstants.{MEANINGS}
@@ -43,5 +43,5 @@ rule_plain m = refl
 pub sarif_plain : (names : FileNames) (denied : Deny) (fs : List Finding) → has_float (sarif_document names denied fs) ≡ false
 sarif_plain names denied fs =
     let none = no_fractions (result_document names denied) (result_plain names denied) fs in
-    let also = no_fractions rule_document rule_plain (rules fs MEANINGS) in
+    let also = no_fractions rule_document rule_plain (rules_of fs MEANINGS) in
     rw (none, also) refl

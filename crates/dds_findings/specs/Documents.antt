@@ -135,13 +135,13 @@ abbrev pub is_found : List Finding → Meaning → Bool
 is_found findings m = list_any (λ f. bytes_eq f.name.now m.name.now) findings
 
 -- the names that findings have, in the order of the table
-unfoldable pub rules : List Finding → List Meaning → List Meaning
-rules findings meanings = filter (is_found findings) meanings
+unfoldable pub rules_of : List Finding → List Meaning → List Meaning
+rules_of findings meanings = filter (is_found findings) meanings
 
 -- the tool that found them
 abbrev pub driver_document : List Finding → Data
 driver_document findings =
-    object (member (codes "name") (string (codes "ddscheck")) (member (codes "rules") (array (items_of (map rule_document (rules findings MEANINGS))))
+    object (member (codes "name") (string (codes "ddscheck")) (member (codes "rules") (array (items_of (map rule_document (rules_of findings MEANINGS))))
     (member (codes "version") (string (codes "0.1.0")) no_members)))
 
 abbrev pub tool_document : List Finding → Data

@@ -6,7 +6,7 @@ ghost use Rattle.dds_json.specs.Line.{line_of};
 ghost use Rattle.dds_findings.specs.Documents.{artifact_document, driver_document, help_uri, is_found, link_line};
 ghost use Rattle.dds_findings.specs.Documents.{location_document, message_document, other_document, others};
 ghost use Rattle.dds_findings.specs.Documents.{physical_document, region_document, result_document, result_level};
-ghost use Rattle.dds_findings.specs.Documents.{result_words, rule_document, rules, run_document, sarif_document, says};
+ghost use Rattle.dds_findings.specs.Documents.{result_words, rule_document, rules_of, run_document, sarif_document, says};
 ghost use Rattle.dds_findings.specs.Documents.{suppression_document, suppressions, term_lines, text_document};
 ghost use Rattle.dds_findings.specs.Documents.{tool_document, uri_of};
 
@@ -277,13 +277,13 @@ fn is_found(findings: &[Finding], meaning: &Meaning) -> bool
 }
 
 /// The names that findings have, in the order of the table.
-#[tactic(auto, using(crate::proofs::Listed::some_of), unfolding(crate::specs::Documents::rules))]
-fn rules(
+#[tactic(auto, using(crate::proofs::Listed::some_of), unfolding(crate::specs::Documents::rules_of))]
+fn rules_of(
     alloc: Global,
     findings: &[Finding],
     meanings: &[Meaning],
 ) -> Result<Vec<Meaning>, NoMemory>
-    ensures { IfOk result (λ found. found.items ≡ rules findings.now meanings.now) }
+    ensures { IfOk result (λ found. found.items ≡ rules_of findings.now meanings.now) }
 {
     let mut found = Vec::new(alloc);
     for meaning in meanings {
@@ -309,7 +309,7 @@ fn rules_array(alloc: Global, meanings: &[Meaning]) -> Result<Value, NoMemory>
 fn driver_document(alloc: Global, findings: &[Finding]) -> Result<Value, NoMemory>
     ensures { IfOk result (λ v. view v ≡ driver_document findings.now) }
 {
-    let found = rules(alloc, findings, &MEANINGS)?;
+    let found = rules_of(alloc, findings, &MEANINGS)?;
     let rules = rules_array(alloc, &found)?;
     json!(in alloc; {"name": "ddscheck", "version": VERSION, "rules": rules})
 }
