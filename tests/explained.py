@@ -5,7 +5,8 @@
   tests/explained.py DEPLOYMENT CERTIFICATE   # prints what is owed
 
 The answer is found a second time by tests/judged.py, and each number of a reason is added up here a second time, as are the policies that don't agree compared. From the
-built program come the faults of files, by `match`, which endpoints match, and, by `lint`, the words of the notes. A file that Python can't read, being TOML 1.1 and not 1.0, counts as skipped. The last line is 'N passed, M failed';
+built program come the faults of files, by `match`, which endpoints match, and, by `lint`, the words of the notes. `match --policies` owes the lines of `match` without
+those of other topics, each with what keeps the two apart by this reading. A file that Python can't read, being TOML 1.1 and not 1.0, counts as skipped. The last line is 'N passed, M failed';
 the status is 1 if one failed.
 """
 import json
