@@ -378,7 +378,7 @@ def apart(deployment):
     for line in out.splitlines():
         word, writer, reader, *reason = line.split()
         if reason != ["topic"]:
-            lines += [line, *(f"  {term}" for term in mismatch_lines(case, writer, reader) if word == "none")]
+            lines += [line, *(f"  {term}" for term in (mismatch_lines(case, writer, reader) if word == "none" else []))]
     return "".join(f"{line}\n" for line in lines), err, status
 
 
