@@ -44,22 +44,35 @@ pub(crate) fn other_reader(
     other_in(alloc, files, "readers", reader.number(), name)
 }
 
-/// The endpoint beside the one at which a condition fails: the writer where that's at the reader. `NoMemory` is the
-/// only error.
+/// The endpoint of a pair beside the one at which a condition fails: of 25 and 27 the writer, else the reader.
+fn other_of_pair(
+    alloc: Global,
+    files: &Files,
+    judged: &Judged,
+    number: Number,
+    writer: WriterNo,
+    reader: ReaderNo,
+) -> Result<Option<Other>, NoMemory> {
+    match number {
+        Number::KeepLastFilter | Number::LateVolatile => {
+            other_writer(alloc, files, judged, writer)
+        }
+        _ => other_reader(alloc, files, judged, reader),
+    }
+}
+
+/// The endpoint beside the one at which a condition fails. `NoMemory` is the only error.
 pub(crate) fn other_of_condition(
     alloc: Global,
     files: &Files,
     judged: &Judged,
     no: &No,
 ) -> Result<Option<Other>, NoMemory> {
-    match (no.number, no.subject) {
-        (Number::KeepLastFilter, Subject::Pair { writer, .. })
-        | (Number::LateVolatile, Subject::Pair { writer, .. }) => {
-            other_writer(alloc, files, judged, writer)
+    match no.subject {
+        Subject::Pair { writer, reader } => {
+            other_of_pair(alloc, files, judged, no.number, writer, reader)
         }
-        (_, Subject::Pair { reader, .. }) | (_, Subject::PairKey { reader, .. }) => {
-            other_reader(alloc, files, judged, reader)
-        }
+        Subject::PairKey { reader, .. } => other_reader(alloc, files, judged, reader),
         _ => Ok(None),
     }
 }
