@@ -6,8 +6,8 @@ ghost use Rattle.dds_json.specs.Line.{line_of};
 ghost use Rattle.dds_findings.specs.Documents.{artifact_document, driver_document, help_uri, is_found, link_line};
 ghost use Rattle.dds_findings.specs.Documents.{location_document, message_document, other_document, others};
 ghost use Rattle.dds_findings.specs.Documents.{physical_document, region_document, result_document, result_level};
-ghost use Rattle.dds_findings.specs.Documents.{result_words, rule_document, rules_of, run_document, sarif_document, says};
-ghost use Rattle.dds_findings.specs.Documents.{suppression_document, suppressions, term_lines, text_document};
+ghost use Rattle.dds_findings.specs.Documents.{result_words, rule_document, rules_of, run_document, sarif_document};
+ghost use Rattle.dds_findings.specs.Documents.{says, suppression_document, suppressions, term_lines, text_document};
 ghost use Rattle.dds_findings.specs.Documents.{tool_document, uri_of};
 
 use crate::block::{FileNames, file_name};
