@@ -130,9 +130,9 @@ fn late_text(alloc: Global, lists: &Deployment, late: &Late) -> Result<String, N
     late_line(alloc, lists, late, end.as_str())
 }
 
-/// The text of an answer: `kept`, `nothing was recorded`, `unknown`, the line of a write that has no permit, and for each
-/// rule that could give one a line for each thing that it lacks, or the line of a write that comes too soon or of a
-/// sample that waits too long. `NoMemory` is the only error.
+/// The text of an answer: `kept`, `nothing was recorded`, `unknown`, the line of a write that has no permit, and for
+/// each rule that could give one a line for each thing that it lacks, or the line of a write that comes too soon or of
+/// a sample that waits too long. `NoMemory` is the only error.
 pub fn answer_text(
     alloc: Global,
     lists: &Deployment,

@@ -68,8 +68,9 @@ pub fn timed()
 {}
 
 /// Without its joins a run in which participants come at any time is a run of the network, so what's promised of all
-/// its runs holds. Before both ends of a pair are there no packet is sent between them. Where a certificate is accepted, a strict reader that may come after its writer's first write is
-/// handed what was written before: both are durable, and the writer has room for all that it ever writes.
+/// its runs holds. Before both ends of a pair are there no packet is sent between them. Where a certificate is
+/// accepted, a strict reader that may come after its writer's first write is handed what was written before: both are
+/// durable, and the writer has room for all that it ever writes.
 pub fn joins()
     ensures runs { JoinedRuns }
     ensures silences { Silences }
