@@ -172,7 +172,7 @@ def fault_of_spoilt(validator, document):
 def json_words(case):
     """The words of a command, asked for its document; nothing where it has none, or is asked for another format."""
     words = case.words
-    has_none = not words or words[0] not in ANSWERING or "error:" in case.errors() or {"-h", "--help", "--connections"} & set(words)
+    has_none = not words or words[0] not in ANSWERING or "error:" in case.errors() or {"-h", "--help", "--connections", "--policies"} & set(words)
     return None if has_none or "--format" in " ".join(words) else [*words, "--format", "json"]
 
 
