@@ -430,7 +430,7 @@ def traces(tally, room):
     ping = [ROOT / "examples/ping/ping.toml", ROOT / "examples/ping/ping.cert.toml"]
     for name, text, status, said in [
         ("kept", TRACE, 0, "Kept. The trace keeps the rules"),
-        ("an empty one", "", 0, "Kept. The trace keeps the rules"),
+        ("an empty one", "", 1, "Nothing was recorded. No line"),
         (
             "broken",
             "0.1 a1 write ping_w k\n0.2 a2 write pong_w k\n",
@@ -449,6 +449,9 @@ def traces(tally, room):
     tally.check(
         "answer lacks 1 of ping_r k" in page.by_id("trace").words, "what a rule lacks", page.by_id("trace").words
     )
+    (room / "left").write_text(f"{TRACE}2 a2 write pong_w k\n", encoding="utf-8")
+    page, _ = page_of(*ping, "--trace", room / "left")
+    tally.check("pong_r leaves 1 of k." in page.by_id("trace").words, "what is left", page.by_id("trace").words)
     page, _ = page_of(*ping, "--trace", room / "kept")
     rows = [rows_of(table) for table in page.by_id("trace").all("table")]
     owed = [[["ping_w", "k", "2", "0.25 s", "–"]], [["ping_r", "k", "2", "0.75 s", "–"]]]

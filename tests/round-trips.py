@@ -155,13 +155,13 @@ def refute(path, room):
     return None if int(first.split()[-1]) == lines.count("\n") and " -> " in last else "the count of the events"
 
 
-def read_to_the_limit(room, command, said):
-    """A command on as many bytes of comments as a file of events and a trace may have, where it says this, and on one more."""
+def read_to_the_limit(room, command, said, status):
+    """A command on as many bytes of comments as a file of events and a trace may have, where it says this with this status, and on one more."""
     path = ROOT / "examples/ping/ping.toml"
     lines = room / "lines"
     lines.write_text("#" * 63 + "\n" + ("#" * 1023 + "\n") * 65535 + "#" * 959 + "\n")
     given = ask(command, path, lines)
-    if (lines.stat().st_size, given.status, given.out, given.err) != (EVENTS_LIMIT, 0, said, ""):
+    if (lines.stat().st_size, given.status, given.out, given.err) != (EVENTS_LIMIT, status, said, ""):
         return f"{lines.stat().st_size} bytes: {given}"
     with lines.open("a") as file:
         file.write("\n")
@@ -210,8 +210,8 @@ def main(names):
             for reason, count in one.skipped.items():
                 tally.skip(reason, count)
         if not names:
-            tally.judge("events of 64 MiB", read_to_the_limit, Path(room), "replay", "")
-            tally.judge("a trace of 64 MiB", read_to_the_limit, Path(room), "conform", "kept\n")
+            tally.judge("events of 64 MiB", read_to_the_limit, Path(room), "replay", "", 0)
+            tally.judge("a trace of 64 MiB", read_to_the_limit, Path(room), "conform", "nothing was recorded\n", 1)
     return tally.finish()
 
 

@@ -31,7 +31,7 @@ _ddscheck() {
     refute) options="--seconds --format -h --help" ;;
     replay) options="--format -h --help" ;;
     limits) options="--certificate --explain --seconds --format -h --help" ;;
-    conform) options="--format -h --help" ;;
+    conform) options="--strict-end --format -h --help" ;;
     lint) options="--format --deny --allow -h --help" ;;
     esac
     case $word in

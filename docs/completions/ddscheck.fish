@@ -48,6 +48,7 @@ complete -c ddscheck -n '__fish_seen_subcommand_from limits' -l explain -d 'Also
 complete -c ddscheck -n '__fish_seen_subcommand_from limits' -l seconds -x -d 'How many seconds a search may take [default: 60]'
 complete -c ddscheck -n '__fish_seen_subcommand_from limits' -l format -x -a 'text json' -d 'text or json [default: text]'
 complete -c ddscheck -n '__fish_seen_subcommand_from limits' -s h -l help -d 'Print help'
+complete -c ddscheck -n '__fish_seen_subcommand_from conform' -l strict-end -d 'Answers no if what was written for a strict reader was never taken'
 complete -c ddscheck -n '__fish_seen_subcommand_from conform' -l format -x -a 'text json' -d 'text or json [default: text]'
 complete -c ddscheck -n '__fish_seen_subcommand_from conform' -s h -l help -d 'Print help'
 complete -c ddscheck -n '__fish_seen_subcommand_from lint' -l format -x -a 'text json sarif' -d 'text, json or sarif [default: text]'

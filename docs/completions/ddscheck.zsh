@@ -91,6 +91,7 @@ _ddscheck() {
                 '--help[Print help]' \
                 '1:deployment:_files -g "*.toml"' ;;
             conform) _arguments \
+                '--strict-end[Answers no if what was written for a strict reader was never taken]' \
                 '--format[text or json \[default: text\]]:FORMAT:(text json)' \
                 '-h[Print help]' \
                 '--help[Print help]' \

@@ -124,6 +124,8 @@ def breach_of(answer):
 
 def verdict_of(answer, times, system):
     """What `conform` says, in its words."""
+    if "recorded" in answer:
+        return "nothing was recorded", "No line of the trace says that something was written or taken."
     if answer["answer"] == "yes":
         return "kept", RULES_KEPT + clocks_of(times, system)
     if "line" in answer:
@@ -142,6 +144,17 @@ def lacking(answer):
         [
             join(name(one["rule"]), f" lacks {one['missing']} of ", name(one["reader"]), " ", name(one["key"]))
             for one in short
+        ],
+        style="terms",
+    )
+
+
+def leaving(answer):
+    """What strict readers leave."""
+    return items(
+        [
+            join(name(one["reader"]), f" leaves {one['count']:,} of ", name(one["key"]), ".")
+            for one in answer.get("left", [])
         ],
         style="terms",
     )
@@ -172,6 +185,7 @@ def write_trace(answers, system, request):
         "A recorded trace",
         tag("p", tag("strong", word[0].upper() + word[1:]), ". ", said, _class="lead"),
         lacking(answers.conform),
+        leaving(answers.conform),
         tag(
             "p",
             plural(times.writes.total(), "write"),

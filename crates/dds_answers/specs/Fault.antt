@@ -5,6 +5,10 @@ use Rattle.dds_fields.specs.FaultTable as deployment
 use Rattle.dds_cert.specs.Faults.{kind_entry}
 use Rattle.dds_events.specs.Faults as events
 use Rattle.dds_conform.specs.Faults as trace
+use Rattle.dds_conform.specs.Slots.{slot_text, word_number}
+use Rattle.dds_conform.specs.declared.fault.TraceFaultKind.{TraceFaultKind}
+use Rattle.dds_conform.specs.declared.fault.TraceFaultKind.TheVariants as trace_kind
+use Rattle.dds_conform.specs.declared.slots.Slot.{Slot}
 use Rattle.dds_answers.specs.Exit.{exit_status}
 use Rattle.dds_answers.specs.declared.exit.Exit.{Exit}
 use Rattle.dds_answers.specs.declared.exit.Exit.TheVariants as exit
@@ -26,6 +30,16 @@ line_flaw file number name line =
     then codes "ddscheck: " ++ (file ++ (codes " " ++ (decimal number ++ (codes " " ++ (name ++ codes "\n")))))
     else codes "ddscheck: " ++ (file ++ (codes " " ++ (decimal number ++ (codes " " ++ (name ++ (codes " line " ++ (decimal line ++ codes "\n")))))))
 
+-- the number and the word of the flaw of a trace, its line, and the first word there that doesn't fit, with what would
+abbrev pub misfit_flaw : ℕ → List ℕ → ℕ → Slot → List ℕ
+misfit_flaw number name line slot =
+    codes "ddscheck: trace " ++ (decimal number ++ (codes " " ++ (name ++ (codes " line " ++ (decimal line ++ (codes " word " ++ (decimal (word_number slot) ++ (codes " isn't " ++ (slot_text slot ++ codes "\n")))))))))
+
+-- the words for the flaw of a trace
+abbrev pub trace_flaw : TraceFaultKind → ℕ → List ℕ
+trace_flaw (trace_kind.NotAnEntry slot) line = misfit_flaw (trace.number_of (trace_kind.NotAnEntry slot)) (trace.name_of (trace_kind.NotAnEntry slot)) line slot
+trace_flaw flaw line = line_flaw (codes "trace") (trace.number_of flaw) (trace.name_of flaw) line
+
 -- what the parser says of a file that is no TOML, where that is printed
 abbrev pub syntax_line : Option SyntaxError → List ℕ
 syntax_line None = []
@@ -40,7 +54,7 @@ fault_line (fault.Deployment flaw syntax) =
 fault_line (fault.Certificate flaw syntax) =
     flaw_line (codes "certificate") (kind_entry flaw.kind).0 (kind_entry flaw.kind).1 (string_bytes flaw.path) ++ syntax_line syntax
 fault_line (fault.Events kind line) = line_flaw (codes "events") (events.number_of kind) (events.name_of kind) line
-fault_line (fault.Trace kind line) = line_flaw (codes "trace") (trace.number_of kind) (trace.name_of kind) line
+fault_line (fault.Trace kind line) = trace_flaw kind line
 fault_line fault.TooLarge = codes "ddscheck: 4 TooLarge\n"
 fault_line fault.Read = codes "ddscheck: 5 Read\n"
 fault_line fault.Write = codes "ddscheck: 6 Write\n"

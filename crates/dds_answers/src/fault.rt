@@ -1,12 +1,13 @@
 //! Why a command gave no answer, and the line that reports it.
 ghost use Rattle.std.specs.Prelude.{◌≡◌, ◌++◌, IfOk, string_bytes};
-ghost use Rattle.dds_answers.specs.Fault.{exit_of, fault_line, flaw_line, line_flaw, syntax_line};
+ghost use Rattle.dds_answers.specs.Fault.{exit_of, fault_line, flaw_line, line_flaw, misfit_flaw, syntax_line};
+ghost use Rattle.dds_answers.specs.Fault.{trace_flaw};
 
 use crate::exit::Exit;
 use crate::syntax::SyntaxError;
 use dds_base::NoMemory;
 use dds_cert::CertFlaw;
-use dds_conform::TraceFaultKind;
+use dds_conform::{Slot, TraceFaultKind};
 use dds_events::EventsFaultKind;
 use dds_fields::fault::Fault;
 use std::alloc::Global;
@@ -98,6 +99,34 @@ fn line_text(
     }
 }
 
+/// The words for a line of a trace that is no entry: the number and the word of its kind, its line, and the first word
+/// there that doesn't fit, with what would.
+fn misfit_text(
+    alloc: Global,
+    number: u8,
+    name: &str,
+    line: usize,
+    slot: Slot,
+) -> Result<String, NoMemory>
+    ensures { IfOk result (λ text. string_bytes text ≡ misfit_flaw number name.now line slot) }
+{
+    let word = slot.word();
+    let fits = slot.text();
+    format!(in alloc; "ddscheck: trace {number} {name} line {line} word {word} isn't {fits}\n")
+}
+
+/// The words for the flaw of a trace.
+fn trace_text(alloc: Global, kind: TraceFaultKind, line: usize) -> Result<String, NoMemory>
+    ensures { IfOk result (λ text. string_bytes text ≡ trace_flaw kind line) }
+{
+    let number = kind.number();
+    let name = kind.name();
+    match kind {
+        TraceFaultKind::NotAnEntry(slot) => misfit_text(alloc, number, name, line, slot),
+        _ => line_text(alloc, "trace", number, name, line),
+    }
+}
+
 /// The line that reports a fault, and after it where a file is no TOML, if the fault says that. `NoMemory`
 /// is the only error.
 pub fn fault_text(alloc: Global, fault: &ToolFault) -> Result<String, NoMemory>
@@ -120,9 +149,7 @@ pub fn fault_text(alloc: Global, fault: &ToolFault) -> Result<String, NoMemory>
         ToolFault::Events { kind, line } => {
             line_text(alloc, "events", kind.number(), kind.name(), *line)
         }
-        ToolFault::Trace { kind, line } => {
-            line_text(alloc, "trace", kind.number(), kind.name(), *line)
-        }
+        ToolFault::Trace { kind, line } => trace_text(alloc, *kind, *line),
         ToolFault::TooLarge => String::from_str(alloc, "ddscheck: 4 TooLarge\n"),
         ToolFault::Read => String::from_str(alloc, "ddscheck: 5 Read\n"),
         ToolFault::Write => String::from_str(alloc, "ddscheck: 6 Write\n"),

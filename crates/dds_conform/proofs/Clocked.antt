@@ -17,7 +17,7 @@ use Rattle.dds_conform.specs.declared.conformance.Within.{Within}
 use Rattle.dds_conform.specs.declared.conformance.Within.TheVariants.{Taken, Available}
 use Rattle.dds_conform.specs.declared.windows.Breach.{Breach}
 use Rattle.dds_conform.specs.declared.windows.Breach.TheVariants.{TooSoon, TooLate}
-use Rattle.dds_conform.specs.Answering.{IsClean, IsTimedAnswer}
+use Rattle.dds_conform.specs.Answering.{IsClean, IsEntriesAnswer, IsTimedAnswer, IsTraceAnswer}
 use Rattle.dds_conform.specs.Breaches.{KeepsAge, KeepsClocks, KeepsPace, span_of}
 use Rattle.dds_conform.specs.Judging.{IsAnswer, IsBlocked, IsFullAt, Reaches, actions_of}
 use Rattle.dds_conform.specs.Keeping.{HasNoRivals, Keeps}
@@ -162,6 +162,7 @@ full_whole d es p f =
 -- an answer of the entries up to the first breach of the clocks, which isn't that all is kept, is one of all entries
 other_whole : (d : Lists) (es : List Entry) (ts : List ℕ) (p : ℕ) (c : Conformance) → IsOther c → IsAnswer (network_of d) (take (p + 1) es) c → KeepsClocks d es ts p → IsTimedAnswer d es ts c
 other_whole d es ts p answer.Kept other is clocks = absurd other
+other_whole d es ts p answer.Empty other is clocks = absurd is
 other_whole d es ts p (answer.NoPermit x) other is clocks = blocked_whole d es ts p x is clocks
 other_whole d es ts p (answer.TooSoon x) other is clocks = absurd is
 other_whole d es ts p (answer.TooLate x) other is clocks = absurd is
@@ -171,6 +172,15 @@ breach_whole : (d : Lists) (es : List Entry) (ts : List ℕ) (b : Breach) (c : C
 breach_whole d es ts (TooSoon place x) c is rules breach clocks = subst (IsTimedAnswer d es ts) (sym is) (place, breach, record { clocks = clocks; rules = rules })
 breach_whole d es ts (TooLate place x) c is rules breach clocks = subst (IsTimedAnswer d es ts) (sym is) (place, breach, record { clocks = clocks; rules = rules })
 
+-- a trace without entries, and one with some
+pub empty_answer : (d : Lists) (es : List Entry) (times : Option (List ℕ)) → length es ≡ 0 → IsTraceAnswer d es times answer.Empty
+empty_answer d [] times none = refl
+empty_answer d (e ∷ es) times none = absurd (omega (arith, none))
+
+pub entries_answer : (d : Lists) (es : List Entry) (times : Option (List ℕ)) (c : Conformance) → (length es ≡ 0 → ⊥) → IsEntriesAnswer d es times c → IsTraceAnswer d es times c
+entries_answer d [] times c some is = absurd (some refl)
+entries_answer d (e ∷ es) times c some is = is
+
 -- the answer where there is a first breach
 pub answer_whole : (d : Lists) (es : List Entry) (ts : List ℕ) (b : Breach) (c : Conformance) → IsAnswerUpTo d es b c → IsBreach d es ts b → KeepsClocks d es ts (breach_place b) → IsTimedAnswer d es ts c
 answer_whole d es ts b c (inl (is, rules)) breach clocks = breach_whole d es ts b c is rules breach clocks
@@ -179,6 +189,7 @@ answer_whole d es ts b c (inr (other, is)) breach clocks = other_whole d es ts (
 -- the answer where there is none
 pub rules_whole : (d : Lists) (es : List Entry) (ts : List ℕ) (c : Conformance) → IsAnswer (network_of d) es c → KeepsClocks d es ts (length es) → IsTimedAnswer d es ts c
 rules_whole d es ts answer.Kept is clocks = (is, clocks)
+rules_whole d es ts answer.Empty is clocks = absurd is
 rules_whole d es ts (answer.NoPermit x) is clocks = (is, clocks_less d es ts is.place (length es) (let inside = slice_get_within es is.place is.entry is.at in omega (arith, inside)) clocks)
 rules_whole d es ts (answer.TooSoon x) is clocks = absurd is
 rules_whole d es ts (answer.TooLate x) is clocks = absurd is

@@ -7,7 +7,7 @@ use Rattle.dds_rules.specs.Ledger.{LedgerState}
 use Rattle.dds_conform.specs.declared.actions.Action.TheVariants.{Write}
 use Rattle.dds_conform.specs.declared.actions.Entry.{Entry}
 use Rattle.dds_conform.specs.declared.conformance.Conformance.{Conformance}
-use Rattle.dds_conform.specs.declared.conformance.Conformance.TheVariants.{Kept, NoPermit, TooLate, TooSoon, Unknown}
+use Rattle.dds_conform.specs.declared.conformance.Conformance.TheVariants.{Kept, Empty, NoPermit, TooLate, TooSoon, Unknown}
 use Rattle.dds_conform.specs.Entries.{entry_action, entry_line}
 use Rattle.dds_conform.specs.Keeping.{HasNoRivals, Keeps}
 use Rattle.dds_conform.specs.Judging.{IsAnswer, IsFull, IsRefusal, Reaches, actions_of}
@@ -25,6 +25,7 @@ all_kept net es n l past r = subst (Keeps net) (ap actions_of (take_all n es pas
 blocked_answer : (net : Network) (es : List Entry) (n : ℕ) (e : Entry) (l : LedgerState) (w k : ℕ) (answer : Conformance) → n < length es → e ≡ get_or es n e → Reaches net (actions_of (take n es)) l
     → (HasNoRivals net → ¬ Keeps net (actions_of (take n es) ++ entry_action e ∷ [])) → entry_action e ≡ Write w k → IsRefusal net l (entry_line e) w k answer → IsAnswer net es answer
 blocked_answer net es n e l w k Kept lt at r none write is = absurd is
+blocked_answer net es n e l w k Empty lt at r none write is = absurd is
 blocked_answer net es n e l w k Unknown lt at r none write is = absurd is
 blocked_answer net es n e l w k (TooSoon x) lt at r none write is = absurd is
 blocked_answer net es n e l w k (TooLate x) lt at r none write is = absurd is

@@ -3,9 +3,11 @@ pub mod Givers
 pub mod Judged
 pub mod Lacking
 pub mod Lazily
+pub mod Leaving
 pub mod Moves
 pub mod Passing
 pub mod Reaching
+mod Slotted
 pub mod Stamped
 pub mod Told
 mod WordLaws

@@ -16,10 +16,12 @@ use Rattle.dds_conform.specs.declared.actions.Entry.TheVariants.{Wrote, Took}
 use Rattle.dds_conform.specs.declared.conformance.Early.{Early}
 use Rattle.dds_conform.specs.declared.conformance.Late.{Late}
 use Rattle.dds_conform.specs.declared.conformance.Within.{Within}
+use Rattle.dds_conform.specs.declared.conformance.Within.TheVariants.{Taken}
 use Rattle.dds_conform.specs.declared.windows.Window.{Window}
 use Rattle.dds_conform.specs.Breaches.{IsTooLate, IsTooSoon, KeepsAge, KeepsPace, NeverFall, count_in, ends, heard, says_end, span_of, wrote}
 use Rattle.dds_conform.specs.Entries.{entry_action, entry_line}
 use Rattle.dds_conform.specs.Judging.{IsKnown}
+use Rattle.dds_conform.specs.Leftovers.{AddsTake}
 use Rattle.dds_conform.specs.Tallies.{IsOneMore, IsRowOf, tally_at}
 use Rattle.dds_conform.specs.Windows.{AddsKey, AddsWrite, AreCaps, CanEnter, Enters, HasRoom, HasSameSpan, IsAdvanced, IsFull, IsKeyOf, IsOverdue, IsSpanOf, IsTimed, IsWindow, Passes, cap_in, is_waiting}
 
@@ -40,7 +42,7 @@ take_take (suc m) (suc n) (x ∷ xs) le = ap (λ ys. x ∷ ys) (take_take m n xs
 pub count_up : (p : Entry → Bool) (es : List Entry) (m n : ℕ) → m ≤ n → count_in p m es ≤ count_in p n es
 count_up p es m n le = subst (λ ys. count_by p ys ≤ count_by p (take n es)) (take_take m n es le) (sum_by-take-le (λ x. cond (p x) 1 0) (take n es) m)
 
-count_few : (p : Entry → Bool) (es : List Entry) (n : ℕ) → count_in p n es ≤ n
+pub count_few : (p : Entry → Bool) (es : List Entry) (n : ℕ) → count_in p n es ≤ n
 count_few p es n = omega (arith, count_by-le-length p (take n es), length-take n es)
 
 -- an entry that passes makes it one more
@@ -67,13 +69,25 @@ row_more : (i j l : ℕ) (p : ℕ → Entry → Bool) (n : ℕ) (es : List Entry
 row_more i j l p n es t u e low lt at more same row = λ k small.
     more i k low small ∙ ap (λ m. m + cond (eqb j i && eqb l k) 1 0) (row k small) ∙ ap (λ b. count_in (p k) n es + cond b 1 0) (sym (same k)) ∙ sym (count_more (p k) es n e lt at)
 
+swap : (a b : Bool) → (a && (true && b)) ≡ (b && a)
+swap true true = refl
+swap true false = refl
+swap false true = refl
+swap false false = refl
+
 row_same : (i : ℕ) (p : ℕ → Entry → Bool) (n : ℕ) (es : List Entry) (t : List ℕ) (e : Entry) → n < length es → e ≡ get_or es n e → ((k : ℕ) → p k e ≡ false) → IsRowOf i p n es t → IsRowOf i p (n + 1) es t
 row_same i p n es t e lt at none row = λ k small. row k small ∙ sym (count_none (p k) es n e lt at (none k))
 
-rows_write : (e : Entry) (n : ℕ) (es : List Entry) (t u : List ℕ) → n < length es → e ≡ get_or es n e → AddsWrite e t u → ((v : ℕ) → v < most_endpoints → IsRowOf v (wrote v) n es t)
+pub rows_write : (e : Entry) (n : ℕ) (es : List Entry) (t u : List ℕ) → n < length es → e ≡ get_or es n e → AddsWrite e t u → ((v : ℕ) → v < most_endpoints → IsRowOf v (wrote v) n es t)
     → (v : ℕ) → v < most_endpoints → IsRowOf v (wrote v) (n + 1) es u
 rows_write (Wrote m a w k) n es t u lt at adds rows = λ v low. row_more v w k (wrote v) n es t u (Wrote m a w k) low lt at adds (λ j. refl) (rows v low)
 rows_write (Took m a r k) n es t u lt at adds rows = λ v low. subst (λ x. IsRowOf v (wrote v) (n + 1) es x) (sym adds) (row_same v (wrote v) n es t (Took m a r k) lt at (λ j. refl) (rows v low))
+
+-- the rows of takes with an entry
+pub rows_take : (e : Entry) (n : ℕ) (es : List Entry) (t u : List ℕ) → n < length es → e ≡ get_or es n e → AddsTake e t u → ((r : ℕ) → r < most_endpoints → IsRowOf r (ends Taken r) n es t)
+    → (r : ℕ) → r < most_endpoints → IsRowOf r (ends Taken r) (n + 1) es u
+rows_take (Took m a q l) n es t u lt at adds rows = λ r low. row_more r q l (ends Taken r) n es t u (Took m a q l) low lt at adds (λ k. swap (eqb l k) (eqb q r)) (rows r low)
+rows_take (Wrote m a w k) n es t u lt at adds rows = λ r low. subst (λ x. IsRowOf r (ends Taken r) (n + 1) es x) (sym adds) (row_same r (ends Taken r) n es t (Wrote m a w k) lt at (λ j. refl) (rows r low))
 
 row_key : (o : Option ℕ) (i : ℕ) (p : ℕ → Entry → Bool) (n : ℕ) (es : List Entry) (t u : List ℕ) (e : Entry) → i < most_endpoints → n < length es → e ≡ get_or es n e → IsKeyOf p e o → AddsKey i o t u
     → IsRowOf i p n es t → IsRowOf i p (n + 1) es u

@@ -19,7 +19,8 @@ use Rattle.dds_conform.specs.declared.fault.TraceFault.{TraceFault}
 use Rattle.dds_conform.specs.declared.fault.TraceFault.TheVariants.{At, NoMemory}
 use Rattle.dds_conform.specs.declared.fault.TraceFaultKind.TheVariants.{NotText, NotAnEntry, Foreign, MissingTime, TimeFalls}
 use Rattle.dds_conform.specs.Breaches.{NeverFall}
-use Rattle.dds_conform.specs.Reading.{AreEntries, are_digits, is_digit, nanoseconds, is_blank, says_something, shown, stamp_in, told, told_from}
+use Rattle.dds_conform.specs.Lines.{are_digits, is_digit, nanoseconds, is_blank, says_something, stamp_in, told}
+use Rattle.dds_conform.specs.Reading.{AreEntries, shown, told_from}
 use Rattle.dds_conform.specs.Stamps.{AreStamps, AreTimes, AreTimesOrNone, IsFall, IsFallFault, IsLack, IsLackBefore, IsMissingTime, IsPush, IsTimesFault, stamp, stamps}
 
 -- ── numbers
@@ -169,7 +170,7 @@ times_size ls ts n times count = sym (length-mapped (λ (t : ℕ). Some t) ts) �
 -- a fall among the times of lines
 pub fell : (ls : List (List ℕ)) (es : List Entry) (ts : List ℕ) (f : TraceFault) → AreTimes ls ts → IsFallFault ts es f → IsTimesFault ls es f
 fell ls es ts (At NotText n) are f = absurd f
-fell ls es ts (At NotAnEntry n) are f = absurd f
+fell ls es ts (At (NotAnEntry slot) n) are f = absurd f
 fell ls es ts (At Foreign n) are f = absurd f
 fell ls es ts (At MissingTime n) are f = absurd f
 fell ls es ts (At TimeFalls n) are f = record { times = ts; are = are; place = f.0; fall = f.1; entry = f.2.0; at = f.2.1; line = f.2.2 }

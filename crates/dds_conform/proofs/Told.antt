@@ -24,7 +24,8 @@ use Rattle.dds_conform.specs.declared.reading.Trace.{Trace}
 use Rattle.dds_conform.specs.Stamps.{AreTimesOrNone, IsTimesFault}
 use Rattle.dds_conform.specs.Traces.{IsFaultOf, IsKnownTrace, IsTextFaultOf, IsTraceOf}
 use Rattle.dds_conform.proofs.Stamped.{time_count}
-use Rattle.dds_conform.specs.Reading.{AreEntries, IsEntryOf, IsFaultAt, IsLineFaultOf, IsPushFault, is_blank, is_head, says_something, shown, told, told_from}
+use Rattle.dds_conform.specs.Lines.{is_blank, is_head, says_something, told}
+use Rattle.dds_conform.specs.Reading.{AreEntries, IsEntryOf, IsFaultAt, IsLineFaultOf, IsPushFault, shown, told_from}
 
 told_push : (n : ℕ) (ls : List (List ℕ)) (line : List ℕ) → told_from n (ls ++ line ∷ []) ≡ told_from n ls ++ told_from (n + length ls) (line ∷ [])
 unfolding told_from
@@ -105,7 +106,7 @@ of_error (Err e) Q P gives h = gives e h
 -- ── bytes that are UTF-8
 of_text : (d : Lists) (bytes : List ℕ) (fault : TraceFault) → IsUtf8 bytes → IsTextFaultOf d (lines bytes) fault → IsFaultOf d bytes fault
 of_text d bytes (At NotText n) is fault = absurd fault
-of_text d bytes (At NotAnEntry n) is fault = (is, fault)
+of_text d bytes (At (NotAnEntry slot) n) is fault = (is, fault)
 of_text d bytes (At Foreign n) is fault = (is, fault)
 of_text d bytes (At MissingTime n) is fault = (is, fault)
 of_text d bytes (At TimeFalls n) is fault = (is, fault)
@@ -118,7 +119,7 @@ read_of_text d bytes text (Err e) same is fault = of_text d bytes e is (subst (�
 -- the fault of a line is one of the text
 pub line_fault : (d : Lists) (ls : List (List ℕ)) (fault : TraceFault) → IsLineFaultOf d ls fault → IsTextFaultOf d ls fault
 line_fault d ls (At NotText n) fault = fault.has
-line_fault d ls (At NotAnEntry n) fault = fault
+line_fault d ls (At (NotAnEntry slot) n) fault = fault
 line_fault d ls (At Foreign n) fault = fault
 line_fault d ls (At MissingTime n) fault = absurd fault.has
 line_fault d ls (At TimeFalls n) fault = absurd fault.has
@@ -170,7 +171,7 @@ known_result d ls (Err e) h = tt
 -- the faults of times are faults of a text
 pub times_fault : (d : Lists) (ls : List (List ℕ)) (es : List Entry) (fault : TraceFault) → AreEntries d ls es → IsTimesFault ls es fault → IsTextFaultOf d ls fault
 times_fault d ls es (At NotText n) are fault = absurd fault
-times_fault d ls es (At NotAnEntry n) are fault = absurd fault
+times_fault d ls es (At (NotAnEntry slot) n) are fault = absurd fault
 times_fault d ls es (At Foreign n) are fault = absurd fault
 times_fault d ls es (At MissingTime n) are fault = (es, are, fault)
 times_fault d ls es (At TimeFalls n) are fault = (es, are, fault)

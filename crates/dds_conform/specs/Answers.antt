@@ -1,12 +1,13 @@
 -- The text of an answer.
-use Rattle.std.specs.Prelude.{ℕ, List, [], ◌∷◌, ◌++◌, codes, flat_map}
+use Rattle.std.specs.Prelude.{ℕ, ◌-◌, nat_lt, if◌then◌else◌, List, [], ◌∷◌, ◌++◌, codes, flat_map, length, take}
 use Rattle.std.specs.Fmt.{decimal}
 use Rattle.dds_lists.specs.Lists.{Lists}
 use Rattle.dds_text.specs.Names.{reader_key, writer_key, reader_name, rule_text, writer_name}
 use Rattle.dds_conform.specs.declared.conformance.Conformance.{Conformance}
-use Rattle.dds_conform.specs.declared.conformance.Conformance.TheVariants.{Kept, NoPermit, TooLate, TooSoon, Unknown}
+use Rattle.dds_conform.specs.declared.conformance.Conformance.TheVariants.{Kept, Empty, NoPermit, TooLate, TooSoon, Unknown}
 use Rattle.dds_conform.specs.declared.conformance.Early.{Early}
 use Rattle.dds_conform.specs.declared.conformance.Late.{Late}
+use Rattle.dds_conform.specs.declared.conformance.Leftover.{Leftover}
 use Rattle.dds_conform.specs.declared.conformance.Shortage.{Shortage}
 use Rattle.dds_conform.specs.declared.conformance.Within.{Within}
 use Rattle.dds_conform.specs.declared.conformance.Within.TheVariants.{Taken, Available}
@@ -47,7 +48,25 @@ late_text d x =
 
 abbrev pub answer_text : Lists → Conformance → List ℕ
 answer_text d Kept = codes "kept\n"
+answer_text d Empty = codes "nothing was recorded\n"
 answer_text d (NoPermit x) = refusal_text d x.line x.writer x.key x.short.items
 answer_text d (TooSoon x) = early_text d x
 answer_text d (TooLate x) = late_text d x
 answer_text d Unknown = codes "unknown\n"
+
+-- ── what is left
+-- no more lines than this say what is left
+abbrev pub most_leftover_lines : ℕ
+most_leftover_lines = 20
+
+abbrev pub leftover_line : Lists → Leftover → List ℕ
+leftover_line d x =
+    reader_name d x.reader ++ (codes " leaves " ++ (decimal x.count ++ (codes " of " ++ (reader_key d x.reader x.key ++ codes "\n"))))
+
+-- how many of so many are past the lines
+abbrev pub rest_line : ℕ → List ℕ
+rest_line n = if nat_lt most_leftover_lines n then codes "and " ++ (decimal (n - most_leftover_lines) ++ codes " more\n") else []
+
+-- a line for each of the first, and how many more there are
+abbrev pub leftover_text : Lists → List Leftover → List ℕ
+leftover_text d xs = flat_map (leftover_line d) (take most_leftover_lines xs) ++ rest_line (length xs)

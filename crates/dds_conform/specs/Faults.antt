@@ -5,14 +5,14 @@ use Rattle.dds_conform.specs.declared.fault.TraceFaultKind.TheVariants.{NotText,
 
 abbrev pub number_of : TraceFaultKind → ℕ
 number_of NotText = 1
-number_of NotAnEntry = 2
+number_of (NotAnEntry slot) = 2
 number_of Foreign = 3
 number_of MissingTime = 4
 number_of TimeFalls = 5
 
 abbrev pub name_of : TraceFaultKind → List ℕ
 name_of NotText = codes "NotText"
-name_of NotAnEntry = codes "NotAnEntry"
+name_of (NotAnEntry slot) = codes "NotAnEntry"
 name_of Foreign = codes "Foreign"
 name_of MissingTime = codes "MissingTime"
 name_of TimeFalls = codes "TimeFalls"

@@ -11,7 +11,7 @@ use Rattle.dds_conform.specs.declared.actions.Action.{Action}
 use Rattle.dds_conform.specs.declared.actions.Action.TheVariants.{Write, Take}
 use Rattle.dds_conform.specs.declared.actions.Entry.{Entry}
 use Rattle.dds_conform.specs.declared.conformance.Conformance.{Conformance}
-use Rattle.dds_conform.specs.declared.conformance.Conformance.TheVariants.{Kept, NoPermit, TooLate, TooSoon, Unknown}
+use Rattle.dds_conform.specs.declared.conformance.Conformance.TheVariants.{Kept, Empty, NoPermit, TooLate, TooSoon, Unknown}
 use Rattle.dds_conform.specs.declared.conformance.Refused.{Refused}
 use Rattle.dds_conform.specs.declared.judging.Progress.{Progress}
 use Rattle.dds_conform.specs.declared.judging.Progress.TheVariants as progress
@@ -119,14 +119,16 @@ pub record IsFullAt (net : Network) (es : List Entry) : Type 0 where
 -- the answer gives the line and the write that has no permit, and what the rules lack at the ledger
 abbrev pub IsRefusal : Network → LedgerState → (line writer key : ℕ) → Conformance → Type 0
 IsRefusal net l n w k Kept = ⊥
+IsRefusal net l n w k Empty = ⊥
 IsRefusal net l n w k (NoPermit x) = (n ≡ x.line) × (w ≡ x.writer) × (k ≡ x.key) × (x.short.items ≡ shortages net l.spare x.writer x.key)
 IsRefusal net l n w k Unknown = ⊥
 IsRefusal net l n w k (TooSoon x) = ⊥
 IsRefusal net l n w k (TooLate x) = ⊥
 
--- what an answer says of the entries of a trace without times; where there is never a choice, it is unknown only for a count that would pass 2^64 - 1
+-- what an answer says of entries without times, whether there are some or none; where there is never a choice, it is unknown only for a count that would pass 2^64 - 1
 abbrev pub IsAnswer : Network → List Entry → Conformance → Type 0
 IsAnswer net es Kept = Keeps net (actions_of es)
+IsAnswer net es Empty = ⊥
 IsAnswer net es (NoPermit x) = IsBlocked net es x
 IsAnswer net es Unknown = HasNoRivals net → IsFullAt net es
 IsAnswer net es (TooSoon x) = ⊥

@@ -7,9 +7,12 @@ pub mod Faults
 pub mod Giving
 pub mod Judging
 pub mod Keeping
+pub mod Leftovers
+pub mod Lines
 pub mod Reading
 pub mod Rivals
 pub mod Shortages
+pub mod Slots
 pub mod Stamps
 pub mod Tallies
 pub mod Traces

@@ -8,7 +8,7 @@ use Rattle.dds_conform.specs.declared.fault.TraceFault.TheVariants.{At, NoMemory
 use Rattle.dds_conform.specs.declared.fault.TraceFaultKind.TheVariants.{NotText, NotAnEntry, Foreign, MissingTime, TimeFalls}
 use Rattle.dds_conform.specs.Breaches.{NeverFall}
 use Rattle.dds_conform.specs.Entries.{entry_line}
-use Rattle.dds_conform.specs.Reading.{is_blank, says_something, stamp_in}
+use Rattle.dds_conform.specs.Lines.{is_blank, says_something, stamp_in}
 
 -- the time in nanoseconds that a line begins with, if it begins with `@`
 abbrev pub stamp : List ℕ → Option ℕ
@@ -83,6 +83,6 @@ abbrev pub IsTimesFault : List (List ℕ) → List Entry → TraceFault → Type
 IsTimesFault ls entries (At MissingTime n) = IsMissingTime ls n
 IsTimesFault ls entries (At TimeFalls n) = IsTimeFall ls entries n
 IsTimesFault ls entries (At NotText n) = ⊥
-IsTimesFault ls entries (At NotAnEntry n) = ⊥
+IsTimesFault ls entries (At (NotAnEntry slot) n) = ⊥
 IsTimesFault ls entries (At Foreign n) = ⊥
 IsTimesFault ls entries NoMemory = Unit {0}

@@ -37,7 +37,7 @@ FallsAt d ls n = (entries : List Entry) × AreEntries d ls entries × IsTimeFall
 -- a fault that a text may have
 abbrev pub IsTextFaultOf : Lists → List (List ℕ) → TraceFault → Type 0
 IsTextFaultOf d ls (At NotText n) = ⊥
-IsTextFaultOf d ls (At NotAnEntry n) = IsLineFaultOf d ls (At NotAnEntry n)
+IsTextFaultOf d ls (At (NotAnEntry slot) n) = IsLineFaultOf d ls (At (NotAnEntry slot) n)
 IsTextFaultOf d ls (At Foreign n) = IsLineFaultOf d ls (At Foreign n)
 IsTextFaultOf d ls (At MissingTime n) = LacksTime d ls n
 IsTextFaultOf d ls (At TimeFalls n) = FallsAt d ls n
@@ -46,7 +46,7 @@ IsTextFaultOf d ls NoMemory = Unit {0}
 -- a fault that bytes may have: they are no UTF-8, or they are, and their lines have it
 abbrev pub IsFaultOf : Lists → List ℕ → TraceFault → Type 0
 IsFaultOf d bytes (At NotText n) = (n ≡ 0) × (¬ IsUtf8 bytes)
-IsFaultOf d bytes (At NotAnEntry n) = IsUtf8 bytes × IsTextFaultOf d (lines bytes) (At NotAnEntry n)
+IsFaultOf d bytes (At (NotAnEntry slot) n) = IsUtf8 bytes × IsTextFaultOf d (lines bytes) (At (NotAnEntry slot) n)
 IsFaultOf d bytes (At Foreign n) = IsUtf8 bytes × IsTextFaultOf d (lines bytes) (At Foreign n)
 IsFaultOf d bytes (At MissingTime n) = IsUtf8 bytes × IsTextFaultOf d (lines bytes) (At MissingTime n)
 IsFaultOf d bytes (At TimeFalls n) = IsUtf8 bytes × IsTextFaultOf d (lines bytes) (At TimeFalls n)

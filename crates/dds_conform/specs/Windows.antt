@@ -161,6 +161,7 @@ IsAnswerOf (TooLate place x) c = c ≡ answer.TooLate x
 -- the answer is not that all is kept
 abbrev pub IsOther : Conformance → Type 0
 IsOther answer.Kept = ⊥
+IsOther answer.Empty = Unit {0}
 IsOther (answer.NoPermit x) = Unit {0}
 IsOther (answer.TooSoon x) = Unit {0}
 IsOther (answer.TooLate x) = Unit {0}

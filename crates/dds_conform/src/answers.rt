@@ -1,9 +1,10 @@
 //! The text of an answer.
-ghost use Rattle.std.specs.Prelude.{◌≡◌, IfOk, string_bytes};
+ghost use Rattle.std.specs.Prelude.{◌≡◌, IfOk, flat_map, string_bytes, take};
 ghost use Rattle.dds_conform.specs.Answers.{answer_text, breach_end, early_text, field_of, late_text};
+ghost use Rattle.dds_conform.specs.Answers.{leftover_line, leftover_text, most_leftover_lines, rest_line};
 ghost use Rattle.dds_conform.specs.Answers.{refusal_text, shortage_line, shortage_lines};
 
-use crate::conformance::{Conformance, Early, Late, Refused, Shortage, Within};
+use crate::conformance::{Conformance, Early, Late, Leftover, Refused, Shortage, Within};
 use dds_base::{NoMemory, ReaderNo};
 use dds_lists::Deployment;
 use dds_text::names::{reader_key, reader_name, rule_text, writer_key, writer_name};
@@ -129,9 +130,9 @@ fn late_text(alloc: Global, lists: &Deployment, late: &Late) -> Result<String, N
     late_line(alloc, lists, late, end.as_str())
 }
 
-/// The text of an answer: `kept`, `unknown`, the line of a write that has no permit, and for each rule that could give
-/// one a line for each thing that it lacks, or the line of a write that comes too soon or of a sample that waits too
-/// long. `NoMemory` is the only error.
+/// The text of an answer: `kept`, `nothing was recorded`, `unknown`, the line of a write that has no permit, and for each
+/// rule that could give one a line for each thing that it lacks, or the line of a write that comes too soon or of a
+/// sample that waits too long. `NoMemory` is the only error.
 pub fn answer_text(
     alloc: Global,
     lists: &Deployment,
@@ -141,9 +142,77 @@ pub fn answer_text(
 {
     match answer {
         Conformance::Kept => String::from_str(alloc, "kept\n"),
+        Conformance::Empty => String::from_str(alloc, "nothing was recorded\n"),
         Conformance::NoPermit(refused) => refused_text(alloc, lists, refused),
         Conformance::TooSoon(early) => early_text(alloc, lists, early),
         Conformance::TooLate(late) => late_text(alloc, lists, late),
         Conformance::Unknown => String::from_str(alloc, "unknown\n"),
     }
+}
+
+/// No more lines than this say what is left.
+pub const LEFTOVER_LINES: usize = 20;
+
+/// What is left of a key at a reader, as a line.
+fn leftover_line(alloc: Global, lists: &Deployment, left: &Leftover) -> Result<String, NoMemory>
+    ensures { IfOk result (λ text. string_bytes text ≡ leftover_line lists.now left.now) }
+{
+    let reader = reader_name(lists, left.reader);
+    let count = left.count;
+    let key = reader_key(lists, left.reader, left.key);
+    format!(in alloc; "{reader} leaves {count} of {key}\n")
+}
+
+/// What is left, as lines.
+fn leftover_lines(
+    alloc: Global,
+    lists: &Deployment,
+    leftovers: &[Leftover],
+) -> Result<String, NoMemory>
+    ensures { IfOk result (λ text. string_bytes text ≡ flat_map (leftover_line lists.now) leftovers.now) }
+{
+    let mut text = String::new(alloc);
+    for one in leftovers {
+        let line = leftover_line(alloc, lists, one)?;
+        text.push_str(line.as_str())?;
+    }
+    Ok(text)
+}
+
+/// As many as there are lines for.
+fn first_leftovers(leftovers: &[Leftover]) -> &[Leftover]
+    ensures { result.now ≡ take most_leftover_lines leftovers.now }
+{
+    if leftovers.len() <= LEFTOVER_LINES {
+        leftovers
+    } else {
+        &leftovers[..LEFTOVER_LINES]
+    }
+}
+
+/// How many of so many are past the lines, as a line if some are.
+fn rest_line(alloc: Global, leftovers: usize) -> Result<String, NoMemory>
+    ensures { IfOk result (λ text. string_bytes text ≡ rest_line leftovers) }
+{
+    if leftovers > LEFTOVER_LINES {
+        let rest = leftovers - LEFTOVER_LINES;
+        format!(in alloc; "and {rest} more\n")
+    } else {
+        Ok(String::new(alloc))
+    }
+}
+
+/// What a trace leaves, as a line for each of the first `LEFTOVER_LINES`, and how many more there are. `NoMemory` is
+/// the only error.
+pub fn leftover_text(
+    alloc: Global,
+    lists: &Deployment,
+    leftovers: &[Leftover],
+) -> Result<String, NoMemory>
+    ensures { IfOk result (λ text. string_bytes text ≡ leftover_text lists.now leftovers.now) }
+{
+    let mut text = leftover_lines(alloc, lists, first_leftovers(leftovers))?;
+    let rest = rest_line(alloc, leftovers.len())?;
+    text.push_str(rest.as_str())?;
+    Ok(text)
 }

@@ -57,12 +57,23 @@ pub struct Late {
     pub by: u64,
 }
 
+/// So many samples of a key that were written for a strict reader, and that it never took.
+#[derive(Clone, Copy, Debug, PartialEq, Eq)]
+pub struct Leftover {
+    pub reader: ReaderNo,
+    pub key: KeyNo,
+    /// 1 to 2^64 - 1.
+    pub count: u64,
+}
+
 /// Whether a trace keeps the rules and, where it has times, the clocks of a deployment.
 #[derive(Debug, Drop)]
 pub enum Conformance {
     /// Firings can be put in between so that each write has its permit and each firing its takes. Where the trace has
     /// times, no write comes too soon, and no sample waits too long.
     Kept,
+    /// The trace has no entries.
+    Empty,
     /// For the entries up to this write there are no such firings, or the search found none.
     NoPermit(Refused),
     /// This write comes too soon.

@@ -1,8 +1,8 @@
 //! Whether a trace keeps the rules of a plan.
-ghost use Rattle.std.specs.Prelude.{◌<◌, IfOk, length};
+ghost use Rattle.std.specs.Prelude.{◌≡◌, ◌<◌, ◌==◌, IfOk, length};
 ghost use Rattle.dds_match.specs.Plan.{network_of};
 ghost use Rattle.dds_conform.specs.Keeping.{HasNoRivals};
-ghost use Rattle.dds_conform.specs.Answering.{IsTimedAnswer, IsTraceAnswer};
+ghost use Rattle.dds_conform.specs.Answering.{IsEntriesAnswer, IsTimedAnswer, IsTraceAnswer};
 ghost use Rattle.dds_conform.specs.Judging.{AreKnown, IsAnswer};
 ghost use Rattle.dds_conform.specs.Traces.{IsKnownTrace, times_of};
 ghost use Rattle.dds_conform.specs.Windows.{IsAnswerOf, IsAnswerUpTo, IsTimed, breach_place};
@@ -102,23 +102,42 @@ fn conform_timed(
     }
 }
 
+/// Whether there are no entries.
+fn is_empty(entries: &[Entry]) -> bool
+    ensures { result ≡ (length entries.now == 0) }
+{
+    entries.is_empty()
+}
+
+/// Whether the entries of a trace keep the rules and, where they have times, the clocks.
+fn conform_entries(alloc: Global, plan: &Plan, trace: &Trace) -> Result<Conformance, NoMemory>
+    requires { IsKnownTrace plan.now trace.now }
+    ensures { IfOk result (IsEntriesAnswer plan.now trace.now.entries.items (times_of trace.now)) }
+{
+    match &trace.times {
+        Some(times) => conform_timed(alloc, plan, &trace.entries, times),
+        None => conform_rules(alloc, plan, &trace.entries),
+    }
+}
+
 /// Whether a trace keeps the rules and, where it has times, the clocks: whether firings can be put between its entries
 /// so that each write has its permit and each firing its takes, no write comes too soon for a reader's span, and no
 /// sample waits for longer than one. A rule is fired when a write needs it. Where two rules give permits for the same
 /// writes and the first that can be fired leads to no permit, a search tries the others, in at most `SEARCH_STEPS`
 /// steps.
 ///
-/// `Kept` means that all that holds. Any other answer names the first entry that breaks something, a permit first, then
-/// by the order of the readers. `NoPermit` names a write up to which the entries before it keep the rules and, where no
-/// two rules give permits for the same writes, those up to it don't, whatever is fired. `TooSoon` and `TooLate` come
-/// only of a trace with times. Where no two rules give permits for the same writes, `Unknown` comes only where a count
-/// would pass 2^64 - 1. `NoMemory` is the only error.
+/// `Kept` means that all that holds, and `Empty` that the trace has no entries. Any other answer names the first entry
+/// that breaks something, a permit first, then by the order of the readers. `NoPermit` names a write up to which the
+/// entries before it keep the rules and, where no two rules give permits for the same writes, those up to it don't,
+/// whatever is fired. `TooSoon` and `TooLate` come only of a trace with times. Where no two rules give permits for the
+/// same writes, `Unknown` comes only where a count would pass 2^64 - 1. `NoMemory` is the only error.
 pub fn conform(alloc: Global, plan: &Plan, trace: &Trace) -> Result<Conformance, NoMemory>
     requires { IsKnownTrace plan.now trace.now }
     ensures { IfOk result (IsTraceAnswer plan.now trace.now.entries.items (times_of trace.now)) }
 {
-    match &trace.times {
-        Some(times) => conform_timed(alloc, plan, &trace.entries, times),
-        None => conform_rules(alloc, plan, &trace.entries),
+    if is_empty(&trace.entries) {
+        Ok(Conformance::Empty)
+    } else {
+        conform_entries(alloc, plan, trace)
     }
 }

@@ -2,6 +2,7 @@
 ghost use Rattle.dds_conform.specs.declared.fault.TraceFault.TheVariants.{NoMemory};
 ghost use Rattle.std.specs.Prelude.{◌≡◌};
 
+use crate::slots::Slot;
 use std::alloc::{AllocError, AllocFailed};
 
 /// What is wrong with a trace.
@@ -9,8 +10,9 @@ use std::alloc::{AllocError, AllocFailed};
 pub enum TraceFaultKind {
     /// The bytes are not UTF-8.
     NotText,
-    /// A line says something, but not a time, an application, what it did, an endpoint and a key of the deployment.
-    NotAnEntry,
+    /// A line says something, but not a time, an application, what it did, an endpoint and a key of the deployment. The
+    /// first word that doesn't fit is at this place.
+    NotAnEntry(Slot),
     /// The endpoint is another application's, or the key of a take isn't in the reader's filter.
     Foreign,
     /// Some line begins with `@` and a time, and this one doesn't.
@@ -28,7 +30,7 @@ impl TraceFaultKind {
     {
         match self {
             TraceFaultKind::NotText => 1,
-            TraceFaultKind::NotAnEntry => 2,
+            TraceFaultKind::NotAnEntry(_) => 2,
             TraceFaultKind::Foreign => 3,
             TraceFaultKind::MissingTime => 4,
             TraceFaultKind::TimeFalls => 5,
@@ -41,7 +43,7 @@ impl TraceFaultKind {
     {
         match self {
             TraceFaultKind::NotText => "NotText",
-            TraceFaultKind::NotAnEntry => "NotAnEntry",
+            TraceFaultKind::NotAnEntry(_) => "NotAnEntry",
             TraceFaultKind::Foreign => "Foreign",
             TraceFaultKind::MissingTime => "MissingTime",
             TraceFaultKind::TimeFalls => "TimeFalls",

@@ -2,7 +2,8 @@
 //! took a sample of a key, and none that a rule fired: the trace keeps the rules where firings can be put in between
 //! so that each write has its permit and each firing its takes.
 //!
-//! Where a trace has times it's also asked whether it keeps the paces and spans of the deployment.
+//! Where a trace has times it's also asked whether it keeps the paces and spans of the deployment. `find_leftovers`
+//! counts what it writes for strict readers and they never take.
 //!
 //! `read_trace` reads the lines, each with its number, and returns the first fault. `conform` makes the entries on a
 //! ledger in their order, and fires a rule when a write needs it. `kept` is proved to mean that there are such firings,
@@ -27,18 +28,22 @@ pub mod conforming;
 pub mod fault;
 mod hunting;
 mod judging;
+mod leftovers;
 mod lines;
 pub mod reading;
 mod rivals;
 mod serving;
 mod shortages;
+pub mod slots;
 mod stamps;
 mod tallies;
 mod windows;
 
 pub use actions::{Action, Entry};
-pub use answers::{answer_text, field_of};
-pub use conformance::{Conformance, Early, Late, Refused, Shortage, Within};
+pub use answers::{LEFTOVER_LINES, answer_text, field_of, leftover_text};
+pub use conformance::{Conformance, Early, Late, Leftover, Refused, Shortage, Within};
 pub use conforming::{SEARCH_STEPS, conform};
 pub use fault::{TraceFault, TraceFaultKind};
+pub use leftovers::find_leftovers;
 pub use reading::{Trace, read_trace};
+pub use slots::Slot;

@@ -6,11 +6,15 @@ ghost use Rattle.dds_text.specs.Names.{name_at};
 ghost use Rattle.dds_text.specs.Texts.{two_words};
 ghost use Rattle.dds_conform.specs.Actions.{IsThere, action_in, action_text, is_own, what_text};
 ghost use Rattle.dds_conform.specs.Entries.{entry_action, entry_application, entry_line};
-ghost use Rattle.dds_conform.specs.Reading.{IsEntryOf, IsFaultAt, is_digit, is_head, is_time};
-ghost use Rattle.dds_conform.specs.Reading.{says_something, told};
+ghost use Rattle.dds_conform.specs.Lines.{is_digit, is_head, is_time};
+ghost use Rattle.dds_conform.specs.Reading.{IsEntryOf, IsFaultAt};
+ghost use Rattle.dds_conform.specs.Lines.{says_something, told};
+ghost use Rattle.dds_conform.specs.Slots.{misfit};
+ghost use Rattle.dds_conform.specs.declared.fault.TraceFaultKind.TheVariants.{NotAnEntry};
 
 use crate::actions::{Action, Entry};
 use crate::fault::{TraceFault, TraceFaultKind};
+use crate::slots::misfit;
 use crate::stamps::stamp_in;
 use dds_base::{AppNo, Event};
 use dds_events::read_event;
@@ -62,7 +66,7 @@ fn is_time(word: &str) -> bool
 }
 
 /// Whether a word is a time of either kind.
-fn is_head(word: &str) -> bool
+pub(crate) fn is_head(word: &str) -> bool
     ensures { result ≡ is_head word.now }
 {
     is_time(word) || stamp_in(word).is_some()
@@ -156,13 +160,20 @@ fn fault_at(kind: TraceFaultKind, line: usize) -> TraceFault
     TraceFault::At { kind, line }
 }
 
-/// The entry of a line that says this text.
-fn entry_of(plan: &Plan, text: &str, line: usize) -> Result<Entry, TraceFault>
+/// The fault of a line that is no entry.
+fn no_entry(lists: &Deployment, whole: &str, line: usize) -> TraceFault
+    ensures { result ≡ TraceFault.At (NotAnEntry (misfit lists.now whole.now)) line }
+{
+    fault_at(TraceFaultKind::NotAnEntry(misfit(lists, whole)), line)
+}
+
+/// The entry of a whole line that says this text.
+fn entry_of(plan: &Plan, whole: &str, text: &str, line: usize) -> Result<Entry, TraceFault>
+    requires { told whole.now ≡ Some text.now }
     ensures entry { IfOk result (λ e. (entry_line e ≡ line)
         × (action_text plan.now (entry_application e) (entry_action e) ≡ text.now)) }
     ensures known { IfOk result (IsEntryOf plan.now) }
-    ensures fault { (whole : List ℕ) → told whole ≡ Some text.now
-        → IfErr result (IsFaultAt plan.now line whole) }
+    ensures fault { IfErr result (IsFaultAt plan.now line whole.now) }
 {
     match action_of(plan.lists(), text) {
         Some((application, action)) => {
@@ -172,7 +183,7 @@ fn entry_of(plan: &Plan, text: &str, line: usize) -> Result<Entry, TraceFault>
                 Err(fault_at(TraceFaultKind::Foreign, line))
             }
         }
-        None => Err(fault_at(TraceFaultKind::NotAnEntry, line)),
+        None => Err(no_entry(plan.lists(), whole, line)),
     }
 }
 
@@ -184,7 +195,7 @@ pub(crate) fn read_line(plan: &Plan, line: &str, number: usize) -> Result<Entry,
     ensures fault { IfErr result (IsFaultAt plan.now number line.now) }
 {
     match told(line) {
-        Some(text) => entry_of(plan, text, number),
-        None => Err(fault_at(TraceFaultKind::NotAnEntry, number)),
+        Some(text) => entry_of(plan, line, text, number),
+        None => Err(no_entry(plan.lists(), line, number)),
     }
 }

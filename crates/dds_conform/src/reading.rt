@@ -3,7 +3,8 @@ ghost use Rattle.std.specs.Prelude.{◌≡◌, ◌++◌, ◌∷◌, [], Some, If
 ghost use Rattle.std.specs.Str.Lines.{lines};
 ghost use Rattle.dds_conform.specs.Actions.{action_text};
 ghost use Rattle.dds_conform.specs.Entries.{entry_action, entry_application, entry_line};
-ghost use Rattle.dds_conform.specs.Reading.{AreEntries, IsEntryOf, IsLineFaultOf, IsPushFault, told};
+ghost use Rattle.dds_conform.specs.Lines.{told};
+ghost use Rattle.dds_conform.specs.Reading.{AreEntries, IsEntryOf, IsLineFaultOf, IsPushFault};
 ghost use Rattle.dds_conform.specs.Traces.{IsFaultOf, IsKnownTrace, IsTextFaultOf, IsTraceOf};
 
 use crate::actions::Entry;

@@ -5,7 +5,7 @@ ghost use Rattle.std.specs.List.{list_all};
 ghost use Rattle.std.specs.Str.Lines.{lines};
 ghost use Rattle.std.specs.Str.Parse.{digits_value};
 ghost use Rattle.dds_conform.specs.Breaches.{NeverFall};
-ghost use Rattle.dds_conform.specs.Reading.{are_digits, is_digit, nanoseconds, says_something, stamp_in};
+ghost use Rattle.dds_conform.specs.Lines.{are_digits, is_digit, nanoseconds, says_something, stamp_in};
 ghost use Rattle.dds_conform.specs.Stamps.{AreStamps, AreTimesOrNone, IsFall, IsFallFault};
 ghost use Rattle.dds_conform.specs.Stamps.{IsPush, IsTimesFault, stamp};
 

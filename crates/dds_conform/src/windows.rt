@@ -45,7 +45,7 @@ impl Breach {
 }
 
 /// Whether the reader has to take what the writer writes of a key.
-fn is_awaited(plan: &Plan, writer: WriterNo, reader: ReaderNo, key: KeyNo) -> bool
+pub(crate) fn is_awaited(plan: &Plan, writer: WriterNo, reader: ReaderNo, key: KeyNo) -> bool
     ensures { result ≡ is_awaited plan.now writer reader key }
 {
     plan.matched(writer, reader) && !plan.watcher(reader) && plan.hears(reader, key)
@@ -109,7 +109,7 @@ fn ended_key(plan: &Plan, within: Within, reader: ReaderNo, entry: &Entry) -> Op
 }
 
 /// Adds an entry to a tally of writes.
-fn add_write(tally: &mut Tally, plan: &Plan, entry: &Entry)
+pub(crate) fn add_write(tally: &mut Tally, plan: &Plan, entry: &Entry)
     requires known { IsKnown (network_of plan.now) (entry_action entry.now) }
     requires room { (w k : ℕ) → w < most_endpoints → k < most_keys → tally_at tally.old w k + 1 < 2 ^ 64 }
     ensures { AddsWrite entry.now tally.old tally.new }

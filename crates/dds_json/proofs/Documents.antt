@@ -21,7 +21,9 @@ use Rattle.dds_answers.specs.declared.fault.ToolFault.TheVariants as fault
 use Rattle.dds_answers.specs.declared.report.Report.{Report}
 use Rattle.dds_answers.specs.declared.report.Report.TheVariants as answer
 use Rattle.dds_json.specs.Checking.{acceptance_document, bound_document, refusal_document, report_document, subject_document, total_document}
-use Rattle.dds_json.specs.Fault.{fault_document}
+use Rattle.dds_json.specs.Fault.{fault_document, trace_document}
+use Rattle.dds_conform.specs.declared.fault.TraceFaultKind.{TraceFaultKind}
+use Rattle.dds_conform.specs.declared.fault.TraceFaultKind.TheVariants as trace_kind
 use Rattle.dds_json.specs.Matching.{match_document, named_pair, pair_document, writer_pairs}
 
 -- the next number's document is added
@@ -97,6 +99,13 @@ match_plain d =
     let writer : (w : ℕ) → items_have_float (items_of (writer_pairs d (length d.readers.entries) w)) ≡ false = λ w. no_fractions (pair_document d w) (pair w) (range_with_len 0 (length d.readers.entries)) in
     rw (no_fractions_in (writer_pairs d (length d.readers.entries)) writer (range_with_len 0 (length d.writers.entries))) refl
 
+trace_plain : (k : TraceFaultKind) (line : ℕ) → has_float (trace_document k line) ≡ false
+trace_plain trace_kind.NotText line = refl
+trace_plain (trace_kind.NotAnEntry slot) line = refl
+trace_plain trace_kind.Foreign line = refl
+trace_plain trace_kind.MissingTime line = refl
+trace_plain trace_kind.TimeFalls line = refl
+
 pub fault_plain : (f : ToolFault) → has_float (fault_document f) ≡ false
 fault_plain (fault.Usage text) = refl
 fault_plain (fault.Deployment flaw None) = refl
@@ -104,7 +113,7 @@ fault_plain (fault.Deployment flaw (Some error)) = refl
 fault_plain (fault.Certificate flaw None) = refl
 fault_plain (fault.Certificate flaw (Some error)) = refl
 fault_plain (fault.Events kind line) = refl
-fault_plain (fault.Trace kind line) = refl
+fault_plain (fault.Trace kind line) = trace_plain kind line
 fault_plain fault.TooLarge = refl
 fault_plain fault.Read = refl
 fault_plain fault.Write = refl

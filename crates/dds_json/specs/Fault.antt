@@ -5,6 +5,10 @@ use Rattle.dds_fields.specs.FaultTable as deployment
 use Rattle.dds_cert.specs.Faults.{kind_entry}
 use Rattle.dds_events.specs.Faults as events
 use Rattle.dds_conform.specs.Faults as trace
+use Rattle.dds_conform.specs.Slots.{slot_text, word_number}
+use Rattle.dds_conform.specs.declared.fault.TraceFaultKind.{TraceFaultKind}
+use Rattle.dds_conform.specs.declared.fault.TraceFaultKind.TheVariants as trace_kind
+use Rattle.dds_conform.specs.declared.slots.Slot.{Slot}
 use Rattle.dds_answers.specs.declared.fault.ToolFault.{ToolFault}
 use Rattle.dds_answers.specs.declared.fault.ToolFault.TheVariants as fault
 use Rattle.dds_answers.specs.declared.syntax.SyntaxError.{SyntaxError}
@@ -35,13 +39,23 @@ abbrev pub line_document : List ℕ → ℕ → List ℕ → ℕ → Data
 line_document file n name line =
     object (member (codes "answer") (string (codes "fault")) (member (codes "file") (string file) (member (codes "line") (number (unsigned line)) (member (codes "name") (string name) (member (codes "number") (number (unsigned n)) no_members)))))
 
+-- of a line of a trace that is no entry also the first word that doesn't fit, with what would
+abbrev pub misfit_document : ℕ → List ℕ → ℕ → Slot → Data
+misfit_document n name line slot =
+    object (member (codes "answer") (string (codes "fault")) (member (codes "file") (string (codes "trace")) (member (codes "line") (number (unsigned line)) (member (codes "name") (string name)
+    (member (codes "number") (number (unsigned n)) (member (codes "wanted") (string (slot_text slot)) (member (codes "word") (number (unsigned (word_number slot))) no_members)))))))
+
+abbrev pub trace_document : TraceFaultKind → ℕ → Data
+trace_document (trace_kind.NotAnEntry slot) line = misfit_document (trace.number_of (trace_kind.NotAnEntry slot)) (trace.name_of (trace_kind.NotAnEntry slot)) line slot
+trace_document flaw line = line_document (codes "trace") (trace.number_of flaw) (trace.name_of flaw) line
+
 -- the document of a fault
 abbrev pub fault_document : ToolFault → Data
 fault_document (fault.Usage text) = plain_document 1 (codes "Usage")
 fault_document (fault.Deployment flaw syntax) = file_document (codes "deployment") (deployment.number_of flaw.kind) (deployment.name_of flaw.kind) (string_bytes flaw.path) syntax
 fault_document (fault.Certificate flaw syntax) = file_document (codes "certificate") (kind_entry flaw.kind).0 (kind_entry flaw.kind).1 (string_bytes flaw.path) syntax
 fault_document (fault.Events kind line) = line_document (codes "events") (events.number_of kind) (events.name_of kind) line
-fault_document (fault.Trace kind line) = line_document (codes "trace") (trace.number_of kind) (trace.name_of kind) line
+fault_document (fault.Trace kind line) = trace_document kind line
 fault_document fault.TooLarge = plain_document 4 (codes "TooLarge")
 fault_document fault.Read = plain_document 5 (codes "Read")
 fault_document fault.Write = plain_document 6 (codes "Write")

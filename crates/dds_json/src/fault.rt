@@ -3,11 +3,12 @@ ghost use Rattle.std.specs.Prelude.{◌≡◌, IfOk, string_bytes};
 ghost use Rattle.serde_json.specs.View.{view};
 ghost use Rattle.dds_json.specs.Line.{line_of};
 ghost use Rattle.dds_json.specs.Fault.{fault_document, file_document, flaw_document, line_document, plain_document};
-ghost use Rattle.dds_json.specs.Fault.{syntax_document};
+ghost use Rattle.dds_json.specs.Fault.{misfit_document, syntax_document, trace_document};
 
 use crate::line::line_of;
 use dds_answers::{SyntaxError, ToolFault};
 use dds_base::NoMemory;
+use dds_conform::{Slot, TraceFaultKind};
 use serde_json::{Value, json};
 use std::alloc::Global;
 
@@ -87,6 +88,43 @@ fn line_document(
     json!(in alloc; {"answer": "fault", "file": file, "number": number, "name": name, "line": line})
 }
 
+/// A line of a trace that is no entry, with the first word that doesn't fit.
+fn misfit_document(
+    alloc: Global,
+    number: u8,
+    name: &str,
+    line: usize,
+    slot: Slot,
+) -> Result<Value, NoMemory>
+    ensures { IfOk result (λ v. view v ≡ misfit_document number name.now line slot) }
+{
+    let word = slot.word();
+    let wanted = slot.text();
+    json!(in alloc;
+        {
+            "answer": "fault",
+            "file": "trace",
+            "number": number,
+            "name": name,
+            "line": line,
+            "word": word,
+            "wanted": wanted
+        }
+    )
+}
+
+/// The flaw of a trace.
+fn trace_document(alloc: Global, kind: TraceFaultKind, line: usize) -> Result<Value, NoMemory>
+    ensures { IfOk result (λ v. view v ≡ trace_document kind line) }
+{
+    let number = kind.number();
+    let name = kind.name();
+    match kind {
+        TraceFaultKind::NotAnEntry(slot) => misfit_document(alloc, number, name, line, slot),
+        _ => line_document(alloc, "trace", number, name, line),
+    }
+}
+
 /// The document of a fault.
 fn fault_document(alloc: Global, fault: &ToolFault) -> Result<Value, NoMemory>
     ensures { IfOk result (λ v. view v ≡ fault_document fault.now) }
@@ -108,9 +146,7 @@ fn fault_document(alloc: Global, fault: &ToolFault) -> Result<Value, NoMemory>
         ToolFault::Events { kind, line } => {
             line_document(alloc, "events", kind.number(), kind.name(), *line)
         }
-        ToolFault::Trace { kind, line } => {
-            line_document(alloc, "trace", kind.number(), kind.name(), *line)
-        }
+        ToolFault::Trace { kind, line } => trace_document(alloc, *kind, *line),
         ToolFault::TooLarge => plain_document(alloc, 4, "TooLarge"),
         ToolFault::Read => plain_document(alloc, 5, "Read"),
         ToolFault::Write => plain_document(alloc, 6, "Write"),

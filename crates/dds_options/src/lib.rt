@@ -1,5 +1,6 @@
 //! What can be asked for beside a command: how an answer is printed and how much of it, which findings make it no, what
-//! happens to packets, which ends of a run are good, and into which version a file is turned.
+//! happens to packets, which ends of a run are good, what a trace may leave at its
+//! end, and into which version a file is turned.
 #![tactic(auto)]
 
 mod allowed;
@@ -9,6 +10,7 @@ mod ends;
 mod fates;
 mod format;
 mod kinds;
+mod leaving;
 mod style;
 mod versions;
 
@@ -19,6 +21,7 @@ pub use ends::GoodEnds;
 pub use fates::Fates;
 pub use format::Format;
 pub use kinds::{KINDS, NoteKind};
+pub use leaving::TraceEnd;
 pub use style::{LintStyle, Style};
 pub use versions::LaterVersion;
 

@@ -85,7 +85,7 @@ draws_once rows (asked.One x (task.Lint form denied)) named asks d c first secon
 draws_once rows (asked.Two x y (pair.Check detail style)) named asks d c first second again = absurd (earlier 99 100 (omega arith) (ap first_byte named))
 draws_once rows (asked.Two x y (pair.Run wishes style)) named asks d c first second again = absurd (later 114 100 (omega arith) (ap first_byte named))
 draws_once rows (asked.Two x y (pair.Replay style)) named asks d c first second again = absurd (later 114 100 (omega arith) (ap first_byte named))
-draws_once rows (asked.Two x y (pair.Conform style)) named asks d c first second again = absurd (earlier 99 100 (omega arith) (ap first_byte named))
+draws_once rows (asked.Two x y (pair.Conform close style)) named asks d c first second again = absurd (earlier 99 100 (omega arith) (ap first_byte named))
 draws_once rows (asked.Two x y (pair.Lint form denied)) named asks d c first second again = absurd (later 108 100 (omega arith) (ap first_byte named))
 
 -- arguments of `lint` that ask for something name standard input once at most
@@ -104,7 +104,7 @@ lints_once rows (asked.One x task.Draw) named asks d c first second again = absu
 lints_once rows (asked.Two x y (pair.Check detail style)) named asks d c first second again = absurd (earlier 99 108 (omega arith) (ap first_byte named))
 lints_once rows (asked.Two x y (pair.Run wishes style)) named asks d c first second again = absurd (later 114 108 (omega arith) (ap first_byte named))
 lints_once rows (asked.Two x y (pair.Replay style)) named asks d c first second again = absurd (later 114 108 (omega arith) (ap first_byte named))
-lints_once rows (asked.Two x y (pair.Conform style)) named asks d c first second again = absurd (earlier 99 108 (omega arith) (ap first_byte named))
+lints_once rows (asked.Two x y (pair.Conform close style)) named asks d c first second again = absurd (earlier 99 108 (omega arith) (ap first_byte named))
 lints_once rows (asked.Two x y pair.Draw) named asks d c first second again = absurd (earlier 100 108 (omega arith) (ap first_byte named))
 
 -- no deployment and no style are named by these arguments
@@ -129,7 +129,7 @@ matches_one rows (asked.One x (task.Lint form denied)) named asks none = absurd 
 matches_one rows (asked.Two x y (pair.Check detail style)) named asks none = absurd (earlier 99 109 (omega arith) (ap first_byte named))
 matches_one rows (asked.Two x y (pair.Run wishes style)) named asks none = absurd (later 114 109 (omega arith) (ap first_byte named))
 matches_one rows (asked.Two x y (pair.Replay style)) named asks none = absurd (later 114 109 (omega arith) (ap first_byte named))
-matches_one rows (asked.Two x y (pair.Conform style)) named asks none = absurd (earlier 99 109 (omega arith) (ap first_byte named))
+matches_one rows (asked.Two x y (pair.Conform close style)) named asks none = absurd (earlier 99 109 (omega arith) (ap first_byte named))
 matches_one rows (asked.Two x y pair.Draw) named asks none = absurd (earlier 100 109 (omega arith) (ap first_byte named))
 matches_one rows (asked.Two x y (pair.Lint form denied)) named asks none = absurd (earlier 108 109 (omega arith) (ap first_byte named))
 
@@ -147,7 +147,7 @@ proposes_one rows (asked.One x (task.Lint form denied)) named asks plain none = 
 proposes_one rows (asked.Two x y (pair.Check detail style)) named asks plain none = absurd (earlier 99 112 (omega arith) (ap first_byte named))
 proposes_one rows (asked.Two x y (pair.Run wishes style)) named asks plain none = absurd (later 114 112 (omega arith) (ap first_byte named))
 proposes_one rows (asked.Two x y (pair.Replay style)) named asks plain none = absurd (later 114 112 (omega arith) (ap first_byte named))
-proposes_one rows (asked.Two x y (pair.Conform style)) named asks plain none = absurd (earlier 99 112 (omega arith) (ap first_byte named))
+proposes_one rows (asked.Two x y (pair.Conform close style)) named asks plain none = absurd (earlier 99 112 (omega arith) (ap first_byte named))
 proposes_one rows (asked.Two x y pair.Draw) named asks plain none = absurd (earlier 100 112 (omega arith) (ap first_byte named))
 proposes_one rows (asked.Two x y (pair.Lint form denied)) named asks plain none = absurd (earlier 108 112 (omega arith) (ap first_byte named))
 
@@ -165,7 +165,7 @@ searches_one rows (asked.One x (task.Lint form denied)) named asks flag none = a
 searches_one rows (asked.Two x y (pair.Check detail style)) named asks flag none = absurd (earlier 99 112 (omega arith) (ap first_byte named))
 searches_one rows (asked.Two x y (pair.Run wishes style)) named asks flag none = absurd (later 114 112 (omega arith) (ap first_byte named))
 searches_one rows (asked.Two x y (pair.Replay style)) named asks flag none = absurd (later 114 112 (omega arith) (ap first_byte named))
-searches_one rows (asked.Two x y (pair.Conform style)) named asks flag none = absurd (earlier 99 112 (omega arith) (ap first_byte named))
+searches_one rows (asked.Two x y (pair.Conform close style)) named asks flag none = absurd (earlier 99 112 (omega arith) (ap first_byte named))
 searches_one rows (asked.Two x y pair.Draw) named asks flag none = absurd (earlier 100 112 (omega arith) (ap first_byte named))
 searches_one rows (asked.Two x y (pair.Lint form denied)) named asks flag none = absurd (earlier 108 112 (omega arith) (ap first_byte named))
 
@@ -183,7 +183,7 @@ refutes_one rows (asked.One x (task.Lint form denied)) named asks none = absurd 
 refutes_one rows (asked.Two x y (pair.Check detail style)) named asks none = absurd (earlier 99 114 (omega arith) (ap first_byte named))
 refutes_one rows (asked.Two x y (pair.Run wishes style)) named asks none = absurd (later 110 102 (omega arith) (ap third_byte named))
 refutes_one rows (asked.Two x y (pair.Replay style)) named asks none = absurd (later 112 102 (omega arith) (ap third_byte named))
-refutes_one rows (asked.Two x y (pair.Conform style)) named asks none = absurd (earlier 99 114 (omega arith) (ap first_byte named))
+refutes_one rows (asked.Two x y (pair.Conform close style)) named asks none = absurd (earlier 99 114 (omega arith) (ap first_byte named))
 refutes_one rows (asked.Two x y pair.Draw) named asks none = absurd (earlier 100 114 (omega arith) (ap first_byte named))
 refutes_one rows (asked.Two x y (pair.Lint form denied)) named asks none = absurd (earlier 108 114 (omega arith) (ap first_byte named))
 
@@ -201,7 +201,7 @@ limits_one rows (asked.One x (task.Lint form denied)) named asks none = absurd (
 limits_one rows (asked.Two x y (pair.Check detail style)) named asks none = absurd (earlier 99 108 (omega arith) (ap first_byte named))
 limits_one rows (asked.Two x y (pair.Run wishes style)) named asks none = absurd (later 114 108 (omega arith) (ap first_byte named))
 limits_one rows (asked.Two x y (pair.Replay style)) named asks none = absurd (later 114 108 (omega arith) (ap first_byte named))
-limits_one rows (asked.Two x y (pair.Conform style)) named asks none = absurd (earlier 99 108 (omega arith) (ap first_byte named))
+limits_one rows (asked.Two x y (pair.Conform close style)) named asks none = absurd (earlier 99 108 (omega arith) (ap first_byte named))
 limits_one rows (asked.Two x y pair.Draw) named asks none = absurd (earlier 100 108 (omega arith) (ap first_byte named))
 limits_one rows (asked.Two x y (pair.Lint form denied)) named asks none = absurd (later 110 109 (omega arith) (ap third_byte named))
 
@@ -223,7 +223,7 @@ checks_both rows (asked.One x (task.Lint form denied)) named asks none = absurd 
 checks_both rows (asked.Two x y (pair.Check detail style)) named asks none = none x.now y.now asks.0
 checks_both rows (asked.Two x y (pair.Run wishes style)) named asks none = absurd (later 114 99 (omega arith) (ap first_byte named))
 checks_both rows (asked.Two x y (pair.Replay style)) named asks none = absurd (later 114 99 (omega arith) (ap first_byte named))
-checks_both rows (asked.Two x y (pair.Conform style)) named asks none = absurd (later 110 101 (omega arith) (ap third_byte named))
+checks_both rows (asked.Two x y (pair.Conform close style)) named asks none = absurd (later 110 101 (omega arith) (ap third_byte named))
 checks_both rows (asked.Two x y pair.Draw) named asks none = absurd (later 100 99 (omega arith) (ap first_byte named))
 checks_both rows (asked.Two x y (pair.Lint form denied)) named asks none = absurd (later 108 99 (omega arith) (ap first_byte named))
 
@@ -241,7 +241,7 @@ runs_both rows (asked.One x (task.Lint form denied)) named asks none = absurd (e
 runs_both rows (asked.Two x y (pair.Check detail style)) named asks none = absurd (earlier 99 114 (omega arith) (ap first_byte named))
 runs_both rows (asked.Two x y (pair.Run wishes style)) named asks none = none x.now y.now asks.0
 runs_both rows (asked.Two x y (pair.Replay style)) named asks none = absurd (later 112 110 (omega arith) (ap third_byte named))
-runs_both rows (asked.Two x y (pair.Conform style)) named asks none = absurd (earlier 99 114 (omega arith) (ap first_byte named))
+runs_both rows (asked.Two x y (pair.Conform close style)) named asks none = absurd (earlier 99 114 (omega arith) (ap first_byte named))
 runs_both rows (asked.Two x y pair.Draw) named asks none = absurd (earlier 100 114 (omega arith) (ap first_byte named))
 runs_both rows (asked.Two x y (pair.Lint form denied)) named asks none = absurd (earlier 108 114 (omega arith) (ap first_byte named))
 
@@ -259,7 +259,7 @@ replays_both rows (asked.One x (task.Lint form denied)) named asks none = absurd
 replays_both rows (asked.Two x y (pair.Check detail style)) named asks none = absurd (earlier 99 114 (omega arith) (ap first_byte named))
 replays_both rows (asked.Two x y (pair.Run wishes style)) named asks none = absurd (earlier 110 112 (omega arith) (ap third_byte named))
 replays_both rows (asked.Two x y (pair.Replay style)) named asks none = none x.now y.now asks.0
-replays_both rows (asked.Two x y (pair.Conform style)) named asks none = absurd (earlier 99 114 (omega arith) (ap first_byte named))
+replays_both rows (asked.Two x y (pair.Conform close style)) named asks none = absurd (earlier 99 114 (omega arith) (ap first_byte named))
 replays_both rows (asked.Two x y pair.Draw) named asks none = absurd (earlier 100 114 (omega arith) (ap first_byte named))
 replays_both rows (asked.Two x y (pair.Lint form denied)) named asks none = absurd (earlier 108 114 (omega arith) (ap first_byte named))
 
@@ -277,7 +277,7 @@ conforms_both rows (asked.One x (task.Lint form denied)) named asks none = absur
 conforms_both rows (asked.Two x y (pair.Check detail style)) named asks none = absurd (earlier 101 110 (omega arith) (ap third_byte named))
 conforms_both rows (asked.Two x y (pair.Run wishes style)) named asks none = absurd (later 114 99 (omega arith) (ap first_byte named))
 conforms_both rows (asked.Two x y (pair.Replay style)) named asks none = absurd (later 114 99 (omega arith) (ap first_byte named))
-conforms_both rows (asked.Two x y (pair.Conform style)) named asks none = none x.now y.now asks.0
+conforms_both rows (asked.Two x y (pair.Conform close style)) named asks none = none x.now y.now asks.0
 conforms_both rows (asked.Two x y pair.Draw) named asks none = absurd (later 100 99 (omega arith) (ap first_byte named))
 conforms_both rows (asked.Two x y (pair.Lint form denied)) named asks none = absurd (later 108 99 (omega arith) (ap first_byte named))
 
@@ -304,6 +304,6 @@ matches_printed rows (asked.One x (task.Lint form denied)) named asks one styled
 matches_printed rows (asked.Two x y (pair.Check detail style)) named asks one styled unprinted = absurd (earlier 99 109 (omega arith) (ap first_byte named))
 matches_printed rows (asked.Two x y (pair.Run wishes style)) named asks one styled unprinted = absurd (later 114 109 (omega arith) (ap first_byte named))
 matches_printed rows (asked.Two x y (pair.Replay style)) named asks one styled unprinted = absurd (later 114 109 (omega arith) (ap first_byte named))
-matches_printed rows (asked.Two x y (pair.Conform style)) named asks one styled unprinted = absurd (earlier 99 109 (omega arith) (ap first_byte named))
+matches_printed rows (asked.Two x y (pair.Conform close style)) named asks one styled unprinted = absurd (earlier 99 109 (omega arith) (ap first_byte named))
 matches_printed rows (asked.Two x y pair.Draw) named asks one styled unprinted = absurd (earlier 100 109 (omega arith) (ap first_byte named))
 matches_printed rows (asked.Two x y (pair.Lint form denied)) named asks one styled unprinted = absurd (earlier 108 109 (omega arith) (ap first_byte named))

@@ -9,6 +9,8 @@ use Rattle.clap.specs.declared.error.kind.ErrorKind.TheVariants as kind
 use Rattle.dds_options.specs.Fates.{AreFates}
 use Rattle.dds_options.specs.declared.ends.GoodEnds.{GoodEnds}
 use Rattle.dds_options.specs.declared.ends.GoodEnds.TheVariants.{Stopped, StoppedOrIdle}
+use Rattle.dds_options.specs.declared.leaving.TraceEnd.{TraceEnd}
+use Rattle.dds_options.specs.declared.leaving.TraceEnd.TheVariants.{Open, Strict}
 use Rattle.dds_options.specs.declared.detail.Detail.{Detail}
 use Rattle.dds_options.specs.declared.detail.Detail.TheVariants.{Plain, Explained}
 use Rattle.dds_options.specs.declared.style.Style.{Style}
@@ -85,6 +87,10 @@ IsTimed rows seconds style = IsStyled rows style × Counts rows (codes "seconds"
 abbrev pub good_of : List Row → GoodEnds
 good_of rows = if is_set rows (codes "idle-ok") then StoppedOrIdle else Stopped
 
+-- what a trace may leave
+abbrev pub trace_end_of : List Row → TraceEnd
+trace_end_of rows = if is_set rows (codes "strict-end") then Strict else Open
+
 -- the arguments have the texts of these wishes
 abbrev pub Wants : List Row → Wishes → Type 0
 Wants rows wishes =
@@ -133,7 +139,7 @@ abbrev pub name_of_pair : PairTask → Text
 name_of_pair (pair.Check detail style) = codes "check"
 name_of_pair (pair.Run wishes style) = codes "run"
 name_of_pair (pair.Replay style) = codes "replay"
-name_of_pair (pair.Conform style) = codes "conform"
+name_of_pair (pair.Conform close style) = codes "conform"
 name_of_pair pair.Draw = codes "draw"
 name_of_pair (pair.Lint form denied) = codes "lint"
 
@@ -142,7 +148,7 @@ abbrev pub second_of : PairTask → Text
 second_of (pair.Check detail style) = codes "certificate"
 second_of (pair.Run wishes style) = codes "certificate"
 second_of (pair.Replay style) = codes "events"
-second_of (pair.Conform style) = codes "trace"
+second_of (pair.Conform close style) = codes "trace"
 second_of pair.Draw = codes "certificate"
 second_of (pair.Lint form denied) = codes "certificate"
 
@@ -151,7 +157,7 @@ abbrev pub AskForPair : List Row → PairTask → Type 0
 AskForPair rows (pair.Check detail style) = (detail_of rows ≡ detail) × IsStyled rows style
 AskForPair rows (pair.Run wishes style) = Wants rows wishes × IsStyled rows style
 AskForPair rows (pair.Replay style) = IsStyled rows style
-AskForPair rows (pair.Conform style) = IsStyled rows style
+AskForPair rows (pair.Conform close style) = (trace_end_of rows ≡ close) × IsStyled rows style
 AskForPair rows pair.Draw = Unit {0}
 AskForPair rows (pair.Lint form denied) = (first_of (codes "format") rows ≡ Some (form_word form)) × Denies rows denied
 

@@ -95,9 +95,9 @@ abbrev pub limiting : App
 limiting =
     styled (with_rule (with_rule (with_rule (one_file (codes "limits")) (flag_rule (codes "certificate"))) (flag_rule (codes "explain"))) seconds_rule)
 
--- the command that says whether a trace keeps the rules
+-- the command that says whether a trace keeps the rules, and leaves nothing where its flag is given
 abbrev pub conforming : App
-conforming = styled (with_rule (one_file (codes "conform")) (file_rule (codes "trace")))
+conforming = styled (with_rule (with_rule (one_file (codes "conform")) (file_rule (codes "trace"))) (flag_rule (codes "strict-end")))
 
 -- the command that looks for everything that is wrong, with a certificate where one is named
 abbrev pub linting : App

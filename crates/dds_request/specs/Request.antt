@@ -40,7 +40,7 @@ abbrev pub style_of_pair : PairTask → Style
 style_of_pair (pair.Check detail style) = style
 style_of_pair (pair.Run wishes style) = style
 style_of_pair (pair.Replay style) = style
-style_of_pair (pair.Conform style) = style
+style_of_pair (pair.Conform close style) = style
 style_of_pair pair.Draw = style.Text
 style_of_pair (pair.Lint form denied) = style_of_form form
 

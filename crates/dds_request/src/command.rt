@@ -95,6 +95,9 @@ const ALLOW: &str =
 /// What help says of the argument that names a file of events.
 const EVENTS: &str = "Events, a line each, as refute prints them";
 
+/// What help says of the flag of traces that leave nothing.
+const STRICT_END: &str = "Answers no if what was written for a strict reader was never taken";
+
 /// What help says of the argument that names a trace.
 const TRACE: &str =
     "A line for each: TIME APPLICATION write WRITER KEY, or TIME APPLICATION take READER KEY";
@@ -324,7 +327,8 @@ fn conform_command<'a>(alloc: Global) -> Result<Command<'a>, NoMemory>
         "conform",
         "Checks whether a recorded trace keeps the rules of a deployment",
     )?
-    .arg(file(alloc, "trace", TRACE))?;
+    .arg(file(alloc, "trace", TRACE))?
+    .arg(flag(alloc, "strict-end", STRICT_END))?;
     styled(alloc, command)
 }
 

@@ -8,7 +8,7 @@ ghost use Rattle.dds_options.specs.declared.style.Style.{Style};
 ghost use Rattle.dds_request.specs.Asking.{AreRefused, AskForHelp, Asks, Counts, Denies, IsHelp, IsHelpKind};
 ghost use Rattle.dds_request.specs.Asking.{IsStyled, LetsPass, Misses, NamesBoth, NamesStyled, Reads, Wants};
 ghost use Rattle.dds_request.specs.Asking.{comparison_of, detail_of, good_of, is_input_twice, is_printed, is_set};
-ghost use Rattle.dds_request.specs.Asking.{sizing_of};
+ghost use Rattle.dds_request.specs.Asking.{sizing_of, trace_end_of};
 ghost use Rattle.dds_options.specs.declared.deny.Deny.{Deny as DenyView};
 ghost use Rattle.dds_options.specs.declared.style.LintStyle.{LintStyle as LintStyleView};
 ghost use Rattle.dds_request.specs.Command.{whole};
@@ -20,7 +20,9 @@ use crate::request::{Comparison, NoRequest, PairTask, Request, Sizing, Task};
 use crate::wishes::{Wishes, read_fates, read_form, read_format, read_style, read_version};
 use clap::ArgMatches;
 use clap::error::ErrorKind;
-use dds_options::{Allowed, Deny, Detail, Format, GoodEnds, LaterVersion, LintStyle, Style};
+use dds_options::{
+    Allowed, Deny, Detail, Format, GoodEnds, LaterVersion, LintStyle, Style, TraceEnd,
+};
 use std::alloc::Global;
 use std::convert::AsStr;
 
@@ -511,6 +513,17 @@ fn replay_request<'a>(alloc: Global, matches: &ArgMatches<'a>) -> Result<Request
     })
 }
 
+/// What a trace may leave.
+fn trace_end(matches: &ArgMatches) -> TraceEnd
+    ensures { result ≡ trace_end_of (rows_of (found_of matches.now)) }
+{
+    if is_set(matches, "strict-end") {
+        TraceEnd::Strict
+    } else {
+        TraceEnd::Open
+    }
+}
+
 fn conform_request<'a>(alloc: Global, matches: &ArgMatches<'a>) -> Result<Request<'a>, NoRequest>
     ensures asked { Reads (codes "conform") (rows_of (found_of matches.now)) result }
     ensures fault { IfErr result (λ e. ¬ IsHelp e) }
@@ -520,7 +533,10 @@ fn conform_request<'a>(alloc: Global, matches: &ArgMatches<'a>) -> Result<Reques
         return Err(usage(alloc, WRONG_STYLE));
     };
     let (deployment, second) = both_files(alloc, matches, "trace")?;
-    let task = PairTask::Conform { style };
+    let task = PairTask::Conform {
+        end: trace_end(matches),
+        style,
+    };
     Ok(Request::Two {
         deployment,
         second,

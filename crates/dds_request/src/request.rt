@@ -3,7 +3,7 @@ ghost use Rattle.std.specs.Prelude.{◌≡◌};
 ghost use Rattle.dds_request.specs.Request.{style_of, style_of_form, style_of_pair, style_of_task};
 
 use crate::wishes::Wishes;
-use dds_options::{Deny, Detail, Format, LaterVersion, LintStyle, Style};
+use dds_options::{Deny, Detail, Format, LaterVersion, LintStyle, Style, TraceEnd};
 
 /// What is printed of a comparison of the endpoints.
 #[derive(Clone, Copy, Debug, PartialEq, Eq)]
@@ -96,8 +96,8 @@ pub enum PairTask<'a> {
     Run { wishes: Wishes, style: Style },
     /// What comes of the events of the second file when they are made on the deployment.
     Replay { style: Style },
-    /// Whether the trace of the second file keeps the rules of the deployment.
-    Conform { style: Style },
+    /// Whether the trace of the second file keeps the rules of the deployment, and whether it may leave samples.
+    Conform { end: TraceEnd, style: Style },
     /// A picture of the deployment, with the bounds of the certificate.
     Draw,
     /// Everything that is wrong with the deployment and the certificate.
@@ -151,7 +151,7 @@ impl<'a> PairTask<'a> {
             PairTask::Check { style, .. }
             | PairTask::Run { style, .. }
             | PairTask::Replay { style }
-            | PairTask::Conform { style } => *style,
+            | PairTask::Conform { style, .. } => *style,
             PairTask::Lint { form, .. } => style_of_form(*form),
             PairTask::Draw => Style::Text,
         }

@@ -42,7 +42,7 @@ read_told (pair.Check detail style) d s fault.Write is = absurd is
 read_told (pair.Check detail style) d s fault.Run is = absurd is
 read_told (pair.Run wishes style) d s f is = tt
 read_told (pair.Replay style) d s f is = tt
-read_told (pair.Conform style) d s f is = tt
+read_told (pair.Conform close style) d s f is = tt
 read_told pair.Draw d s f is = tt
 read_told (pair.Lint form denied) d s f is = tt
 
@@ -61,7 +61,7 @@ pub most_of_run : (asks : PairTask) (checked : Outcome) → MayBreakOff asks che
 most_of_run (pair.Check detail style) checked may = refl
 most_of_run (pair.Run wishes style) checked may = refl
 most_of_run (pair.Replay style) checked may = absurd may
-most_of_run (pair.Conform style) checked may = absurd may
+most_of_run (pair.Conform close style) checked may = absurd may
 most_of_run pair.Draw checked may = refl
 most_of_run (pair.Lint form denied) checked may = refl
 
@@ -116,7 +116,7 @@ memory_told_of : (asks : PairTask) (d s : List ℕ) → IsToldOf asks d s fault.
 memory_told_of (pair.Check detail style) d s = tt
 memory_told_of (pair.Run wishes style) d s = tt
 memory_told_of (pair.Replay style) d s = tt
-memory_told_of (pair.Conform style) d s = tt
+memory_told_of (pair.Conform close style) d s = tt
 memory_told_of pair.Draw d s = tt
 memory_told_of (pair.Lint form denied) d s = tt
 

@@ -112,7 +112,7 @@ accepted_run holds (asked.Two d s (pair.Run wishes style)) run gives = λ x y hx
     given_run (IsAccepted (file_outcome x y)) (MayEndFiles (pair.Run wishes style) d.now s.now x y) (gives x y hx hy).0
 accepted_run holds (asked.Two d s (pair.Check detail style)) run gives = absurd run
 accepted_run holds (asked.Two d s (pair.Replay style)) run gives = absurd run
-accepted_run holds (asked.Two d s (pair.Conform style)) run gives = absurd run
+accepted_run holds (asked.Two d s (pair.Conform close style)) run gives = absurd run
 accepted_run holds (asked.Two d s pair.Draw) run gives = absurd run
 accepted_run holds (asked.Two d s (pair.Lint form denied)) run gives = absurd run
 

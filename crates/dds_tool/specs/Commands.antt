@@ -59,7 +59,7 @@ abbrev pub MayEndPair : PairTask → (deployment second : List ℕ) → (d s : L
 MayEndPair (pair.Check detail style) deployment second d s end = end ≡ in_style style (told detail (outcome d s))
 MayEndPair (pair.Run wishes style) deployment second d s end = MayRun wishes style (outcome d s) end
 MayEndPair (pair.Replay style) deployment second d s end = MayReplay style (read d) s end
-MayEndPair (pair.Conform style) deployment second d s end = MayConform style (read d) s end
+MayEndPair (pair.Conform close style) deployment second d s end = MayConform close style (read d) s end
 MayEndPair pair.Draw deployment second d s end = end ≡ drawing (read d) (Some s)
 MayEndPair (pair.Lint form denied) deployment second d s end = MayLint form denied (names_of deployment (Some second)) d (Some s) end
 
@@ -68,7 +68,7 @@ abbrev pub most_of : PairTask → ℕ
 most_of (pair.Check detail style) = most_bytes
 most_of (pair.Run wishes style) = most_bytes
 most_of (pair.Replay style) = most_event_bytes
-most_of (pair.Conform style) = most_event_bytes
+most_of (pair.Conform close style) = most_event_bytes
 most_of pair.Draw = most_bytes
 most_of (pair.Lint form denied) = most_bytes
 

@@ -19,7 +19,7 @@ use Rattle.dds_request.specs.declared.request.Comparison.{Comparison}
 use Rattle.dds_request.specs.declared.request.Comparison.TheVariants.{Pairs, Connections}
 use Rattle.dds_sizing.specs.Limits.{limits_end}
 use Rattle.dds_sizing.specs.Searches.{found_end}
-use Rattle.dds_tool.specs.Conforming.{is_kept, told_conformance}
+use Rattle.dds_tool.specs.Conforming.{is_good, told_conformance}
 use Rattle.dds_tool.specs.Refuting.{is_safe, told_known}
 use Rattle.dds_tool.specs.Replaying.{told_replay}
 use Rattle.dds_tool.specs.RunEnds.{ran}
@@ -46,7 +46,7 @@ end_of names style (outcome.Linted found form denied) =
     end.said (findings_text form names denied found.items) (is_clean denied found.items)
 end_of names style (outcome.Ran plan journal ends good detail) = ran good detail style plan journal ends.items
 end_of names style (outcome.Replayed plan events replies) = end.said (told_replay style plan events.items replies.items) true
-end_of names style (outcome.Conformed plan conformance) = end.said (told_conformance style plan conformance) (is_kept conformance)
+end_of names style (outcome.Conformed plan judged close) = end.said (told_conformance style plan close judged.leftovers.items judged.conformance) (is_good close judged.leftovers.items judged.conformance)
 
 -- the journal of a run is one of its plan, and the thread of each application has an end
 abbrev pub IsSound : Outcome → Type 0

@@ -113,7 +113,7 @@ fn find_pair_outcome<'a, R: Threads + Wait + Clock + Sync>(
         PairTask::Check { detail, .. } => check_files(alloc, given, bytes, detail),
         PairTask::Run { wishes, .. } => run_files(rt, alloc, given, bytes, &wishes),
         PairTask::Replay { .. } => replay_files(alloc, given, bytes),
-        PairTask::Conform { .. } => conform_trace(alloc, given, bytes),
+        PairTask::Conform { end, .. } => conform_trace(alloc, given, bytes, end),
         PairTask::Draw => draw_deployment(alloc, given, Some(bytes)),
         PairTask::Lint { form, deny } => lint_files(alloc, given, Some(bytes), form, deny),
     }

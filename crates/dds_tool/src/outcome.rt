@@ -3,16 +3,23 @@
 use dds_answers::Report;
 use dds_base::{Event, Reply};
 use dds_book::Journal;
-use dds_conform::Conformance;
+use dds_conform::{Conformance, Leftover};
 use dds_findings::Finding;
 use dds_lists::Deployment;
 use dds_match::Plan;
-use dds_options::{Deny, Detail, Format, GoodEnds, LintStyle};
+use dds_options::{Deny, Detail, Format, GoodEnds, LintStyle, TraceEnd};
 use dds_peers::AppEnd;
 use dds_request::Comparison;
 use dds_search::{Found, Refutation};
 use dds_sizing::LimitsReport;
 use dds_weights::Certificate;
+
+/// What a trace shows: whether it keeps the rules, and what it leaves.
+#[derive(Drop)]
+pub(crate) struct Judgement {
+    pub(crate) conformance: Conformance,
+    pub(crate) leftovers: Vec<Leftover>,
+}
 
 /// What a command came to: values, of which nothing is printed yet.
 #[derive(Drop)]
@@ -80,9 +87,10 @@ pub(crate) enum Outcome<'a> {
         events: Vec<Event>,
         replies: Vec<Reply>,
     },
-    /// `conform`: the plan, and whether the trace keeps its rules.
+    /// `conform`: the plan, whether the trace keeps its rules, what it leaves, and whether it may.
     Conformed {
         plan: Plan,
-        conformance: Conformance,
+        judgement: Judgement,
+        end: TraceEnd,
     },
 }

@@ -61,8 +61,10 @@ pub(crate) fn render(
             events,
             replies,
         } => { answer_replay(alloc, plan, events, replies, style) }
-        Outcome::Conformed { plan, conformance } => {
-            answer_conformance(alloc, plan, conformance, style)
-        }
+        Outcome::Conformed {
+            plan,
+            judgement,
+            end,
+        } => { answer_conformance(alloc, plan, judgement, end, style) }
     }
 }
