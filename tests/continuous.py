@@ -126,10 +126,16 @@ ACTION = [
     Case({"deployment": "a blank.toml", "certificate": "a blank.cert.toml"}, 0, (YES,)),
     Case(PING_PAIR | {"package": "none.deb"}, 3, ("there's no package none.deb",)),
     Case(PING_PAIR | {"sarif": "ping.toml/x"}, 3, ("ping.toml/x can't be written",)),
+    # annotations of the lines, a denied note as an error
+    Case(MINE_PAIR | {"format": "github"}, 1, ("::error file=mine.toml,line=", ",title=Watcher::dashboard_r ", "yes\n"), (NOTE,)),
+    Case(MINE_PAIR | {"format": "github", "deny": "errors"}, 0, ("::notice file=mine.toml,line=", "yes\n"), ("::error",)),
+    Case(MINE_PAIR | {"format": "github", "allow": "Watcher"}, 0, ("yes\n",), ("title=Watcher",)),
+    Case(PING_PAIR | {"format": "xml"}, 4, ("the format is text, json, sarif or github",)),
     *(Case({"deployment": text}, 3) for text in INJECTED),
     *(Case(PING_PAIR | {"allow": text}, 4) for text in INJECTED),
     *(Case(PING_PAIR | {"deny": text}, 4) for text in INJECTED),
     *(Case(PING_PAIR | {"propose": text}, 4) for text in INJECTED),
+    *(Case(PING_PAIR | {"format": text}, 4) for text in INJECTED),
     *(Case(PING_PAIR | {"package": text}, 3) for text in INJECTED),
 ]
 # the file of findings: inputs, and the rule and the level of each result, or None where there's no file

@@ -5,7 +5,8 @@
   tests/explained.py DEPLOYMENT CERTIFICATE   # prints what is owed
 
 The answer is found a second time by tests/judged.py, and each number of a reason is added up here a second time, as are the policies that don't agree compared. From the
-built program come the faults of files, by `match`, which endpoints match, and, by `lint`, the words of the notes. A file that Python can't read, being TOML 1.1 and not 1.0, counts as skipped. The last line is 'N passed, M failed';
+built program come the faults of files, by `match`, which endpoints match, and, by `lint`, the words of the notes. `match --policies` owes the lines of `match` without
+those of other topics, each with what keeps the two apart by this reading. A file that Python can't read, being TOML 1.1 and not 1.0, counts as skipped. The last line is 'N passed, M failed';
 the status is 1 if one failed.
 """
 import json
@@ -382,6 +383,29 @@ def drawn_fault(seed):
     return f"seed {seed}: {found}" if found else None
 
 
+def apart(deployment):
+    """What `match --policies` owes: the lines of `match` without those of other topics, each with what keeps the two apart."""
+    out, err, status = shown.answer_of(["match", deployment])
+    if status > 1:
+        return out, err, status
+    case, lines = judged.Case(deployment, DATA / "vacuous/none.cert.toml"), []
+    for line in out.splitlines():
+        word, writer, reader, *reason = line.split()
+        if reason != ["topic"]:
+            lines += [line, *(f"  {term}" for term in (mismatch_lines(case, writer, reader) if word == "none" else []))]
+    return "".join(f"{line}\n" for line in lines), err, status
+
+
+def fault_of_policies(deployment):
+    """What is wrong with what `match --policies` gives, if anything is."""
+    try:
+        wanted = apart(deployment)
+    except (tomllib.TOMLDecodeError, UnicodeDecodeError):
+        return shown.TOML_1_1
+    given = shown.answer_of(["match", "--policies", deployment])
+    return None if given == wanted else f"{given} and not {wanted}"
+
+
 def main(words):
     if words:
         sys.stdout.write(owed(Path(words[0]), Path(words[1]))[0])
@@ -390,6 +414,8 @@ def main(words):
     tally = Tally()
     for deployment, certificate in dict.fromkeys(checks()):
         tally.judge(f"check --explain {deployment.relative_to(ROOT)} {certificate.relative_to(ROOT)}", fault_of, deployment, certificate)
+    for deployment in shown.deployments():
+        tally.judge(f"match --policies {deployment.relative_to(ROOT)}", fault_of_policies, deployment)
     for seed, found in enumerate(side_by_side(drawn_fault, range(DRAWN))):
         tally.check(found is None, f"check --explain of the drawn deployment {seed}", found or "")
     return tally.finish()

@@ -66,6 +66,16 @@ def keyed_certificate(topics=ENDPOINTS):
     return "\n".join(["version=2", f'rows=[{{name="r",samples={of_readers},takes={of_readers},permits={permits}}}]', f"bounds={inline(bounds)}"]) + "\n"
 
 
+def dense_certificate():
+    """The rows for which a file has room if each weighs all that there is of the deployment above, by short forms: 49,152 weights for 17 KiB of text."""
+    names = short_names(ENDPOINTS)
+    entries = {list_: inline(f'{{{side}="{name}",weight=1}}' for name in names) for list_, side in (("samples", "reader"), ("takes", "reader"), ("permits", "writer"))}
+    weights = ",".join(f"{name}={text}" for name, text in entries.items())
+    rows = [f'{{name="{name}",{weights}}}' for name in short_names(64)]
+    texts = [f"version=2\nrows={inline(rows[:count])}\n" for count in range(len(rows) + 1)]
+    return texts[most(len(rows), texts.__getitem__)]
+
+
 def crossed_topic(endpoints, head, writer, reader, rule_fields):
     """One topic of 64 keys that so many writers write and as many readers hear, with as many rules and writes as there may be, and a connection for each pair."""
     names = short_names(endpoints)

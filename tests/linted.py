@@ -11,7 +11,12 @@
 - Each vacuous system of tests/commands/data/vacuous, which gets a yes, by its own certificate or by an empty one, has the note that its name asks for.
   With --deny notes all its notes but MayLose make the answer no, with --deny all that too, and with --allow all but the kind or the one note that is named.
 - Of each worked deployment the notes on pairs, on writers that nobody hears and on paces are those of the second reading of tests/noted.py.
-- SARIF documents have the members of version 2.1.0 that code hosts read, and each names its file by the URI reference that Python makes of the path.
+- SARIF documents have the members of version 2.1.0 that code hosts read, and each names its file by the URI reference that Python makes of the path. Each
+  result is what the JSON document has, with the level of one that's denied; its rule is listed, with a page that has its heading; and what's about a pair has a
+  link to where the other endpoint's name stands in the file.
+- Workflow commands, read as GitHub's runner reads them, are the findings of the JSON document, of a row of one kind at one place the first, without those that
+  are let pass.
+- In the line of a file that is shown, in names of files and in words of the command line `?` stands for each character that would turn the text or isn't seen.
 - A file of 1 MiB with 10,000 faults is answered within a second, by 1,000 of them and a line that there may be more.
 The last line is 'N passed, M failed'.
 """
@@ -28,6 +33,7 @@ sys.dont_write_bytecode = True
 import noted  # noqa: E402
 import paced  # noqa: E402
 import shown  # noqa: E402
+from anchors import anchors, sections  # noqa: E402
 from commands import DATA, cases  # noqa: E402
 from harness import ROOT, Tally, ddscheck, need_program, side_by_side  # noqa: E402
 from judged import Case  # noqa: E402
@@ -231,23 +237,146 @@ def denied(file, certificate, findings):
     return next((why for options, left in tried if (why := wrong_denial(file, certificate, options, left))), None)
 
 
-def sarif_members(file, cwd=DATA):
+# the page of the names, where Debian's package has it
+PAGE = "file:///usr/share/doc/ddscheck/docs/numbers.md#"
+# the names of what is about a pair of endpoints, or about a rule and a reader
+PAIRS = {"IntendedNotMatched", "UnintendedMatch", "KeepLastFilter", "WriterDepth", "LateVolatile", "Endless", "Incompatible", "HeldUp", "LateReader"}
+ALLOWED = ["--deny", "notes", "--allow", "Finite,HeldUp,UnusedRow"]
+
+
+def said(finding):
+    """What a finding says, in all."""
+    parts = [finding["message"], *([finding["explanation"]["help"]] if finding["explanation"]["help"] else [])]
+    return "\n".join([": ".join(parts), *finding["explanation"]["details"]])
+
+
+def is_allowed(finding, options):
+    """Whether a note is let pass by these options."""
+    return finding["level"] == "note" and "--allow" in options and finding["name"] in options[-1].split(",")
+
+
+def wrong_rules(run):
+    """What is wrong with the rules of a SARIF document, if anything is."""
+    order = [name for _, entries in sections() for name, _ in entries]
+    rules = run["tool"]["driver"]["rules"]
+    names = [rule["id"] for rule in rules]
+    owed = {result["ruleId"] for result in run["results"]}
+    if set(names) != owed or names != sorted(names, key=order.index):
+        return f"has the rules {names}, not those of {owed} in the order of the page"
+    for rule in rules:
+        texts = [rule[member]["text"] for member in ("shortDescription", "fullDescription", "help")]
+        page, _, anchor = rule["helpUri"].partition("#")
+        if not all(texts) or f"{page}#" != PAGE or anchor not in anchors("docs/numbers.md"):
+            return f"a rule lacks a text or a page: {rule}"
+    return None
+
+
+def wrong_place_of(place, file, text):
+    """What is wrong with the place of a result, if anything is."""
+    region = place["region"]
+    if place["artifactLocation"]["uri"] != quote(file):
+        return f"a file has another URI: {place}"
+    if not (1 <= region["startLine"] <= text.count("\n") + 1 and 1 <= region["startColumn"] < region["endColumn"]):
+        return f"a region is none: {region}"
+    return None
+
+
+def wrong_other(result, path, file, text):
+    """What is wrong with the other endpoint of a result, whose own has this path, if anything is."""
+    related = result["relatedLocations"]
+    if result["ruleId"] not in PAIRS or "more of these" in result["message"]["text"]:
+        return f"has another endpoint: {result}" if related else None
+    if len(related) != 1 or related[0]["id"] != 1:
+        return f"has no other endpoint: {result}"
+    name, place = related[0]["message"]["text"], related[0]["physicalLocation"]
+    region = place["region"]
+    stands = text.split("\n")[region["startLine"] - 1][region["startColumn"] - 1 : region["endColumn"] - 1]
+    said, _, link = result["message"]["text"].rpartition("\nsee ")
+    if stands.strip("\"'") != name or link != f"[{name}](1)":
+        return f"{name} isn't where {stands} is, or the message has no link: {result}"
+    section = "writers" if path.startswith("readers") else "readers"
+    # that a depth is too low says of a reader only how much it stores
+    if name not in (one["name"] for one in tomllib.loads(text)[section]) or name not in said and result["ruleId"] != "WriterDepth":
+        return f"{name} isn't the other endpoint: {result}"
+    return wrong_place_of(place, file, text)
+
+
+def wrong_result(result, finding, options, file, text):
+    """What is wrong with a result, by the finding of the JSON document, if anything is."""
+    place = result["locations"][0]["physicalLocation"]
+    region = place["region"]
+    owed = finding["place"]["line"], finding["place"]["column"], finding["place"]["end_column"]
+    if (region["startLine"], region["startColumn"], region["endColumn"]) != owed or result["ruleId"] != finding["name"]:
+        return f"a result is elsewhere, or has another name: {result}, {finding}"
+    if result["level"] != ("error" if finding["denied"] else finding["level"]) or bool(result["suppressions"]) != is_allowed(finding, options):
+        return f"a result has another level, or is suppressed or isn't: {result}, {finding}"
+    if result["message"]["text"].partition("\nsee [")[0] != said(finding):
+        return f"a result says something else: {result}, {finding}"
+    return wrong_place_of(place, file, text) or wrong_other(result, finding["place"]["path"], file, text)
+
+
+def sarif_members(file, cwd=DATA, options=()):
     """What is wrong with the SARIF document of a file, if anything is."""
-    given = ddscheck("lint", file, "--format", "sarif", cwd=cwd)
+    given = ddscheck("lint", file, "--format", "sarif", *options, cwd=cwd)
     document = json.loads(given.out)
     run = document["runs"][0]
-    if document["version"] != "2.1.0" or run["tool"]["driver"]["name"] != "ddscheck" or not run["results"]:
-        return "lacks its version, its tool or its results"
-    for result in run["results"]:
-        place = result["locations"][0]["physicalLocation"]
-        region = place["region"]
-        if result["level"] not in ("error", "note") or not result["ruleId"] or not result["message"]["text"]:
-            return f"a result lacks a member: {result}"
-        if place["artifactLocation"]["uri"] != quote(file):
-            return f"a file has another URI: {place}"
-        if not (1 <= region["startLine"] and 1 <= region["startColumn"] < region["endColumn"]):
-            return f"a region is none: {region}"
-    return None
+    if document["version"] != "2.1.0" or run["tool"]["driver"]["name"] != "ddscheck":
+        return "lacks its version or its tool"
+    findings, _ = findings_of(file, *options, cwd=cwd)
+    if len(run["results"]) != len(findings):
+        return f"has {len(run['results'])} results, not {len(findings)}"
+    text = (Path(cwd) / file).read_text(errors="replace")
+    wrong = (why for pair in zip(run["results"], findings) if (why := wrong_result(*pair, options, file, text)))
+    return next(wrong, None) or wrong_rules(run)
+
+
+def unescaped(text, marks):
+    """A text without its escapes, as GitHub's runner reads it."""
+    for mark in [*marks, "%25"]:
+        text = text.replace(mark, chr(int(mark[1:], 16)))
+    return text
+
+
+def command_of(line):
+    """The name, the properties and the message of a workflow command, as GitHub's runner reads it; `None` where a line is none."""
+    if not line.startswith("::"):
+        return None
+    info, end, message = line[2:].partition("::")
+    name, _, properties = info.partition(" ")
+    pairs = (part.split("=", 1) for part in properties.split(",") if part)
+    return name, {key: unescaped(value, ["%0D", "%0A", "%3A", "%2C"]) for key, value in pairs}, unescaped(message, ["%0D", "%0A"])
+
+
+def github_commands(file, cwd=DATA, options=()):
+    """What is wrong with the workflow commands for a file, if anything is."""
+    given = ddscheck("lint", file, "--format", "github", *options, cwd=cwd)
+    plain = ddscheck("lint", file, *options, cwd=cwd)
+    findings, _ = findings_of(file, *options, cwd=cwd)
+    lines = given.out.split("\n")
+    found = [command for line in lines if (command := command_of(line))]
+    rows = [one for at, one in enumerate(findings) if at == 0 or place_of(findings[at - 1]) != place_of(one)]
+    owed = [
+        ("error" if one["denied"] else "notice", {"file": file, "line": str(one["place"]["line"]), "col": str(one["place"]["column"]), "title": one["name"]}, said(one))
+        for one in rows
+        if not is_allowed(one, options)
+    ]
+    if found != owed:
+        return f"has {found[:3]}, not {owed[:3]}"
+    rest = "\n".join(line for line in lines if not line.startswith("::"))
+    ends = plain.out[plain.out.rindex("\n\n") + 2 :] if "\n\n" in plain.out else plain.out
+    return None if given.status == plain.status and rest == ends else f"ends with {rest!r} and status {given.status}, not {ends!r}"
+
+
+def github_name(name):
+    """What is wrong with the workflow commands for a file with this name, if anything is."""
+    with tempfile.TemporaryDirectory() as room:
+        (Path(room) / name).write_bytes(b'version = 3\nodd = 1\n"50%: a,b" = 1\n')
+        return github_commands(name, cwd=room)
+
+
+def printed(file):
+    """What is wrong with what code hosts get of a file, if anything is."""
+    return next((why for options in ((), ALLOWED) for form in (sarif_members, github_commands) if (why := form(file, options=options))), None)
 
 
 def sarif_uri(name):
@@ -257,7 +386,13 @@ def sarif_uri(name):
         return sarif_members(name, cwd=room)
 
 
-NAMES = ["two words.toml", "100%.toml", "a#b?c=d&e.toml", "scheme:path.toml", "größe-日本~1.toml", '"[quoted]".toml']
+NAMES = ["two words.toml", "100%.toml", "a#b?c=d&e.toml", "scheme:path.toml", "größe-日本~1.toml", '"[quoted]".toml', "a,b::c=d%2C%250A.toml"]
+
+
+def lintable():
+    """Deployments in which `lint` finds conditions and notes of each kind."""
+    folders = ("lint", "vacuous", "joins", "match", "keep_last", "verdicts", "watchers")
+    return [path for folder in folders for path in sorted((DATA / folder).glob("*.toml")) if ".cert" not in path.name]
 
 
 def many_faults():
@@ -278,6 +413,27 @@ def many_faults():
 UNSEEN = re.compile("[\x00-\x09\x0b-\x1f\x7f-\x9f\xad\u061c\u180e\u200b-\u200f\u2028-\u202e\u2060-\u206f\ufeff\U000e0000-\U000e007f]|\\\\x")
 
 
+def hostile_name(name):
+    """What is wrong with what commands show of the name of a file, there or not, or of a word, if anything is."""
+    with tempfile.TemporaryDirectory() as room:
+        (Path(room) / name).write_bytes(b"version = 3\nodd = 1\n")
+        tried = [["lint", name], ["lint", name, "--format", "github"], ["lint", f"{name}x"], ["check", f"{name}x", name, "--explain"], [name], ["lint", f"--{name}"], ["lint", name, "x", name]]
+        for words in tried:
+            given = ddscheck(*words, cwd=room)
+            told = given.out + given.err
+            if given.status not in (1, 3, 4) or UNSEEN.search(told) or plainly(name) not in told:
+                return f"{words}: status {given.status}, and shows {told[:300]!r}"
+    return None
+
+
+def plainly(name):
+    """A name as it's shown."""
+    return UNSEEN.sub("?", name.replace("\n", "?"))
+
+
+HOSTILE_NAMES = ["\x1b[31mred", "a\nerror[Forged]: b\n", "\u202ereversed\u2066", "a\u061c\u00ad\u180e\ufeff\U000e0041\u2029\u2060b", "tab\tand\x07bell\x9b"]
+
+
 def hostile_line(text):
     """What is wrong with what is shown of a line with control characters, characters of several bytes or bytes that are no text, if anything is."""
     with tempfile.TemporaryDirectory() as room:
@@ -295,6 +451,7 @@ HOSTILE = [
     b"version = 1\n\todd\t=\t1\t# \t\n",
     b'version = 1\n"\\u202ereversed\\u2066 \\u061c\\u00ad\\u180e\\ufeff\\U000e0041\\u2028" = 1\n',
     b'version = 1\n[[topics]]\nname = "t\\u061c\\u00ad\\u180e\\ufeff\\U000e0041\\u2029\\u2060"\n',
+    "version = 1\nname = \"\u202ereversed\u2066\" # \u061c\u00ad\u180e\ufeff\U000e0041\u2028\u2029\u2060\n".encode(),
     "version = 1\n[[participants]]\nname = \"größe 日本 🚀\"\ndomain = 0\n".encode(),
     b"version = 1\nname = \"\x1b[31mred\"\n",
     b"version = 1\nname = \"\xff\xfe\"\n",
@@ -322,8 +479,11 @@ def main():
     worked += [(vacuous, file, f"vacuous {file.name}") for file in sorted((DATA / "vacuous").glob("[A-Z]*.toml")) if ".cert" not in file.name]
     worked += [(second_notes, path, f"notes of {path.relative_to(ROOT)}") for path in shown.deployments()]
     worked += [(hostile_line, text, f"a line of {text[:60]}") for text in HOSTILE]
-    worked += [(sarif_members, case.words[1], f"sarif {case.words[1]}") for case in list(fault_cases())[:40]]
+    worked += [(hostile_name, name, f"the name {name!r}") for name in HOSTILE_NAMES]
+    worked += [(printed, case.words[1], f"sarif and github {case.words[1]}") for case in list(fault_cases())[:40]]
+    worked += [(printed, str(path.relative_to(DATA)), f"sarif and github {path.relative_to(DATA)}") for path in lintable()]
     worked += [(sarif_uri, name, f"sarif {name}") for name in NAMES]
+    worked += [(github_name, name, f"github {name}") for name in NAMES]
     for (_, _, what), why in zip(worked, side_by_side(reason, worked)):
         tally.check(why is None, what, why or "")
     tally.judge("10,000 faults", many_faults)

@@ -12,6 +12,9 @@ kinds a schema sees nothing: that a name is there, that names and entries stand 
 Each JSON document that tests/commands has, and each that the program prints for one of its commands with `--format json`, has to pass its command's schema in
 answers.schema.json. None passes without one of its members, with another one, or with a text in place of a number. The names there are those of the sources.
 
+SARIF documents pass sarif.schema.json, which has what OASIS's schema of version 2.1.0 asks of the objects that are printed, and none does that's spoilt as the JSON
+documents are.
+
 Without Python's jsonschema (Debian's python3-jsonschema) everything counts as skipped. The last line is 'N passed, M failed'; the status is 1 if one failed.
 """
 import copy
@@ -230,6 +233,27 @@ def hold_answers(tally):
         tally.judge(" ".join(words), fault_of_asked, known[words[0]], done)
 
 
+# members of SARIF without which a document is another one, but still one of SARIF
+MAY_LACK_SARIF = {"$schema"}
+# what `lint` is asked for as SARIF: a fault, pairs of endpoints, notes that are denied or let pass, and nothing
+SARIF = ["lint/mistakes.toml", "lint/deadlines.toml --deny notes --allow Finite", "lint/clock.toml vacuous/none.cert.toml --deny all --allow MayLose", "ping.toml ping.cert.toml"]
+
+
+def hold_sarif(tally):
+    """Holds SARIF documents against the rules of its schema."""
+    from jsonschema import Draft202012Validator
+
+    schema = json.loads((ROOT / "tests/sarif.schema.json").read_text())
+    Draft202012Validator.check_schema(schema)
+    validator = Draft202012Validator(schema)
+    for words in SARIF:
+        found = json.loads(ddscheck("lint", *words.split(), "--format", "sarif", cwd=DATA).out)
+        tally.judge(f"SARIF of {words}", fault_of_answer, validator, found)
+        others = ((what, other) for what, other in spoilt(found) if what.partition(" ")[2] not in MAY_LACK_SARIF)
+        wrong = next((what for what, other in others if validator.is_valid(other)), None)
+        tally.check(wrong is None, f"SARIF of {words}, spoilt", f"passes {wrong}")
+
+
 def main():
     tally, known = Tally(), validators()
     if not known:
@@ -243,6 +267,8 @@ def main():
     if not sys.argv[1:]:
         tally.attempt(ANSWERS, hold_names, tally)
         tally.attempt(ANSWERS, hold_answers, tally)
+        if PROGRAM.exists():
+            tally.attempt("SARIF", hold_sarif, tally)
     return tally.finish()
 
 

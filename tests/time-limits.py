@@ -55,6 +55,7 @@ SEARCH = 1
 INPUTS = {
     "largest": lambda: (inputs.largest_deployment(), inputs.largest_certificate(), "deliver 0\n" * (64 * MIB // 10)),
     "keyed": lambda: (inputs.keyed_deployment(), inputs.keyed_certificate(), ""),
+    "dense": lambda: (inputs.keyed_deployment(), inputs.dense_certificate(), ""),
     "limited keys": lambda: (inputs.keyed_deployment(limit=16), "", ""),
     "ring": lambda: (inputs.limited_ring(255, 64), "", ""),
     "crowd": lambda: (inputs.crowded_pair(65535), "", ""),
@@ -70,8 +71,8 @@ INPUTS = {
 }
 # words on the files d, c and e of each input
 LARGEST = {
-    "check": ("check d c", ("largest", "keyed", "paced", "joined", "patterns")),
-    "check --explain": ("check d c --explain", ("largest", "keyed", "backward")),
+    "check": ("check d c", ("largest", "keyed", "dense", "paced", "joined", "patterns")),
+    "check --explain": ("check d c --explain", ("largest", "keyed", "dense", "backward")),
     "match": ("match d --format json", ("largest", "keyed", "paced", "patterns")),
     "propose": ("propose d", ("largest", "keyed", "ring")),
     "propose --thorough": (f"propose d --thorough --seconds {SEARCH}", ("largest", "limited keys", "ring")),
@@ -80,11 +81,11 @@ LARGEST = {
     "replay": ("replay d e", ("largest",)),
     "migrate": ("migrate d", ("largest",)),
     "show": ("show d", ("largest", "keyed")),
-    "draw": ("draw d c", ("largest", "keyed")),
-    "lint": ("lint d c", ("largest", "keyed", "backward", "paced", "failing", "four failing rows", "shallow", "circle", "empty")),
+    "draw": ("draw d c", ("largest", "keyed", "dense")),
+    "lint": ("lint d c", ("largest", "keyed", "dense", "backward", "paced", "failing", "four failing rows", "shallow", "circle", "empty")),
 }
 # lint in each of its other forms, where very much is found
-FORMS = ("json", "sarif")
+FORMS = ("json", "sarif", "github")
 FOUND = ("failing", "shallow", "empty")
 # searches of 4,096 and of 6,890 limits that get twenty seconds: nothing cuts off how a certificate is made after that
 LONG = 20

@@ -48,7 +48,9 @@ struct words {
 
 static _Noreturn void usage(const char *why, const char *word)
 {
-    fprintf(stderr, "capture: %s%s\n\n%s", why, word, USAGE);
+    fprintf(stderr, "capture: %s", why);
+    put_plain(stderr, word);
+    fprintf(stderr, "\n\n%s", USAGE);
     exit(STATUS_USAGE);
 }
 

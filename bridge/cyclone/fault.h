@@ -6,8 +6,11 @@
 
 enum { STATUS_YES = 0, STATUS_NO = 1, STATUS_FILE = 2, STATUS_DDS = 3, STATUS_USAGE = 4 };
 
-// Tells of a fault on standard error and ends the program with this status.
+// Tells of a fault on standard error, in one line, and ends the program with this status.
 _Noreturn void fail(int status, const char *form, ...) __attribute__((format(printf, 2, 3)));
+
+// Prints a text in one line: `?` stands for a byte that's no UTF-8, and for a character that controls a screen, has no width or turns the direction of a text.
+void put_plain(FILE *to, const char *text);
 
 // Readies the streams: an output that is closed fails when it is written to, as one to a pipe that nobody reads does.
 void guard_output(void);

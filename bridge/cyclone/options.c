@@ -38,7 +38,9 @@ static const char USAGE[] =
 
 static _Noreturn void usage(const char *why, const char *word)
 {
-    fprintf(stderr, "run-on-cyclone: %s%s\n\n%s", why, word, USAGE);
+    fprintf(stderr, "run-on-cyclone: %s", why);
+    put_plain(stderr, word);
+    fprintf(stderr, "\n\n%s", USAGE);
     exit(STATUS_USAGE);
 }
 

@@ -55,7 +55,9 @@ bool write_trace(const struct trace *trace, const struct cyclone *system, const 
     }
     bool is_whole = ferror(trace->file) == 0;
     if (fclose(trace->file) != 0 || !is_whole) {
-        fprintf(stderr, "run-on-cyclone: the trace %s could not be written\n", trace->path);
+        fputs("run-on-cyclone: the trace ", stderr);
+        put_plain(stderr, trace->path);
+        fputs(" could not be written\n", stderr);
         return false;
     }
     return true;

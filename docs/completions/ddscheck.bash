@@ -12,7 +12,7 @@ _ddscheck() {
     "replay --format") COMPREPLY=($(compgen -W "text json" -- "$word")); return ;;
     "limits --format") COMPREPLY=($(compgen -W "text json" -- "$word")); return ;;
     "conform --format") COMPREPLY=($(compgen -W "text json" -- "$word")); return ;;
-    "lint --format") COMPREPLY=($(compgen -W "text json sarif" -- "$word")); return ;;
+    "lint --format") COMPREPLY=($(compgen -W "text json sarif github" -- "$word")); return ;;
     "lint --deny") COMPREPLY=($(compgen -W "errors notes all" -- "$word")); return ;;
     esac
     if [ "$COMP_CWORD" = 1 ]; then
@@ -21,7 +21,7 @@ _ddscheck() {
     fi
     case ${COMP_WORDS[1]} in
     help) COMPREPLY=($(compgen -W "match check propose run migrate show draw refute replay limits conform lint help" -- "$word")); return ;;
-    match) options="--connections --format -h --help" ;;
+    match) options="--connections --policies --format -h --help" ;;
     check) options="--explain --format -h --help" ;;
     propose) options="--thorough --seconds --format -h --help" ;;
     run) options="--fates --writes --takes --late --idle-ok --explain --format -h --help" ;;

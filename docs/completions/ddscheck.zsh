@@ -25,6 +25,7 @@ _ddscheck() {
         case $line[1] in
             match) _arguments \
                 '--connections[Prints a table \[\[connections\]\] for each pair that matches, to paste into a deployment file]' \
+                '--policies[Leaves out pairs with other topics, and prints what keeps the others apart]' \
                 '--format[text or json \[default: text\]]:FORMAT:(text json)' \
                 '-h[Print help]' \
                 '--help[Print help]' \
@@ -98,7 +99,7 @@ _ddscheck() {
                 '1:deployment:_files -g "*.toml"' \
                 '2:trace:_files -g "*.toml"' ;;
             lint) _arguments \
-                '--format[text, json or sarif \[default: text\]]:FORMAT:(text json sarif)' \
+                '--format[text, json, sarif or github \[default: text\]]:FORMAT:(text json sarif github)' \
                 '--deny[What makes the answer no: errors, notes or all \[default: errors\]]:WHAT:(errors notes all)' \
                 '--allow[Notes that pass all the same, with commas between them: Finite, or Finite:RULE for one rule]:NOTES:()' \
                 '-h[Print help]' \

@@ -10,11 +10,11 @@ use Rattle.dds_options.specs.declared.detail.Detail.TheVariants.{Plain, Explaine
 
 -- the commands after whose faults nothing stands but the line of the fault, unless a reason is asked for
 abbrev pub is_fixed : (command : List ℕ) → Bool
-is_fixed command = list_any (bytes_eq command) (codes "check" ∷ codes "match" ∷ codes "propose" ∷ codes "run" ∷ codes "migrate" ∷ [])
+is_fixed command = list_any (bytes_eq command) (codes "check" ∷ codes "match" ∷ codes "propose" ∷ codes "migrate" ∷ [])
 
 -- the commands that read a deployment, and that don't say where a fault of it is
 abbrev pub reads_deployment : (command : List ℕ) → Bool
-reads_deployment command = list_any (bytes_eq command) (codes "limits" ∷ codes "refute" ∷ codes "show" ∷ codes "draw" ∷ [])
+reads_deployment command = list_any (bytes_eq command) (codes "limits" ∷ codes "refute" ∷ codes "show" ∷ codes "draw" ∷ codes "run" ∷ [])
 
 -- nothing stands after the line of a fault
 abbrev pub is_bare : (command : List ℕ) → Detail → Bool

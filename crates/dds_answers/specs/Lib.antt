@@ -1,4 +1,5 @@
 pub mod Connecting
+pub mod Differing
 pub mod Exit
 pub mod Fault
 pub mod Causes

@@ -15,18 +15,18 @@ const LINT_LINE: &str = "`ddscheck lint` shows each fault in its line, and what 
 fn is_fixed(command: &str) -> bool
     ensures { result ≡ is_fixed command.now }
 {
-    command == "check"
-        || command == "match"
-        || command == "propose"
-        || command == "run"
-        || command == "migrate"
+    command == "check" || command == "match" || command == "propose" || command == "migrate"
 }
 
 /// Whether a command with this name reads a deployment, and doesn't say where a fault of it is.
 fn reads_deployment(command: &str) -> bool
     ensures { result ≡ reads_deployment command.now }
 {
-    command == "limits" || command == "refute" || command == "show" || command == "draw"
+    command == "limits"
+        || command == "refute"
+        || command == "show"
+        || command == "draw"
+        || command == "run"
 }
 
 /// Whether nothing but the line of a fault is printed after a command with this name, of which so much is printed.
@@ -63,8 +63,8 @@ fn say_unopened<E: Output>(err: &mut E, unopened: Option<&str>)
 }
 
 /// Prints what helps after a command with this name, of which so much is printed, that ended so: the path of the file
-/// that couldn't be opened, or which command knows more of a fault of a file. After `check`, `match`, `propose`, `run`
-/// and `migrate` it prints nothing unless their reason is asked for. Where the error output doesn't take it, it's lost.
+/// that couldn't be opened, or which command knows more of a fault of a file. After `check`, `match`, `propose` and
+/// `migrate` it prints nothing unless their reason is asked for. Where the error output doesn't take it, it's lost.
 pub fn advise<E: Output>(
     err: &mut E,
     command: &str,

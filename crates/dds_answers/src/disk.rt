@@ -4,6 +4,7 @@ ghost use Rattle.dds_answers.specs.Reading.{is_worn};
 
 use crate::counted::Counted;
 use crate::sources::Sources;
+use dds_plain::plain_text;
 use either::{Either, Left, Right};
 use std::alloc::Global;
 use std::fs;
@@ -18,7 +19,8 @@ pub struct Disk<'a, F> {
     pub has_failed: bool,
     /// Where the path of a file is kept that did not open.
     pub alloc: Global,
-    /// The path of the last file that did not open; `None` where there is none, or was no memory for it.
+    /// The path of the last file that did not open, as it's printed; `None` where there is none, or was no memory for
+    /// it.
     pub unopened: Option<String>,
 }
 
@@ -36,7 +38,8 @@ impl<'a, F> Disk<'a, F> {
         }
     }
 
-    /// The path of the last file that did not open; `None` where there is none, or was no memory for it.
+    /// The path of the last file that did not open, as it's printed; `None` where there is none, or was no memory for
+    /// it.
     pub fn unopened(&self) -> Option<&str>
         ensures { option_map (λ path. path.now) result ≡ option_map string_bytes self.now.unopened }
     {
@@ -60,7 +63,7 @@ impl<'a, F: Files + Input> Sources for Disk<'a, F> {
             Ok(file) => Some(Left(file)),
             Err(_) => {
                 self.has_failed = true;
-                self.unopened = String::from_str(self.alloc, path).ok();
+                self.unopened = plain_text(self.alloc, path).ok();
                 None
             }
         }

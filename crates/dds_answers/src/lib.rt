@@ -8,6 +8,7 @@ mod advice;
 mod answer;
 mod connecting;
 mod counted;
+mod differing;
 mod disk;
 mod drawing;
 mod exit;
@@ -30,6 +31,7 @@ pub use answer::{
 };
 pub use connecting::answer_connections;
 pub use counted::Counted;
+pub use differing::answer_policies;
 pub use disk::Disk;
 pub use drawing::answer_drawing;
 pub use exit::Exit;

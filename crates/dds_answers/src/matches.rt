@@ -10,8 +10,8 @@ use dds_show::reasons::reason_text;
 use dds_text::names::{reader_name, writer_name};
 use std::alloc::Global;
 
-/// The line of a writer and a reader.
-fn pair_text(
+/// The line of a writer and a reader. `NoMemory` is the only error.
+pub(crate) fn pair_text(
     alloc: Global,
     plan: &Plan,
     writer: WriterNo,

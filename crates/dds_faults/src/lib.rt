@@ -14,7 +14,6 @@ mod lists;
 mod names;
 mod nearest;
 mod owners;
-mod plain;
 pub mod syntax;
 mod tables;
 mod values;
@@ -24,5 +23,4 @@ mod wording;
 
 pub use fault::{FileFault, Known};
 pub use listing::{certificate_faults, deployment_faults};
-pub use plain::is_plain;
 pub use syntax::syntax_help;

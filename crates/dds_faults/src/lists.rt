@@ -6,12 +6,13 @@ use crate::names::{PlacedNames, texts_of};
 use crate::owners::{check_owner, text_in};
 use crate::values::{Spot, check_entry_name, check_key_known, name_of, reference_of, text_of};
 use crate::walk::{Walk, tell_kind, tell_length};
-use crate::wording::{shown, shown_whole};
+use crate::wording::shown;
 use dds_base::grid::{ENDPOINTS, KEYS};
 use dds_base::limits::NAME_BYTES;
 use dds_base::{NoMemory, is_name_byte};
 use dds_fields::fault::FaultKind;
 use dds_fields::place::Place;
+use dds_plain::plain_text;
 use std::alloc::Global;
 use toml::{Table, Value};
 
@@ -150,7 +151,7 @@ fn words_of_partition(alloc: Global, text: &str) -> Result<String, NoMemory> {
     let rule = "partition: at most 64 letters, digits, `_`, `.`, `/`, `-`, `*` and `?`";
     let length = text.len();
     if NAME_BYTES < length {
-        let text = shown_whole(alloc, text)?;
+        let text = plain_text(alloc, text)?;
         return format!(in alloc; "`{text}` has {length} bytes, too many for a {rule}");
     }
     let text = shown(alloc, text)?;

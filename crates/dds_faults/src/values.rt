@@ -6,11 +6,12 @@ use crate::foreign::{help_with_default, in_capitals};
 use crate::names::{PlacedNames, elements_of, text_at};
 use crate::owners::text_in;
 use crate::walk::{Walk, help_with_names, help_with_words, quoted, tell_kind, tell_range};
-use crate::wording::{expected, shown, shown_whole, subject};
+use crate::wording::{expected, shown, subject};
 use dds_base::limits::{NAME_BYTES, TYPE_BYTES};
 use dds_base::{NoMemory, is_name, is_name_byte};
 use dds_fields::fault::FaultKind;
 use dds_fields::place::Place;
+use dds_plain::plain_text;
 use std::alloc::Global;
 use toml::{Table, Value};
 
@@ -54,7 +55,7 @@ fn tell_bad_name(
     let message = if length == 0 {
         format!(in alloc; "an empty text is no {rule}")?
     } else if most < length {
-        let text = shown_whole(alloc, text)?;
+        let text = plain_text(alloc, text)?;
         format!(in alloc; "`{text}` has {length} bytes, too many for a {rule}")?
     } else {
         let text = shown(alloc, text)?;
@@ -214,7 +215,7 @@ fn tell_newer_type(
     text: &str,
 ) -> Result<(), NoMemory> {
     let alloc = walk.alloc;
-    let text = shown_whole(alloc, text)?;
+    let text = plain_text(alloc, text)?;
     let message = format!(in alloc; "the type `{text}` needs version = 3")?;
     let help = String::from_str(alloc, "since then a type may have `:`, and up to 256 bytes")?;
     faults.add(alloc, FaultKind::BadName, at, message, Some(help))

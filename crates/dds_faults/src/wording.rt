@@ -1,29 +1,16 @@
 //! Words for values, places and choices.
 
 use crate::fields::Takes;
-use crate::plain::is_plain;
 use dds_base::NoMemory;
 use dds_fields::place::Place;
+use dds_plain::plain_char;
 use std::alloc::Global;
 use toml::Value;
-
-fn plain_char(c: char) -> char {
-    if is_plain(c) { c } else { '?' }
-}
 
 /// A text of the file as messages show it: at most 64 characters of it, `?` for each that doesn't stand for itself.
 pub(crate) fn shown(alloc: Global, text: &str) -> Result<String, NoMemory> {
     let mut shown = String::new(alloc);
     for c in text.chars().take(64) {
-        shown.push(plain_char(c))?;
-    }
-    Ok(shown)
-}
-
-/// The whole of a text of the file, `?` for each character that doesn't stand for itself.
-pub(crate) fn shown_whole(alloc: Global, text: &str) -> Result<String, NoMemory> {
-    let mut shown = String::new(alloc);
-    for c in text.chars() {
         shown.push(plain_char(c))?;
     }
     Ok(shown)

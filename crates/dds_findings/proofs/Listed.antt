@@ -76,6 +76,26 @@ first_passed p xs first i x inside at is fails =
 
 pub ruleset first_of = (first_added, first_full, first_passed)
 
+-- ── one more element of a list, of which those that pass a test are kept
+pub some_added : {X : Type 0} (p : X → Bool) (xs some : List X) (i : ℕ) (x : X) → i < length xs → x ≡ get_or xs i x → some ≡ filter p (take i xs) → p x ≡ true
+    → some ++ x ∷ [] ≡ filter p (take (i + 1) xs)
+some_added p xs some i x inside at is passes =
+    let here : p (get_or xs i x) ≡ true = subst (λ y. p y ≡ true) at passes in
+    sym (filter_more p xs i x inside ∙ ap (λ b. filter p (take i xs) ++ cond b (get_or xs i x ∷ []) []) here
+    ∙ (ap (λ y. filter p (take i xs) ++ y ∷ []) (sym at) ∙ ap (λ ys. ys ++ x ∷ []) (sym is)))
+
+pub some_passed : {X : Type 0} (p : X → Bool) (xs some : List X) (i : ℕ) (x : X) → i < length xs → x ≡ get_or xs i x → some ≡ filter p (take i xs) → p x ≡ false
+    → some ≡ filter p (take (i + 1) xs)
+some_passed p xs some i x inside at is fails =
+    let here : p (get_or xs i x) ≡ false = subst (λ y. p y ≡ false) at fails in
+    is ∙ sym (filter_more p xs i x inside ∙ ap (λ b. filter p (take i xs) ++ cond b (get_or xs i x ∷ []) []) here ∙ none (filter p (take i xs)))
+  where
+    none : (ys : List _) → ys ++ [] ≡ ys
+    none [] = refl
+    none (y ∷ ys) = ap (λ zs. y ∷ zs) (none ys)
+
+pub ruleset some_of = (some_added, some_passed)
+
 -- ── sums as far as they're counted
 pub counted_more : (a s b : ℕ) → a ≡ counted s → counted (a + b) ≡ counted (s + b)
 counted_more a s b is = elim (cases_lt s 18446744073709551615) [

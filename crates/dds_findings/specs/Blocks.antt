@@ -7,6 +7,7 @@ use Rattle.std.specs.Str.{bytes_eq}
 use Rattle.dds_text.specs.Texts.{each_below}
 use Rattle.dds_options.specs.Allowed.{note_word}
 use Rattle.dds_options.specs.Deny.{is_denied_note}
+use Rattle.dds_plain.specs.Plain.{plain_text}
 use Rattle.dds_findings.specs.Findings.{errors_in, is_fault, level_of, level_word, notes_in}
 use Rattle.dds_findings.specs.Kinds.{kind_of}
 use Rattle.dds_options.specs.declared.deny.Deny.{Deny}
@@ -41,7 +42,7 @@ head_line f = level_word (level_of f.about) ++ (codes "[" ++ (f.name.now ++ (cod
 -- where it is
 abbrev pub place_lines : FileNames → Finding → List ℕ
 place_lines names f =
-    string_bytes f.spot.margin ++ (codes "--> " ++ (file_name names f.role ++ (codes ":" ++ (decimal f.spot.line ++ (codes ":" ++ (decimal f.spot.column
+    string_bytes f.spot.margin ++ (codes "--> " ++ (plain_text (file_name names f.role) ++ (codes ":" ++ (decimal f.spot.line ++ (codes ":" ++ (decimal f.spot.column
     ++ (codes "\n" ++ (string_bytes f.spot.margin ++ codes " |\n"))))))))
 
 -- the line of the file with its place underlined, and what would be right

@@ -7,6 +7,7 @@ ghost use Rattle.dds_findings.specs.Findings.{matters};
 use crate::block::{FileNames, blocks_text};
 use crate::document::findings_line;
 use crate::finding::Finding;
+use crate::github::commands_text;
 use crate::sarif::sarif_line;
 use dds_answers::{Answer, ToolFault, answer_with};
 use dds_base::NoMemory;
@@ -48,6 +49,7 @@ fn findings_text(
         LintStyle::Text => blocks_text(alloc, names, findings, deny),
         LintStyle::Json => findings_line(alloc, names, findings, deny),
         LintStyle::Sarif => sarif_line(alloc, names, findings, deny),
+        LintStyle::Github => commands_text(alloc, names, findings, deny),
     }
 }
 

@@ -13,6 +13,7 @@ use crate::finding::{About, Finding, Role};
 use crate::kinds::kind_of;
 use dds_base::NoMemory;
 use dds_options::{Deny, NoteKind, note_word};
+use dds_plain::plain_text;
 use dds_text::texts::text_below;
 use std::alloc::Global;
 use std::marker::Model;
@@ -88,7 +89,7 @@ fn place_text(alloc: Global, names: &FileNames, finding: &Finding) -> Result<Str
     ensures { IfOk result (λ text. string_bytes text ≡ place_lines names.now finding.now) }
 {
     let margin = finding.spot.margin.as_str();
-    let file = file_name(names, finding.role);
+    let file = plain_text(alloc, file_name(names, finding.role))?;
     let line = finding.spot.line;
     let column = finding.spot.column;
     format!(in alloc; "{margin}--> {file}:{line}:{column}\n{margin} |\n")
@@ -140,7 +141,7 @@ fn goes_on(findings: &[Finding], place: usize) -> bool
 }
 
 /// Whether the finding with this place is the first of a row of alike ones.
-fn begins(findings: &[Finding], place: usize) -> bool
+pub(crate) fn begins(findings: &[Finding], place: usize) -> bool
     requires { place < length findings.now }
     ensures { result ≡ begins findings.now place }
 {
@@ -339,8 +340,9 @@ fn denied_lines(alloc: Global, deny: &Deny, findings: &[Finding]) -> Result<Stri
     )
 }
 
-/// How many errors and notes there are, which of these make the answer no, and what isn't checked.
-fn last_lines(
+/// How many errors and notes there are, which of these make the answer no, and what isn't checked. `NoMemory` is the
+/// only error.
+pub(crate) fn last_lines(
     alloc: Global,
     names: &FileNames,
     findings: &[Finding],

@@ -6,6 +6,7 @@ ghost use Rattle.dds_findings.specs.declared.finding.About.TheVariants as about;
 use crate::bounds::{bound_place, total_place};
 use crate::finding::{About, Finding, Role};
 use crate::linting::{Files, Judged};
+use crate::other::other_of_condition;
 use crate::spot::Spot;
 use crate::words::{first_line, later_lines};
 use dds_base::{KeyNo, NoMemory, ReaderNo, RuleNo, WriterNo};
@@ -432,6 +433,7 @@ pub(crate) fn more_conditions(
         help: String::new(alloc),
         details: Vec::new(alloc),
         spot: files.deployment.value_spot(alloc, "")?,
+        other: None,
     })
 }
 
@@ -450,6 +452,7 @@ pub(crate) fn condition<'a>(
     let details = terms_of(alloc, said, because.as_str())?;
     let help = String::from_str(alloc, cure_of(judged.plan, no))?;
     let place = place_of(alloc, files, judged, no.number, no.subject)?;
+    let other = other_of_condition(alloc, files, judged, no)?;
     Ok(Finding {
         about: About::Condition(*no),
         name: no.number.name(),
@@ -460,5 +463,6 @@ pub(crate) fn condition<'a>(
         help,
         details,
         spot: place.spot,
+        other,
     })
 }

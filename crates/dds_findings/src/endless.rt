@@ -5,6 +5,7 @@ ghost use Rattle.dds_findings.specs.Findings.{endless_matter, matter_of};
 use crate::conditions::{Spotted, rule_entry};
 use crate::finding::{About, Finding, Role};
 use crate::linting::{Files, Judged};
+use crate::other::other_reader;
 use dds_base::NoMemory;
 use dds_lint::EndlessRule;
 use dds_notes::endless_text;
@@ -43,6 +44,7 @@ pub(crate) fn endless(
     let message = endless_text(alloc, judged.plan, *endless)?;
     let help = String::from_str(alloc, CURE)?;
     let place = place_of(alloc, files, judged, endless)?;
+    let other = other_reader(alloc, files, judged, endless.reader)?;
     Ok(Finding {
         about: About::Endless(*endless),
         name: "Endless",
@@ -53,5 +55,6 @@ pub(crate) fn endless(
         help,
         details: Vec::new(alloc),
         spot: place.spot,
+        other,
     })
 }

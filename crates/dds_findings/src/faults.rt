@@ -51,6 +51,7 @@ fn document_fault(
         help: help_of(alloc, fault)?,
         details: Vec::new(alloc),
         spot: spot_of(alloc, file, fault)?,
+        other: None,
     })
 }
 
@@ -84,6 +85,7 @@ fn syntax_fault(alloc: Global, file: &Located, role: Role) -> Result<Finding, No
         help,
         details: Vec::new(alloc),
         spot: file.spot(alloc, at)?,
+        other: None,
     })
 }
 

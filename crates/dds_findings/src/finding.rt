@@ -41,6 +41,14 @@ pub enum Level {
     Note,
 }
 
+/// The other endpoint of a pair that a finding is about.
+#[derive(Drop)]
+pub struct Other {
+    pub name: String,
+    /// Where its name is in the deployment.
+    pub spot: Spot,
+}
+
 /// What is found at one place of a file.
 #[derive(Drop)]
 pub struct Finding {
@@ -60,6 +68,8 @@ pub struct Finding {
     /// The terms of the numbers in the message, a line each.
     pub details: Vec<String>,
     pub spot: Spot,
+    /// The endpoint beside the one at which it is, where it's about both.
+    pub other: Option<Other>,
 }
 
 impl About {

@@ -8,6 +8,7 @@ use crate::conditions::{Spotted, rule_entry};
 use crate::finding::{About, Finding, Role};
 use crate::kinds::kind_of;
 use crate::linting::{Files, Judged};
+use crate::other::other_of_note;
 use crate::topics::{meant_by_reader, meant_by_writer};
 use crate::volatile::volatile_readers;
 use crate::words::every_line;
@@ -277,6 +278,7 @@ pub(crate) fn more_notes(
         help: String::new(alloc),
         details: Vec::new(alloc),
         spot: files.file(role).value_spot(alloc, "")?,
+        other: None,
     })
 }
 
@@ -297,6 +299,7 @@ pub(crate) fn note(
     let subject = note_subject(judged.plan, judged.certificate, *note);
     let subject = String::from_str(alloc, subject)?;
     let place = place_of(alloc, files, judged, *note)?;
+    let other = other_of_note(alloc, files, judged, *note)?;
     Ok(Finding {
         about: About::Note(*note),
         name: kind_of(*note).name(),
@@ -307,5 +310,6 @@ pub(crate) fn note(
         help,
         details,
         spot: place.spot,
+        other,
     })
 }

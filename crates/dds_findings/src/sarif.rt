@@ -3,13 +3,17 @@ ghost use Rattle.std.specs.Prelude.{◌≡◌, ◌∷◌, ◌++◌, [], IfOk, co
 ghost use Rattle.serde_json.specs.Data.{array};
 ghost use Rattle.serde_json.specs.View.{items_of, view};
 ghost use Rattle.dds_json.specs.Line.{line_of};
-ghost use Rattle.dds_findings.specs.Documents.{artifact_document, driver_document, location_document};
-ghost use Rattle.dds_findings.specs.Documents.{message_document, physical_document, region_document, result_document};
-ghost use Rattle.dds_findings.specs.Documents.{result_level, result_words, run_document, sarif_document};
-ghost use Rattle.dds_findings.specs.Documents.{suppression_document, suppressions, term_lines, tool_document, uri_of};
+ghost use Rattle.dds_findings.specs.Documents.{artifact_document, driver_document, help_uri, is_found, link_line};
+ghost use Rattle.dds_findings.specs.Documents.{location_document, message_document, other_document, others};
+ghost use Rattle.dds_findings.specs.Documents.{physical_document, region_document, result_document, result_level};
+ghost use Rattle.dds_findings.specs.Documents.{result_words, rule_document, rules_of, run_document, sarif_document};
+ghost use Rattle.dds_findings.specs.Documents.{says, suppression_document, suppressions, term_lines, text_document};
+ghost use Rattle.dds_findings.specs.Documents.{tool_document, uri_of};
 
 use crate::block::{FileNames, file_name};
-use crate::finding::Finding;
+use crate::finding::{Finding, Other, Role};
+use crate::meanings::{MEANINGS, Meaning};
+use crate::spot::Spot;
 use dds_base::NoMemory;
 use dds_json::line_of;
 use dds_options::{Deny, VERSION};
@@ -37,30 +41,30 @@ fn uri_of(alloc: Global, path: &str) -> Result<String, NoMemory>
     Ok(uri)
 }
 
-/// The columns and the line of a finding.
-fn region_document(alloc: Global, finding: &Finding) -> Result<Value, NoMemory>
-    ensures { IfOk result (λ v. view v ≡ region_document finding.now) }
+/// The columns and the line of a place.
+fn region_document(alloc: Global, spot: &Spot) -> Result<Value, NoMemory>
+    ensures { IfOk result (λ v. view v ≡ region_document spot.now) }
 {
-    let line = finding.spot.line;
-    let column = finding.spot.column;
-    let end = finding.spot.end;
+    let line = spot.line;
+    let column = spot.column;
+    let end = spot.end;
     json!(in alloc; {"startLine": line, "startColumn": column, "endColumn": end})
 }
 
-/// The file of a finding.
-fn artifact_document(alloc: Global, names: &FileNames, finding: &Finding) -> Result<Value, NoMemory>
-    ensures { IfOk result (λ v. view v ≡ artifact_document names.now finding.now) }
+/// A file.
+fn artifact_document(alloc: Global, file: &str) -> Result<Value, NoMemory>
+    ensures { IfOk result (λ v. view v ≡ artifact_document file.now) }
 {
-    let uri = uri_of(alloc, file_name(names, finding.role))?;
+    let uri = uri_of(alloc, file)?;
     json!(in alloc; {"uri": uri})
 }
 
-/// The file of a finding, and the place in it.
-fn physical_document(alloc: Global, names: &FileNames, finding: &Finding) -> Result<Value, NoMemory>
-    ensures { IfOk result (λ v. view v ≡ physical_document names.now finding.now) }
+/// A file, and a place in it.
+fn physical_document(alloc: Global, file: &str, spot: &Spot) -> Result<Value, NoMemory>
+    ensures { IfOk result (λ v. view v ≡ physical_document file.now spot.now) }
 {
-    let artifact = artifact_document(alloc, names, finding)?;
-    let region = region_document(alloc, finding)?;
+    let artifact = artifact_document(alloc, file)?;
+    let region = region_document(alloc, spot)?;
     json!(in alloc; {"artifactLocation": artifact, "region": region})
 }
 
@@ -68,8 +72,55 @@ fn physical_document(alloc: Global, names: &FileNames, finding: &Finding) -> Res
 fn location_document(alloc: Global, names: &FileNames, finding: &Finding) -> Result<Value, NoMemory>
     ensures { IfOk result (λ v. view v ≡ location_document names.now finding.now) }
 {
-    let place = physical_document(alloc, names, finding)?;
+    let place = physical_document(alloc, file_name(names, finding.role), &finding.spot)?;
     json!(in alloc; {"physicalLocation": place})
+}
+
+/// A text where there may be several forms of it.
+fn text_document(alloc: Global, text: &str) -> Result<Value, NoMemory>
+    ensures { IfOk result (λ v. view v ≡ text_document text.now) }
+{
+    json!(in alloc; {"text": text})
+}
+
+/// Where the other endpoint of a pair is, with the number to which a message links.
+fn other_document(alloc: Global, names: &FileNames, other: &Other) -> Result<Value, NoMemory>
+    ensures { IfOk result (λ v. view v ≡ other_document names.now other.now) }
+{
+    let message = text_document(alloc, other.name.as_str())?;
+    let place = physical_document(alloc, file_name(names, Role::Deployment), &other.spot)?;
+    let id: usize = 1;
+    json!(in alloc; {"id": id, "message": message, "physicalLocation": place})
+}
+
+/// Where the other endpoint is, as a list of one or of none.
+fn others_array(
+    alloc: Global,
+    names: &FileNames,
+    other: &Option<Other>,
+) -> Result<Value, NoMemory>
+    ensures { IfOk result (λ v. view v ≡ array (items_of (others names.now other.now))) }
+{
+    match other {
+        Some(other) => {
+            let document = other_document(alloc, names, other)?;
+            json!(in alloc; [document])
+        }
+        None => json!(in alloc; []),
+    }
+}
+
+/// The line that links to the other endpoint, where there is one.
+fn link_line(alloc: Global, other: &Option<Other>) -> Result<String, NoMemory>
+    ensures { IfOk result (λ text. string_bytes text ≡ link_line other.now) }
+{
+    match other {
+        Some(other) => {
+            let name = other.name.as_str();
+            format!(in alloc; "\nsee [{name}](1)")
+        }
+        None => Ok(String::new(alloc)),
+    }
 }
 
 /// What a finding says, and what would be right.
@@ -102,14 +153,23 @@ fn term_lines(alloc: Global, details: &[String]) -> Result<String, NoMemory>
     Ok(text)
 }
 
-/// What a finding says, with the terms of its numbers.
-fn message_document(alloc: Global, finding: &Finding) -> Result<Value, NoMemory>
-    ensures { IfOk result (λ v. view v ≡ message_document finding.now) }
+/// What a finding says, what would be right, and the terms of its numbers. `NoMemory` is the only error.
+pub(crate) fn says(alloc: Global, finding: &Finding) -> Result<String, NoMemory>
+    ensures { IfOk result (λ text. string_bytes text ≡ says finding.now) }
 {
     let said = result_text(alloc, finding.message.as_str(), finding.help.as_str())?;
     let terms = term_lines(alloc, &finding.details)?;
-    let text = format!(in alloc; "{said}{terms}")?;
-    json!(in alloc; {"text": text})
+    format!(in alloc; "{said}{terms}")
+}
+
+/// What a finding says, with a link to the other endpoint.
+fn message_document(alloc: Global, finding: &Finding) -> Result<Value, NoMemory>
+    ensures { IfOk result (λ v. view v ≡ message_document finding.now) }
+{
+    let said = says(alloc, finding)?;
+    let link = link_line(alloc, &finding.other)?;
+    let text = format!(in alloc; "{said}{link}")?;
+    text_document(alloc, text.as_str())
 }
 
 /// The level of a result: an error, where it makes the answer no.
@@ -161,11 +221,13 @@ fn result_document(
 {
     let suppressions = suppressions_array(alloc, finding.is_passed(deny))?;
     let locations = locations_array(alloc, names, finding)?;
+    let others = others_array(alloc, names, &finding.other)?;
     let message = message_document(alloc, finding)?;
     let name = finding.name;
     let level = result_level(finding, deny);
     json!(in alloc; {
-        "ruleId": name, "level": level, "message": message, "locations": locations, "suppressions": suppressions
+        "ruleId": name, "level": level, "message": message, "locations": locations, "relatedLocations": others,
+        "suppressions": suppressions
     })
 }
 
@@ -185,18 +247,78 @@ fn results_array(
     Ok(Value::Array(documents))
 }
 
-/// The name and the version of the tool.
-fn driver_document(alloc: Global) -> Result<Value, NoMemory>
-    ensures { IfOk result (λ v. view v ≡ driver_document) }
+/// Where the page on all names is in Debian's package, with the anchor of a name.
+fn help_uri(alloc: Global, name: &str) -> Result<String, NoMemory>
+    ensures { IfOk result (λ uri. string_bytes uri ≡ help_uri name.now) }
 {
-    json!(in alloc; {"name": "ddscheck", "version": VERSION})
+    let anchor = name.to_ascii_lowercase(alloc)?;
+    format!(in alloc; "file:///usr/share/doc/ddscheck/docs/numbers.md#{anchor}")
+}
+
+/// What a name stands for, and what to do.
+fn rule_document(alloc: Global, meaning: &Meaning) -> Result<Value, NoMemory>
+    ensures { IfOk result (λ v. view v ≡ rule_document meaning.now) }
+{
+    let id = meaning.name;
+    let uri = help_uri(alloc, id)?;
+    let short = text_document(alloc, meaning.what)?;
+    let full = text_document(alloc, meaning.what)?;
+    let help = text_document(alloc, meaning.cure)?;
+    json!(in alloc; {
+        "id": id, "shortDescription": short, "fullDescription": full, "help": help, "helpUri": uri
+    })
+}
+
+/// Whether a finding has this name.
+fn is_found(findings: &[Finding], meaning: &Meaning) -> bool
+    ensures { result ≡ is_found findings.now meaning.now }
+{
+    findings.iter().any(|finding| finding.name == meaning.name)
+}
+
+/// The names that findings have, in the order of the table.
+#[tactic(auto, using(crate::proofs::Listed::some_of), unfolding(crate::specs::Documents::rules_of))]
+fn rules_of(
+    alloc: Global,
+    findings: &[Finding],
+    meanings: &[Meaning],
+) -> Result<Vec<Meaning>, NoMemory>
+    ensures { IfOk result (λ found. found.items ≡ rules_of findings.now meanings.now) }
+{
+    let mut found = Vec::new(alloc);
+    for meaning in meanings {
+        if is_found(findings, meaning) {
+            found.push(*meaning)?;
+        }
+    }
+    Ok(found)
+}
+
+/// These names as rules.
+fn rules_array(alloc: Global, meanings: &[Meaning]) -> Result<Value, NoMemory>
+    ensures { IfOk result (λ v. view v ≡ array (items_of (map rule_document meanings.now))) }
+{
+    let mut documents = Vec::new(alloc);
+    for meaning in meanings {
+        documents.push(rule_document(alloc, meaning)?)?;
+    }
+    Ok(Value::Array(documents))
+}
+
+/// The name and the version of the tool, and the names that findings have.
+fn driver_document(alloc: Global, findings: &[Finding]) -> Result<Value, NoMemory>
+    ensures { IfOk result (λ v. view v ≡ driver_document findings.now) }
+{
+    let found = rules_of(alloc, findings, &MEANINGS)?;
+    let rules = rules_array(alloc, &found)?;
+    json!(in alloc; {"name": "ddscheck", "version": VERSION, "rules": rules})
 }
 
 /// The tool that found them.
-fn tool_document(alloc: Global) -> Result<Value, NoMemory>
-    ensures { IfOk result (λ v. view v ≡ tool_document) }
+fn tool_document(alloc: Global, findings: &[Finding]) -> Result<Value, NoMemory>
+    ensures { IfOk result (λ v. view v ≡ tool_document findings.now) }
 {
-    let driver = driver_document(alloc)?;
+    let driver = driver_document(alloc, findings)?;
     json!(in alloc; {"driver": driver})
 }
 
@@ -210,7 +332,7 @@ fn run_document(
     ensures { IfOk result (λ v. view v ≡ run_document names.now deny.now findings.now) }
 {
     let results = results_array(alloc, names, deny, findings)?;
-    let tool = tool_document(alloc)?;
+    let tool = tool_document(alloc, findings)?;
     json!(in alloc; {"tool": tool, "columnKind": "unicodeCodePoints", "results": results})
 }
 

@@ -2,6 +2,7 @@
 
 use crate::located::Located;
 use dds_base::NoMemory;
+use dds_plain::plain_char;
 use std::alloc::Global;
 
 /// A place in a file, and the line in which it stands.
@@ -13,7 +14,8 @@ pub struct Spot {
     pub column: usize,
     /// The column behind its last character in this line.
     pub end: usize,
-    /// The line, or of a long one what is near the place, with a blank for each control character.
+    /// The line, or of a long one what is near the place, with a blank for each control character, and `?` for others
+    /// that don't stand for themselves.
     pub text: String,
     /// Blanks and then carets, which underline the place in that text.
     pub marker: String,
@@ -21,14 +23,19 @@ pub struct Spot {
     pub margin: String,
 }
 
-/// A text with a blank for each control character; none where it isn't UTF-8.
-fn plain_text(alloc: Global, bytes: &[u8]) -> Result<String, NoMemory> {
+/// A character of a line as it's shown: a blank for a tab and other controls, so that what's below stays below.
+fn shown_char(c: char) -> char {
+    if c.is_control() { ' ' } else { plain_char(c) }
+}
+
+/// A text as it's shown, with as many characters; none where it isn't UTF-8.
+fn shown_text(alloc: Global, bytes: &[u8]) -> Result<String, NoMemory> {
     let mut text = String::new(alloc);
     let Ok(given) = str::from_utf8(bytes) else {
         return Ok(text);
     };
     for c in given.chars() {
-        text.push(if c.is_control() { ' ' } else { c })?;
+        text.push(shown_char(c))?;
     }
     Ok(text)
 }
@@ -68,7 +75,7 @@ pub(crate) fn spot_in(
     let before = file.characters_between(line.start, from);
     let width = file.characters_between(from, to.min(line.shown_to)).max(1);
     let blanks = file.characters_between(line.shown_from, from);
-    let text = plain_text(alloc, file.cut(line.shown_from, line.shown_to))?;
+    let text = shown_text(alloc, file.cut(line.shown_from, line.shown_to))?;
     let marker = marker(alloc, blanks, width)?;
     let column = before.saturating_add(1);
     Ok(Spot {

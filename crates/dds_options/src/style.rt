@@ -18,4 +18,6 @@ pub enum LintStyle {
     Json,
     /// One document of SARIF 2.1.0, which code hosts show.
     Sarif,
+    /// Workflow commands of GitHub Actions, a line each.
+    Github,
 }

@@ -22,7 +22,7 @@ use Rattle.dds_request.specs.Command.{whole}
 use Rattle.dds_request.specs.Wishes.{fates_text, form_word, format_word, style_word, version_word}
 use Rattle.dds_request.specs.declared.wishes.Wishes.{Wishes}
 use Rattle.dds_request.specs.declared.request.Comparison.{Comparison}
-use Rattle.dds_request.specs.declared.request.Comparison.TheVariants.{Pairs, Connections}
+use Rattle.dds_request.specs.declared.request.Comparison.TheVariants.{Pairs, Connections, Policies}
 use Rattle.dds_request.specs.declared.request.NoRequest.{NoRequest}
 use Rattle.dds_request.specs.declared.request.NoRequest.TheVariants as none
 use Rattle.dds_request.specs.declared.request.PairTask.{PairTask}
@@ -49,13 +49,15 @@ NamesStyled rows name style = (first_of (codes "deployment") rows ≡ Some name)
 
 -- what is printed of a comparison
 abbrev pub comparison_of : List Row → Comparison
-comparison_of rows = if is_set rows (codes "connections") then Connections else Pairs
+comparison_of rows = if is_set rows (codes "connections") then Connections else (if is_set rows (codes "policies") then Policies else Pairs)
 
--- what is printed has this style: connections are text
+-- what is printed has this style: connections and policies are text
 abbrev pub is_printed : Comparison → Style → Bool
 is_printed Pairs style = true
 is_printed Connections style.Text = true
 is_printed Connections style.Json = false
+is_printed Policies style.Text = true
+is_printed Policies style.Json = false
 
 -- both names are `-`, which stands for standard input: it can be read only once
 abbrev pub is_input_twice : Text → Text → Bool

@@ -37,9 +37,9 @@ seconds_rule = record (wish_rule (codes "seconds") (codes "60")) { parser = Some
 abbrev pub styled : App → App
 styled command = with_rule command (wish_rule (codes "format") (codes "text"))
 
--- the command that compares the endpoints of a deployment, and prints connections where its flag is given
+-- the command that compares the endpoints of a deployment, and prints connections or policies where their flags are given
 abbrev pub matching : App
-matching = styled (with_rule (one_file (codes "match")) (flag_rule (codes "connections")))
+matching = styled (with_rule (with_rule (one_file (codes "match")) (flag_rule (codes "connections"))) (flag_rule (codes "policies")))
 
 -- the command that looks for a certificate, thoroughly where its flag is given
 abbrev pub searching : App

@@ -22,6 +22,7 @@ abbrev pub style_of_form : LintStyle → Style
 style_of_form form.Text = style.Text
 style_of_form form.Json = style.Json
 style_of_form form.Sarif = style.Text
+style_of_form form.Github = style.Text
 
 -- the style in which an answer about a deployment alone is printed: in lines where it has no other
 abbrev pub style_of_task : Task → Style

@@ -34,6 +34,7 @@ abbrev pub form_word : LintStyle → List ℕ
 form_word form.Text = codes "text"
 form_word form.Json = codes "json"
 form_word form.Sarif = codes "sarif"
+form_word form.Github = codes "github"
 
 -- the word for a version: its number
 abbrev pub version_word : LaterVersion → List ℕ

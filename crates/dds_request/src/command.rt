@@ -51,6 +51,10 @@ const THOROUGH_SECONDS: &str = "How many seconds the thorough search may take";
 const CONNECTIONS: &str =
     "Prints a table [[connections]] for each pair that matches, to paste into a deployment file";
 
+/// What help says of the flag of policies.
+const POLICIES: &str =
+    "Leaves out pairs with other topics, and prints what keeps the others apart";
+
 /// What help says of the flag of idle applications.
 const IDLE_OK: &str = "Ends with status 0 also where applications were idle";
 
@@ -83,7 +87,7 @@ const CLAIM: &str = "Prints a certificate that shows these bounds instead";
 const LINTED_CERTIFICATE: &str = "A certificate to check too";
 
 /// What help says of the form of findings.
-const FORM: &str = "text, json or sarif";
+const FORM: &str = "text, json, sarif or github";
 
 /// What help says of what is denied.
 const DENY: &str = "What makes the answer no: errors, notes or all";
@@ -170,7 +174,8 @@ fn match_command<'a>(alloc: Global) -> Result<Command<'a>, NoMemory>
         "match",
         "Prints which writers and readers match, and why others don't",
     )?
-    .arg(flag(alloc, "connections", CONNECTIONS))?;
+    .arg(flag(alloc, "connections", CONNECTIONS))?
+    .arg(flag(alloc, "policies", POLICIES))?;
     styled(alloc, command)
 }
 

@@ -5,6 +5,7 @@
 mod command;
 mod reading;
 mod request;
+mod telling;
 mod wishes;
 
 pub use reading::read_request;

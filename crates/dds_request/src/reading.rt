@@ -17,6 +17,7 @@ ghost use Rattle.dds_request.specs.Wishes.{form_word, format_word, version_word}
 
 use crate::command::whole_command;
 use crate::request::{Comparison, NoRequest, PairTask, Request, Sizing, Task};
+use crate::telling::told_plainly;
 use crate::wishes::{Wishes, read_fates, read_form, read_format, read_style, read_version};
 use clap::ArgMatches;
 use clap::error::ErrorKind;
@@ -41,11 +42,11 @@ const WRONG_VERSION: &str = "error: --to takes 2, 3 or 4\n";
 /// The message for a word that is no style.
 const WRONG_STYLE: &str = "error: the format is text or json\n";
 
-/// The message for words that ask for connections as a document.
-const PLAIN_CONNECTIONS: &str = "error: --connections has no JSON format\n";
+/// The message for words that ask for connections or policies as a document.
+const PLAIN_LINES: &str = "error: --connections and --policies have no JSON format\n";
 
 /// The message for a word that is no form of findings.
-const WRONG_FORM: &str = "error: the format is text, json or sarif\n";
+const WRONG_FORM: &str = "error: the format is text, json, sarif or github\n";
 
 /// The message for a word that denies nothing.
 const WRONG_DENY: &str = "error: --deny takes errors, notes or all\n";
@@ -245,16 +246,21 @@ fn comparison(matches: &ArgMatches) -> Comparison
 {
     if is_set(matches, "connections") {
         Comparison::Connections
+    } else if is_set(matches, "policies") {
+        Comparison::Policies
     } else {
         Comparison::Pairs
     }
 }
 
-/// Whether what is printed of a comparison has this style: connections are text.
+/// Whether what is printed of a comparison has this style: connections and policies are text.
 fn is_printed(what: Comparison, style: Style) -> bool
     ensures { result ≡ is_printed what style }
 {
-    !matches!((what, style), (Comparison::Connections, Style::Json))
+    match what {
+        Comparison::Pairs => true,
+        Comparison::Connections | Comparison::Policies => matches!(style, Style::Text),
+    }
 }
 
 fn match_request<'a>(alloc: Global, matches: &ArgMatches<'a>) -> Result<Request<'a>, NoRequest>
@@ -268,7 +274,7 @@ fn match_request<'a>(alloc: Global, matches: &ArgMatches<'a>) -> Result<Request<
         let task = Task::Match { what, style };
         Ok(Request::One { deployment, task })
     } else {
-        Err(usage(alloc, PLAIN_CONNECTIONS))
+        Err(usage(alloc, PLAIN_LINES))
     }
 }
 
@@ -597,10 +603,8 @@ fn request_of<'a>(alloc: Global, matches: &ArgMatches<'a>) -> Result<Request<'a>
     }
 }
 
-/// What the words ask for, of which the first is the program's name. Words that clap answers with help or with the
-/// version are `Help`; words that it refuses otherwise are `Usage`, and words that it takes are never `Help`. Only
-/// `NoMemory` may come in place of either. No file is opened.
-pub fn read_request<'a, S: AsStr>(alloc: Global, words: &'a [S]) -> Result<Request<'a>, NoRequest>
+/// What the words ask for, with the message as clap has it where they're no request.
+fn parse_request<'a, S: AsStr>(alloc: Global, words: &'a [S]) -> Result<Request<'a>, NoRequest>
     ensures asked { IfOk result (Asks (map S.text words.entry.now)) }
     ensures taken { IfErr result (λ e. takes whole (map S.text words.entry.now) ≡ true → ¬ IsHelp e) }
     ensures unasked { takes whole (map S.text words.entry.now) ≡ true → (r : _) → Asks (map S.text words.entry.now) r
@@ -613,4 +617,23 @@ pub fn read_request<'a, S: AsStr>(alloc: Global, words: &'a [S]) -> Result<Reque
     let request = request_of(alloc, &matches);
     drop(matches);
     request
+}
+
+/// What the words ask for, of which the first is the program's name. Words that clap answers with help or with the
+/// version are `Help`; words that it refuses otherwise are `Usage`, and words that it takes are never `Help`. Only
+/// `NoMemory` may come in place of either. A message shows `?` for a character of a word that controls a screen, has no
+/// width or turns the direction of a text. No file is opened.
+pub fn read_request<'a, S: AsStr>(alloc: Global, words: &'a [S]) -> Result<Request<'a>, NoRequest>
+    ensures asked { IfOk result (Asks (map S.text words.entry.now)) }
+    ensures taken { IfErr result (λ e. takes whole (map S.text words.entry.now) ≡ true → ¬ IsHelp e) }
+    ensures unasked { takes whole (map S.text words.entry.now) ≡ true → (r : _) → Asks (map S.text words.entry.now) r
+        → IfErr result (λ e. e ≡ NoRequest.NoMemory) }
+    ensures help { AskForHelp (map S.text words.entry.now)
+        → IsErrAnd result (λ e. IsHelp e ⊎ (e ≡ NoRequest.NoMemory)) }
+    ensures refused { AreRefused (map S.text words.entry.now) → IsErrAnd result (λ e. ¬ IsHelp e) }
+{
+    match parse_request(alloc, words) {
+        Ok(request) => Ok(request),
+        Err(told) => Err(told_plainly(alloc, words, told)),
+    }
 }

@@ -12,6 +12,8 @@ pub enum Comparison {
     Pairs,
     /// The connections that all matching pairs would be.
     Connections,
+    /// Each writer and each reader but those of other topics, with what keeps them apart.
+    Policies,
 }
 
 /// What is printed of the limits that a deployment needs.
@@ -44,7 +46,7 @@ pub enum Request<'a> {
 /// What is asked for of a deployment alone.
 #[derive(Drop)]
 pub enum Task<'a> {
-    /// Which endpoints match, or the connections that these pairs would be.
+    /// Which endpoints match, what keeps others apart, or the connections that these pairs would be.
     Match {
         what: Comparison,
         style: Style,
@@ -120,7 +122,7 @@ fn style_of_form(form: LintStyle) -> Style
     ensures { result ≡ style_of_form form }
 {
     match form {
-        LintStyle::Text | LintStyle::Sarif => Style::Text,
+        LintStyle::Text | LintStyle::Sarif | LintStyle::Github => Style::Text,
         LintStyle::Json => Style::Json,
     }
 }

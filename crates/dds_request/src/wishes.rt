@@ -60,6 +60,7 @@ pub(crate) fn read_form(word: &str) -> Option<LintStyle>
         "text" => Some(LintStyle::Text),
         "json" => Some(LintStyle::Json),
         "sarif" => Some(LintStyle::Sarif),
+        "github" => Some(LintStyle::Github),
         _ => None,
     }
 }

@@ -24,7 +24,7 @@ use Rattle.dds_options.specs.declared.style.Style.{Style}
 use Rattle.dds_options.specs.declared.style.Style.TheVariants.{Text, Json}
 use Rattle.dds_json.proofs.Ends.{says}
 use Rattle.dds_request.specs.declared.request.Comparison.{Comparison}
-use Rattle.dds_request.specs.declared.request.Comparison.TheVariants.{Pairs, Connections}
+use Rattle.dds_request.specs.declared.request.Comparison.TheVariants.{Pairs, Connections, Policies}
 use Rattle.dds_search.specs.declared.answer.Found.{Found}
 use Rattle.dds_search.specs.declared.answer.Found.TheVariants as found
 use Rattle.dds_sizing.specs.Searches.{found_end}
@@ -52,6 +52,7 @@ pub compared_bad : (what : Comparison) (style : Style) (flaw : Flaw) → end.bad
 compared_bad Pairs Text flaw = refl
 compared_bad Pairs Json flaw = refl
 compared_bad Connections style flaw = refl
+compared_bad Policies style flaw = refl
 
 pub bad_styled : (style : Style) (flaw : Flaw) → end.bad_deployment flaw ≡ in_style style (end.bad_deployment flaw)
 bad_styled Text flaw = refl

@@ -5,6 +5,7 @@ use Rattle.dds_weights.specs.Views.{certificate_view}
 use Rattle.dds_book.specs.Journal.{IsJournal}
 use Rattle.dds_answers.specs.Answers.{SaysNothing}
 use Rattle.dds_answers.specs.Connecting.{connected, connecting}
+use Rattle.dds_answers.specs.Differing.{differing}
 use Rattle.dds_answers.specs.Outcome as end
 use Rattle.dds_answers.specs.Proposals.{proposal_end}
 use Rattle.dds_answers.specs.Report.{Ends, outcome_of}
@@ -16,7 +17,7 @@ use Rattle.dds_findings.specs.Blocks.{FileNames}
 use Rattle.dds_json.specs.Ends.{in_style}
 use Rattle.dds_options.specs.declared.style.Style.{Style}
 use Rattle.dds_request.specs.declared.request.Comparison.{Comparison}
-use Rattle.dds_request.specs.declared.request.Comparison.TheVariants.{Pairs, Connections}
+use Rattle.dds_request.specs.declared.request.Comparison.TheVariants.{Pairs, Connections, Policies}
 use Rattle.dds_sizing.specs.Limits.{limits_end}
 use Rattle.dds_sizing.specs.Searches.{found_end}
 use Rattle.dds_tool.specs.Conforming.{is_good, told_conformance}
@@ -26,10 +27,11 @@ use Rattle.dds_tool.specs.RunEnds.{ran}
 use Rattle.dds_tool.specs.declared.outcome.Outcome.{Outcome}
 use Rattle.dds_tool.specs.declared.outcome.Outcome.TheVariants as outcome
 
--- a comparison of the endpoints, if there are some: the pairs in this style, or the connections
+-- a comparison of the endpoints, if there are some: the pairs in this style, the connections, or what keeps endpoints of one topic apart
 abbrev pub compared : Comparison → Style → Read Lists → end.Outcome
 compared Pairs style read = in_style style (end.comparison read)
 compared Connections style read = connecting read
+compared Policies style read = differing read
 
 -- how a command ends that came to this, in this style and on files with these names
 abbrev pub end_of : FileNames → Style → Outcome → end.Outcome

@@ -8,7 +8,7 @@ ghost use Rattle.dds_options.specs.declared.style.Style.{Style};
 ghost use Rattle.dds_tool.specs.Outcome.{ComesTo, compared};
 
 use crate::outcome::Outcome;
-use dds_answers::{Answer, ToolFault, answer_connections, read_plan};
+use dds_answers::{Answer, ToolFault, answer_connections, answer_policies, read_plan};
 use dds_json::pairs_in_style;
 use dds_match::Plan;
 use dds_options::Style;
@@ -44,5 +44,6 @@ pub(crate) fn answer_comparison(
     match what {
         Comparison::Pairs => pairs_in_style(alloc, plan, style),
         Comparison::Connections => answer_connections(alloc, plan),
+        Comparison::Policies => answer_policies(alloc, plan),
     }
 }

@@ -1,6 +1,6 @@
 use Rattle.std.proofs.Common.{map}
 use Rattle.dds_request.proofs.Requested.{no_fault}
-use Rattle.dds_request.proofs.reading.read_request.Goals as goal
+use Rattle.dds_request.proofs.reading.parse_request.Goals as goal
 
 pub returns-clause-unasked : goal.returns-clause-unasked
 returns-clause-unasked g c = λ taken r asks.
