@@ -94,6 +94,7 @@ fn judge(alloc: Global, plan: Plan, trace: &Trace) -> Result<Outcome<'static>, T
 }
 
 /// Whether the trace that bytes are keeps the rules of a plan.
+#[inline(never)]
 fn judge_trace(alloc: Global, plan: Plan, trace: &[u8]) -> Result<Outcome<'static>, ToolFault>
     ensures comes { (names : FileNames) → (style : Style) → ComesTo names style ⊥
         (MayConform style (Ok plan) trace.now) result }
@@ -109,6 +110,7 @@ fn judge_trace(alloc: Global, plan: Plan, trace: &[u8]) -> Result<Outcome<'stati
 }
 
 /// What `conform` comes to for the bytes of a deployment and of a trace.
+#[inline(never)]
 pub(crate) fn conform_trace(
     alloc: Global,
     deployment: &[u8],
