@@ -1,0 +1,93 @@
+-- Where each topic is keyed, the definitions are those of a system without other topics.
+use Rattle.std.proofs.Common.{◌≡◌, inl, inr, ℕ, suc, ◌+◌, ◌≤◌, ◌<◌, Bool, true, false, cond, eqb, ◌&&◌, List, [], ◌∷◌, ◌++◌, map, refl, sym, ap, ◌∙◌, subst, arith}
+use Rattle.std.proofs.lemmas.Bool.{cases_eq, eq-eqb, eqb-true, ne_eqb, and_from, and_parts, and_right}
+use Rattle.dds_base.specs.Sums.{total}
+use Rattle.dds_base.proofs.SumLaws.{total_at, total_one}
+use Rattle.dds_base.specs.declared.events.Event.TheVariants.{Write, Take}
+use Rattle.dds_base.specs.declared.events.Reply.TheVariants.{Took, Written}
+use Rattle.dds_match.specs.Network.{Network, instance, is_written}
+use Rattle.dds_runs.specs.World.{Sample, samples_from}
+use Rattle.dds_runs.specs.Steps.{Reply}
+use Rattle.dds_runs.specs.Runs.{Move}
+use Rattle.dds_runs.specs.Runs.Move.{Do}
+use Rattle.dds_runs.specs.Accepted.{SumWithin, is_beside, opening_permits}
+use Rattle.dds_runs.specs.Certified.{took, took_one, wrote, wrote_one}
+use Rattle.dds_runs.specs.Kinds.{keyed, keyed_samples, took_of_key, wrote_of_key, along, without_key, IsAsKeyed, Keyed}
+use Rattle.dds_runs.proofs.OrderChanges.{map_append}
+
+samples_same : (w n : ℕ) (es : List (ℕ × List ℕ)) → samples_from (λ k. k) w n es ≡ keyed_samples w n es
+samples_same w n [] = refl
+samples_same w n (e ∷ es) = ap (λ ss. record { writer = w; sn = n; key = e.0; kind = e.0; payload = e.1 } ∷ ss) (samples_same w (suc n) es)
+
+-- ── sums over the keys of an instance, which is one
+pub sum_of_one : (net : Network) (w k d : ℕ) (Is : ℕ → ℕ → Type 0) → k < net.keys → is_written net w k ≡ true → SumWithin (keyed net) w k d Is → (n : ℕ) × Is k n × (n ≤ d)
+sum_of_one net w k d Is within written s =
+    let beside : is_beside (keyed net) w k k ≡ true = and_from (is_written net w k) (eqb k k) written (eq-eqb k k refl) in
+    let all = total_at (λ j. cond (is_beside (keyed net) w k j) (s.0 j) 0) net.keys k within in
+    let here : cond (is_beside (keyed net) w k k) (s.0 k) 0 ≡ s.0 k = ap (λ b. cond b (s.0 k) 0) beside in
+    let most = s.2 in
+    (s.0 k, s.1 k beside, omega arith)
+
+pub one_sum : (net : Network) (w k d n : ℕ) (Is : ℕ → ℕ → Type 0) → k < net.keys → is_written net w k ≡ true → Is k n → n ≤ d → SumWithin (keyed net) w k d Is
+one_sum net w k d n Is within written is le = (
+  λ j. n,
+  λ j beside. subst (λ i. Is i n) (sym (eqb-true j k (and_parts (is_written net w j) (eqb j k) beside).1)) is,
+  (let one : total net.keys (λ j. cond (is_beside (keyed net) w k j) n 0) ≡ cond (is_beside (keyed net) w k k) n 0 = total_one (λ j. cond (is_beside (keyed net) w k j) n 0) net.keys k within
+  (λ j ne. ap (λ b. cond b n 0) (and_right (is_written net w j) (eqb j k) (ne_eqb j k (λ e. ne (sym e))))) in
+  let here : cond (is_beside (keyed net) w k k) n 0 ≡ n = ap (λ b. cond b n 0) (and_from (is_written net w k) (eqb k k) written (eq-eqb k k refl)) in
+  omega arith),
+)
+
+one_late : (net : Network) (w k : ℕ) → k < net.keys → total net.keys (λ j. cond (eqb j k) (opening_permits net w j) 0) ≡ opening_permits net w k
+one_late net w k within = total_one (λ j. cond (eqb j k) (opening_permits net w j) 0) net.keys k within (λ j ne. ap (λ b. cond b (opening_permits net w j) 0) (ne_eqb j k (λ e. ne (sym e))))
+    ∙ ap (λ b. cond b (opening_permits net w k) 0) (eq-eqb k k refl)
+
+-- ── what was taken and written
+took_shown : (w r k : ℕ) (m : Move) (reply : Reply) → map without_key (took_one w r k m reply) ≡ took_of_key w r k m reply
+took_shown w r k (Do (Take q j)) (Took s) = go (eqb q r && (eqb s.writer w && eqb s.key k))
+  where
+    go : (b : Bool) → map without_key (cond b ((s.sn, (s.kind, s.payload)) ∷ []) []) ≡ cond b ((s.sn, s.payload) ∷ []) []
+    go true = refl
+    go false = refl
+took_shown w r k _ _ = refl
+
+took_along : (w r k : ℕ) (ms : List (Move × Reply)) → map without_key (took w r k ms) ≡ along (took_of_key w r k) ms
+took_along w r k [] = refl
+took_along w r k (m ∷ ms) =
+    map_append without_key (took_one w r k m.0 m.1) (took w r k ms)
+    ∙ (ap (λ xs. xs ++ map without_key (took w r k ms)) (took_shown w r k m.0 m.1) ∙ ap (λ xs. took_of_key w r k m.0 m.1 ++ xs) (took_along w r k ms))
+
+wrote_shown : (net : Network) (w r k : ℕ) → net.hears r k ≡ true → (m : Move) (reply : Reply) → map without_key (wrote_one (keyed net) w r k m reply) ≡ wrote_of_key w k m reply
+wrote_shown net w r k hears (Do (Write x j d)) (Written n) = go (eqb x w) (eqb j k) refl
+  where
+    shown : (b : Bool) → map without_key (cond b ((n, (j, d)) ∷ []) []) ≡ cond b ((n, d) ∷ []) []
+    shown true = refl
+    shown false = refl
+
+    go : (a b : Bool) → eqb j k ≡ b → map without_key (cond (a && (b && net.hears r j)) ((n, (j, d)) ∷ []) []) ≡ cond (a && b) ((n, d) ∷ []) []
+    go false b e = refl
+    go true false e = refl
+    go true true e = shown (net.hears r j) ∙ ap (λ c. cond c ((n, d) ∷ []) []) (subst (λ i. net.hears r i ≡ true) (sym (eqb-true j k e)) hears)
+wrote_shown net w r k hears _ _ = refl
+
+wrote_along : (net : Network) (w r k : ℕ) → net.hears r k ≡ true → (ms : List (Move × Reply)) → map without_key (wrote (keyed net) w r k ms) ≡ along (wrote_of_key w k) ms
+wrote_along net w r k hears [] = refl
+wrote_along net w r k hears (m ∷ ms) =
+    map_append without_key (wrote_one (keyed net) w r k m.0 m.1) (wrote (keyed net) w r k ms)
+    ∙ (ap (λ xs. xs ++ map without_key (wrote (keyed net) w r k ms)) (wrote_shown net w r k hears m.0 m.1) ∙ ap (λ xs. wrote_of_key w k m.0 m.1 ++ xs) (wrote_along net w r k hears ms))
+
+pub keyed_law : Keyed
+keyed_law net = record {
+  at_writer = λ w k. refl;
+  at_reader = λ r k. refl;
+  samples = λ v w. samples_same w 1 (v.written w);
+  dropped = λ v w n. refl;
+  take_refused = λ v r k. refl;
+  reader_instances = λ r. refl;
+  most_samples = λ r. refl;
+  sum = sum_of_one net;
+  one = one_sum net;
+  late_sum = one_late net;
+  taken = took_along;
+  written = λ w r k ms hears. wrote_along net w r k hears ms;
+}
