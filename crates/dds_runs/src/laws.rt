@@ -5,7 +5,7 @@
 ghost use Rattle.dds_runs.specs.Before.{Before};
 ghost use Rattle.dds_runs.specs.CountRuns.{CountRuns};
 ghost use Rattle.dds_runs.specs.Joins.{EarlyPairs, Histories, JoinedRuns};
-ghost use Rattle.dds_runs.specs.Kinds.{Keyed};
+ghost use Rattle.dds_runs.specs.KeyedTopics.{Keyed};
 ghost use Rattle.dds_runs.specs.Laws.{Counts, Headline, Order, Packets, Parts, Settled, Stored, Watched};
 ghost use Rattle.dds_runs.specs.Timed.{DeploymentRuns, TimedRuns};
 ghost use Rattle.dds_runs.specs.Unsafe.{EqualBoundOverflows, FilteredWriterLoses, ForgottenReaderOverflows};

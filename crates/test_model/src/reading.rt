@@ -4,7 +4,7 @@ ghost use Rattle.std.specs.Prelude.{◌≡◌, ◌≤◌, ◌^◌};
 ghost use Rattle.dds_qos.specs.Samples.{has_number};
 
 use crate::world::{LAST_NUMBER, World};
-use crate::writing::count_of;
+use crate::writing::count_of_kind;
 use dds_base::{KeyNo, NoMemory, ReaderNo, Sample, WriterNo};
 
 /// Whether one of the samples has the writer and the number.
@@ -74,13 +74,14 @@ impl World {
     /// How many samples of a key a reader stores, available or not.
     pub fn unread(&self, reader: ReaderNo, key: KeyNo) -> Result<usize, NoMemory> {
         let stored = self.stored(reader)?;
-        Ok(count_of(&stored, key))
+        Ok(count_of_kind(&stored, key))
     }
 
-    /// The stored samples of a key whose number is below their writer's base.
+    /// The stored samples of the instance of a key whose number is below their writer's base.
     pub(crate) fn available(&self, reader: ReaderNo, key: KeyNo) -> Result<Vec<Sample>, NoMemory> {
+        let instance = self.layout.instance_at(reader, key);
         let mut available = self.stored(reader)?;
-        available.retain(|s| s.key == key && s.sn < self.base(reader, s.writer));
+        available.retain(|s| s.key == instance && s.sn < self.base(reader, s.writer));
         Ok(available)
     }
 }

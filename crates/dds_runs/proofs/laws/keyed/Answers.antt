@@ -1,4 +1,4 @@
-use Rattle.dds_runs.proofs.Kinds.{keyed_law}
+use Rattle.dds_runs.proofs.KeyedTopics.{keyed_law}
 use Rattle.dds_runs.proofs.laws.keyed.Goals as goal
 
 pub returns : goal.returns

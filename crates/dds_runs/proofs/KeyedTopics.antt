@@ -12,7 +12,7 @@ use Rattle.dds_runs.specs.Runs.{Move}
 use Rattle.dds_runs.specs.Runs.Move.{Do}
 use Rattle.dds_runs.specs.Accepted.{SumWithin, is_beside, opening_permits}
 use Rattle.dds_runs.specs.Certified.{took, took_one, wrote, wrote_one}
-use Rattle.dds_runs.specs.Kinds.{keyed, keyed_samples, took_of_key, wrote_of_key, along, without_key, IsAsKeyed, Keyed}
+use Rattle.dds_runs.specs.KeyedTopics.{keyed, keyed_samples, took_of_key, wrote_of_key, along, without_key, IsAsKeyed, Keyed}
 use Rattle.dds_runs.proofs.OrderChanges.{map_append}
 
 samples_same : (w n : ℕ) (es : List (ℕ × List ℕ)) → samples_from (λ k. k) w n es ≡ keyed_samples w n es
