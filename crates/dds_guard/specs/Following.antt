@@ -31,13 +31,13 @@ MovesPaid w k d old new = (net : Network) (v : World) → IsNetwork net → Coun
 abbrev pub IsElsewhere : Network → GuardState → CountMove → Type 0
 IsElsewhere net g (Writes w k d) = has g.writers w ≡ false
 IsElsewhere net g (Fires u) = ((w k : ℕ) → has g.writers w ≡ true → named (net.rule u).writes w k ≡ 0) × ((r k : ℕ) → takes_key g r k ≡ true → named (net.rule u).takes r k ≡ 0)
-IsElsewhere net g (Takes r s) = takes_key g r s.key ≡ false
+IsElsewhere net g (Takes r s) = takes_key g r s.kind ≡ false
 
 -- a guard that is opened follows the world before the first event, and one that follows a world goes on to follow it: after a take, a firing and a write
 -- with a permit, and after each move elsewhere that can be made
 pub record GoesOnFollowing : Type 0 where
   pub opens : (d : Lists) (a : ℕ) (g : GuardState) → IsOpened d a g → Follows (network_of d) opening g
   pub elsewhere : (m : CountMove) (net : Network) (v : World) (g : GuardState) → IsNetwork net → CountsOk net v → Suffices net v m → IsElsewhere net g m → Follows net v g → Follows net (counted v m) g
-  pub takes : (r k : ℕ) (old new : GuardState) → IsTaken r k old new → (s : Sample) → s.key ≡ k → Moves (Takes r s) old new
+  pub takes : (r k : ℕ) (old new : GuardState) → IsTaken r k old new → (s : Sample) → s.kind ≡ k → Moves (Takes r s) old new
   pub fires : (u : ℕ) (old new : GuardState) → fire_refusal old.ledger u ≡ None → IsFired u old new → Moves (Fires u) old new
   pub writes : (w k : ℕ) (d : List ℕ) (old new : GuardState) → has old.writers w ≡ true → count_at old.ledger.permits w k ≢ 0 → IsPaid w k old new → MovesPaid w k d old new
