@@ -1,5 +1,5 @@
 -- Where each topic is keyed, the definitions are those of a system without other topics.
-use Rattle.std.proofs.Common.{◌≡◌, inl, inr, ℕ, suc, ◌+◌, ◌≤◌, ◌<◌, Bool, true, false, cond, eqb, ◌&&◌, List, [], ◌∷◌, ◌++◌, map, refl, sym, ap, ◌∙◌, subst, arith}
+use Rattle.std.proofs.Common.{◌≡◌, inl, inr, Some, ℕ, suc, ◌+◌, ◌≤◌, ◌<◌, Bool, true, false, cond, eqb, ◌&&◌, List, [], ◌∷◌, ◌++◌, map, refl, sym, ap, ◌∙◌, subst, arith}
 use Rattle.std.proofs.lemmas.Bool.{cases_eq, eq-eqb, eqb-true, ne_eqb, and_from, and_parts, and_right}
 use Rattle.dds_base.specs.Sums.{total}
 use Rattle.dds_base.proofs.SumLaws.{total_at, total_one}
@@ -10,9 +10,9 @@ use Rattle.dds_runs.specs.World.{Sample, samples_from}
 use Rattle.dds_runs.specs.Steps.{Reply}
 use Rattle.dds_runs.specs.Runs.{Move}
 use Rattle.dds_runs.specs.Runs.Move.{Do}
-use Rattle.dds_runs.specs.Accepted.{SumWithin, is_beside, opening_permits}
+use Rattle.dds_runs.specs.Accepted.{Certificate, IsBound, IsDeep, IsTotal, SumWithin, is_beside, is_finite, opening_permits}
 use Rattle.dds_runs.specs.Certified.{took, took_one, wrote, wrote_one}
-use Rattle.dds_runs.specs.KeyedTopics.{keyed, keyed_samples, took_of_key, wrote_of_key, along, without_key, IsAsKeyed, Keyed}
+use Rattle.dds_runs.specs.KeyedTopics.{keyed, keyed_samples, took_of_key, wrote_of_key, along, without_key, IsAsKeyed, IsKeyedDeep, Keyed}
 use Rattle.dds_runs.proofs.OrderChanges.{map_append}
 
 samples_same : (w n : ℕ) (es : List (ℕ × List ℕ)) → samples_from (λ k. k) w n es ≡ keyed_samples w n es
@@ -37,6 +37,23 @@ one_sum net w k d n Is within written is le = (
   let here : cond (is_beside (keyed net) w k k) n 0 ≡ n = ap (λ b. cond b n 0) (and_from (is_written net w k) (eqb k k) written (eq-eqb k k refl)) in
   omega arith),
 )
+
+depth_from : (net : Network) (cert : Certificate) (w r k d : ℕ) → k < net.keys → is_written net w k ≡ true → IsDeep (keyed net) cert w r k d → IsKeyedDeep net cert w r k d
+depth_from net cert w r k d within written (inl (inl t)) = inl (t.0, inr t.1, t.2)
+depth_from net cert w r k d within written (inl (inr s)) = (let n = sum_of_one net w k d (IsBound cert r) within written s in inl (n.0, inl n.1, n.2))
+depth_from net cert w r k d within written (inr (inl s)) = inr (inl (sum_of_one net w k d (λ j n. net.cap w r j ≡ Some n) within written s))
+depth_from net cert w r k d within written (inr (inr (inl s))) = inr (inr (inl (sum_of_one net w k d (λ j n. net.lag w r j ≡ Some n) within written s)))
+depth_from net cert w r k d within written (inr (inr (inr s))) =
+    (let n = sum_of_one net w k d (λ j n. (is_finite net w j ≡ true) × (opening_permits net w j ≡ n)) within written s in
+    inr (inr (inr (n.1.0, (let e = n.1.1 in let le = n.2 in omega arith)))))
+
+depth_to : (net : Network) (cert : Certificate) (w r k d : ℕ) → k < net.keys → is_written net w k ≡ true → IsKeyedDeep net cert w r k d → IsDeep (keyed net) cert w r k d
+depth_to net cert w r k d within written (inl (n, inl b, le)) = inl (inr (one_sum net w k d n (IsBound cert r) within written b le))
+depth_to net cert w r k d within written (inl (n, inr t, le)) = inl (inl (n, t, le))
+depth_to net cert w r k d within written (inr (inl (n, cap, le))) = inr (inl (one_sum net w k d n (λ j m. net.cap w r j ≡ Some m) within written cap le))
+depth_to net cert w r k d within written (inr (inr (inl (n, lag, le)))) = inr (inr (inl (one_sum net w k d n (λ j m. net.lag w r j ≡ Some m) within written lag le)))
+depth_to net cert w r k d within written (inr (inr (inr (finite, le)))) =
+    inr (inr (inr (one_sum net w k d (opening_permits net w k) (λ j m. (is_finite net w j ≡ true) × (opening_permits net w j ≡ m)) within written (finite, refl) le)))
 
 one_late : (net : Network) (w k : ℕ) → k < net.keys → total net.keys (λ j. cond (eqb j k) (opening_permits net w j) 0) ≡ opening_permits net w k
 one_late net w k within = total_one (λ j. cond (eqb j k) (opening_permits net w j) 0) net.keys k within (λ j ne. ap (λ b. cond b (opening_permits net w j) 0) (ne_eqb j k (λ e. ne (sym e))))
@@ -85,8 +102,8 @@ keyed_law net = record {
   take_refused = λ v r k. refl;
   reader_instances = λ r. refl;
   most_samples = λ r. refl;
-  sum = sum_of_one net;
-  one = one_sum net;
+  depth_from = depth_from net;
+  depth_to = depth_to net;
   late_sum = one_late net;
   taken = took_along;
   written = λ w r k ms hears. wrote_along net w r k hears ms;

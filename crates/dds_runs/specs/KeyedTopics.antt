@@ -1,6 +1,6 @@
 -- Where each topic is keyed, a sample's instance is the key that it was written with, and the definitions of runs and certificates are the ones of a
 -- system without other topics: each as it is written out here.
-use Rattle.std.specs.Prelude.{◌≡◌, ◌≤◌, ◌<◌, ℕ, suc, ◌-◌, ◌^◌, Bool, true, false, if◌then◌else◌, ◌==◌, nat_le, not, ◌&&◌, List, [], ◌∷◌, ◌++◌, Option, Some, None, map, drop}
+use Rattle.std.specs.Prelude.{◌≡◌, ◌⊎◌, ◌≤◌, ◌<◌, ℕ, suc, ◌-◌, ◌^◌, Bool, true, false, if◌then◌else◌, ◌==◌, nat_le, not, ◌&&◌, List, [], ◌∷◌, ◌++◌, Option, Some, None, map, drop}
 use Rattle.dds_base.specs.Sums.{total, count_below}
 use Rattle.dds_base.specs.declared.events.Event.TheVariants.{Write, Take}
 use Rattle.dds_base.specs.declared.events.Refusal.TheVariants.{Foreign, CountLimit, Empty}
@@ -10,7 +10,7 @@ use Rattle.dds_runs.specs.World.{World, Sample, count_key, entry_at, history, is
 use Rattle.dds_runs.specs.Steps.{Reply, available, is_empty, refusal}
 use Rattle.dds_runs.specs.Runs.{Move}
 use Rattle.dds_runs.specs.Runs.Move.{Do}
-use Rattle.dds_runs.specs.Accepted.{SumWithin, opening_permits, reached_instances, samples_limit}
+use Rattle.dds_runs.specs.Accepted.{Certificate, IsBound, IsDeep, IsTotal, is_finite, opening_permits, reached_instances, samples_limit}
 use Rattle.dds_runs.specs.Certified.{took, wrote}
 
 -- the network, but each topic is keyed
@@ -51,6 +51,15 @@ along one (m ∷ ms) = one m.0 m.1 ++ along one ms
 abbrev pub without_key : ℕ × (ℕ × List ℕ) → ℕ × List ℕ
 without_key x = (x.0, x.1.1)
 
+-- within a depth of the writer is a bound of the key at the reader or a total of it, the cap or the lag of the writer at the reader, or all that the writer
+-- ever writes of the key
+abbrev pub IsKeyedDeep : Network → Certificate → (w r k d : ℕ) → Type 0
+IsKeyedDeep net cert w r k d =
+    ((n : ℕ) × (IsBound cert r k n ⊎ IsTotal cert r n) × (n ≤ d))
+    ⊎ (((n : ℕ) × (net.cap w r k ≡ Some n) × (n ≤ d))
+    ⊎ (((n : ℕ) × (net.lag w r k ≡ Some n) × (n ≤ d))
+    ⊎ ((is_finite net w k ≡ true) × (opening_permits net w k ≤ d))))
+
 -- what each definition is for such a network
 pub record IsAsKeyed (net : Network) : Type 0 where
   -- the instance is the key: a write is refused by what is kept of its key, a take gives a sample of its key, and a cache counts by key
@@ -69,8 +78,8 @@ pub record IsAsKeyed (net : Network) : Type 0 where
   pub reader_instances : (r : ℕ) → reached_instances (keyed net) r ≡ count_below net.keys (reach net r)
   pub most_samples : (r : ℕ) → samples_limit (keyed net) r ≡ (net.reader_limits r).max_samples
   -- what is compared with a writer's depth is a number of the key itself
-  pub sum : (w k d : ℕ) (Is : ℕ → ℕ → Type 0) → k < net.keys → is_written net w k ≡ true → SumWithin (keyed net) w k d Is → (n : ℕ) × Is k n × (n ≤ d)
-  pub one : (w k d n : ℕ) (Is : ℕ → ℕ → Type 0) → k < net.keys → is_written net w k ≡ true → Is k n → n ≤ d → SumWithin (keyed net) w k d Is
+  pub depth_from : (cert : Certificate) (w r k d : ℕ) → k < net.keys → is_written net w k ≡ true → IsDeep (keyed net) cert w r k d → IsKeyedDeep net cert w r k d
+  pub depth_to : (cert : Certificate) (w r k d : ℕ) → k < net.keys → is_written net w k ≡ true → IsKeyedDeep net cert w r k d → IsDeep (keyed net) cert w r k d
   -- and so is what a writer that keeps all ever writes
   pub late_sum : (w k : ℕ) → k < net.keys → total net.keys (λ j. if instance (keyed net) w j == k then opening_permits net w j else 0) ≡ opening_permits net w k
   -- what was taken and written of a key that the reader hears
