@@ -2,7 +2,7 @@
 -- its span, and so was what isn't available there yet, so that no write is early.
 use Rattle.std.proofs.Common.{◌≡◌, inl, inr, ℕ, zero, suc, ◌+◌, ◌-◌, ◌≤◌, ◌<◌, Bool, true, false, cond, eqb, leb, not, ◌&&◌, ◌||◌, List, [], ◌∷◌, ◌++◌, Option, Some, None, refl, sym, ap, ◌∙◌, subst, arith, map}
 use Rattle.std.specs.Prelude.{count_by, filter, length, slice_get, option_map, option_and_then, drop}
-use Rattle.std.proofs.lemmas.Bool.{eqb-true, eq-eqb, ne_eqb, lt-leb, leb-false, cases_eq, and_from, and_parts, false≢true, true≢false}
+use Rattle.std.proofs.lemmas.Bool.{eqb-true, eq-eqb, ne_eqb, lt-leb, leb-false, cases_eq, and_from, and_parts, both_ways, false≢true, true≢false}
 use Rattle.std.proofs.lemmas.Option.{none-some, same_Some, slice_get-map}
 use Rattle.std.proofs.lemmas.List.Sums.{sum_by-cons, sum_by-append}
 use Rattle.dds_base.specs.Sums.{In, put}
@@ -20,7 +20,6 @@ use Rattle.dds_runs.specs.World.{World, Sample, opening, entry_at, has_kind, has
 use Rattle.dds_runs.specs.Steps.{Reply, Refusal, is_early, write_refusal, RefusedOr}
 use Rattle.dds_runs.specs.Runs.{Move, MayMove, after_move, replay, IsRunFrom, IsWideRun}
 use Rattle.dds_runs.specs.Runs.Move.{Do, Redeliver}
-use Rattle.dds_runs.specs.Certified.{wrote_one}
 use Rattle.dds_runs.specs.Timed.{Timed, untimed, Clocks, is_write, is_writers, count_since, write_times, entry_at_time, KeepsClocks, AreCaps, uncapped, TimedRuns, clocks_of, DeploymentRuns}
 use Rattle.dds_runs.proofs.CountsWeights.{after_write}
 use Rattle.dds_runs.proofs.StoredPlaces.{count_cons, count_same, count_filter, count_part, filter_in, filter_distinct, of_writer_kind, numbered, numbered_distinct}
@@ -84,11 +83,8 @@ since_is w k t (m ∷ ms) =
     omega arith
 
 -- what writes nothing adds no entry
-quiet_one : (w t : ℕ) (m : Move) (reply : Reply) → ((x k : ℕ) → wrote_one x k m reply ≡ []) → entries_one w t m reply ≡ []
-quiet_one w t (Do (Write x j d)) (Written n) none = absurd (some (none x j))
-  where
-    some : ◌≡◌ {A = List (ℕ × List ℕ)} (cond (eqb x x && eqb j j) ((n, d) ∷ []) []) [] → ⊥
-    some e = let f : ◌≡◌ {A = List (ℕ × List ℕ)} ((n, d) ∷ []) [] = rw (eq-eqb x x refl, eq-eqb j j refl) at e in cc
+quiet_one : (w t : ℕ) (m : Move) (reply : Reply) → ((x k : ℕ) → is_write x k m reply ≡ false) → entries_one w t m reply ≡ []
+quiet_one w t (Do (Write x j d)) (Written n) none = absurd (both_ways (eqb x x && eqb j j) (none x j) (and_from (eqb x x) (eqb j j) (eq-eqb x x refl) (eq-eqb j j refl)))
 quiet_one w t _ _ none = refl
 
 module _ (net : Network) where
