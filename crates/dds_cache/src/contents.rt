@@ -15,7 +15,7 @@ ghost use Rattle.dds_cache.specs.Order.{held_at, sample_of, samples_of, TakesOut
 ghost use Rattle.dds_cache.specs.Queues.{IsApart, IsFirstQueued};
 ghost use Rattle.dds_cache.specs.Least.{IsUniform, AreListed, IsLesser, IsLeastAt, NoneAvailable};
 
-use crate::order::{Order, Place, place_of};
+use crate::order::{Carried, Order, Place, place_of};
 use crate::released::Released;
 use dds_base::{KeyNo, NoMemory, Sample};
 use std::alloc::Global;
