@@ -121,6 +121,9 @@ module _ (d : PartsState) (r k : ℕ) where
     pub take_reader : HasWorld d → r < length d.readers
     take_reader (net, v, (known, reached, s)) = within net v d r k known s hears
 
+    pub take_below : HasWorld d → r < (network_of d.plan).readers
+    take_below (net, v, (known, reached, s)) = subst (λ (n : Network). r < n.readers) (sym s.plan) (known.heard_reader r k (heard net v d r k true s hears))
+
     pub take_row : HasWorld d → r < d.ledger.spare.endpoints
     take_row (net, v, (known, reached, s)) = let below = known.heard_reader r k (heard net v d r k true s hears) in let count = s.ledger.of.readers in omega arith
 

@@ -264,7 +264,7 @@ arrived_stores : (net : Network) (v : World) (a : Arrival) (o : Option Packet) �
 arrived_stores net v a None at = absurd at
 arrived_stores net v a (Some (Data d)) at =
     let is : a ≡ arrival_of_data net v d = same_arrival a (arrival_of_data net v d) at in
-    subst (λ (x : Arrival). Stores (Some (d.reader, d.sample.key)) a v (cond (net.watcher d.reader) (after_watched v d.reader d.sample x) (after_data v d.reader d.sample x))) is
+    subst (λ (x : Arrival). Stores (Some (d.reader, d.sample.kind)) a v (cond (net.watcher d.reader) (after_watched v d.reader d.sample x) (after_data v d.reader d.sample x))) is
     (data_arrived net v d.reader d.sample a (net.watcher d.reader))
   where
     same_arrival : (x y : Arrival) → Arrived x ≡ Arrived y → x ≡ y

@@ -21,7 +21,7 @@ place_at x i = tree.get nat_cmp x.places i
 
 -- the reader and the key of a packet, if it is a DATA
 abbrev pub data_of : Option Packet → Option (ℕ × ℕ)
-data_of (Some (Data d)) = Some (d.reader, d.sample.key)
+data_of (Some (Data d)) = Some (d.reader, d.sample.kind)
 data_of (Some (Gap g)) = None
 data_of (Some (Heartbeat h)) = None
 data_of (Some (AckNack a)) = None

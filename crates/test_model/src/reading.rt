@@ -4,7 +4,7 @@ ghost use Rattle.std.specs.Prelude.{◌≡◌, ◌≤◌, ◌^◌};
 ghost use Rattle.dds_qos.specs.Samples.{has_number};
 
 use crate::world::{LAST_NUMBER, World};
-use crate::writing::count_of_kind;
+use crate::writing::count_of;
 use dds_base::{KeyNo, NoMemory, ReaderNo, Sample, WriterNo};
 
 /// Whether one of the samples has the writer and the number.
@@ -71,10 +71,10 @@ impl World {
         Ok(stored)
     }
 
-    /// How many samples of a key a reader stores, available or not.
-    pub fn unread(&self, reader: ReaderNo, key: KeyNo) -> Result<usize, NoMemory> {
+    /// How many samples of an instance a reader stores, available or not.
+    pub fn unread(&self, reader: ReaderNo, instance: KeyNo) -> Result<usize, NoMemory> {
         let stored = self.stored(reader)?;
-        Ok(count_of_kind(&stored, key))
+        Ok(count_of(&stored, instance))
     }
 
     /// The stored samples of the instance of a key whose number is below their writer's base.
