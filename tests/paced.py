@@ -20,6 +20,8 @@ def value_of(value):
         return "{ " + ", ".join(f"{field} = {value_of(one)}" for field, one in value.items()) + " }"
     if isinstance(value, list):
         return "[" + ", ".join(map(value_of, value)) + "]"
+    if isinstance(value, bool):
+        return str(value).lower()
     return f'"{value}"' if isinstance(value, str) else str(value)
 
 
@@ -91,7 +93,7 @@ def drawn_deployment(draw):
         applications.append({"name": f"a_{place}", "participant": place} | owned)
     found = {
         "participants": [{"name": "p", "domain": 0}, {"name": "q", "domain": 0}],
-        "topics": [{"name": name, "type": "T", "keys": names} for name, names in keys.items()],
+        "topics": [{"name": name, "type": "T", "keys": names} | ({"keyed": True} if len(names) > 1 else {}) for name, names in keys.items()],
         "writers": writers,
         "readers": readers,
         "applications": applications,
