@@ -20,6 +20,13 @@ fn is_count_full(ledger: &Ledger, reader: ReaderNo, key: KeyNo) -> bool
     ledger.spare(reader, key) == u64::MAX
 }
 
+// Whether 2^64 - 1 takes of one of the keys at the reader are unspent.
+fn is_any_count_full(ledger: &Ledger, reader: ReaderNo, keys: &[KeyNo]) -> bool
+    ensures { result ≡ list_any (λ k. nat_le (2 ^ 64 - 1) (count_at ledger.now.spare reader k)) keys.now }
+{
+    keys.iter().any(|key| is_count_full(ledger, reader, *key))
+}
+
 // Whether a take would bring a count of unspent takes above 2^64 - 1: that of the key, or where its topic isn't keyed
 // that of some key that the reader hears, of each of which the take may give a sample.
 fn take_passes_limit(plan: &Plan, ledger: &Ledger, reader: ReaderNo, key: KeyNo) -> bool
@@ -31,11 +38,7 @@ fn take_passes_limit(plan: &Plan, ledger: &Ledger, reader: ReaderNo, key: KeyNo)
     if plan.is_keyed_reader(reader) {
         return is_count_full(ledger, reader, key);
     }
-    plan.lists()
-        .reader(reader)
-        .filter
-        .iter()
-        .any(|k| is_count_full(ledger, reader, *k))
+    is_any_count_full(ledger, reader, &plan.lists().reader(reader).filter)
 }
 
 impl Parts {

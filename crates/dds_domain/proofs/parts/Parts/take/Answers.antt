@@ -21,9 +21,6 @@ returns-then-not-hears-clause-steps c =
 pub take_passes_limit-requires : goal.take_passes_limit-requires
 take_passes_limit-requires c = take_below (view_of c.self.inside) c.args.reader c.args.key (sym c.if-not-hears.ensures) (subst HasWorld (sym c.self.view_is) c.requires)
 
-pub instance_at-instance-requires : goal.instance_at-instance-requires
-instance_at-instance-requires c = take_below (view_of c.self.inside) c.args.reader c.args.key (sym c.if-not-hears.ensures) (subst HasWorld (sym c.self.view_is) c.requires)
-
 pub returns-then-take_passes_limit-clause-steps : goal.returns-then-take_passes_limit-clause-steps
 returns-then-take_passes_limit-clause-steps c =
     let d : PartsState = view_of c.self.inside in

@@ -11,7 +11,7 @@ use Rattle.dds_writer.specs.Writer.{Tells}
 use Rattle.dds_flights.proofs.Laws.{room_left}
 use Rattle.dds_domain.specs.Standing.{HasWorld, PartsState, base_at, flights_of}
 use Rattle.dds_domain.specs.View.{view_of}
-use Rattle.dds_domain.proofs.Endpoints.{writes_below, writes_within}
+use Rattle.dds_domain.proofs.Endpoints.{writes_within}
 use Rattle.dds_domain.proofs.Slots.{lent_at}
 use Rattle.dds_domain.proofs.Steps.{Steps, refused_kept, refused_now}
 use Rattle.dds_domain.proofs.StepWrite.{late_as, write_foreign, write_late, write_no_permit, writes_not, writes_one}
@@ -40,9 +40,6 @@ index-requires c =
     let d : PartsState = view_of c.self.inside in
     let within : c.args.writer < length d.writers = writes_within d c.args.writer c.args.key (subst HasWorld (sym c.self.view_is) c.requires) (sym c.if-not-writes_key.ensures) in
     search rules
-
-pub instance-instance-requires : goal.instance-instance-requires
-instance-instance-requires c = writes_below (view_of c.self.inside) c.args.writer c.args.key (subst HasWorld (sym c.self.view_is) c.requires) (sym c.if-not-writes_key.ensures)
 
 -- it has to wait
 pub returns-then-is_early-clause-steps : goal.returns-then-is_early-clause-steps
