@@ -1,5 +1,5 @@
 -- An application takes a sample.
-use Rattle.std.proofs.Common.{◌≡◌, ◌==◌, ◌&&◌, inl, inr, ℕ, zero, suc, ◌-◌, ◌<◌, ◌≤◌, ◌^◌, Bool, true, false, ◌⊎◌, cond, leb, List, [], ◌∷◌, ◌++◌, Some, None, length, map, get_or, set, refl, sym, ap, subst, ◌∙◌, arith, length-set}
+use Rattle.std.proofs.Common.{◌≡◌, ◌==◌, ◌&&◌, inl, inr, ℕ, zero, suc, ◌-◌, ◌<◌, ◌^◌, Bool, true, false, ◌⊎◌, cond, leb, List, [], ◌∷◌, ◌++◌, Some, None, length, map, get_or, set, refl, sym, ap, subst, ◌∙◌, arith, length-set}
 use Rattle.std.specs.List.{list_any}
 use Rattle.std.proofs.lemmas.Bool.{eq-eqb, eqb-true, and_from, and_parts, both_ways, cases_eq, cases_Bool, false≢true, leb-false, or_cases, or_left, or_right}
 use Rattle.dds_base.specs.Sums.{In, any_below}

@@ -1,12 +1,11 @@
 -- A run with joins is a run of the network, and what an accepted certificate gives to those that come late.
-use Rattle.std.proofs.Common.{◌≡◌, ◌⊎◌, inl, inr, ℕ, zero, suc, ◌≤◌, ◌<◌, Bool, true, false, cond, eqb, not, ◌&&◌, ◌||◌, List, [], ◌∷◌, Option, Some, None, refl, sym, ap, ◌∙◌, subst, arith}
+use Rattle.std.proofs.Common.{◌≡◌, inl, inr, ℕ, zero, suc, ◌≤◌, ◌<◌, Bool, true, false, cond, eqb, not, ◌&&◌, List, [], ◌∷◌, Some, None, refl, ap, ◌∙◌, subst, arith}
 use Rattle.std.specs.Prelude.{count_by, length}
-use Rattle.std.specs.List.{list_any}
-use Rattle.std.proofs.lemmas.Bool.{false≢true, true≢false, and_parts, or_cases, or_left, or_right, eqb-true, ne_eqb, both_ways, cases_lt}
+use Rattle.std.proofs.lemmas.Bool.{false≢true, and_parts, or_cases, or_left, or_right, eqb-true, ne_eqb, both_ways, cases_lt}
 use Rattle.dds_base.specs.Sums.{In, any_below, total}
 use Rattle.dds_base.specs.declared.portion.Portion.{Portion}
 use Rattle.dds_base.proofs.SumLaws.{total_le, total_ext, total_zero}
-use Rattle.dds_match.specs.Network.{Network, IsNetwork, instance, is_late, is_named, is_written}
+use Rattle.dds_match.specs.Network.{Network, IsNetwork, instance, is_late, is_named}
 use Rattle.dds_runs.specs.World.{World, Sample, opening, entry_at, count_key, count_instance, has_kind}
 use Rattle.dds_runs.specs.Runs.{replay, IsRunFrom, after_move}
 use Rattle.dds_runs.specs.Accepted.{Certificate, Accepted, is_finite, opening_permits}

@@ -1,18 +1,18 @@
 -- Where each topic is keyed, the definitions are those of a system without other topics.
 use Rattle.std.proofs.Common.{◌≡◌, inl, inr, Some, ℕ, suc, ◌+◌, ◌≤◌, ◌<◌, Bool, true, false, cond, eqb, ◌&&◌, List, [], ◌∷◌, ◌++◌, map, refl, sym, ap, ◌∙◌, subst, arith}
-use Rattle.std.proofs.lemmas.Bool.{cases_eq, eq-eqb, eqb-true, ne_eqb, and_from, and_parts, and_right}
+use Rattle.std.proofs.lemmas.Bool.{eq-eqb, eqb-true, ne_eqb, and_from, and_parts, and_right}
 use Rattle.dds_base.specs.Sums.{total}
 use Rattle.dds_base.proofs.SumLaws.{total_at, total_one}
 use Rattle.dds_base.specs.declared.events.Event.TheVariants.{Write, Take}
 use Rattle.dds_base.specs.declared.events.Reply.TheVariants.{Took, Written}
-use Rattle.dds_match.specs.Network.{Network, instance, is_written}
-use Rattle.dds_runs.specs.World.{Sample, samples_from}
+use Rattle.dds_match.specs.Network.{Network, is_written}
+use Rattle.dds_runs.specs.World.{samples_from}
 use Rattle.dds_runs.specs.Steps.{Reply}
 use Rattle.dds_runs.specs.Runs.{Move}
 use Rattle.dds_runs.specs.Runs.Move.{Do}
-use Rattle.dds_runs.specs.Accepted.{Certificate, IsBound, IsDeep, IsTotal, SumWithin, is_beside, is_finite, opening_permits}
+use Rattle.dds_runs.specs.Accepted.{Certificate, IsBound, IsDeep, SumWithin, is_beside, is_finite, opening_permits}
 use Rattle.dds_runs.specs.Certified.{took, took_one, wrote, wrote_one}
-use Rattle.dds_runs.specs.KeyedTopics.{keyed, keyed_samples, took_of_key, wrote_of_key, along, without_key, IsAsKeyed, IsKeyedDeep, Keyed}
+use Rattle.dds_runs.specs.KeyedTopics.{keyed, keyed_samples, took_of_key, wrote_of_key, along, without_key, IsKeyedDeep, Keyed}
 use Rattle.dds_runs.proofs.OrderChanges.{map_append}
 
 samples_same : (w n : ℕ) (es : List (ℕ × List ℕ)) → samples_from (λ k. k) w n es ≡ keyed_samples w n es

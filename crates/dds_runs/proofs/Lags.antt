@@ -1,5 +1,5 @@
 -- What lags bound: how many samples of a key aren't available at a reader yet; a greater base makes them fewer, and a write one more at most.
-use Rattle.std.proofs.Common.{◌≡◌, inl, inr, ℕ, zero, suc, ◌+◌, ◌-◌, ◌≤◌, ◌<◌, Bool, true, false, cond, eqb, ◌&&◌, ◌||◌, List, [], ◌∷◌, ◌++◌, Option, Some, refl, sym, ap, ◌∙◌, subst, arith}
+use Rattle.std.proofs.Common.{◌≡◌, inl, inr, ℕ, zero, suc, ◌+◌, ◌-◌, ◌≤◌, ◌<◌, Bool, true, false, cond, eqb, ◌&&◌, ◌||◌, List, [], ◌∷◌, ◌++◌, Some, refl, ap, ◌∙◌, subst, arith}
 use Rattle.std.specs.Prelude.{count_by, drop, slice_get}
 use Rattle.std.proofs.lemmas.Bool.{eq-eqb, leb-false, cases_lt, or_parts}
 use Rattle.std.proofs.lemmas.Option.{none-some, same_Some}

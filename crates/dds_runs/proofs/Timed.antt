@@ -25,7 +25,7 @@ use Rattle.dds_runs.proofs.CountsWeights.{after_write}
 use Rattle.dds_runs.proofs.StoredPlaces.{count_cons, count_same, count_filter, count_part, filter_in, filter_distinct, of_writer_kind, numbered, numbered_distinct}
 use Rattle.dds_runs.proofs.StoredSupply.{numbered_writer}
 use Rattle.dds_runs.proofs.Sound.{Sound}
-use Rattle.dds_runs.proofs.OrderHistories.{number_in, filter_has, same_entry, numbered_entry_of}
+use Rattle.dds_runs.proofs.OrderHistories.{number_in, same_entry, numbered_entry_of}
 use Rattle.dds_runs.proofs.OrderChanges.{Change, move_change, map_append, append_assoc, append_nil}
 use Rattle.dds_runs.proofs.Opening.{world_healthy}
 use Rattle.dds_runs.proofs.Longer.{replay_append, run_front}

@@ -1,5 +1,5 @@
 -- A take: refused, or a sample.
-use Rattle.std.proofs.Common.{◌≡◌, ◌∙◌, ◌-◌, ◌<◌, ◌^◌, length, set, rules, sym, subst}
+use Rattle.std.proofs.Common.{◌∙◌, ◌-◌, ◌<◌, ◌^◌, length, set, rules, sym, subst}
 use Rattle.std.proofs.lemmas.Bool.{lt-ltb}
 use Rattle.std.proofs.lemmas.Result.{IfOk-at_ok}
 use Rattle.dds_base.specs.declared.events.Event.TheVariants.{Take}
