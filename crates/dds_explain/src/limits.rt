@@ -273,7 +273,7 @@ fn reached_bound_lines(alloc: Global, plan: &Plan, bounds: &Bounds, reader: Read
 }
 
 /// The most samples that a reader may store, if there is a limit.
-fn limit_of_samples(plan: &Plan, reader: ReaderNo) -> Option<u32>
+pub(crate) fn limit_of_samples(plan: &Plan, reader: ReaderNo) -> Option<u32>
     ensures { result ≡ samples_limit (network_of plan.now) reader }
 {
     if reader.number() < plan.lists().readers() {
@@ -298,7 +298,7 @@ fn is_lesser(one: Option<u32>, other: Option<u32>) -> bool
 
 /// The policy that limits the samples of a reader: max_samples, or where its topic has one instance that of an instance,
 /// if that is the lesser.
-fn samples_limit_name(plan: &Plan, reader: ReaderNo) -> &'static str
+pub(crate) fn samples_limit_name(plan: &Plan, reader: ReaderNo) -> &'static str
     ensures { result.now ≡ samples_limit_name (network_of plan.now) reader }
 {
     let limits = reader_limits(plan, reader);
