@@ -34,13 +34,23 @@ depth_or None most = limit_by MaxSamplesPerInstance most
 abbrev pub key_limit : ReaderLimits → Option Limit
 key_limit limits = depth_or limits.keep_last limits.max_samples_per_instance
 
--- the same of the reader with this number
+-- the same of the reader with this number; where its topic has one instance no key has a limit of its own
 abbrev pub limit_of_key : Network → ℕ → Option Limit
-limit_of_key net r = if nat_lt r net.readers then key_limit (net.reader_limits r) else None
+limit_of_key net r = if nat_lt r net.readers then (if net.keyed_reader r then key_limit (net.reader_limits r) else None) else None
 
--- what limits all samples of the reader with this number together
+-- the lesser of two limits, the first of them where they are equal
+abbrev pub lesser_of : Option Limit → Option Limit → Option Limit
+lesser_of None other = other
+lesser_of (Some one) None = Some one
+lesser_of (Some one) (Some other) = if nat_lt other.most one.most then Some other else Some one
+
+-- what limits all samples of the reader with this number together: max_samples, or where its topic has one instance that of an instance, if it is the lesser
 abbrev pub limit_of_total : Network → ℕ → Option Limit
-limit_of_total net r = if nat_lt r net.readers then limit_by MaxSamples (net.reader_limits r).max_samples else None
+limit_of_total net r =
+    if nat_lt r net.readers then
+        (if net.keyed_reader r then limit_by MaxSamples (net.reader_limits r).max_samples
+        else lesser_of (limit_by MaxSamples (net.reader_limits r).max_samples) (key_limit (net.reader_limits r)))
+    else None
 
 -- ── readers
 -- what a reader needs by the size of this target: of a key its bound, of all samples together the lesser of what one row shows and of the sum of the bounds of

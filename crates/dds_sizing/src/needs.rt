@@ -7,7 +7,7 @@ ghost use Rattle.dds_runs.specs.Accepted.{instance_limit};
 ghost use Rattle.dds_search.specs.Sizes.{lesser};
 ghost use Rattle.dds_sizing.specs.Needs.{all_written, are_met, depth_for, depth_need, greater, greatest_of};
 ghost use Rattle.dds_sizing.specs.Needs.{has_unbounded};
-ghost use Rattle.dds_sizing.specs.Needs.{is_bounded, is_for, is_low, is_met, is_short, key_limit};
+ghost use Rattle.dds_sizing.specs.Needs.{is_bounded, is_for, is_low, is_met, is_short, key_limit, lesser_of};
 ghost use Rattle.dds_sizing.specs.Needs.{limit_of_key, limit_of_total, limit_by, list_of, need_at, need_of, needs_of};
 ghost use Rattle.dds_sizing.specs.Needs.{room_of, with_least, with_size, writer_needs};
 
@@ -97,24 +97,48 @@ fn key_limit(limits: &ReaderLimits) -> Option<Limit>
     }
 }
 
-/// What limits a key of the reader with this number.
+/// What limits a key of the reader with this number; where its topic has one instance no key has a limit of its own.
 pub(crate) fn limit_of_key(plan: &Plan, reader: ReaderNo) -> Option<Limit>
     ensures { result ≡ limit_of_key (network_of plan.now) reader }
 {
     if reader.number() >= plan.lists().readers() {
         return None;
     }
-    key_limit(&plan.reader_limits(reader))
+    if plan.is_keyed_reader(reader) {
+        key_limit(&plan.reader_limits(reader))
+    } else {
+        None
+    }
 }
 
-/// What limits all samples of the reader with this number together.
+/// The lesser of two limits, the first of them where they are equal.
+fn lesser_of(one: Option<Limit>, other: Option<Limit>) -> Option<Limit>
+    ensures { result ≡ lesser_of one other }
+{
+    let Some(first) = one else {
+        return other;
+    };
+    match other {
+        Some(second) if second.most < first.most => other,
+        _ => one,
+    }
+}
+
+/// What limits all samples of the reader with this number together: max_samples, or where its topic has one instance
+/// that of an instance, if it is the lesser.
 pub(crate) fn limit_of_total(plan: &Plan, reader: ReaderNo) -> Option<Limit>
     ensures { result ≡ limit_of_total (network_of plan.now) reader }
 {
     if reader.number() >= plan.lists().readers() {
         return None;
     }
-    limit_by(Policy::MaxSamples, plan.reader_limits(reader).max_samples)
+    let limits = plan.reader_limits(reader);
+    let samples = limit_by(Policy::MaxSamples, limits.max_samples);
+    if plan.is_keyed_reader(reader) {
+        samples
+    } else {
+        lesser_of(samples, key_limit(&limits))
+    }
 }
 
 /// What a reader needs by a size, which is one of these.
