@@ -3,7 +3,7 @@ use Rattle.dds_match.specs.Plan.{network_of}
 use Rattle.dds_json.proofs.Documents.{those_more}
 use Rattle.dds_sizing.specs.Needs.{depth_need, list_of}
 use Rattle.dds_sizing.proofs.NeedsLists.{all_needs}
-use Rattle.dds_sizing.proofs.needs.writer_needs.Goals as goal
+use Rattle.dds_sizing.proofs.needs.key_needs.Goals as goal
 
 pub loop-k-preserved : goal.loop-k-preserved
 loop-k-preserved c =
