@@ -11,7 +11,7 @@ use Rattle.dds_weights.specs.Views.{certificate_view}
 use Rattle.dds_propose.specs.declared.targets.Target.{Target}
 use Rattle.dds_propose.specs.declared.targets.Target.TheVariants as target
 use Rattle.dds_search.specs.Reasons.{IsReason}
-use Rattle.dds_search.specs.Sizes.{every_target}
+use Rattle.dds_search.specs.Sizes.{every_target, total_of}
 use Rattle.dds_search.specs.declared.answer.Least.{Least}
 use Rattle.dds_search.specs.declared.answer.Least.TheVariants.{Shown, Unbounded, Unknown}
 use Rattle.dds_search.specs.declared.certificate.rays.Firings.{Firings}
@@ -157,12 +157,13 @@ abbrev pub is_for_all_as_much : Network → List Size → ℕ → Least → Expl
 is_for_all_as_much net sizes w least e =
     is_for_all net w e.size.target && is_as_much (depth_for_all net sizes w (reader_of e.size.target) e.size.least) least
 
-abbrev pub because_of_all : Lists → ℕ → Room → Explained → List ℕ
-because_of_all d w room e =
-    because_line (writer_name d w) room (depth_words (is_as_much e.size.least room.least) ++ reader_name d (reader_of e.size.target))
+abbrev pub because_of_all : Lists → List Size → ℕ → Room → Explained → List ℕ
+because_of_all d sizes w room e =
+    because_line (writer_name d w) room
+    (depth_words (is_as_much (total_of sizes (reader_of e.size.target) e.size.least) room.least) ++ reader_name d (reader_of e.size.target))
 
 abbrev pub because_of_total : Lists → List Explained → ℕ → Room → List ℕ
-because_of_total d es w room = option_map_or (because_of_all d w room) (find (is_for_all_as_much (network_of d) (sizes_of es) w room.least) es) []
+because_of_total d es w room = option_map_or (because_of_all d (sizes_of es) w room) (find (is_for_all_as_much (network_of d) (sizes_of es) w room.least) es) []
 
 -- the line for a need
 abbrev pub because_of : Lists → List Explained → Need → List ℕ

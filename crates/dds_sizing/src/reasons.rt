@@ -20,7 +20,9 @@ use dds_explain::{margins, span_text};
 use dds_lists::Deployment;
 use dds_match::Plan;
 use dds_propose::targets::Target;
-use dds_search::{Budget, Firings, Least, Measurer, Reason, Reasoned, Size, Writes, every_target};
+use dds_search::{
+    Budget, Firings, Least, Measurer, Reason, Reasoned, Size, Writes, every_target, total_of,
+};
 use dds_text::names::{reader_key, reader_name, rule_text, writer_key, writer_name};
 use dds_text::texts::{TextResult, text_of_each};
 use std::alloc::Global;
@@ -507,14 +509,18 @@ fn find_reader_for_all<'a>(
 fn because_of_all(
     alloc: Global,
     lists: &Deployment,
+    sizes: &[Size],
     writer: WriterNo,
     room: Room,
     explained: &Explained,
 ) -> TextResult
-    ensures { IfOk result (λ text. string_bytes text ≡ because_of_all lists.now writer room explained.now) }
+    ensures { IfOk result
+        (λ text. string_bytes text ≡ because_of_all lists.now sizes.now writer room explained.now) }
 {
-    let reader = reader_name(lists, explained.size.target.reader());
-    let words = depth_words(is_as_much(explained.size.least, room.least));
+    let reader = explained.size.target.reader();
+    let total = total_of(sizes, reader, explained.size.least);
+    let words = depth_words(is_as_much(total, room.least));
+    let reader = reader_name(lists, reader);
     let why = format!(in alloc; "{words}{reader}")?;
     because_line(alloc, writer_name(lists, writer), room, why.as_str())
 }
@@ -532,7 +538,7 @@ fn because_of_total(
 {
     let sizes = sizes_of(alloc, explained)?;
     match find_reader_for_all(plan, explained, &sizes, writer, room.least) {
-        Some(one) => because_of_all(alloc, plan.lists(), writer, room, one),
+        Some(one) => because_of_all(alloc, plan.lists(), &sizes, writer, room, one),
         None => Ok(String::new(alloc)),
     }
 }
