@@ -27,6 +27,13 @@ unfolding field
 same_field name f path ms new same = rw same refl
 
 module _ (v w : ℕ) (from : 1 ≤ v) (up : v ≤ w) (path : List ℕ) (ms new : Members) where
+  type_later : get_member (codes "type") new ≡ get_member (codes "type") ms → Keeps (field (codes "type") (a_type_name v) path ms) (field (codes "type") (a_type_name w) path new)
+  unfolding field
+  type_later type_is x h =
+      let at = key_path path (codes "type") in
+      let d = bind_ok (or_fault MissingKey at (get_member (codes "type") ms)) _ x h in
+      then_ok (or_fault MissingKey at (get_member (codes "type") new)) (a_type_name w at) d.0 x (ap (or_fault MissingKey at) type_is ∙ d.1) (a_type_name_later v w from up at d.0 x d.2)
+
   -- members with the same type and keys, which say alike whether they're keyed
   fields_later : get_member (codes "type") new ≡ get_member (codes "type") ms → get_member (codes "keys") new ≡ get_member (codes "keys") ms
       → ((names : List (List ℕ)) → field (codes "keys") keys path ms ≡ Ok names → Keeps (keyed v (length names) path ms) (keyed w (length names) path new))
@@ -36,15 +43,8 @@ module _ (v w : ℕ) (from : 1 ≤ v) (up : v ≤ w) (path : List ℕ) (ms new :
       let name = bind_ok (field (codes "type") (a_type_name v) path ms) _ t e in
       let names = bind_ok (field (codes "keys") keys path ms) _ t name.2 in
       let says = bind_ok (keyed v (length names.0) path ms) _ t names.2 in
-      then_ok (field (codes "type") (a_type_name w) path new) _ name.0 t (type_later name.0 name.1) (then_ok (field (codes "keys") keys path new) _ names.0 t (same_field (codes "keys") keys path ms new keys_is ∙ names.1)
+      then_ok (field (codes "type") (a_type_name w) path new) _ name.0 t (type_later type_is name.0 name.1) (then_ok (field (codes "keys") keys path new) _ names.0 t (same_field (codes "keys") keys path ms new keys_is ∙ names.1)
       (then_ok (keyed w (length names.0) path new) _ says.0 t (own names.0 names.1 says.0 says.1) says.2))
-    where
-      type_later : Keeps (field (codes "type") (a_type_name v) path ms) (field (codes "type") (a_type_name w) path new)
-      unfolding field
-      type_later x h =
-          let d = bind_ok (or_fault MissingKey (key_path path (codes "type")) (get_member (codes "type") ms)) _ x h in
-          then_ok (or_fault MissingKey (key_path path (codes "type")) (get_member (codes "type") new)) (a_type_name w (key_path path (codes "type"))) d.0 x
-          (ap (or_fault MissingKey (key_path path (codes "type"))) type_is ∙ d.1) (a_type_name_later v w from up (key_path path (codes "type")) d.0 x d.2)
 
 -- an entry without other keys than these, with the same name and fields that are read
 one_more_again : {X : Type 0} (f g : Listed X → List ℕ → Members → Read X) (before : Listed X) (path : List ℕ) (ms new : Members) (one more : List (List ℕ)) → (unlisted one (keys_of ms) ≡ [] → unlisted more (keys_of new) ≡ [])
@@ -68,12 +68,13 @@ before_fourth v low = lt-leb 4 v (omega (arith, low))
 module _ (v w : ℕ) (from : 1 ≤ v) (up : v ≤ w) (low : w ≤ 3) where
   same_keyed : (n : ℕ) (path : List ℕ) (ms : Members) → Keeps (keyed v n path ms) (keyed w n path ms)
   unfolding keyed
-  same_keyed n path ms x e = rw (before_fourth w low) (rw (before_fourth v (omega (arith, up, low))) at e e)
+  same_keyed n path ms x e = rw (before_fourth w low) (rw (before_fourth v (omega (arith, up, low))) at e)
 
   same_topic_keys : topic_keys v ≡ topic_keys w
   same_topic_keys = rw (before_fourth w low, before_fourth v (omega (arith, up, low))) refl
 
   topic_later : (before : Listed Topic) (path : List ℕ) (d : Data) → Keeps (topic v before path d) (topic w before path d)
+  unfolding one_more entry
   topic_later before path (table ms) =
       one_more_again (λ _. topic_fields v) (λ _. topic_fields w) before path ms ms (topic_keys v) (topic_keys w) (λ h. subst (λ names. unlisted names (keys_of ms) ≡ []) same_topic_keys h) refl
       (λ _. fields_later v w from up path ms ms refl refl (λ names _. same_keyed (length names) path ms))
@@ -113,7 +114,8 @@ keys_count path d names e =
     let some = bind_ok (unless OutOfRange path (nat_le 1 (count ds.0)) ds.0) _ names ds.2 in
     let one = passed OutOfRange path (nat_le 1 (count ds.0)) ds.0 some.0 some.1 in
     let found = found_is WrongKind path (as_array d) all.0 all.1 in
-    (some.0, found ∙ ap Some (fits.1 ∙ one.1), each_key_counts path 0 [] names some.0 some.2)
+    let many = each_key_counts path 0 [] names some.0 some.2 in
+    (some.0, found ∙ ap Some (fits.1 ∙ one.1), omega (arith, many))
 
 module _ (v : ℕ) (from : 1 ≤ v) (low : v ≤ 3) (path : List ℕ) (ms : Members) (none : unlisted (topic_keys v) (keys_of ms) ≡ []) where
   early : topic_keys v ≡ codes "name" ∷ codes "type" ∷ codes "keys" ∷ []
@@ -130,22 +132,30 @@ module _ (v : ℕ) (from : 1 ≤ v) (low : v ≤ 3) (path : List ℕ) (ms : Memb
   -- so it was read as keyed
   was_keyed : (n : ℕ) (x : Bool) → keyed v n path ms ≡ Ok x → true ≡ x
   unfolding keyed optional
-  was_keyed n x e = ok_is true x (rw (before_fourth v low, unkeyed) at e e)
+  was_keyed n x e = ok_is true x (rw (before_fourth v low, unkeyed) at e)
 
-  -- with several keys it says so, and with one it needn't
-  is_keyed : (b : Bool) → has_several (array_at (codes "keys") ms) ≡ b → (names : List (List ℕ)) → field (codes "keys") keys path ms ≡ Ok names
-      → keyed 4 (length names) path (cond b (set_member (codes "keyed") (boolean true) ms) ms) ≡ Ok true
-  unfolding keyed optional field a_flag
-  is_keyed true is names e = by (nat_le 2 (length names))
-    where
-      by : (says : Bool) → cond says (field (codes "keyed") a_flag path (set_member (codes "keyed") (boolean true) ms)) (optional (codes "keyed") true a_flag path (set_member (codes "keyed") (boolean true) ms)) ≡ Ok true
-      unfolding optional field a_flag
-      by true = rw (there (codes "keyed") (boolean true) ms) refl
-      by false = rw (there (codes "keyed") (boolean true) ms) refl
-  is_keyed false is names e =
-      let d = bind_ok (or_fault MissingKey (key_path path (codes "keys")) (get_member (codes "keys") ms)) _ names e in
-      let found = found_is MissingKey (key_path path (codes "keys")) (get_member (codes "keys") ms) d.0 d.1 in
-      let some = keys_count (key_path path (codes "keys")) d.0 names d.2 in
+  -- with several keys it says so, whether it has to or not
+
+  abbrev saying : Members
+  saying = set_member (codes "keyed") (boolean true) ms
+
+  says_at : (b : Bool) → cond b (or_fault MissingKey (key_path path (codes "keyed")) (get_member (codes "keyed") saying) >>= a_flag (key_path path (codes "keyed"))) (where_present true (a_flag (key_path path (codes "keyed"))) (get_member (codes "keyed") saying)) ≡ Ok true
+  unfolding a_flag
+  says_at true = rw (there (codes "keyed") (boolean true) ms) refl
+  says_at false = rw (there (codes "keyed") (boolean true) ms) refl
+
+  says_keyed : (n : ℕ) → keyed 4 n path saying ≡ Ok true
+  unfolding keyed optional field
+  says_keyed n = says_at (nat_le 2 n)
+
+  -- and with one it needn't
+  needs_not : has_several (array_at (codes "keys") ms) ≡ false → (names : List (List ℕ)) → field (codes "keys") keys path ms ≡ Ok names → keyed 4 (length names) path ms ≡ Ok true
+  unfolding keyed optional field
+  needs_not is names e =
+      let at = key_path path (codes "keys") in
+      let d = bind_ok (or_fault MissingKey at (get_member (codes "keys") ms)) _ names e in
+      let found = found_is MissingKey at (get_member (codes "keys") ms) d.0 d.1 in
+      let some = keys_count at d.0 names d.2 in
       let few : nat_le 2 (length names) ≡ false = ap (nat_le 2) some.2 ∙ (sym (ap has_several (ap as_items found ∙ some.1)) ∙ is) in
       rw (few, unkeyed) refl
 
@@ -180,13 +190,14 @@ module _ (v : ℕ) (from : 1 ≤ v) (low : v ≤ 3) where
       one_more_again (λ _. topic_fields v) (λ _. topic_fields 4) before path ms new (topic_keys v) (topic_keys 4)
       (λ none. stays_listed (codes "keyed") (boolean true) (topic_keys 4) refl ms (listed_later v from low path ms none)) (stays (codes "keyed") (boolean true) (codes "name") refl ms)
       (λ none. fields_later v 4 from (omega (arith, low)) path ms new (stays (codes "keyed") (boolean true) (codes "type") refl ms) (stays (codes "keyed") (boolean true) (codes "keys") refl ms)
-          (λ names h x e. is_keyed v from low path ms none true is names h ∙ ap Ok (was_keyed v from low path ms none (length names) x e)))
+          (λ names h x e. says_keyed v from low path ms none (length names) ∙ ap Ok (was_keyed v from low path ms none (length names) x e)))
   entry_keyed path ms false is before =
       one_more_again (λ _. topic_fields v) (λ _. topic_fields 4) before path ms ms (topic_keys v) (topic_keys 4) (λ none. listed_later v from low path ms none) refl
       (λ none. fields_later v 4 from (omega (arith, low)) path ms ms refl refl
-          (λ names h x e. is_keyed v from low path ms none false is names h ∙ ap Ok (was_keyed v from low path ms none (length names) x e)))
+          (λ names h x e. needs_not v from low path ms none is names h ∙ ap Ok (was_keyed v from low path ms none (length names) x e)))
 
   topic_keyed : (before : Listed Topic) (path : List ℕ) (d : Data) → Keeps (topic v before path d) (topic 4 before path (keyed_topic d))
+  unfolding one_more entry
   topic_keyed before path (table ms) = entry_keyed path ms (has_several (array_at (codes "keys") ms)) refl before
   topic_keyed before path (string s) = λ t e. absurd cc
   topic_keyed before path (integer z) = λ t e. absurd cc
