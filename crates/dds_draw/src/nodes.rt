@@ -163,8 +163,8 @@ fn keyed_line(keyed: bool) -> &'static str
     if keyed { "" } else { "\\none instance" }
 }
 
-/// What the bounds and totals of a reader are compared with: where its topic has one instance, no key has a limit of its
-/// own, and the reader stores no more than an instance may have.
+/// What the bounds and totals of a reader are compared with: where its topic has one instance, no key has a limit of
+/// its own, and the reader stores no more than an instance may have.
 fn limits_of(keyed: bool, limits: ReaderLimits) -> ReaderLimits
     ensures { result ≡ limits_of keyed limits }
 {

@@ -296,8 +296,8 @@ fn is_lesser(one: Option<u32>, other: Option<u32>) -> bool
     }
 }
 
-/// The policy that limits the samples of a reader: max_samples, or where its topic has one instance that of an instance,
-/// if that is the lesser.
+/// The policy that limits the samples of a reader: max_samples, or where its topic has one instance that of an
+/// instance, if that is the lesser.
 pub(crate) fn samples_limit_name(plan: &Plan, reader: ReaderNo) -> &'static str
     ensures { result.now ≡ samples_limit_name (network_of plan.now) reader }
 {

@@ -198,8 +198,8 @@ fn is_depth_lower(plan: &Plan, reader: ReaderNo) -> bool {
     }
 }
 
-/// The place of the field of a reader that limits an instance: its depth where that's the lower limit, or its history where
-/// the depth is left out.
+/// The place of the field of a reader that limits an instance: its depth where that's the lower limit, or its history
+/// where the depth is left out.
 fn limit_place(
     alloc: Global,
     files: &Files,

@@ -35,8 +35,8 @@ pub fn stored()
     ensures { Stored }
 {}
 
-/// The fourth pass: what a strict reader took of a writer and instance is a prefix of what was written that it hears, in
-/// order, once.
+/// The fourth pass: what a strict reader took of a writer and instance is a prefix of what was written that it hears,
+/// in order, once.
 pub fn order()
     ensures { Order }
 {}

@@ -166,7 +166,8 @@ fn instance_text(
     }
 }
 
-/// The limit of all samples of a reader, with its names: the reader's own, or the depth of a writer where that is lower.
+/// The limit of all samples of a reader, with its names: the reader's own, or the depth of a writer where that is
+/// lower.
 fn total_text(alloc: Global, plan: &Plan, reader: ReaderNo) -> Result<String, NoMemory>
     ensures { IfOk result (λ text. IsLimitText plan.now (Target.Reader reader) (string_bytes text)) }
 {

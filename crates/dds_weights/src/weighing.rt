@@ -20,8 +20,8 @@ pub fn find_weight<E: Endpoint>(weights: &[Weight<E>], endpoint: E, key: KeyNo) 
     0
 }
 
-/// A list of weights, which keys it names, and whether it has the order of endpoints and then of keys, as the lists of a
-/// certificate file have once they're read. Contracts see it as the list.
+/// A list of weights, which keys it names, and whether it has the order of endpoints and then of keys, as the lists of
+/// a certificate file have once they're read. Contracts see it as the list.
 #[derive(Drop)]
 pub struct Table<'a, E: Endpoint> {
     entries: &'a [Weight<E>],
