@@ -7,18 +7,20 @@ use Rattle.std.proofs.lemmas.Slice.Eq.{bytes_eq-Decides}
 use Rattle.std.specs.BTreeMap.{insert_entry}
 use Rattle.std.specs.Cmp.{tied_itself}
 use Rattle.std.specs.Cmp.Lexicographic.{slice_cmp}
-use Rattle.std.specs.List.{list_any}
+use Rattle.std.specs.List.{AllZip, list_any}
+use Rattle.std.specs.BTreeMap.{BTreeMap}
 use Rattle.std.specs.Map as entries
 use Rattle.std.specs.Ordering.{match_ordering, ordering_reverse}
 use Rattle.std.specs.Str.{bytes_eq}
 use Rattle.std.specs.String.{string_cmp}
 use Rattle.std.proofs.lemmas.Cmp.{nat_list_cmp_total}
-use Rattle.toml.specs.declared.value.Value.{Value}
-use Rattle.toml.specs.Data.{Data, Members, no_members, member, get_member, depth, members_depth, has_valid_dates, members_have_valid_dates}
-use Rattle.toml.specs.View.{view, members_view}
+use Rattle.toml.specs.declared.value.Value.{Value, Table}
+use Rattle.toml.specs.Data.{Data, string, integer, float, boolean, datetime, array, table, item, as_table, Members, no_members, member, get_member, depth, members_depth, has_valid_dates, members_have_valid_dates}
+use Rattle.toml.specs.View.{view, items_of, items_view, members_view, table_view}
+use Rattle.toml.proofs.Views.{view-Table}
 use Rattle.dds_fields.specs.Reading.{keys_of, unlisted}
 use Rattle.dds_fields.proofs.Keys.{keys_of-view}
-use Rattle.dds_deploy.specs.Migration.{set_member}
+use Rattle.dds_deploy.specs.Migration.{keyed_entry, keyed_topic, keyed_topics, set_member}
 
 skipped : (o : Ordering) (x y : Option Data) → is_eq o ≡ false → match_ordering o x y x ≡ x
 skipped Less x y e = refl
@@ -165,3 +167,33 @@ set_member-view (e ∷ es) k v = seen (string_cmp k e.0) _ _ _ ∙ rw (set_membe
 
 pub same_keys : (es new : List Entry) → entries.keys_of new ≡ entries.keys_of es → keys_of (members_view new) ≡ keys_of (members_view es)
 same_keys es new same = keys_of-view new ∙ (ap (map string_bytes) same ∙ sym (keys_of-view es))
+
+-- the members of a copy of a table
+pub table_copy : (es new : List Entry) → AllZip (λ (p q : Entry). (string_bytes q.0 ≡ string_bytes p.0) × (view q.1 ≡ view p.1)) es new → members_view new ≡ members_view es
+table_copy [] [] same = refl
+table_copy [] (f ∷ fs) same = absurd same
+table_copy (e ∷ es) [] same = absurd same
+table_copy (e ∷ es) (f ∷ fs) same = rw (same.0.0, same.0.1, table_copy es fs same.1) refl
+
+-- ── topics of the code
+pub of_table : (d : Data) (ms : Members) (v : Value) (m : BTreeMap (String Global) Value) → as_table d ≡ Some ms → v ≡ Table m → table_view m ≡ keyed_entry ms → view v ≡ keyed_topic d
+of_table (table ns) ms v m is made entry = let same : ns ≡ ms = cc in rw (made, view-Table m, entry, same) refl
+of_table (string s) ms v m is made entry = absurd cc
+of_table (integer z) ms v m is made entry = absurd cc
+of_table (float x) ms v m is made entry = absurd cc
+of_table (boolean b) ms v m is made entry = absurd cc
+of_table (datetime x) ms v m is made entry = absurd cc
+of_table (array ds) ms v m is made entry = absurd cc
+
+pub of_no_table : (d new : Data) → as_table d ≡ None → new ≡ d → new ≡ keyed_topic d
+of_no_table (table ns) new is same = absurd cc
+of_no_table (string s) new is same = same
+of_no_table (integer z) new is same = same
+of_no_table (float x) new is same = same
+of_no_table (boolean b) new is same = same
+of_no_table (datetime x) new is same = same
+of_no_table (array ds) new is same = same
+
+pub topics_seen : (vs : List Value) → items_of (map (λ v. keyed_topic (view v)) vs) ≡ keyed_topics (items_view vs)
+topics_seen [] = refl
+topics_seen (v ∷ vs) = ap (item (keyed_topic (view v))) (topics_seen vs)
