@@ -15,7 +15,7 @@ use Rattle.dds_qos.specs.declared.policies.Policies.{Policies}
 use Rattle.dds_qos.specs.declared.policies.Reliability.{Reliability}
 use Rattle.dds_qos.specs.declared.policies.Reliability.TheVariants.{BestEffort, Reliable}
 use Rattle.dds_fields.specs.declared.fault.FaultKind.TheVariants.{OutOfRange, NotToml}
-use Rattle.dds_fields.specs.Reading.{Read, or_fault, a_text, a_new_name, a_known_name, an_array_of, a_list_of, count, unless, entry, optional, only, unlisted, keys_of}
+use Rattle.dds_fields.specs.Reading.{Read, or_fault, a_text, a_new_name, a_known_name, an_array_of, a_list_of, count, unless, entry, field, optional, only, unlisted, keys_of}
 use Rattle.dds_fields.specs.Words.{a_duration, a_flag}
 use Rattle.dds_base.specs.Section.{Listed, nothing}
 use Rattle.dds_fields.specs.Document.{document}
