@@ -1,8 +1,9 @@
 -- Topics of one version are read alike of a later one, since version 4 where those with several keys say that they're keyed.
-use Rattle.std.proofs.Common.{codes, ◌≡◌, ℕ, ◌+◌, ◌≤◌, Bool, true, false, cond, List, [], ◌∷◌, ◌++◌, length, Option, Some, None, Ok, nat_cmp, is_eq, nat_le, option_map, arith, rules, refl, sym, ap, subst, ◌∙◌}
+use Rattle.std.proofs.Common.{codes, ◌≡◌, ℕ, ◌+◌, ◌≤◌, Bool, true, false, cond, List, [], ◌∷◌, ◌++◌, length, Option, Some, None, Ok, nat_cmp, is_eq, nat_le, option_map, arith, refl, sym, ap, subst, ◌∙◌}
 use Rattle.std.specs.Cmp.Lexicographic.{slice_cmp}
 use Rattle.std.specs.Prelude.{◌&&◌}
 use Rattle.std.proofs.lemmas.Bool.{and_parts, lt-leb}
+use Rattle.std.proofs.lemmas.List.{length_push}
 use Rattle.toml.specs.Data.{Data, string, integer, float, boolean, datetime, array, table, Items, no_items, item, Members, get_member, as_array, as_table, depth, items_depth, members_depth, has_valid_dates, items_have_valid_dates, members_have_valid_dates}
 use Rattle.std.proofs.Math.Nat.{le-max_left, le-max_right, max-le}
 use Rattle.dds_fields.specs.declared.fault.FaultKind.TheVariants.{WrongKind, TooMany, MissingKey, OutOfRange}
@@ -101,7 +102,7 @@ each_key_counts path i before names (item d ds) e =
     let name = bind_ok (a_new_name before (index_path path i) d) _ a.0 a.1 in
     let pushed = ok_is (before ++ name.0 ∷ []) a.0 name.2 in
     let more = each_key_counts path (i + 1) a.0 names ds a.2 in
-    let longer : length a.0 ≡ length before + 1 = rw (← pushed) (search rules) in
+    let longer : length a.0 ≡ length before + 1 = rw (← pushed) (length_push before name.0) in
     omega (arith, more, longer)
 
 -- the keys that were read are as many as stand in the array
