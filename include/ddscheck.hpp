@@ -1,7 +1,7 @@
 // The guard of ddscheck.h as a C++ class, and its check, for C++17 and later. They throw nothing, so they need no exceptions: calls answer a ddscheck_status,
-// look-ups a number where there is one.
+// look-ups a number where there is one. With DDSCHECK_EXCEPTIONS defined before the #include there are `require` and `Error`, too.
 //
-// Threads: as in ddscheck.h, a guard stays on the thread that opened it.
+// Threads: as in ddscheck.h, any thread may call, one at a time for each guard.
 #ifndef DDSCHECK_HPP
 #define DDSCHECK_HPP
 
@@ -11,7 +11,41 @@
 #include <string_view>
 #include <utility>
 
+#ifdef DDSCHECK_EXCEPTIONS
+#include <stdexcept>
+#endif
+
 namespace ddscheck {
+
+#ifdef DDSCHECK_EXCEPTIONS
+// A status that isn't DDSCHECK_OK; its name is what what() gives.
+class Error : public std::runtime_error {
+public:
+    explicit Error(ddscheck_status status) : std::runtime_error(ddscheck_status_name(status)), status_(status) {}
+    [[nodiscard]] ddscheck_status status() const noexcept { return status_; }
+
+private:
+    ddscheck_status status_;
+};
+
+// Throws an Error for each status but DDSCHECK_OK.
+inline void require(ddscheck_status status)
+{
+    if (status != DDSCHECK_OK) {
+        throw Error(status);
+    }
+}
+
+// The number that a look-up found; an Error of DDSCHECK_UNKNOWN_NAME where there's none.
+template <typename Number>
+[[nodiscard]] Number require(std::optional<Number> found)
+{
+    if (!found) {
+        throw Error(DDSCHECK_UNKNOWN_NAME);
+    }
+    return *found;
+}
+#endif
 
 // The first byte of a text, and some byte of one without any: the library is never given NULL.
 inline const char *bytes_of(std::string_view text) noexcept { return text.data() == nullptr ? "" : text.data(); }
@@ -58,6 +92,11 @@ public:
         return ddscheck_open_guard(bytes_of(deployment), deployment.size(), bytes_of(application), application.size(), &guard_);
     }
     [[nodiscard]] ddscheck_status open_file(const char *path, const char *application) noexcept { return ddscheck_open_file(path, application, &guard_); }
+    // The same, and where the answer is DDSCHECK_FAULT the fault is told.
+    [[nodiscard]] ddscheck_status open_file(const char *path, const char *application, ddscheck_fault &fault) noexcept
+    {
+        return ddscheck_open_file_explained(path, application, &guard_, &fault);
+    }
 
     void close() noexcept { (void)ddscheck_close(&guard_); }
 
@@ -88,6 +127,7 @@ public:
 
     ddscheck_status take(size_t reader, size_t key) noexcept { return ddscheck_take(&guard_, reader, key); }
     [[nodiscard]] ddscheck_status write(size_t writer, size_t key) noexcept { return ddscheck_write(&guard_, writer, key); }
+    ddscheck_status undo_write(size_t writer, size_t key) noexcept { return ddscheck_undo_write(&guard_, writer, key); }
     [[nodiscard]] ddscheck_status may_write(size_t writer, size_t key) const noexcept { return ddscheck_may_write(&guard_, writer, key); }
     ddscheck_status fire(size_t rule) noexcept { return ddscheck_fire(&guard_, rule); }
 

@@ -124,9 +124,18 @@ static inline ddscheck_status ddscheck_dds_open(const char *path, const char *ap
 {
     char *bytes = NULL;
     size_t length = 0, at;
-    ddscheck_status status = ddscheck_read_file(path, &bytes, &length);
+    ddscheck_status status = DDSCHECK_NULL;
+    if (difference == NULL || (ends == NULL && count > 0)) {
+        return DDSCHECK_NULL;
+    }
     difference->end = difference->what = "";
     difference->of_file = difference->of_entity = 0;
+    for (at = 0; at < count; at++) {
+        if (ends[at].name == NULL || ends[at].end == NULL || ends[at].end->key_of == NULL) {
+            return DDSCHECK_NULL;
+        }
+    }
+    status = ddscheck_read_file(path, &bytes, &length);
     if (status == DDSCHECK_OK) {
         status = ddscheck_open(bytes, length, application, guard);
     }
@@ -142,10 +151,15 @@ static inline ddscheck_status ddscheck_dds_open(const char *path, const char *ap
     return status;
 }
 
-/* dds_take, and each sample with data that it gives is told to the guard, whose answer is in the reader's status. Answers what dds_take answers. */
+/* dds_take, and each sample with data that it gives is told to the guard, whose answer is in the reader's status. Answers what dds_take answers, and
+   DDS_RETCODE_BAD_PARAMETER where the reader is NULL. */
 static inline dds_return_t ddscheck_dds_take(ddscheck_dds_end *reader, void **samples, dds_sample_info_t *infos, size_t size, uint32_t most)
 {
-    dds_return_t taken = dds_take(reader->entity, samples, infos, size, most);
+    dds_return_t taken = DDS_RETCODE_BAD_PARAMETER;
+    if (reader == NULL) {
+        return taken;
+    }
+    taken = dds_take(reader->entity, samples, infos, size, most);
     reader->status = DDSCHECK_OK;
     for (dds_return_t at = 0; at < taken; at++) {
         if (infos[at].valid_data) {
@@ -157,14 +171,29 @@ static inline dds_return_t ddscheck_dds_take(ddscheck_dds_end *reader, void **sa
 }
 
 /* dds_write where the guard lets the sample be written, else DDS_RETCODE_PRECONDITION_NOT_MET, and nothing is written; the guard's answer is in the writer's
-   status. Where dds_write then fails, the permit stays used: the program writes one sample less than it might, and never one more. */
+   status. Where dds_write then fails, the permit stays used: the program writes one sample less than it might, and never one more, unless ddscheck_dds_undo_write
+   takes the write back. */
 static inline dds_return_t ddscheck_dds_write(ddscheck_dds_end *writer, const void *sample)
 {
+    if (writer == NULL || sample == NULL) {
+        return DDS_RETCODE_BAD_PARAMETER;
+    }
     writer->status = ddscheck_write(writer->guard, writer->number, writer->key_of(sample, writer->context));
     if (writer->status != DDSCHECK_OK) {
         return DDS_RETCODE_PRECONDITION_NOT_MET;
     }
     return dds_write(writer->entity, sample);
+}
+
+/* Takes back the last write of a sample, one that dds_write refused without writing it. A reader of the same process can make dds_write answer
+   DDS_RETCODE_TIMEOUT for a sample that others get: don't take that back. Answers what ddscheck_undo_write does, as the writer's status then is. */
+static inline ddscheck_status ddscheck_dds_undo_write(ddscheck_dds_end *writer, const void *sample)
+{
+    if (writer == NULL || sample == NULL) {
+        return DDSCHECK_NULL;
+    }
+    writer->status = ddscheck_undo_write(writer->guard, writer->number, writer->key_of(sample, writer->context));
+    return writer->status;
 }
 
 #ifdef __cplusplus

@@ -21,9 +21,13 @@ static inline ddscheck_status ddscheck_read_file(const char *path, char **bytes,
 {
     const size_t most = DDSCHECK_FILE_MOST;
     ddscheck_status status = DDSCHECK_OK;
-    FILE *file = fopen(path, "rb");
+    FILE *file = NULL;
+    if (path == NULL || bytes == NULL || length == NULL) {
+        return DDSCHECK_NULL;
+    }
     *bytes = NULL;
     *length = 0;
+    file = fopen(path, "rb");
     if (file == NULL) {
         return DDSCHECK_NO_FILE;
     }
@@ -54,6 +58,23 @@ static inline ddscheck_status ddscheck_open_file(const char *path, const char *a
     ddscheck_status status = ddscheck_read_file(path, &bytes, &length);
     if (status == DDSCHECK_OK) {
         status = ddscheck_open(bytes, length, application, guard);
+    }
+    free(bytes);
+    return status;
+}
+
+/* The same, and where the answer is DDSCHECK_FAULT the fault is told. */
+static inline ddscheck_status ddscheck_open_file_explained(const char *path, const char *application, ddscheck_guard *guard, ddscheck_fault *fault)
+{
+    char *bytes = NULL;
+    size_t length = 0;
+    ddscheck_status status = ddscheck_read_file(path, &bytes, &length);
+    if (fault != NULL) {
+        fault->number = 0;
+        fault->path[0] = '\0';
+    }
+    if (status == DDSCHECK_OK) {
+        status = ddscheck_open_explained(bytes, length, application, guard, fault);
     }
     free(bytes);
     return status;

@@ -312,9 +312,23 @@ def note_line(finding):
     return f"note: {finding['message']}\n" + "".join(f"  {term}\n" for term in terms)
 
 
+# what `lint` lists after the notes on rules
+LAST_NOTES = ("UnusedRow", "NeedlessBound", "NeedlessTotal", "Incompatible", "HeldUp", "LateReader")
+
+
+def rank_of(finding):
+    """Where a note stands. `lint` has them kind by kind; here the two kinds of watchers go by reader, and what is needless about a rule's pace comes after all else on rules."""
+    name, path = finding["name"], finding["place"]["path"]
+    if name in ("Watcher", "MayLose"):
+        return 0, int(re.match(r"readers\[(\d+)\]", path)[1])
+    if name == "PaceUnused" and path.startswith("rules"):
+        return 2, 0
+    return 3 if name in LAST_NOTES else 1, 0
+
+
 def note_lines(deployment, certificate):
     found = json.loads(shown.answer_of(["lint", deployment, certificate, "--format", "json"])[0])["findings"]
-    return "".join(note_line(one) for one in found if one["level"] == "note")
+    return "".join(note_line(one) for one in sorted(found, key=rank_of) if one["level"] == "note")
 
 
 def advice(status, *files):

@@ -45,7 +45,7 @@ LIBRARY_FILES = {
     f"usr/lib/{TRIPLET}/libddscheck.a": LIBRARIES / "libddscheck.a",
     f"usr/lib/{TRIPLET}/libddscheck-guard.a": LIBRARIES / "libddscheck-guard.a",
     "usr/share/cmake/ddscheck/DdscheckLibraries.cmake": ROOT / "cmake/DdscheckLibraries.cmake",
-    **{f"usr/include/{name}": ROOT / "include" / name for name in ("ddscheck.h", "ddscheck.hpp", "ddscheck_cyclone.h", "ddscheck_cyclone.hpp", "ddscheck_file.h")},
+    **{f"usr/include/{name}": ROOT / "include" / name for name in ("ddscheck.h", "ddscheck.hpp", "ddscheck_cyclone.h", "ddscheck_cyclone.hpp", "ddscheck_file.h", "ddscheck_place.h")},
 }
 CONFIGURED = {f"usr/lib/{TRIPLET}/pkgconfig/{name}.pc": f"include/{name}.pc" for name in ("ddscheck", "ddscheck-guard")}
 BRIDGE_FILES = {"usr/bin/ddscheck-capture", "usr/bin/ddscheck-run-on-cyclone"}

@@ -7,13 +7,13 @@ import json
 import re
 import shutil
 import sys
-from itertools import groupby, zip_longest
+from itertools import groupby, takewhile, zip_longest
 from pathlib import Path
 
 sys.dont_write_bytecode = True
 from harness import ROOT, Skipped, ddscheck, run  # noqa: E402
 from paged import rows_of  # noqa: E402
-from shown import lists_of  # noqa: E402
+from shown import POLICIES, lists_of  # noqa: E402
 
 SECTIONS = [
     "evidence",
@@ -88,7 +88,7 @@ class Answer:
         self.check = ddscheck("check", deployment, certificate, "--explain").out.splitlines()
         self.document = json.loads(ddscheck("check", deployment, certificate, "--format", "json").out)
         self.findings = json.loads(ddscheck("lint", deployment, certificate, "--format", "json").out)["findings"]
-        self.needs = json.loads(ddscheck("limits", deployment, "--seconds", "2", "--format", "json").out)["needs"]
+        self.needs = json.loads(ddscheck("limits", deployment, "--explain", "--seconds", "2", "--format", "json").out)["needs"]
         self.matches = ddscheck("match", deployment).out.splitlines()
         self.allowed = allow.split(",") if allow else []
 
@@ -425,6 +425,40 @@ def fault_of_mismatches(page, answer, reasons):
     return None if ("every writer matches every reader" in said) <= (not apart) else "that all match"
 
 
+def in_seconds(nanoseconds):
+    """So many nanoseconds in seconds, without zeros at the end."""
+    whole, part = divmod(nanoseconds, 10**9)
+    return f"{whole}.{part:09}".rstrip("0").removesuffix(".") + " s"
+
+
+def listed(names):
+    """Up to twelve names, and how many more there are."""
+    more = f" and {len(names) - 12:,} more" if len(names) > 12 else ""
+    return ", ".join(name or '""' for name in names[:12]) + more
+
+
+def more_owed(end, answer):
+    """What an endpoint has besides the policies of the columns; a policy only where it isn't DDS's default."""
+    found = [f"partitions {listed(end['partitions'])}"] if end["partitions"] else []
+    keys = next(topic["keys"] for topic in answer.lists["topics"] if topic["name"] == end["topic"])
+    if set(end.get("filter", keys)) != set(keys):
+        found.append(f"filter {listed(end['filter'])}")
+    found += ["may_lose"] if end.get("may_lose") else []
+    found += [f"{span} {in_seconds(end[span])}" for span in ("taken_within", "available_within") if span in end]
+    for policy, default in POLICIES:
+        if policy in IN_COLUMNS or end[policy] == default:
+            continue
+        value = end[policy]
+        is_time = policy in ("deadline", "latency_budget", "lease") and isinstance(value, int)
+        found.append(policy if value is True else f"{policy} {in_seconds(value) if is_time else value}")
+    return "; ".join(sorted(found)) or "–"
+
+
+# what stands in columns of its own, or beside the endpoints
+LIMITS = ("depth", "max_samples", "max_instances", "max_samples_per_instance")
+IN_COLUMNS = ("reliability", "durability", "history", "partitions", *LIMITS)
+
+
 def fault_of_endpoints(page, answer):
     """What is wrong with the endpoints: each has its policies as `show` prints them, and as many matches as `match`."""
     table = next(iter(page.by_id("endpoints").of_class("ends")), None)
@@ -440,9 +474,158 @@ def fault_of_endpoints(page, answer):
             side = ("writer", "reader").index(kind)
             if policies != owed or matched != str(sum(pair[side] == end["name"] for pair in matches)):
                 return f"{end['name']}: {policies} {more} {matched}"
-            if ("partitions " in more, "may_lose" in more) != (bool(end["partitions"]), bool(end.get("may_lose"))):
-                return f"{end['name']}: {more}"
+            more = "; ".join(sorted(more.split("; ")))
+            if more != more_owed(end, answer):
+                return f"{end['name']}: {more}, not {more_owed(end, answer)}"
     return f"{list(found)} are no endpoints" if found else None
+
+
+# What stands beside the numbers
+
+
+def bar_owed(bound, most):
+    """How long a bar is, in parts of 100, and its colour. What has no number or is beyond its limit fills it."""
+    if not isinstance(bound, int) or bound > most:
+        return 100, "bar beyond"
+    return max(2, min(100, 100 * bound / most)), "bar full" if bound == most else "bar roomy"
+
+
+def fault_of_bars(page, answer):
+    """What is wrong with the bars: each is as long as the part of the limit that the bound takes, in its colour."""
+    bounds = answer.bounds()
+    for table in page.by_id("room").of_class("room"):
+        for row in [row for body in table.all("tbody") for row in body.all("tr")]:
+            end, keys, _, told, *_ = [cell.words for cell in row.all("th", "td")]
+            name, kind = end.split(" ")[0], " writer of " in end
+            key = keys_in(keys, name, answer)[0]
+            length, colour = bar_owed(bounds[kind, name, key], answer.limit(name, key)[1])
+            (bar,), (shape,) = row.all("svg"), row.all("rect")
+            box = [bar.attributes[side] for side in ("viewbox", "preserveaspectratio", "aria-label", "class")]
+            if box != ["0 0 100 10", "none", told, colour] or set(shape.attributes) != {"width", "height"}:
+                return f"{end} {keys}: {box} {shape.attributes}"
+            if abs(float(shape.attributes["width"]) - length) > 0.5 or shape.attributes["height"] != "10":
+                return f"{end} {keys}: a bar of {shape.attributes['width']}, not {length}"
+    return None
+
+
+def fault_of_least(page, answer):
+    """What is wrong with the least bounds: each is that of `limits`, and a sentence says where its search was cut."""
+    needs = {}
+    for need in answer.needs:
+        end = need["subject"].get("reader") or need["subject"]["writer"]
+        needs["writer" in need["subject"], end, need["subject"].get("key")] = str(need["bound"])
+    for table in page.by_id("room").all("table"):
+        heads = [cell.words for head in table.all("thead") for cell in head.all("th")]
+        for end, keys, *cells in rows_of(table) if "Least bound" in heads else []:
+            name, kind = end.split(" ")[0], " writer of " in end
+            shown = cells[heads.index("Least bound") - 2].removesuffix(", above the limit").replace(",", "")
+            found = {needs.get((kind, name, key), "–") for key in keys_in(keys, name, answer)}
+            if found != {shown}:
+                return f"{end} {keys}: the least is {shown}, not {found}"
+    is_said = "some are unknown; --seconds gives it more time." in page.by_id("room").words
+    return None if is_said == ("unknown" in needs.values()) else "whether the search was cut off"
+
+
+def reasons_owed(answer):
+    """The lines of `check --explain` about bounds."""
+    before = takewhile(lambda line: not line.startswith(("premise ", "note: ")), answer.check)
+    return [line for line in before if not line.startswith(("yes", "bound ", "total "))] if answer.is_yes else []
+
+
+def fault_of_reasons(page, answer):
+    """What is wrong with the reasons of bounds: all those of `check`, and of each reader without a limit its own."""
+    owed = reasons_owed(answer)
+    shown = [line for pre in page.by_id("room").all("pre") for line in pre.text.strip().splitlines()]
+    if shown != (owed if len(owed) <= 200 else []):
+        return f"reasons {[pair for pair in zip_longest(shown, owed) if pair[0] != pair[1]][:2]}"
+    lines = owed + [need["because"].split("\n")[0] for need in answer.needs]
+    for table in page.by_id("room").all("table"):
+        if not next(table.all("caption")).words.startswith("Strict readers without"):
+            continue
+        for end, keys, certified, least, why in rows_of(table):
+            name = end.split(" ")[0]
+            key = keys_in(keys, name, answer)[0]
+            number = (least if certified == "–" else certified).replace(",", "")
+            begin = " ".join(filter(None, ["because", name, key]))
+            own = [line for line in lines if line.startswith(f"{begin} ") and line.endswith(f": {why}")]
+            is_own = not number.isdigit() or any(line.startswith(f"{begin} {number} of no limit") for line in own)
+            if not why or not is_own:
+                return f"{end} {keys}: because {why}"
+    return None
+
+
+def fault_of_watchers(page, answer):
+    """What is wrong with the watchers: why each one is one, what it keeps, and the bounds that there are."""
+    tables = [table for table in page.by_id("room").all("table") if "Watchers" in next(table.all("caption")).words]
+    rows = {row[0]: row[1:] for table in tables for row in rows_of(table)}
+    bounds = {}
+    for need in answer.needs:
+        bounds[need["subject"].get("reader"), need["subject"].get("key")] = need["bound"]
+    for entry in answer.document["bounds"] + answer.document["totals"] if answer.is_yes else []:
+        bounds[entry["reader"], entry.get("key")] = entry["bound"]
+    for reader in answer.lists["readers"]:
+        if reader["name"] in answer.watchers():
+            topic, why, history, held = rows[reader["name"]]
+            owed = "may_lose = true" if reader.get("may_lose") else "reliability BEST_EFFORT"
+            depth = f", depth {reader['depth']:,}" if reader["history"] == "KEEP_LAST" else ""
+            if (topic, why, history) != (reader["topic"], owed, reader["history"] + depth):
+                return f"{reader['name']}: {topic} {why} {history}"
+            entries = [entry.rpartition(": ") for entry in held.split("; ")] if held != "none" else []
+            found = {
+                (key, number.replace(",", ""))
+                for keys, _, number in entries
+                for key in keys_in(keys, reader["name"], answer)
+            }
+            if found != {(key, str(bound)) for (end, key), bound in bounds.items() if end == reader["name"]}:
+                return f"{reader['name']}: {held}"
+    return None
+
+
+def fault_of_unheard(page, answer):
+    """What is wrong with the sentence about strict readers that no sample can come to."""
+    heard = {need["subject"].get("reader") for need in answer.needs}
+    if answer.is_yes:
+        heard |= {entry["reader"] for entry in answer.document["bounds"] + answer.document["totals"]}
+    names = [reader["name"] for reader in answer.lists["readers"]]
+    unheard = [name for name in names if name not in heard and name not in answer.watchers()]
+    said = [p.words for p in page.by_id("room").all("p") if p.words.startswith("No sample can come to ")]
+    owed = [f"No sample can come to {', '.join(unheard)}."] if unheard else []
+    return None if said == owed else f"{said}, not {owed}"
+
+
+def fault_of_meanings(page, answer):
+    """What is wrong with the words beside the notes: what each kind means, by docs/numbers.md, and its help."""
+    numbers = (ROOT / "docs/numbers.md").read_text(encoding="utf-8")
+    groups = {next(group.all("h3")).words: group for group in page.by_id("notes").of_class("kind")}
+    for finding in answer.findings:
+        group = groups[finding["name"]]
+        below = re.search(rf"^### {finding['name']}\n\n((?:.+\n)+)", numbers, re.MULTILINE)
+        means = plain(below[1]).partition(". ")[0].removesuffix(".") if below else ""
+        if means not in "".join(node.words for node in group.of_class("meaning")):
+            return f"{finding['name']} doesn't mean {means}"
+        first = next(one for one in answer.findings if alike(one, answer.allowed) == alike(finding, answer.allowed))
+        said = " ".join(cell.words for body in group.all("tbody") for cell in body.all("td"))
+        if first["explanation"]["help"] and plain(first["explanation"]["help"]) not in said:
+            return f"{finding['name']}: without its help, {first['explanation']['help']}"
+    return None
+
+
+def fault_of_frame(page, answer):
+    """What is wrong around the parts: the title, the colour of the verdict, what may be loaded, and where to sign."""
+    said = "Yes" if answer.is_yes else "No"
+    file = next(path for path, role in answer.roles.items() if role == "deployment").rpartition("/")[2]
+    if next(page.all("title")).words != f"{said}: are the limits in {file} high enough?":
+        return next(page.all("title")).words
+    if next(page.all("h1")).words != f"Are the limits in {file} high enough?":
+        return next(page.all("h1")).words
+    banner = page.of_class("verdict")[0]
+    if banner.attributes["class"] != f"verdict {said.lower()}" or banner.of_class("word")[0].words != said:
+        return f"a verdict {banner.attributes['class']}"
+    policies = [meta.attributes.get("content") for meta in page.all("meta") if "http-equiv" in meta.attributes]
+    if policies != ["default-src 'none'; style-src 'unsafe-inline'"]:
+        return f"policies {policies}"
+    signed = [entry.words for entry in next(page.all("footer")).all("li")]
+    return None if signed == ["Reviewed by", "Role", "Date", "Signature"] else f"signature {signed}"
 
 
 # Runs and files
@@ -476,5 +659,8 @@ def fault_of_evidence(page, files, program):
     sources = next((stamp[0] for stamp in lines if stamp[1] == own), None)
     if found["Program"] != f"{ddscheck('--version').out.strip()} SHA-256 {own}":
         return found["Program"]
+    toolchain = next((stamp[2] for stamp in lines if stamp[1] == own and stamp[2:] not in ([], ["released"])), None)
+    if found.get("Toolchain that proved them") != toolchain:
+        return f"toolchain {found.get('Toolchain that proved them')}, not {toolchain}"
     said = found["Checksum of its sources"]
     return None if said == sources or not sources and said.startswith("not known") else f"sources {said}, not {sources}"

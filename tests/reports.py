@@ -5,8 +5,8 @@
                              # traces; hostile and faulty use; sizes; colours; a browser
   tests/reports.py --write   # makes examples/vehicle/report.html anew
 
-tests/reported.py says what a page owes of the program's answers, tests/worded.py what of the documents' words, and
-tests/paged.py parses it by Python's parser. What needs `tidy`, `dot`, `chromium` or `pdfinfo` counts as skipped where
+tests/reported.py says what a page owes of the program's answers, tests/worded.py what of the documents' words;
+tests/paged.py parses it by Python's parser, and tests/rendered.py measures how Chromium shows it. What needs `tidy`, `dot`, `chromium` or `pdfinfo` counts as skipped where
 that isn't installed. The last line is 'N passed, M failed'; the status is 1 if one failed.
 """
 import os
@@ -26,21 +26,29 @@ from harness import PROGRAM, ROOT, Tally, ddscheck, need_program, run, side_by_s
 from paged import read_page, rows_of  # noqa: E402
 from reported import (  # noqa: E402
     Answer,
+    fault_of_bars,
     fault_of_bounds,
     fault_of_endpoints,
     fault_of_evidence,
     fault_of_form,
+    fault_of_frame,
+    fault_of_least,
     fault_of_matches,
+    fault_of_meanings,
     fault_of_notes,
     fault_of_order,
+    fault_of_reasons,
     fault_of_room,
     fault_of_steps,
     fault_of_terms,
     fault_of_tidy,
+    fault_of_unheard,
     fault_of_unlimited,
     fault_of_verdict,
+    fault_of_watchers,
     state_owed,
 )
+from rendered import fault_of_rendering, measure  # noqa: E402
 from shown import lists_of  # noqa: E402
 from worded import (  # noqa: E402
     fault_of_premises,
@@ -55,9 +63,9 @@ ENVIRONMENT = os.environ | {"DDSCHECK": str(PROGRAM)}
 EXAMPLE, EXAMPLE_OF = ROOT / "examples/vehicle/report.html", "examples/vehicle/vehicle"
 DATE = "2026-11-30"
 DATA = commands.DATA
-# what a page of the largest files may take: bytes, and seconds of a processor for the tool and all that it runs, twice
-# what the dearest took on a busy machine; and how many pages of paper the vehicle may
-MOST_BYTES, MOST_SECONDS, MOST_PAGES = 5_000_000, 20, 8
+# what a page of the largest files may take: bytes, and seconds of a processor for the tool and all that it runs; how
+# often it's measured at most, as other processes slow a processor down; and how many pages of paper the vehicle may
+MOST_BYTES, MOST_SECONDS, MOST_TRIES, MOST_PAGES = 5_000_000, 5, 3, 8
 
 
 def report(*words, **how):
@@ -110,11 +118,18 @@ def compare_page(tally, what, answer, text, optional=()):
     tally.judge(f"{what}: form", fault_of_form, page)
     tally.judge(f"{what}: order", fault_of_order, page, [*optional, *([] if answer.is_yes else ["reason"])])
     for judge in (
+        fault_of_frame,
         fault_of_verdict,
         fault_of_bounds,
+        fault_of_bars,
+        fault_of_least,
         fault_of_room,
+        fault_of_reasons,
         fault_of_unlimited,
+        fault_of_unheard,
+        fault_of_watchers,
         fault_of_notes,
+        fault_of_meanings,
         fault_of_terms,
         fault_of_matches,
         fault_of_endpoints,
@@ -223,6 +238,17 @@ def matches(tally, room):
         else:
             is_said = "and 10 more pairs, which ddscheck match prints" in shown.words and ": 15 pairs." in shown.words
         tally.check(is_said, f"who matches: {name}, in a sentence", shown.words[:200])
+
+
+def unheard(tally, room):
+    """Strict readers that no sample can come to, since the file has no rules."""
+    text = matching({"w": '["a"]'}, {"r": '["a"]'}, [("w", "r")]).replace("may_lose = true", 'reliability = "RELIABLE"')
+    deployment, certificate = room / "unheard.toml", room / "unheard.cert.toml"
+    deployment.write_text(text, encoding="utf-8")
+    certificate.write_text("version = 1\n", encoding="utf-8")
+    page, _ = page_of(deployment, certificate)
+    said = page.by_id("room").words
+    tally.check("No sample can come to r. " in said, "strict readers that hear nothing", said)
 
 
 # what the run of each `unsafe.toml` loses, by the limits in the file and the first line of the run
@@ -433,6 +459,98 @@ def traces(tally, room):
     rows = [rows_of(table) for table in page_of(*paced, "--trace", room / "paced")[0].by_id("trace").all("table")]
     owed = [[["w", "k", "2", "0.01 s", "publish: every 0.01 s, jitter 0 s"]], [["r", "k", "1", "0.09 s", "0.099 s"]]]
     tally.check(rows == owed, "times beside the file's", rows)
+    clocks(tally, room)
+    several_paces(tally, room)
+
+
+# traces by the clock of 100 Hz, whose reader takes each sample within 95 ms, by docs/commands/conform.md
+ELEVEN = "@0 aw write w k\n" * 10 + "@10000000 ar take r k\n" * 10 + "@95000000 aw write w k\n"
+CLOCKS = [
+    ("in time", "@0 aw write w k\n@95000000 ar take r k\n", "Kept. The trace keeps the rules", "too: for each strict"),
+    (
+        "a write too soon",
+        ELEVEN,
+        "Not kept. In line 21 the write of k at w comes 0.000000001 s too soon for taken_within of r",
+        "Before that line all is kept.",
+    ),
+    (
+        "a sample too late",
+        "@0 aw write w k\n@95000001 ar take r k\n",
+        "Not kept. At line 2 a sample of k, that line 1 wrote, still waits at r, 0.000000001 s longer than "
+        "taken_within allows.",
+        "Before that line all is kept.",
+    ),
+    ("without clocks", "0.1 aw write w k\n9.5 ar take r k\n", "Kept. The trace keeps the rules", "nothing of clocks: its"),
+]
+
+
+def clocks(tally, room):
+    """Traces whose times are nanoseconds of one clock. That a trace breaks a premise stands beside a yes."""
+    paced = [DATA / "paces/taken_within_95_ms.toml", DATA / "paces/ten.cert.toml"]
+    for name, text, begin, more in CLOCKS:
+        (room / "clock").write_text(text, encoding="utf-8")
+        is_kept = begin.startswith("Kept")
+        page, whole = page_of(*paced, "--trace", room / "clock", status=0 if is_kept else 1)
+        said = page.by_id("trace").of_class("lead")[0].words
+        tally.check(said.startswith(begin) and more in said, f"a trace by the clock: {name}", said)
+        banner = page.of_class("verdict")[0].words
+        is_said = "But the recorded trace breaks a premise." in banner
+        tally.check(is_said != is_kept, f"a trace by the clock: {name}, beside the verdict", banner)
+        compare_page(tally, f"a trace by the clock: {name}", Answer(*paced), whole, ["trace"])
+
+
+# two rules with paces that write a key each of one writer, and traces whose writes and takes have several distances
+TWO_RULES = """version = 4
+participants = [{ name = "p", domain = 0 }]
+topics = [{ name = "t", type = "T", keys = ["a", "b"] }]
+writers = [{ name = "w", participant = "p", topic = "t", history = "KEEP_ALL" }]
+applications = [{ name = "at", participant = "p", writers = ["w"], readers = ["r"] }]
+connections = [{ writer = "w", reader = "r" }]
+
+[[readers]]
+name = "r"
+participant = "p"
+topic = "t"
+reliability = "RELIABLE"
+history = "KEEP_ALL"
+taken_within = 2_000_000_000
+
+[[rules]]
+name = "slow"
+application = "at"
+writes = [{ writer = "w", key = "a", count = 1 }]
+start = "unlimited"
+period = 1_000_000_000
+
+[[rules]]
+name = "fast"
+application = "at"
+writes = [{ writer = "w", key = "b", count = 1 }]
+start = "unlimited"
+period = 250_000_000
+jitter = 5_000_000
+"""
+SEVERAL = [
+    ("@0 at write w a", "@0 at write w b", "@250000000 at write w b", "@600000000 at write w b"),
+    ("@700000000 at take r b", "@800000000 at take r b", "@900000000 at take r b", "@1000000000 at write w a"),
+    ("@1500000000 at take r a", "@2500000000 at write w a", "@2600000000 at take r a", "@2700000000 at take r a"),
+]
+
+
+def several_paces(tally, room):
+    """Measured paces and ages stand beside the rule that writes the key, worked out by hand."""
+    deployment, certificate, trace = (room / name for name in ("two.toml", "two.cert.toml", "two.trace"))
+    deployment.write_text(TWO_RULES, encoding="utf-8")
+    certificate.write_text("version = 1\n", encoding="utf-8")
+    trace.write_text("".join(f"{line}\n" for lines in SEVERAL for line in lines), encoding="utf-8")
+    page, _ = page_of(deployment, certificate, "--trace", trace)
+    rows = [rows_of(table) for table in page.by_id("trace").all("table")]
+    slow, fast = "slow: every 1 s, jitter 0 s", "fast: every 0.25 s, jitter 0.005 s"
+    writes = [["w", "a", "3", "1 s", slow], ["w", "b", "3", "0.25 s", fast]]
+    takes = [["r", "b", "3", "0.7 s", "2 s"], ["r", "a", "3", "1.6 s", "2 s"]]
+    tally.check(rows == [writes, takes], "measured paces beside their rules", rows)
+    said = page.by_id("trace").words
+    tally.check("6 writes and 6 takes." in said, "how much a trace has", said[:200])
 
 
 def evidence(tally, room):
@@ -441,6 +559,11 @@ def evidence(tally, room):
     page, _ = page_of(*ping.values(), "--date", DATE)
     tally.judge("checksums", fault_of_evidence, page, ping, PROGRAM)
     tally.check(f"{DATE} (as given by --date)" in page.by_id("evidence").words, "a date that is given")
+    more = {"Events of the run": room / "run.events", "Trace": room / "a.trace"}
+    more["Events of the run"].write_text("write ping_w k\n", encoding="utf-8")
+    more["Trace"].write_text(TRACE, encoding="utf-8")
+    page, _ = page_of(*ping.values(), "--run", more["Events of the run"], "--trace", more["Trace"])
+    tally.judge("checksums of a run and a trace", fault_of_evidence, page, ping | more, PROGRAM)
     other = room / "another program"
     other.write_bytes(PROGRAM.read_bytes() + b"\0")
     other.chmod(0o755)
@@ -791,6 +914,18 @@ def busy_seconds():
     return used.ru_utime + used.ru_stime
 
 
+def soonest(*words):
+    """A report, and how long it kept a processor busy: the least of up to three times, the last one that's enough."""
+    least = float("inf")
+    for _ in range(MOST_TRIES):
+        begun = busy_seconds()
+        given = report(*words)
+        least = min(least, busy_seconds() - begun)
+        if least <= MOST_SECONDS:
+            break
+    return given, least
+
+
 def sizes(tally, room):
     """The largest deployments: their pages are small and soon made, and have the same parts."""
     for name, deployment, certificate in [
@@ -801,9 +936,7 @@ def sizes(tally, room):
     ]:
         (room / "large.toml").write_text(deployment, encoding="utf-8")
         (room / "large.cert.toml").write_text(certificate, encoding="utf-8")
-        begun = busy_seconds()
-        given = report(room / "large.toml", room / "large.cert.toml", "--seconds", "1")
-        seconds = busy_seconds() - begun
+        given, seconds = soonest(room / "large.toml", room / "large.cert.toml", "--seconds", "1")
         is_small = len(given.out.encode()) <= MOST_BYTES and seconds <= MOST_SECONDS
         tally.check(
             given.status in (0, 1) and is_small,
@@ -862,7 +995,7 @@ def contrast(tally):
 def browse(tally, room):
     """Chromium shows the page as wide as the window, keeps its parts, and prints few pages."""
     if shutil.which("chromium") is None:
-        tally.skip("chromium, which renders pages, isn't installed", 4)
+        tally.skip("chromium, which renders pages, isn't installed", 16)
         return
     text = example()
     (room / "page.html").write_text(text, encoding="utf-8")
@@ -883,7 +1016,29 @@ def browse(tally, room):
     shown, owed = (read_page(page) for page in (given.out, text))
     same = [[node.words for node in page.all("h1", "h2", "h3", "td", "th", "li")] for page in (shown, owed)]
     tally.check(same[0] == same[1], "the browser has the same texts", len(same[0]))
+    render(tally, room, text)
     print_pages(tally, room, words, text)
+
+
+def render(tally, room, text):
+    """On a screen and on a phone, in light and in the dark, each text is to be read: a yes, a no with a run, a trace."""
+    unsafe, events = ROOT / "examples/vehicle/unsafe.toml", room / "unsafe.events"
+    events.write_text(ddscheck("refute", unsafe).out, encoding="utf-8")
+    (room / "clock").write_text(CLOCKS[2][1], encoding="utf-8")
+    paced = [DATA / "paces/taken_within_95_ms.toml", DATA / "paces/ten.cert.toml", "--trace", room / "clock"]
+    texts = {
+        "a yes": text,
+        "a no": page_of(unsafe, f"{ROOT}/{EXAMPLE_OF}.cert.toml", "--run", events, status=1)[1],
+        "a trace": page_of(*paced, status=1)[1],
+    }
+    pages = []
+    for name, shown in texts.items():
+        (room / f"{name}.html").write_text(shown, encoding="utf-8")
+        pages += [(room / f"{name}.html", width) for width in (1100, 390)]
+    for is_dark in (False, True):
+        for (path, width), found in zip_longest(pages, measure(room, pages, is_dark)):
+            what = f"{path.stem} {width} wide, {'dark' if is_dark else 'light'}"
+            tally.judge(f"rendered: {what}", fault_of_rendering, found, is_dark)
 
 
 def print_pages(tally, room, words, text):
@@ -952,6 +1107,7 @@ def main(words):
         tally.attempt(part.__name__, part, tally)
     for part in (
         matches,
+        unheard,
         pictures,
         runs,
         sentences,

@@ -158,7 +158,10 @@ def fault_of_words(page):
     other = [entry for entry in entries if entry not in told]
     said = " ".join(entries)
     asked = ("Certificate:", "weights", "Row:", "Opening:", "Budget:", "firing:", "Permit:", "Watcher:", "Cap:", "Lag:")
+    asked += ("Key", "Rule", "Take", "Strict reader", "Lose", "Bound", "Pace")
     missing = [word for word in asked if word not in said]
+    begun = [re.match(r"[\w ]*", entry)[0] for entry in entries]
+    missing += [word for word in asked if word[0].isupper() and not any(word.rstrip(":") in term for term in begun)]
     return f"{other} {missing}" if other or missing or list(page.by_id("words").all("a")) else None
 
 

@@ -8,9 +8,8 @@ import shutil
 import subprocess
 from collections import Counter, defaultdict
 from concurrent.futures import ThreadPoolExecutor
-from pathlib import Path
 
-from testing import CHECK, EXAMPLES, OUT, PROGRAM, Skip, answer, make, shown
+from testing import CHECK, EXAMPLES, PROGRAM, Skip, answer, shown
 
 LOSSES = (0, 10, 30)
 WRITES = 300
@@ -231,29 +230,6 @@ def planned(room):
     path.write_text(json.dumps(lists))
     free = Run(room, path, "unplanned", ("base", "plans"), ["--writes", "60", "--takes", "60", "--idle", "100", "--seconds", "30"])
     yield "paced: a rule with takes and no pace", [] if not keeps(free.times("write", "plan_w"), 30_000_000, 1_000_000, 2) and "plan" not in free.premises else free.lines
-
-
-# ── the same on Fast DDS
-
-FAST, FAST_PACKAGE = OUT / "fast-paced", Path("/usr/include/fastrtps/fastrtps_all.h")
-TOLD = re.compile(r"(\d+) taken, after at most ([\d.]+) ms, (\d+) of them late, and (\d+) never; a packet came after at most ([\d.]+) ms: (kept|broken)\n")
-
-
-def fast(room, runs):
-    if not FAST_PACKAGE.exists():
-        yield "fast: a clock", Skip("needs Debian's libfastrtps-dev")
-        return
-    make("fast")
-    # 190 ms are too many for a depth of 10, whether the premise is kept or not
-    for what, words, is_kept in (("a clock", (300, 0, 3000, 995, 100), True), ("taken too late for its depth", (300, 0, 3000, 190, 10), False),
-                                 ("lost packets", (300, 30, 100, 95, 10), False)):
-        done = subprocess.run([*(URGENT if may_be_urgent() else []), str(FAST), "89", *map(str, words)], stdin=subprocess.DEVNULL, capture_output=True, text=True, timeout=120)
-        told = TOLD.fullmatch(done.stdout)
-        is_well = told and done.returncode == (told[6] == "broken") and (told[6] == "kept") == is_kept and (int(told[4]) > 0) == (not is_kept)
-        yield f"fast: {what}", [] if is_well and int(told[1]) + int(told[4]) == 300 else [str(done)]
-    for words in ([], ["89"] * 5, ["89", "0", "0", "1", "1", "1"], ["231", "1", "0", "1", "1", "1"], ["89", "1x", "0", "1", "1", "1"], ["89", "1", "91", "1", "1", "1"]):
-        done = subprocess.run([str(FAST), *words], stdin=subprocess.DEVNULL, capture_output=True, text=True, timeout=120)
-        yield f"fast: {' '.join(words)}", [] if done.returncode == 4 and not done.stdout and done.stderr.count("\n") == 1 else [str(done)]
 
 
 # ── how late a sample may be taken

@@ -11,8 +11,9 @@ import tomllib
 
 from announcing import Announcing, Participant
 from capturing import OTHERS, capture, end, heard, legal, listening, run
-from pacing import FAST, FAST_PACKAGE, URGENT, may_be_urgent
-from testing import CHECK, EXAMPLES, HERE, PROGRAM, SHOW, Skip, answer, make, shown
+from fast import PACKAGE
+from pacing import URGENT, may_be_urgent
+from testing import CHECK, EXAMPLES, HERE, OUT, PROGRAM, SHOW, Skip, answer, make, shown
 
 DOMAIN = 6
 SEEN = re.compile(r"# seen in ([\d.]+) s: (\d+) samples?, (\d+) more didn't come(?:; ([\d.]+) ms apart in the mean, ([\d.]+) ms at least, by (.*))?")
@@ -84,10 +85,10 @@ def watch(room, runs):
 
 def beside_fast():
     """A writer of another vendor at 100 Hz."""
-    if not FAST_PACKAGE.exists():
+    if not PACKAGE.exists():
         return Skip("needs Debian's libfastrtps-dev")
     make("fast")
-    words = [*(URGENT if may_be_urgent() else []), str(FAST), str(DOMAIN), "2000", "0", "3000", "500", "100"]
+    words = [*(URGENT if may_be_urgent() else []), str(OUT / "fast-paced"), str(DOMAIN), "2000", "0", "3000", "500", "100"]
     started = subprocess.Popen(words, stdin=subprocess.DEVNULL, stdout=subprocess.DEVNULL)
     text, said, status = capture("--domain", DOMAIN, "--seconds", 4, "--watch", 4, "--assume", "fastdds", CYCLONEDDS_URI=OTHERS)
     end(started)

@@ -1,7 +1,7 @@
 /*
  * Makes the calls that standard input lists, a line each, and prints what they answer, a line each:
  *
- *     open FILE APPLICATION | close | take R K | write W K | may W K | fire U | permits W K | spare R K
+ *     open FILE APPLICATION | close | take R K | write W K | undo W K | may W K | fire U | permits W K | spare R K
  *     writer NAME | reader NAME | rule NAME | key TOPIC NAME
  *
  * A line that tells a number has it behind the status. Status: 0 all lines were calls, 2 one was not.
@@ -46,6 +46,8 @@ static int count(const char *word, size_t first, size_t second)
         printf("%d\n", (int)ddscheck_take(&guard, first, second));
     } else if (strcmp(word, "write") == 0) {
         printf("%d\n", (int)ddscheck_write(&guard, first, second));
+    } else if (strcmp(word, "undo") == 0) {
+        printf("%d\n", (int)ddscheck_undo_write(&guard, first, second));
     } else if (strcmp(word, "may") == 0) {
         printf("%d\n", (int)ddscheck_may_write(&guard, first, second));
     } else if (strcmp(word, "fire") == 0) {

@@ -5,6 +5,7 @@ import random
 from dataclasses import dataclass, field
 
 OK, FAULT, NO_MEMORY, UNKNOWN_NAME, NOT_OPEN, ALREADY_OPEN, FOREIGN, NO_PERMIT, NOT_ENOUGH = range(9)
+NOT_WRITTEN = 13
 
 
 @dataclass
@@ -95,6 +96,7 @@ class Ledger:
     def __init__(self, lists, app):
         self.lists, self.app = lists, app
         self.permits, self.spare = {}, {}
+        self.last = None
         for rule in lists.rules:
             self.give(rule, rule.start)
 
@@ -151,7 +153,19 @@ class Ledger:
             if rule is not None:
                 self.spend(rule)
             self.permits[w, k] -= 1
+            self.last = w, k
         return [status]
+
+    def undo(self, w, k):
+        if not self.owns_writer(w):
+            return [FOREIGN]
+        if self.way(w, k)[1] == "free":
+            return [OK]
+        if self.last != (w, k):
+            return [NOT_WRITTEN]
+        self.permits[w, k] += 1
+        self.last = None
+        return [OK]
 
     def permits_of(self, w, k):
         return [OK, self.permits.get((w, k), 0)] if self.owns_writer(w) else [FOREIGN]

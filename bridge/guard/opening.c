@@ -92,6 +92,30 @@ static void use(ddscheck_dds_end *writer, ddscheck_dds_end *reader, dds_entity_t
     printf("%d calls\n", *(int *)writer->context);
 }
 
+/* How many of the calls let NULL through. */
+static int count_wrong(const char *path, ddscheck_dds_end *end)
+{
+    ddscheck_guard guard = DDSCHECK_GUARD_CLOSED;
+    ddscheck_dds_difference difference;
+    ddscheck_dds_end keyless = DDSCHECK_DDS_END(0, NULL, NULL);
+    ddscheck_dds_name named = {"ping_w", end}, nameless = {NULL, end}, endless = {"ping_w", NULL}, without_keys = {"ping_w", &keyless};
+    ddscheck_Sample sample;
+    int wrong = ddscheck_dds_open(NULL, "a1", &guard, &named, 1, &difference) != DDSCHECK_NULL;
+    wrong += ddscheck_dds_open(path, NULL, &guard, &named, 1, &difference) != DDSCHECK_NULL;
+    wrong += ddscheck_dds_open(path, "a1", NULL, &named, 1, &difference) != DDSCHECK_NULL;
+    wrong += ddscheck_dds_open(path, "a1", &guard, NULL, 1, &difference) != DDSCHECK_NULL;
+    wrong += ddscheck_dds_open(path, "a1", &guard, &named, 1, NULL) != DDSCHECK_NULL;
+    wrong += ddscheck_dds_open(path, "a1", &guard, &nameless, 1, &difference) != DDSCHECK_NULL;
+    wrong += ddscheck_dds_open(path, "a1", &guard, &endless, 1, &difference) != DDSCHECK_NULL;
+    wrong += ddscheck_dds_open(path, "a1", &guard, &without_keys, 1, &difference) != DDSCHECK_NULL;
+    wrong += ddscheck_dds_take(NULL, NULL, NULL, 1, 1) != DDS_RETCODE_BAD_PARAMETER;
+    wrong += ddscheck_dds_write(NULL, &sample) != DDS_RETCODE_BAD_PARAMETER;
+    wrong += ddscheck_dds_write(end, NULL) != DDS_RETCODE_BAD_PARAMETER;
+    wrong += ddscheck_dds_undo_write(NULL, &sample) != DDSCHECK_NULL;
+    wrong += ddscheck_dds_undo_write(end, NULL) != DDSCHECK_NULL;
+    return wrong;
+}
+
 int main(int count, char **words)
 {
     ddscheck_qos of_writer = {0, 1, 1, 0, 0, 0, 0}, of_reader = {0, 1, 1, 0, 0, 0, 3};
@@ -115,7 +139,11 @@ int main(int count, char **words)
     if (writer.entity < 0 || reader.entity < 0) {
         return 3;
     }
+    int wrong = count_wrong(words[1], &writer);
     ddscheck_status status = ddscheck_dds_open(words[1], "a1", &guard, ends, 2, &difference);
+    if (wrong > 0) {
+        printf("%d calls took NULL\n", wrong);
+    }
     printf("%s", ddscheck_status_name(status));
     if (status == DDSCHECK_OTHER_QOS) {
         printf(" %s %s %u %u", difference.end, difference.what, (unsigned)difference.of_file, (unsigned)difference.of_entity);

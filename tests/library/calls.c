@@ -36,6 +36,11 @@ static void keep_rules(ddscheck_guard *guard)
     print("fire", ddscheck_fire(guard, 0));
     print("write", ddscheck_write(guard, writer, key));
     print("one too many", ddscheck_write(guard, writer, key));
+    print("undo", ddscheck_undo_write(guard, writer, key));
+    print("undo again", ddscheck_undo_write(guard, writer, key));
+    print("undo of another's", ddscheck_undo_write(guard, writer + 1, key));
+    print("write", ddscheck_write(guard, writer, key));
+    print("one too many", ddscheck_write(guard, writer, key));
 }
 
 static void print_qos(const char *what, ddscheck_status status, const ddscheck_qos *qos)
@@ -92,6 +97,7 @@ int main(int count, char **words)
     if (count != 3) {
         return 4;
     }
+    printf("%d\n", ddscheck_version() == DDSCHECK_VERSION_NUMBER);
     print("no file", ddscheck_open_file("/nowhere", "a1", &guard));
     print("no application", ddscheck_open_file(words[1], "a3", &guard));
     print("open", ddscheck_open_file(words[1], "a1", &guard));

@@ -1,4 +1,5 @@
-/* Prints the version of the header and the name of each status from -1 to COUNT, a line each; then, as other.c sees them, a status and a verdict and their sizes. */
+/* Prints the version of the header, as text and numbers, and the name of each status from -1 to COUNT, a line each; then, as other.c sees them, a status and a
+   verdict and their sizes. */
 #include "ddscheck.h"
 
 #include "other.h"
@@ -10,7 +11,7 @@ int main(int count, char **words)
 {
     struct told told = {DDSCHECK_OK, DDSCHECK_YES, 0, 0};
     int most = count == 2 ? atoi(words[1]) : 0, status;
-    printf("%s %d.%d.%d\n", DDSCHECK_VERSION, DDSCHECK_VERSION_MAJOR, DDSCHECK_VERSION_MINOR, DDSCHECK_VERSION_PATCH);
+    printf("%s %d.%d.%d %d\n", DDSCHECK_VERSION, DDSCHECK_VERSION_MAJOR, DDSCHECK_VERSION_MINOR, DDSCHECK_VERSION_PATCH, DDSCHECK_VERSION_NUMBER);
     for (status = -1; status <= most; status++) {
         printf("%d %s\n", status, ddscheck_status_name(status));
     }

@@ -68,6 +68,14 @@ static void *do_read_reader(void *given)
     return ddscheck_read_reader(work->deployment, work->deployment_length, 0, &qos) == work->opened ? given : NULL;
 }
 
+static void *do_read_fault(void *given)
+{
+    struct work *work = given;
+    ddscheck_fault fault;
+    ddscheck_status status = ddscheck_read_fault(work->deployment, work->deployment_length, &fault);
+    return status == DDSCHECK_FAULT || status == DDSCHECK_OK ? given : NULL;
+}
+
 static void *do_close(void *given)
 {
     struct work *work = given;
@@ -134,6 +142,7 @@ int main(int count, char **words)
     printf("calls %lu\n", (unsigned long)(measure(do_calls, &work) - nothing));
     printf("ddscheck_read_writer %lu\n", (unsigned long)(measure(do_read_writer, &work) - nothing));
     printf("ddscheck_read_reader %lu\n", (unsigned long)(measure(do_read_reader, &work) - nothing));
+    printf("ddscheck_read_fault %lu\n", (unsigned long)(measure(do_read_fault, &work) - nothing));
     printf("ddscheck_close %lu\n", (unsigned long)(measure(do_close, &work) - nothing));
     if (count == 4) {
         work.certificate = read_file(words[3], &work.certificate_length);

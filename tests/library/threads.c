@@ -1,6 +1,6 @@
 /*
- * A guard goes from thread to thread: threads DEPLOYMENT. It's opened on one, THREADS others with little stack take and write through it in turn, under one lock,
- * and another one closes it. Prints how many samples were taken and written, and the permits that are left. Status: 0, or 1 where a call didn't answer as it should.
+ * A guard goes from thread to thread: threads DEPLOYMENT STACK. It's opened on one, THREADS others with so many bytes of stack, at least the least that there can be,
+ * take and write through it in turn, under one lock, and another one closes it. Prints how many samples were taken and written, and the permits that are left. Status: 0, or 1 where a call didn't answer as it should.
  */
 #include "ddscheck_file.h"
 
@@ -20,7 +20,7 @@ static void *open_guard(void *path)
     return NULL;
 }
 
-/* Writes what it may, and takes a sample every second time. */
+/* Writes what it may, and takes a sample every second time. A third of the writes are taken back, as if DDS had refused them. */
 static void *use_guard(void *none)
 {
     int round;
@@ -30,7 +30,13 @@ static void *use_guard(void *none)
             wrong += ddscheck_take(&guard, 1, 0) != DDSCHECK_OK;
             taken++;
         }
-        written += ddscheck_write(&guard, 0, 0) == DDSCHECK_OK;
+        if (ddscheck_write(&guard, 0, 0) == DDSCHECK_OK) {
+            written++;
+            if (round % 3 == 0) {
+                wrong += ddscheck_undo_write(&guard, 0, 0) != DDSCHECK_OK;
+                written--;
+            }
+        }
         (void)pthread_mutex_unlock(&lock);
     }
     return none;
@@ -56,10 +62,12 @@ int main(int count, char **words)
     pthread_t threads[THREADS], other;
     pthread_attr_t small;
     int at;
-    if (count != 2) {
+    size_t stack, least = (size_t)PTHREAD_STACK_MIN;
+    if (count != 3) {
         return 4;
     }
-    if (pthread_attr_init(&small) != 0 || pthread_attr_setstacksize(&small, (size_t)PTHREAD_STACK_MIN) != 0) {
+    stack = (size_t)strtoul(words[2], NULL, 10);
+    if (pthread_attr_init(&small) != 0 || pthread_attr_setstacksize(&small, stack > least ? stack : least) != 0) {
         return 3;
     }
     run(open_guard, words[1], NULL, &other);

@@ -5,6 +5,7 @@ from .documents import meaning, sentence
 from .markup import facts, items, join, name, plural, quote, section, tag
 from .notes import counts_of
 from .promises import PROMISE, premises_in_short
+from .traces import is_kept
 
 # notes by which nothing is written, or nobody minds what is lost
 HOLLOW = ("NoRules", "NoStart", "NoStrictReader")
@@ -38,6 +39,16 @@ def notes_to_decide(answers):
     return tag("p", link, " to decide on before signing.") if opened else None
 
 
+def trace_to_explain(answers):
+    """That a recorded trace doesn't show what a yes rests on."""
+    if is_kept(answers):
+        return None
+    link = tag("a", "the recorded trace", href="#trace")
+    if answers.conform["answer"] == "unknown":
+        return tag("p", tag("strong", "But"), " whether ", link, " keeps the rules isn't known.")
+    return tag("p", tag("strong", "But"), " ", link, " breaks a premise.")
+
+
 def refusal(answers, loss):
     """Of a no first what a run loses, which is sure, and then the condition at which the certificate fails."""
     shown = (
@@ -50,6 +61,7 @@ def write_verdict(answers, loss):
     """The banner. `loss` has what a run loses at a strict reader, in words."""
     if answers.is_yes:
         but = [tag("p", tag("strong", "But "), quote(message), ".") for message in hollow_notes(answers)]
+        but.append(trace_to_explain(answers))
         said = [tag("p", "Yes", _class="word"), tag("div", tag("p", PROMISE), but, notes_to_decide(answers))]
     else:
         said = [tag("p", "No", _class="word"), refusal(answers, loss)]
@@ -76,15 +88,17 @@ def safe_in_short(answers, loss):
 def uncovered_in_short(answers, system):
     opened, allowed = counts_of(answers)
     watchers = len(system.watchers)
+    missed = tag("a", plural(watchers, "watcher"), href="#watchers")
     counted = [
-        f"what {plural(watchers, 'watcher')} miss{'es' * (watchers == 1)}" if watchers else None,
-        plural(opened, "open note") if opened else None,
-        plural(allowed, "allowed note") if allowed else None,
-        "whether samples arrive and how soon",
-        "restarts",
+        join("What ", missed, " miss" + "es" * (watchers == 1), ", ") if watchers else None,
+        tag("a", plural(opened, "open note"), href="#notes") if opened else None,
+        ", " if opened else None,
+        tag("a", plural(allowed, "allowed note"), href="#notes") if allowed else None,
+        ", " if allowed else None,
+        "whether" if watchers or opened or allowed else "Whether",
+        " samples arrive and how soon, restarts, and ",
     ]
-    said = ", ".join(filter(None, counted))
-    return join(said[0].upper() + said[1:], ", and ", tag("a", "more", href="#unchecked"), ".")
+    return join(counted, tag("a", "more", href="#unchecked"), ".")
 
 
 def write_answers(answers, system, room, loss):

@@ -267,15 +267,9 @@ def watcher_table(room):
                 held,
             )
         )
-    return (
-        table(
-            "Watchers: readers that may lose samples, so a yes says nothing of what they miss",
-            ["Reader", "Topic", "Why", "History", "Bounds"],
-            rows,
-        )
-        if rows
-        else None
-    )
+    told = "Readers that may lose samples, so a yes says nothing of what they miss."
+    heads = ["Reader", "Topic", "Why", "History", "Bounds"]
+    return join(tag("p", told), table("Watchers", heads, rows)) if rows else None
 
 
 def reasons_of(answers):

@@ -16,10 +16,13 @@ class Times:
         self.ordered = {reader for reader, count in heard.items() if count == 1} - set(system.watchers)
         self.writes, self.last, self.nearest, self.under_way = Counter(), {}, {}, {}
         self.takes, self.oldest = Counter(), {}
+        # whether its times are nanoseconds of one clock, by which `conform` tests paces and ages
+        self.has_clock = False
         for line in text.split("\n"):
             words = line.split(" ")
             if line and not line.startswith("#"):
-                (self.write if words[2] == "write" else self.take)(Decimal(words[0]), (words[3], words[4]))
+                self.has_clock = words[0].startswith("@")
+                (self.write if words[2] == "write" else self.take)(time_of(words[0]), (words[3], words[4]))
 
     def write(self, time, place):
         writer, key = place
@@ -37,6 +40,11 @@ class Times:
         if self.under_way.get(place):
             age = time - self.under_way[place].popleft()
             self.oldest[place] = max(self.oldest.get(place, age), age)
+
+
+def time_of(word):
+    """A time of a trace in seconds. After `@` stand nanoseconds."""
+    return Decimal(word[1:]) / 10**9 if word.startswith("@") else Decimal(word)
 
 
 def seconds(time):
@@ -81,30 +89,53 @@ def take_table(times, system):
     return table("Takes of the trace", ["Reader", "Key", ("Takes", "number"), *ages], rows) if rows else None
 
 
-def verdict_of(answer):
+RULES_KEPT = (
+    "The trace keeps the rules of the deployment: firings can be put between its lines so that each write has its "
+    "permit."
+)
+CLOCKS_KEPT = (
+    " It keeps the clocks of the file, too: for each strict reader with a taken_within, no write comes sooner than the "
+    "paces allow, and no sample waits longer than it may."
+)
+NO_CLOCK = " It says nothing of clocks: its times aren't nanoseconds of one clock, such as @1500000000."
+NO_SPAN = " It says nothing of clocks, since no strict reader of the file has a taken_within."
+
+
+def clocks_of(times, system):
+    """What a kept trace says of clocks."""
+    spans = [end for end, reader in system.readers.items() if "taken_within" in reader and end not in system.watchers]
+    return NO_SPAN if not spans else CLOCKS_KEPT if times.has_clock else NO_CLOCK
+
+
+def breach_of(answer):
+    """What the line that `conform` names breaks: a rule, a pace, or how long a sample may wait."""
+    key = name(answer["key"])
+    if "late" in answer:
+        wrote, reader = f"that line {answer['written']} wrote, still waits at ", name(answer["reader"])
+        by = f", {nanoseconds(answer['late'])} longer than {answer['span']} allows."
+        return join(f"At line {answer['line']} a sample of ", key, f", {wrote}", reader, by)
+    writer = name(answer["writer"])
+    if "early" in answer:
+        by = f" comes {nanoseconds(answer['early'])} too soon for {answer['span']} of "
+        allowed = ": within that span the paces allow fewer writes."
+        return join(f"In line {answer['line']} the write of ", key, " at ", writer, by, name(answer["reader"]), allowed)
+    return join(f"In line {answer['line']} there's no permit for ", writer, " ", key, ".")
+
+
+def verdict_of(answer, times, system):
     """What `conform` says, in its words."""
     if answer["answer"] == "yes":
-        return (
-            "kept",
-            "The trace keeps the rules of the deployment: firings can be put between its lines "
-            "so that each write has its permit.",
-        )
+        return "kept", RULES_KEPT + clocks_of(times, system)
     if "line" in answer:
-        return "not kept", join(
-            f"In line {answer['line']} there's no permit for ",
-            name(answer["writer"]),
-            " ",
-            name(answer["key"]),
-            ". Before it the rules are kept.",
-        )
+        return "not kept", join(breach_of(answer), " Before that line all is kept.")
     return "unknown", "Whether the trace keeps the rules isn't known: conform gave up before it knew."
 
 
 def lacking(answer):
     """What the rules lack that could give the permit."""
-    if "line" not in answer:
+    short = answer.get("short")
+    if short is None:
         return None
-    short = answer.get("short", [])
     if not short:
         return tag("p", "No rule gives one.")
     return items(
@@ -121,7 +152,6 @@ def is_kept(answers):
 
 
 def write_trace(answers, system, request):
-    word, said = verdict_of(answers.conform)
     matched = {}
     for pair in answers.match["pairs"]:
         if pair["matches"]:
@@ -131,9 +161,11 @@ def write_trace(answers, system, request):
             times = Times(source.read(), system, matched)
     except (OSError, ValueError) as error:
         raise Fault(f"trace: {error}", BAD_FILE) from error
+    word, said = verdict_of(answers.conform, times, system)
+    judged = "" if times.has_clock else " Nothing is judged by these: the paces are premises."
     told = (
         "By the times of the trace, in seconds. A sample's age is known where its reader is strict and hears one "
-        "writer. Nothing is judged by these: the paces are premises."
+        f"writer.{judged}"
     )
     return section(
         "trace",

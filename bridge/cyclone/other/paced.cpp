@@ -5,33 +5,11 @@
 // The writer writes every 10 ms, so many samples, is RELIABLE and KEEP_LAST with this depth, and sends a heartbeat every HEARTBEAT ms. LOSS percent of all packets are
 // dropped. The reader is RELIABLE and as deep, and takes each sample WITHIN ms after its write, less a twentieth.
 // It prints a line. Status: 0 each sample was taken in time and none is missing, 1 else, 3 a fault, 4 of usage.
-#include <fastdds/dds/domain/DomainParticipant.hpp>
-#include <fastdds/dds/domain/DomainParticipantFactory.hpp>
-#include <fastdds/dds/publisher/DataWriter.hpp>
-#include <fastdds/dds/publisher/Publisher.hpp>
-#include <fastdds/dds/subscriber/DataReader.hpp>
-#include <fastdds/dds/subscriber/SampleInfo.hpp>
-#include <fastdds/dds/subscriber/Subscriber.hpp>
-#include <fastdds/dds/topic/TopicDataType.hpp>
-#include <fastdds/dds/topic/TypeSupport.hpp>
-#include <fastdds/rtps/transport/test_UDPv4TransportDescriptor.h>
-#include <fastrtps/xmlparser/XMLProfileManager.h>
+#include "fast.hpp"
 
 #include <algorithm>
-#include <chrono>
-#include <cstdio>
-#include <cstdlib>
-#include <cstring>
-#include <functional>
-#include <memory>
-#include <thread>
 
-using namespace eprosima::fastdds::dds;
-using eprosima::fastdds::rtps::test_UDPv4TransportDescriptor;
-using eprosima::fastrtps::rtps::InstanceHandle_t;
-using eprosima::fastrtps::rtps::SerializedPayload_t;
-using eprosima::fastrtps::types::ReturnCode_t;
-using Clock = std::chrono::steady_clock;
+using namespace fast;
 
 namespace {
 
@@ -43,88 +21,18 @@ struct Words {
     long domain, samples, loss, heartbeat, within, depth;
 };
 
-struct Sample {
-    long number;
-    long long written;
-};
-
-class SampleType : public TopicDataType {
-public:
-    SampleType()
-    {
-        setName("paced::Sample");
-        m_typeSize = sizeof(Sample) + 4;
-        m_isGetKeyDefined = false;
-    }
-
-    bool serialize(void *data, SerializedPayload_t *to) override
-    {
-        static const unsigned char LITTLE_ENDIAN_PLAIN[4] = {0, 1, 0, 0};
-        memcpy(to->data, LITTLE_ENDIAN_PLAIN, sizeof LITTLE_ENDIAN_PLAIN);
-        memcpy(to->data + sizeof LITTLE_ENDIAN_PLAIN, data, sizeof(Sample));
-        to->encapsulation = CDR_LE;
-        to->length = m_typeSize;
-        return true;
-    }
-
-    bool deserialize(SerializedPayload_t *from, void *data) override
-    {
-        if (from->length < m_typeSize) {
-            return false;
-        }
-        memcpy(data, from->data + 4, sizeof(Sample));
-        return true;
-    }
-
-    std::function<uint32_t()> getSerializedSizeProvider(void *) override
-    {
-        return [this] { return m_typeSize; };
-    }
-
-    void *createData() override
-    {
-        return new Sample();
-    }
-
-    void deleteData(void *data) override
-    {
-        delete static_cast<Sample *>(data);
-    }
-
-    bool getKey(void *, InstanceHandle_t *, bool) override
-    {
-        return false;
-    }
-};
-
-template <typename Made> Made *need(Made *made, const char *what)
+// The topic at a participant whose packets get lost.
+Topic *open_lossy_topic(const Words &words, DomainParticipant **participant)
 {
-    if (made == nullptr) {
-        fprintf(stderr, "fast-paced: no %s\n", what);
-        std::_Exit(3);
-    }
-    return made;
-}
-
-// A participant whose packets get lost, with the topic.
-Topic *open_topic(const Words &words, DomainParticipant **participant)
-{
-    auto transport = std::make_shared<test_UDPv4TransportDescriptor>();
-    transport->interfaceWhiteList.push_back("127.0.0.1");
+    auto transport = loopback();
     transport->percentageOfMessagesToDrop = static_cast<uint8_t>(words.loss);
-    DomainParticipantQos qos = PARTICIPANT_QOS_DEFAULT;
-    qos.transport().use_builtin_transports = false;
-    qos.transport().user_transports.push_back(transport);
-    *participant = need(DomainParticipantFactory::get_instance()->create_participant(static_cast<uint32_t>(words.domain), qos), "participant");
-    TypeSupport type(new SampleType());
-    type.register_type(*participant);
-    return need((*participant)->create_topic("paced", type.get_type_name(), TOPIC_QOS_DEFAULT), "topic");
+    return open_topic(words.domain, transport, participant);
 }
 
 DataWriter *open_writer(const Words &words)
 {
     DomainParticipant *participant;
-    Topic *topic = open_topic(words, &participant);
+    Topic *topic = open_lossy_topic(words, &participant);
     DataWriterQos qos = DATAWRITER_QOS_DEFAULT;
     qos.durability().kind = VOLATILE_DURABILITY_QOS;
     qos.history().depth = static_cast<int32_t>(words.depth);
@@ -136,23 +44,12 @@ DataWriter *open_writer(const Words &words)
 DataReader *open_reader(const Words &words)
 {
     DomainParticipant *participant;
-    Topic *topic = open_topic(words, &participant);
+    Topic *topic = open_lossy_topic(words, &participant);
     DataReaderQos qos = DATAREADER_QOS_DEFAULT;
     qos.reliability().kind = RELIABLE_RELIABILITY_QOS;
     qos.history().depth = static_cast<int32_t>(words.depth);
     qos.data_sharing().off();
     return need(need(participant->create_subscriber(SUBSCRIBER_QOS_DEFAULT), "subscriber")->create_datareader(topic, qos), "reader");
-}
-
-void await_match(DataWriter *writer, DataReader *reader)
-{
-    PublicationMatchedStatus written;
-    SubscriptionMatchedStatus read;
-    do {
-        std::this_thread::sleep_for(std::chrono::milliseconds(10));
-        writer->get_publication_matched_status(written);
-        reader->get_subscription_matched_status(read);
-    } while (written.current_count < 1 || read.current_count < 1);
 }
 
 void write_all(DataWriter *writer, long samples)
@@ -214,17 +111,6 @@ Found take_all(DataReader *reader, const Words &words)
     return found;
 }
 
-long number(const char *word, long least, long most)
-{
-    char *end;
-    const long found = strtol(word, &end, 10);
-    if (*word == '\0' || *end != '\0' || found < least || found > most) {
-        fprintf(stderr, "fast-paced: %s is no number from %ld to %ld\n", word, least, most);
-        std::_Exit(4);
-    }
-    return found;
-}
-
 } // namespace
 
 int main(int count, char **word)
@@ -235,9 +121,6 @@ int main(int count, char **word)
     }
     const Words words = {number(word[1], 0, 230), number(word[2], 1, 100000), number(word[3], 0, 90), number(word[4], 1, 60000), number(word[5], 1, 60000),
                          number(word[6], 1, 5000)};
-    eprosima::fastrtps::LibrarySettingsAttributes settings;
-    settings.intraprocess_delivery = eprosima::fastrtps::INTRAPROCESS_OFF;
-    eprosima::fastrtps::xmlparser::XMLProfileManager::library_settings(settings);
     DataWriter *writer = open_writer(words);
     DataReader *reader = open_reader(words);
     await_match(writer, reader);

@@ -1,4 +1,4 @@
--- The first of those that pass a test, and what lists of several come to, as loops make them.
+-- The first of those that pass a test, and what lists of several come to, as loops add them up.
 use Rattle.std.proofs.Common.{ℕ, zero, suc, Bool, true, false, ◌≡◌, ◌∙◌, ◌+◌, ◌<◌, ◌≤◌, List, [], ◌∷◌, ◌++◌, length, refl, sym, ap, subst, arith, add-one, take, get_or, cond, inl, inr}
 use Rattle.std.specs.Prelude.{filter}
 use Rattle.std.proofs.Math.Nat.{min-eq_left, min-eq_right}
@@ -8,13 +8,39 @@ use Rattle.std.proofs.lemmas.List.Elements.{filter_more}
 use Rattle.dds_lint.specs.Every.{every_below}
 use Rattle.dds_findings.specs.Blocks.{counted}
 
-pub every_below_start : {A : Type 0} (f : ℕ → List A) → every_below 0 f ≡ []
+nothing_more : {X : Type 0} (ys : List X) → ys ++ [] ≡ ys
+nothing_more [] = refl
+nothing_more (y ∷ ys) = ap (λ zs. y ∷ zs) (nothing_more ys)
+
+in_two : {X : Type 0} (xs ys zs : List X) → (xs ++ ys) ++ zs ≡ xs ++ (ys ++ zs)
+in_two [] ys zs = refl
+in_two (x ∷ xs) ys zs = ap (λ l. x ∷ l) (in_two xs ys zs)
+
+-- ── what a loop adds to a list, a list each time
+every_below_start : {A : Type 0} (f : ℕ → List A) → every_below 0 f ≡ []
 unfolding every_below
 every_below_start f = refl
 
-pub every_below_more : {A : Type 0} (f : ℕ → List A) (i : ℕ) → every_below (i + 1) f ≡ every_below i f ++ f i
+every_below_more : {A : Type 0} (f : ℕ → List A) (i : ℕ) → every_below (i + 1) f ≡ every_below i f ++ f i
 unfolding every_below
 every_below_more f i = rw add-one refl
+
+pub added_first : {A : Type 0} (start : List A) (f : ℕ → List A) → start ≡ start ++ every_below 0 f
+added_first start f = sym (ap (λ ys. start ++ ys) (every_below_start f) ∙ nothing_more start)
+
+pub added_next : {A : Type 0} (start now next : List A) (f : ℕ → List A) (i : ℕ) → now ≡ start ++ every_below i f → next ≡ now ++ f i → next ≡ start ++ every_below (i + 1) f
+added_next start now next f i so_far added = added ∙ (ap (λ ys. ys ++ f i) so_far ∙ (in_two start (every_below i f) (f i) ∙ ap (λ ys. start ++ ys) (sym (every_below_more f i))))
+
+-- a list with fewer elements than are taken is taken whole
+short : {X : Type 0} (n : ℕ) (ys : List X) → length (take n ys) < n → take n ys ≡ ys
+short zero ys less = absurd (omega (arith, less))
+short (suc n) [] less = refl
+short (suc n) (y ∷ ys) less = ap (λ zs. y ∷ zs) (short n ys (omega (arith, less)))
+
+one_more : {X : Type 0} (ys : List X) (y : X) (n : ℕ) → length ys < n → length (ys ++ y ∷ []) ≤ n
+one_more [] y n less = omega (arith, less)
+one_more (z ∷ ys) y zero less = absurd (omega (arith, less))
+one_more (z ∷ ys) y (suc n) less = omega (arith, one_more ys y n (omega (arith, less)))
 
 -- the first 1,000 of a list that gets one more element: with it where there's room
 take_room : {X : Type 0} (xs : List X) (x : X) → length (take 1000 xs) < 1000 → take 1000 (xs ++ x ∷ []) ≡ take 1000 xs ++ x ∷ []
@@ -22,16 +48,6 @@ take_room xs x room =
     let whole : take 1000 xs ≡ xs = short 1000 xs room in
     let few : length xs < 1000 = subst (λ ys. length ys < 1000) whole room in
     take_all 1000 (xs ++ x ∷ []) (one_more xs x 1000 few) ∙ ap (λ ys. ys ++ x ∷ []) (sym whole)
-  where
-    short : (n : ℕ) (ys : List _) → length (take n ys) < n → take n ys ≡ ys
-    short zero ys less = absurd (omega (arith, less))
-    short (suc n) [] less = refl
-    short (suc n) (y ∷ ys) less = ap (λ zs. y ∷ zs) (short n ys (omega (arith, less)))
-
-    one_more : (ys : List _) (y : _) (n : ℕ) → length ys < n → length (ys ++ y ∷ []) ≤ n
-    one_more [] y n less = omega (arith, less)
-    one_more (z ∷ ys) y zero less = absurd (omega (arith, less))
-    one_more (z ∷ ys) y (suc n) less = omega (arith, one_more ys y n (omega (arith, less)))
 
 take_full : {X : Type 0} (n : ℕ) (xs ys : List X) → n ≤ length (take n xs) → take n (xs ++ ys) ≡ take n xs
 take_full zero xs ys full = refl
@@ -56,11 +72,7 @@ pub first_passed : {X : Type 0} (p : X → Bool) (xs first : List X) (i : ℕ) (
     → first ≡ take 1000 (filter p (take (i + 1) xs))
 first_passed p xs first i x inside at is fails =
     let here : p (get_or xs i x) ≡ false = subst (λ y. p y ≡ false) at fails in
-    is ∙ sym (ap (take 1000) (filter_more p xs i x inside ∙ ap (λ b. filter p (take i xs) ++ cond b (get_or xs i x ∷ []) []) here ∙ none (filter p (take i xs))))
-  where
-    none : (ys : List _) → ys ++ [] ≡ ys
-    none [] = refl
-    none (y ∷ ys) = ap (λ zs. y ∷ zs) (none ys)
+    is ∙ sym (ap (take 1000) (filter_more p xs i x inside ∙ ap (λ b. filter p (take i xs) ++ cond b (get_or xs i x ∷ []) []) here ∙ nothing_more (filter p (take i xs))))
 
 pub ruleset first_of = (first_added, first_full, first_passed)
 

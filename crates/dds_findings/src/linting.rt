@@ -101,6 +101,13 @@ fn push_conditions<'a>(
     Ok(())
 }
 
+/// Whether the condition has this number.
+fn has_number(no: &No, number: usize) -> bool
+    ensures { result ≡ has_number number no.now }
+{
+    usize::from(no.number.number()) == number
+}
+
 /// The first of the conditions with a number.
 #[tactic(auto, using(crate::proofs::Listed::first_of))]
 fn first_of_number(alloc: Global, nos: &[No], number: usize) -> Result<Vec<No>, NoMemory>
@@ -108,7 +115,7 @@ fn first_of_number(alloc: Global, nos: &[No], number: usize) -> Result<Vec<No>, 
 {
     let mut first = Vec::new(alloc);
     for no in nos {
-        if first.len() < LISTED && usize::from(no.number.number()) == number {
+        if first.len() < LISTED && has_number(no, number) {
             first.push(*no)?;
         }
     }
@@ -119,9 +126,7 @@ fn first_of_number(alloc: Global, nos: &[No], number: usize) -> Result<Vec<No>, 
 fn count_of_number(nos: &[No], number: usize) -> usize
     ensures { result ≡ count_by (has_number number) nos.now }
 {
-    nos.iter()
-        .filter(|no| usize::from(no.number.number()) == number)
-        .count()
+    nos.iter().filter(|no| has_number(no, number)).count()
 }
 
 /// Adds the finding of how many conditions aren't listed, where these are the first of them.
@@ -162,7 +167,6 @@ fn push_number<'a>(
 }
 
 /// Adds the findings of conditions by their numbers.
-#[tactic(auto, using(crate::proofs::Listed::every_below_start, crate::proofs::Listed::every_below_more))]
 fn push_numbers<'a>(
     alloc: Global,
     files: &Files,
@@ -278,7 +282,6 @@ fn push_kind(
 }
 
 /// Adds the findings of notes by their kinds.
-#[tactic(auto, using(crate::proofs::Listed::every_below_start, crate::proofs::Listed::every_below_more))]
 fn push_kinds(
     alloc: Global,
     files: &Files,

@@ -1,5 +1,5 @@
 -- A guard that follows a world of a run goes on to follow it.
-use Rattle.std.proofs.Common.{◌≡◌, ◌≢◌, ℕ, ◌<◌, Bool, true, false, cond, List, None, refl, sym, ap, ◌∙◌, subst, inl, inr, arith, true≢false, eqb}
+use Rattle.std.proofs.Common.{◌≡◌, ◌≢◌, ℕ, ◌-◌, ◌<◌, Bool, true, false, cond, List, Option, None, refl, sym, ap, ◌∙◌, subst, inl, inr, arith, true≢false, eqb}
 use Rattle.std.proofs.lemmas.Bool.{cases_Bool, cases_eq, ne_eqb}
 use Rattle.dds_lists.specs.Lists.{Lists, has}
 use Rattle.dds_match.specs.Network.{Network, IsNetwork, named}
@@ -15,20 +15,26 @@ use Rattle.dds_rules.specs.Exchange.{Exchange}
 use Rattle.dds_rules.specs.Ledger.{IsLedgerOf, KeepsPlan, fire_refusal}
 use Rattle.dds_rules.proofs.Firing.{fired_there}
 use Rattle.dds_rules.proofs.Worlds.{same_plan}
-use Rattle.dds_guard.specs.Following.{Follows, GoesOnFollowing, IsElsewhere, Moves, MovesPaid}
-use Rattle.dds_guard.specs.Guard.{GuardState, takes_key, with_ledger}
+use Rattle.dds_guard.specs.Following.{Follows, GoesOnFollowing, IsAsBefore, IsElsewhere, Moves, MovesPaid}
+use Rattle.dds_guard.specs.declared.account.Payment.{Payment}
+use Rattle.dds_guard.specs.Account.{used_by}
+use Rattle.dds_guard.specs.Guard.{GuardState, permits_of, takes_key}
 use Rattle.dds_guard.specs.Opening.{IsOpened}
 use Rattle.dds_guard.specs.Refusals.{IsFired, IsPaid, IsTaken}
 
 -- what is said of another ledger of the same guard
-with_it : (net : Network) (v : World) (old new : GuardState) → new ≡ with_ledger old new.ledger → KeepsPlan old.ledger new.ledger → IsLedgerOf net old.ledger
-    → ((w k : ℕ) → has old.writers w ≡ true → count_at new.ledger.permits w k ≡ permits net v w k)
+with_it : (net : Network) (v : World) (old new : GuardState) (held : Option Payment) → new ≡ record old { ledger = new.ledger; held = held } → KeepsPlan old.ledger new.ledger → IsLedgerOf net old.ledger
+    → ((w k : ℕ) → has old.writers w ≡ true → permits_of new w k ≡ permits net v w k)
     → ((r k : ℕ) → takes_key old r k ≡ true → count_at new.ledger.spare r k ≡ spare net v r k) → Follows net v new
-with_it net v old new rest plan of gives takes = subst (Follows net v) (sym rest) (record { of = same_plan net old.ledger new.ledger plan of; permits = gives; spare = takes })
+with_it net v old new held rest plan of gives takes = subst (Follows net v) (sym rest) (record {
+  of = same_plan net old.ledger new.ledger plan of;
+  permits = λ w k own. sym (ap (λ (g : GuardState). permits_of g w k) rest) ∙ gives w k own;
+  spare = takes;
+})
 
 takes : (r k : ℕ) (old new : GuardState) → IsTaken r k old new → (s : Sample) → s.kind ≡ k → Moves (Takes r s) old new
-takes r k old new is s key net v known counts follows = with_it net _ old new is.rest is.plan follows.of
-    (λ w l own. ap (λ t. count_at t w l) is.permits ∙ follows.permits w l own)
+takes r k old new is s key net v known counts follows = with_it net _ old new old.held is.rest is.plan follows.of
+    (λ w l own. ap (λ (g : GuardState). permits_of g w l) is.rest ∙ ap (λ t. count_at t w l - used_by old.held w l) is.permits ∙ follows.permits w l own)
     (λ q l own. (
     let now = is.spare.counts q l in
     let was = follows.spare q l own in
@@ -41,9 +47,9 @@ fires u old new fire is net v known counts follows =
     let inside = fired_there old.ledger u fire in
     let there : u < net.rules = omega (arith, follows.of.count) in
     let rule = follows.of.rules u in
-    with_it net _ old new is.rest is.plan follows.of
+    with_it net _ old new old.held is.rest is.plan follows.of
     (λ w k own. (
-    let now = is.permits.counts w k in
+    let now = is.permits w k in
     let was = follows.permits w k own in
     let gives = ap (λ (x : Exchange). named x.writes w k) rule in
     let grows = fire_given net known v counts u there w k in
@@ -56,10 +62,10 @@ fires u old new fire is net v known counts follows =
     let grows = fire_spent net known v counts u there r k in
     omega arith))
 
-writes : (w k : ℕ) (d : List ℕ) (old new : GuardState) → has old.writers w ≡ true → count_at old.ledger.permits w k ≢ 0 → IsPaid w k old new → MovesPaid w k d old new
-writes w k d old new own some is net v known counts paid follows = with_it net _ old new is.rest is.plan follows.of
+writes : (w k : ℕ) (d : List ℕ) (old new : GuardState) → has old.writers w ≡ true → permits_of old w k ≢ 0 → IsPaid w k old new → MovesPaid w k d old new
+writes w k d old new own some is net v known counts paid follows = with_it net _ old new new.held is.rest is.plan follows.of
     (λ i l mine. (
-    let now = is.permits.counts i l in
+    let now = is.permits i l in
     let was = follows.permits i l mine in
     let uses = write_permits net known v counts w k d (inr there) i l in
     let one : cond (net.free w k) 0 (at_pair w k i l) ≡ only_at w k 1 i l = rw paid refl in
@@ -71,7 +77,7 @@ writes w k d old new own some is net v known counts paid follows = with_it net _
 
 -- ── what happens elsewhere
 opens : (d : Lists) (a : ℕ) (g : GuardState) → IsOpened d a g → Follows (network_of d) opening g
-opens d a g is = record { of = is.world.of; permits = λ w k own. is.world.permits w k; spare = λ r k own. is.world.spare r k }
+opens d a g is = record { of = is.world.of; permits = λ w k own. (let none = ap (λ (h : Option Payment). count_at g.ledger.permits w k - used_by h w k) is.held in let was = is.world.permits w k in omega arith); spare = λ r k own. is.world.spare r k }
 
 at_other : (i k j l : ℕ) → i ≢ j → at_pair i k j l ≡ 0
 at_other i k j l ne = rw (ne_eqb i j ne) refl
@@ -122,5 +128,33 @@ elsewhere (Takes r s) net v g known counts may there follows = record {
       omega arith);
 }
 
+-- ── a write that is taken back
+undoes : (w k : ℕ) (old between new : GuardState) → IsPaid w k old between → IsPaid w k new between → IsAsBefore old new
+undoes w k old between new paid back = record {
+  permits = permits;
+  spare = spare;
+  plan = plan;
+  rest = rest;
+  follows = λ net v follows. with_it net v old new new.held rest plan follows.of
+      (λ i l own. permits i l ∙ follows.permits i l own)
+      (λ r l own. ap (λ t. count_at t r l) spare ∙ follows.spare r l own);
+}
+  where
+    permits : (i l : ℕ) → permits_of new i l ≡ permits_of old i l
+    permits i l = back.permits i l ∙ sym (paid.permits i l)
+
+    spare : new.ledger.spare ≡ old.ledger.spare
+    spare = sym back.spare ∙ paid.spare
+
+    plan : KeepsPlan old.ledger new.ledger
+    plan = record {
+      rules = sym back.plan.rules ∙ paid.plan.rules;
+      writers = sym back.plan.writers ∙ paid.plan.writers;
+      readers = sym back.plan.readers ∙ paid.plan.readers;
+    }
+
+    rest : new ≡ record old { ledger = new.ledger; held = new.held }
+    rest = sym (ap (λ (g : GuardState). record g { ledger = new.ledger; held = new.held }) back.rest) ∙ ap (λ (g : GuardState). record g { ledger = new.ledger; held = new.held }) paid.rest
+
 pub goes_on : GoesOnFollowing
-goes_on = record { opens = opens; elsewhere = elsewhere; takes = takes; fires = fires; writes = writes }
+goes_on = record { opens = opens; elsewhere = elsewhere; takes = takes; fires = fires; writes = writes; undoes = undoes }

@@ -1,3 +1,4 @@
+pub mod Accounts
 pub mod Following
 pub mod Growing
 pub mod Opened

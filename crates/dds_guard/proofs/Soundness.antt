@@ -1,5 +1,5 @@
 -- What every guard keeps, and what it gives: that a rule which serves a write can be fired, and gives a permit.
-use Rattle.std.proofs.Common.{◌≡◌, ℕ, zero, suc, ◌<◌, ◌≤◌, ◌&&◌, Bool, true, false, not, List, [], ◌∷◌, length, get_or, slice_get, unwrap_or, None, refl, sym, ap, ◌∙◌, subst, inl, inr, arith}
+use Rattle.std.proofs.Common.{◌≡◌, ℕ, zero, suc, ◌<◌, ◌≤◌, ◌&&◌, Bool, true, false, not, List, [], ◌∷◌, length, get_or, slice_get, unwrap_or, Option, None, refl, sym, ap, ◌∙◌, subst, inl, inr, arith}
 use Rattle.std.specs.Prelude.{◌==◌}
 use Rattle.std.proofs.lemmas.Bool.{and_parts, cases_Bool, false≢true}
 use Rattle.std.proofs.lemmas.Option.{unwrap_or-slice_get}
@@ -8,12 +8,13 @@ use Rattle.dds_match.specs.Network.{is_named, named}
 use Rattle.dds_rules.specs.Counts.{count_at}
 use Rattle.dds_rules.specs.Exchange.{Exchange, lacks_takes, lacks_room}
 use Rattle.dds_rules.specs.Ledger.{LedgerState, KeepsPlan, fire_refusal, no_exchange}
-use Rattle.dds_guard.specs.Guard.{AreCounted, GuardState, IsSound, RuleState, exchange_in, no_rule_state, rule_at, with_ledger}
+use Rattle.dds_guard.specs.declared.account.Payment.{Payment}
+use Rattle.dds_guard.specs.Guard.{AreCounted, GuardState, IsSound, RuleState, exchange_in, no_rule_state, rule_at}
 use Rattle.dds_guard.specs.Refusals.{IsServing, can_fire, serves}
 
 -- a guard whose ledger keeps the plan is sound
-pub sound_after : (old : GuardState) (l : LedgerState) → KeepsPlan old.ledger l → IsSound old → IsSound (with_ledger old l)
-sound_after old l plan sound = record {
+pub sound_after : (old : GuardState) (l : LedgerState) (held : Option Payment) → KeepsPlan old.ledger l → IsSound old → IsSound (record old { ledger = l; held = held })
+sound_after old l held plan sound = record {
   filters = sound.filters ∙ sym plan.readers;
   rules = λ u. ap (λ xs. unwrap_or (slice_get xs u) no_exchange) plan.rules ∙ sound.rules u;
   takes_alone = sound.takes_alone;

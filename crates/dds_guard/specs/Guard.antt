@@ -11,6 +11,8 @@ use Rattle.dds_match.specs.Plan.{rule_of}
 use Rattle.dds_rules.specs.Counts.{count_at}
 use Rattle.dds_rules.specs.Exchange.{Exchange, IsAlone}
 use Rattle.dds_rules.specs.Ledger.{LedgerState, exchange_at}
+use Rattle.dds_guard.specs.declared.account.Payment.{Payment}
+use Rattle.dds_guard.specs.Account.{left}
 
 -- entry: the number of the rule's name; own: it is the application's
 pub record RuleState : Type 0 where
@@ -28,9 +30,11 @@ pub record NameLists : Type 0 where
   pub topics : List (List ℕ)
   pub keys : List (List (List ℕ))
 
--- writers: the application's; filters: by reader, the keys that the application takes there
+-- held: the permit that the last paid write used, which the ledger still has; writers: the application's; filters: by reader, the keys that the application
+-- takes there
 pub record GuardState : Type 0 where
   pub ledger : LedgerState
+  pub held : Option Payment
   pub writers : List ℕ
   pub filters : List (List ℕ)
   pub rules : List RuleState
@@ -85,9 +89,13 @@ rule_number g name = rule_of_entry g.rules (number_of g.names.rules name)
 abbrev pub key_number : GuardState → ℕ → List ℕ → Option ℕ
 key_number g t name = number_of (unwrap_or (slice_get g.names.keys t) []) name
 
--- how many permits there are at a writer that is the application's
+-- the permits that are left
+abbrev pub permits_of : GuardState → ℕ → ℕ → ℕ
+permits_of g w k = left (record { ledger = g.ledger; held = g.held }) w k
+
+-- how many permits are left at a writer that is the application's
 abbrev pub permits_at : GuardState → ℕ → ℕ → Option ℕ
-permits_at g w k = if has g.writers w then Some (count_at g.ledger.permits w k) else None
+permits_at g w k = if has g.writers w then Some (permits_of g w k) else None
 
 -- how many takes are unspent of a key that the application takes
 abbrev pub spare_at : GuardState → ℕ → ℕ → Option ℕ

@@ -20,6 +20,7 @@ pub record IsGuardOf (d : Lists) (a : ℕ) (g : GuardState) : Type 0 where
 -- and its ledger is the plan's, before the first event
 pub record IsOpened (d : Lists) (a : ℕ) (g : GuardState) : Type 0 where
   pub guards : IsGuardOf d a g
+  pub held : g.held ≡ None
   pub world : StandsFor (network_of d) opening g.ledger
 
 -- the bytes are a deployment with an application of this name, of which it is the guard

@@ -1,5 +1,5 @@
 -- What a guard answers, and why it refuses.
-use Rattle.std.specs.Prelude.{◌≡◌, ℕ, ◌^◌, ◌-◌, ◌<◌, ◌≤◌, Bool, not, ◌&&◌, if◌then◌else◌, nat_lt, List, Option, Some, None, option_map, Result, Ok, Err, position}
+use Rattle.std.specs.Prelude.{◌≡◌, ℕ, ◌^◌, ◌-◌, ◌<◌, ◌≤◌, ◌+◌, Bool, true, false, not, ◌&&◌, if◌then◌else◌, nat_lt, List, Option, Some, None, option_map, Result, Ok, Err, position}
 use Rattle.std.specs.List.{list_any}
 use Rattle.dds_base.specs.Grid.{most_keys}
 use Rattle.dds_lists.specs.Lists.{has}
@@ -17,7 +17,10 @@ use Rattle.dds_guard.specs.declared.refused.WriteRefused.{WriteRefused}
 use Rattle.dds_guard.specs.declared.refused.WriteRefused.TheVariants as writing
 use Rattle.dds_guard.specs.declared.writing.Way.{Way}
 use Rattle.dds_guard.specs.declared.writing.Way.TheVariants.{Free, Permit, Rule}
-use Rattle.dds_guard.specs.Guard.{GuardState, RuleState, rule_at, takes_key, with_ledger}
+use Rattle.dds_guard.specs.declared.refused.UndoRefused.{UndoRefused}
+use Rattle.dds_guard.specs.declared.refused.UndoRefused.TheVariants as undoing
+use Rattle.dds_guard.specs.Account.{is_held, payment}
+use Rattle.dds_guard.specs.Guard.{GuardState, RuleState, permits_of, rule_at, takes_key, with_ledger}
 
 -- ── takes
 -- why a take isn't counted, the first reason
@@ -66,13 +69,19 @@ abbrev pub way_of : GuardState → ℕ → ℕ → Result Way WriteRefused
 way_of g w k =
     if not (has g.writers w) then Err writing.Foreign else
     (if is_free g.rules w k then Ok Free else
-    (if nat_lt 0 (count_at g.ledger.permits w k) then Ok Permit else way_by (serving g w k)))
+    (if nat_lt 0 (permits_of g w k) then Ok Permit else way_by (serving g w k)))
 
 -- what a way of writing rests on
 abbrev pub IsReady : GuardState → ℕ → ℕ → Way → Type 0
 IsReady g w k Free = Unit {0}
-IsReady g w k Permit = 0 < count_at g.ledger.permits w k
+IsReady g w k Permit = 0 < permits_of g w k
 IsReady g w k (Rule u) = IsServing g w k u
+
+-- why a write isn't taken back, the first reason. A free write used nothing; any other has to be the last one that used a permit
+abbrev pub undo_refusal : GuardState → ℕ → ℕ → Option UndoRefused
+undo_refusal g w k =
+    if not (has g.writers w) then Some undoing.Foreign else
+    (if is_free g.rules w k then None else (if is_held g.held w k then None else Some undoing.NotWritten))
 
 -- ── what calls change
 -- one take more at the reader and key
@@ -85,16 +94,17 @@ pub record IsTaken (r k : ℕ) (old new : GuardState) : Type 0 where
 -- what the rule takes is spent, and what it writes is permitted
 pub record IsFired (u : ℕ) (old new : GuardState) : Type 0 where
   pub spare : IsMoreBy (named (exchange_at old.ledger u).takes) new.ledger.spare old.ledger.spare
-  pub permits : IsMoreBy (named (exchange_at old.ledger u).writes) old.ledger.permits new.ledger.permits
+  pub permits : (w k : ℕ) → permits_of new w k ≡ permits_of old w k + named (exchange_at old.ledger u).writes w k
   pub plan : KeepsPlan old.ledger new.ledger
   pub rest : new ≡ with_ledger old new.ledger
 
--- one permit fewer
+-- one permit fewer, which is held
 pub record IsPaid (w k : ℕ) (old new : GuardState) : Type 0 where
-  pub permits : IsMoreBy (only_at w k 1) new.ledger.permits old.ledger.permits
+  pub permits : (i l : ℕ) → permits_of old i l ≡ permits_of new i l + only_at w k 1 i l
   pub spare : new.ledger.spare ≡ old.ledger.spare
   pub plan : KeepsPlan old.ledger new.ledger
-  pub rest : new ≡ with_ledger old new.ledger
+  pub held : new.held ≡ Some (payment w k)
+  pub rest : new ≡ record old { ledger = new.ledger; held = new.held }
 
 -- the rule is fired and one permit is used
 pub record IsServed (u w k : ℕ) (old new : GuardState) : Type 0 where
@@ -109,3 +119,8 @@ IsWritten (Ok Free) w k old new = new ≡ old
 IsWritten (Ok Permit) w k old new = IsPaid w k old new
 IsWritten (Ok (Rule u)) w k old new = IsServed u w k old new
 IsWritten (Err e) w k old new = new ≡ old
+
+-- a write that was free or paid is taken back: the guard that comes of it is the one that the permit was used in, and no write of it can be taken back
+abbrev pub IsTakenBack : Bool → ℕ → ℕ → GuardState → GuardState → Type 0
+IsTakenBack true w k old new = new ≡ old
+IsTakenBack false w k old new = IsPaid w k new old × (new ≡ record old { held = None })

@@ -5,23 +5,23 @@ ghost use Rattle.dds_base.specs.Names.{number_of};
 ghost use Rattle.dds_runs.specs.CountRuns.CountMove.{Fires, Takes};
 ghost use Rattle.dds_runs.specs.World.{Sample};
 ghost use Rattle.dds_rules.specs.Standing.{Makes};
-ghost use Rattle.dds_guard.specs.Guard.{key_number, permits_at, rule_number, spare_at, takes_key};
+ghost use Rattle.dds_guard.specs.Guard.{key_number, permits_at, permits_of, rule_number, spare_at, takes_key};
 ghost use Rattle.dds_guard.specs.Refusals.{IsFired, IsTaken, firing_refusal, take_refusal};
 
+use crate::account::Account;
 use crate::filters::Filter;
 use crate::names::NameTable;
 use crate::refused::{FiringRefused, TakeRefused, firing_refused};
 use crate::rules::GuardRule;
 use dds_base::grid::KEYS;
 use dds_base::{KeyNo, ReaderNo, RuleNo, TopicNo, WriterNo};
-use dds_rules::Ledger;
 use std::marker::Model;
 
 /// The rules of a deployment, kept for one of its applications: how many samples it may write, and how many takes no
-/// rule has spent.
+/// rule has spent. The permit that the last write used is held until the next one uses one.
 #[derive(Drop)]
 pub struct Guard {
-    pub(crate) ledger: Ledger,
+    pub(crate) account: Account,
     pub(crate) writers: Vec<WriterNo>,
     pub(crate) filters: Vec<Filter>,
     pub(crate) rules: Vec<GuardRule>,
@@ -34,7 +34,8 @@ impl Model for Guard {
     ghost Value = { GuardState };
 
     ghost view = { λ g. record {
-      ledger = g.ledger;
+      ledger = g.account.ledger;
+      held = g.account.held;
       writers = g.writers.items;
       filters = g.filters.items;
       rules = g.rules.items;
@@ -42,7 +43,8 @@ impl Model for Guard {
     } };
 
     ghost invariant = { λ g. IsSound (record {
-      ledger = g.ledger;
+      ledger = g.account.ledger;
+      held = g.account.held;
       writers = g.writers.items;
       filters = g.filters.items;
       rules = g.rules.items;
@@ -150,7 +152,7 @@ impl Guard {
         if !(self.takes_key(reader, key) && key.number() < KEYS) {
             return Err(TakeRefused::Foreign);
         }
-        match self.ledger.note_take(reader, key) {
+        match self.account.note_take(reader, key) {
             Ok(()) => Ok(()),
             Err(_) => Err(TakeRefused::CountLimit),
         }
@@ -167,10 +169,17 @@ impl Guard {
         if !(rule.number() < self.rules.len() && self.rules[rule.number()].own) {
             return Err(FiringRefused::Foreign);
         }
-        match self.ledger.fire(rule) {
+        match self.account.fire(rule) {
             Ok(()) => Ok(()),
             Err(refused) => Err(firing_refused(refused)),
         }
+    }
+
+    /// How many permits are left for a key at a writer: those of the ledger but the one that is held.
+    pub(crate) fn left(&self, writer: WriterNo, key: KeyNo) -> u64
+        ensures { result ≡ permits_of self.now writer key }
+    {
+        self.account.left(writer, key)
     }
 
     /// How many permits the application has for a key at a writer, `None` where the writer isn't the application's.
@@ -178,7 +187,7 @@ impl Guard {
         ensures { result ≡ permits_at self.now writer key }
     {
         if self.writers.contains(&writer) {
-            Some(self.ledger.permits(writer, key))
+            Some(self.left(writer, key))
         } else {
             None
         }
@@ -189,7 +198,7 @@ impl Guard {
         ensures { result ≡ spare_at self.now reader key }
     {
         if self.takes_key(reader, key) {
-            Some(self.ledger.spare(reader, key))
+            Some(self.account.ledger.spare(reader, key))
         } else {
             None
         }

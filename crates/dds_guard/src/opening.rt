@@ -4,6 +4,7 @@ ghost use Rattle.dds_base.specs.Names.{number_of};
 ghost use Rattle.dds_deploy.specs.Document.{read};
 ghost use Rattle.dds_guard.specs.Opening.{FailsToOpen, IsOpened, OpensAs, ReadsAs, FailsToRead};
 
+use crate::account::Account;
 use crate::filters::filters_of;
 use crate::guard::Guard;
 use crate::names::NameTable;
@@ -57,8 +58,9 @@ fn guard_of(alloc: Global, plan: &Plan, app: AppNo) -> Result<Guard, NoMemory>
     let filters = filters_of(alloc, lists, app)?;
     let rules = rules_of(alloc, lists, app)?;
     let names = NameTable::of(alloc, lists)?;
+    let account = Account { ledger, held: None };
     Ok(Guard {
-        ledger,
+        account,
         writers,
         filters,
         rules,

@@ -45,6 +45,15 @@ pub enum WriteRefused {
     NoPermit,
 }
 
+/// Why a write isn't taken back, in the order in which it is tested.
+#[derive(Clone, Copy, Debug, PartialEq, Eq)]
+pub enum UndoRefused {
+    /// 1: the application has no such writer.
+    Foreign,
+    /// 2: the last write that used a permit isn't one of this writer and key, or is taken back already.
+    NotWritten,
+}
+
 /// The refusal of a ledger, as a guard reports it.
 pub(crate) fn firing_refused(refused: FireRefused) -> FiringRefused
     ensures { result ≡ firing_refused refused }

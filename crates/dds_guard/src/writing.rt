@@ -1,17 +1,20 @@
 //! Writes: how one may be made, and the firing that comes before one.
 ghost use Rattle.std.specs.Prelude.{◌≡◌, ◌+◌, ◌&&◌, ◌==◌, ◌<◌, ◌^◌, All, nat_lt, nat_le, Some, None, Ok};
-ghost use Rattle.std.specs.Prelude.{Err, IfOk, IfSome, OnErr};
+ghost use Rattle.std.specs.Prelude.{Err, IfOk, IfSome, OnErr, OnOk};
 ghost use Rattle.std.specs.List.{list_any};
 ghost use Rattle.std.specs.Result.{result_err};
 ghost use Rattle.dds_match.specs.Network.{is_named};
 ghost use Rattle.dds_rules.specs.Counts.{count_at};
 ghost use Rattle.dds_rules.specs.Exchange.{IsAlone, lacks_room, lacks_takes};
 ghost use Rattle.dds_rules.specs.Ledger.{fire_refusal};
-ghost use Rattle.dds_guard.specs.Refusals.{IsFired, IsPaid, IsReady, IsServed, IsServing, IsWritten, is_free};
+ghost use Rattle.dds_guard.specs.Guard.{permits_of};
+ghost use Rattle.dds_guard.specs.Refusals.{IsFired, IsPaid, IsReady, IsServed, IsServing, IsTakenBack};
+ghost use Rattle.dds_guard.specs.Refusals.{IsWritten, is_free, undo_refusal};
 ghost use Rattle.dds_guard.specs.Refusals.{serves, serving, way_of};
 
+use crate::account::Account;
 use crate::guard::Guard;
-use crate::refused::WriteRefused;
+use crate::refused::{UndoRefused, WriteRefused};
 use crate::rules::GuardRule;
 use dds_base::{KeyNo, Portion, ReaderNo, RuleNo, WriterNo};
 use dds_rules::Ledger;
@@ -83,15 +86,15 @@ fn lacks_room(ledger: &Ledger, writes: &[Portion<WriterNo>]) -> bool
 }
 
 /// Whether a rule of the application gives a permit for the key at the writer, and can be fired.
-fn serves(ledger: &Ledger, rule: &GuardRule, writer: WriterNo, key: KeyNo) -> bool
+fn serves(account: &Account, rule: &GuardRule, writer: WriterNo, key: KeyNo) -> bool
     requires takes { All (IsAlone rule.now.takes) rule.now.takes }
     requires writes { All (IsAlone rule.now.writes) rule.now.writes }
-    ensures { result ≡ serves ledger.now writer key rule.now }
+    ensures { result ≡ serves account.now.ledger writer key rule.now }
 {
     rule.own
         && names(&rule.writes, writer, key)
-        && !lacks_takes(ledger, &rule.takes)
-        && !lacks_room(ledger, &rule.writes)
+        && !lacks_takes(&account.ledger, &rule.takes)
+        && !lacks_room(&account.ledger, &rule.writes)
 }
 
 impl Guard {
@@ -111,7 +114,7 @@ impl Guard {
     {
         for u in 0..self.rules.len() {
             let rule = &self.rules[u];
-            if serves(&self.ledger, rule, writer, key) {
+            if serves(&self.account, rule, writer, key) {
                 return Some(RuleNo::new(u));
             }
         }
@@ -129,7 +132,7 @@ impl Guard {
         if self.is_free(writer, key) {
             return Ok(Way::Free);
         }
-        if self.ledger.permits(writer, key) > 0 {
+        if self.left(writer, key) > 0 {
             return Ok(Way::Permit);
         }
         match self.serving(writer, key) {
@@ -138,12 +141,12 @@ impl Guard {
         }
     }
 
-    /// Uses a permit, one that is there.
+    /// Uses a permit, one that is there: it is held instead of the last one.
     fn pay(&mut self, writer: WriterNo, key: KeyNo)
-        requires { 0 < count_at self.old.ledger.permits writer key }
+        requires { 0 < permits_of self.old writer key }
         ensures { IsPaid writer key self.old self.new }
     {
-        self.ledger.use_permit(writer, key).unwrap();
+        self.account.pay(writer, key);
     }
 
     /// Fires a rule that can be fired.
@@ -151,7 +154,7 @@ impl Guard {
         requires { fire_refusal self.old.ledger rule ≡ None }
         ensures { IsFired rule self.old self.new }
     {
-        self.ledger.fire(rule).unwrap();
+        self.account.fire(rule).unwrap();
     }
 
     /// Whether the application may write a sample of a key now: what `write` would answer.
@@ -198,5 +201,25 @@ impl Guard {
     {
         self.fire_ready(rule);
         self.pay(writer, key);
+    }
+    /// Takes back a write that `write` let through, and that DDS refused. It has to be the last one that used a permit;
+    /// a free write used none. Then the guard is as it was before that permit was used: a rule that was fired for the
+    /// write stays fired. A refusal changes nothing.
+    pub fn undo_write(&mut self, writer: WriterNo, key: KeyNo) -> Result<(), UndoRefused>
+        ensures answer { result_err result ≡ undo_refusal self.old writer key }
+        ensures undone { OnOk result (IsTakenBack (is_free self.old.rules writer key) writer key self.old self.new) }
+        ensures err { OnErr result (self.new ≡ self.old) }
+    {
+        if !self.writers.contains(&writer) {
+            return Err(UndoRefused::Foreign);
+        }
+        if self.is_free(writer, key) {
+            return Ok(());
+        }
+        if !self.account.holds(writer, key) {
+            return Err(UndoRefused::NotWritten);
+        }
+        self.account.give_back(writer, key);
+        Ok(())
     }
 }

@@ -4,3 +4,4 @@ pub mod Status
 pub mod Calls
 pub mod Checking
 pub mod Qos
+pub mod Faults

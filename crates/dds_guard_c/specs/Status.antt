@@ -6,6 +6,8 @@ use Rattle.dds_guard.specs.declared.refused.OpenFault.{OpenFault}
 use Rattle.dds_guard.specs.declared.refused.OpenFault.TheVariants as opening
 use Rattle.dds_guard.specs.declared.refused.TakeRefused.{TakeRefused}
 use Rattle.dds_guard.specs.declared.refused.TakeRefused.TheVariants as taking
+use Rattle.dds_guard.specs.declared.refused.UndoRefused.{UndoRefused}
+use Rattle.dds_guard.specs.declared.refused.UndoRefused.TheVariants as undoing
 use Rattle.dds_guard.specs.declared.refused.WriteRefused.{WriteRefused}
 use Rattle.dds_guard.specs.declared.refused.WriteRefused.TheVariants as writing
 
@@ -29,6 +31,11 @@ abbrev pub write_status : Option WriteRefused → ℕ
 write_status None = 0
 write_status (Some writing.Foreign) = 6
 write_status (Some writing.NoPermit) = 7
+
+abbrev pub undo_status : Option UndoRefused → ℕ
+undo_status None = 0
+undo_status (Some undoing.Foreign) = 6
+undo_status (Some undoing.NotWritten) = 13
 
 -- a name's number is given, or the name is unknown
 abbrev pub name_status : Option ℕ → ℕ

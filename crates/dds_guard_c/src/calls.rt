@@ -4,15 +4,17 @@ ghost use Rattle.std.specs.Result.{result_err};
 ghost use Rattle.dds_base.specs.Names.{number_of};
 ghost use Rattle.dds_guard.specs.Guard.{permits_at, rule_number, spare_at};
 ghost use Rattle.dds_guard.specs.Opening.{OpensAs};
-ghost use Rattle.dds_guard.specs.Refusals.{IsFired, IsTaken, IsWritten, firing_refusal, take_refusal, way_of};
+ghost use Rattle.dds_guard.specs.Refusals.{IsFired, IsTaken, IsTakenBack, IsWritten, firing_refusal, is_free};
+ghost use Rattle.dds_guard.specs.Refusals.{take_refusal, undo_refusal, way_of};
 ghost use Rattle.dds_guard_c.specs.Calls.{IsKept, answer_at, key_named};
-ghost use Rattle.dds_guard_c.specs.Status.{count_status, firing_status, name_status, take_status, write_status};
+ghost use Rattle.dds_guard_c.specs.Status.{count_status, firing_status, name_status, take_status, undo_status};
+ghost use Rattle.dds_guard_c.specs.Status.{write_status};
 
 use crate::handle::Handle;
 use crate::slot::{OPEN, Slot};
 use crate::status::{
     ALREADY_OPEN, FOREIGN, NO_MEMORY, NOT_OPEN, OK, UNKNOWN_NAME, fault_status, firing_status,
-    take_status, write_status,
+    take_status, undo_status, write_status,
 };
 use dds_base::{KeyNo, ReaderNo, RuleNo, WriterNo};
 use dds_guard::{Guard, open};
@@ -176,7 +178,7 @@ pub extern "C" fn ddscheck_find_key(
 
 /// The application took a sample of a key at a reader.
 #[unsafe(no_mangle)]
-pub extern "C" fn ddscheck_take(slot: &mut Slot, reader: usize, key: usize) -> u32
+pub extern "C" fn ddscheck_guard_take(slot: &mut Slot, reader: usize, key: usize) -> u32
     requires { IsKept slot.old }
     ensures kept { IsKept slot.new }
     ensures answer { result ≡ answer_at slot.old (λ g. take_status (take_refusal g reader key)) }
@@ -198,7 +200,7 @@ pub extern "C" fn ddscheck_take(slot: &mut Slot, reader: usize, key: usize) -> u
 
 /// Fires a rule of the application.
 #[unsafe(no_mangle)]
-pub extern "C" fn ddscheck_fire(slot: &mut Slot, rule: usize) -> u32
+pub extern "C" fn ddscheck_guard_fire(slot: &mut Slot, rule: usize) -> u32
     requires { IsKept slot.old }
     ensures kept { IsKept slot.new }
     ensures answer { result ≡ answer_at slot.old (λ g. firing_status (firing_refusal g rule)) }
@@ -216,7 +218,7 @@ pub extern "C" fn ddscheck_fire(slot: &mut Slot, rule: usize) -> u32
 
 /// Whether the application may write a sample of a key now.
 #[unsafe(no_mangle)]
-pub extern "C" fn ddscheck_may_write(slot: &mut Slot, writer: usize, key: usize) -> u32
+pub extern "C" fn ddscheck_guard_may_write(slot: &mut Slot, writer: usize, key: usize) -> u32
     requires { IsKept slot.old }
     ensures kept { IsKept slot.new }
     ensures answer { result ≡ answer_at slot.old (λ g. write_status (result_err (way_of g writer key))) }
@@ -237,7 +239,7 @@ pub extern "C" fn ddscheck_may_write(slot: &mut Slot, writer: usize, key: usize)
 
 /// The application is about to write a sample of a key.
 #[unsafe(no_mangle)]
-pub extern "C" fn ddscheck_write(slot: &mut Slot, writer: usize, key: usize) -> u32
+pub extern "C" fn ddscheck_guard_write(slot: &mut Slot, writer: usize, key: usize) -> u32
     requires { IsKept slot.old }
     ensures kept { IsKept slot.new }
     ensures answer { result ≡ answer_at slot.old (λ g. write_status (result_err (way_of g writer key))) }
@@ -258,9 +260,32 @@ pub extern "C" fn ddscheck_write(slot: &mut Slot, writer: usize, key: usize) -> 
     }
 }
 
+/// Takes back the write of a key that the guard let through and DDS refused.
+#[unsafe(no_mangle)]
+pub extern "C" fn ddscheck_guard_undo_write(slot: &mut Slot, writer: usize, key: usize) -> u32
+    requires { IsKept slot.old }
+    ensures kept { IsKept slot.new }
+    ensures answer { result ≡ answer_at slot.old (λ g. undo_status (undo_refusal g writer key)) }
+    ensures undone { result ≡ 0 → IsTakenBack (is_free slot.old.handle.guard.rules writer key) writer key
+        slot.old.handle.guard slot.new.handle.guard }
+    ensures refused { 0 < result → slot.new.handle.guard ≡ slot.old.handle.guard }
+{
+    if slot.state != OPEN {
+        return NOT_OPEN;
+    }
+    match slot
+        .handle
+        .as_mut()
+        .undo_write(WriterNo::new(writer), KeyNo::new(key))
+    {
+        Ok(()) => OK,
+        Err(refused) => undo_status(refused),
+    }
+}
+
 /// How many permits the application has for a key at a writer.
 #[unsafe(no_mangle)]
-pub extern "C" fn ddscheck_permits(
+pub extern "C" fn ddscheck_guard_permits(
     slot: &mut Slot,
     writer: usize,
     key: usize,
@@ -290,7 +315,7 @@ pub extern "C" fn ddscheck_permits(
 
 /// How many takes of a key at a reader no rule has spent.
 #[unsafe(no_mangle)]
-pub extern "C" fn ddscheck_spare(slot: &mut Slot, reader: usize, key: usize, count: &mut u64) -> u32
+pub extern "C" fn ddscheck_guard_spare(slot: &mut Slot, reader: usize, key: usize, count: &mut u64) -> u32
     requires { IsKept slot.old }
     ensures kept { IsKept slot.new }
     ensures answer { result ≡ answer_at slot.old (λ g. count_status (spare_at g reader key)) }

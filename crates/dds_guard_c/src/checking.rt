@@ -26,7 +26,7 @@ struct Verdict {
 }
 
 /// Puts as much of a text as there is room for over what is there.
-fn put(text: &[u8], room: &mut [u8])
+pub(crate) fn put(text: &[u8], room: &mut [u8])
     ensures { room.new ≡ put_over text.now room.old }
 {
     let count = text.len().min(room.len());

@@ -125,7 +125,7 @@ fn tell(found: Option<Qos>, qos: &mut Qos) -> u32
 /// Tells the QoS of the writer of this number, by the bytes of the deployment file. A fault of the file is 1, 2 that
 /// memory ran out, and 6 that there is no such writer; then nothing is told.
 #[unsafe(no_mangle)]
-pub extern "C" fn ddscheck_read_writer(
+pub extern "C" fn ddscheck_find_writer_qos(
     alloc: Global,
     deployment: &[u8],
     writer: usize,
@@ -148,7 +148,7 @@ pub extern "C" fn ddscheck_read_writer(
 /// Tells the QoS of the reader of this number, by the bytes of the deployment file. A fault of the file is 1, 2 that
 /// memory ran out, and 6 that there is no such reader; then nothing is told.
 #[unsafe(no_mangle)]
-pub extern "C" fn ddscheck_read_reader(
+pub extern "C" fn ddscheck_find_reader_qos(
     alloc: Global,
     deployment: &[u8],
     reader: usize,

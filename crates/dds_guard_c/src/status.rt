@@ -1,8 +1,8 @@
 //! The numbers of `ddscheck_status` in the header.
 ghost use Rattle.std.specs.Prelude.{◌≡◌, ◌<◌, Some};
-ghost use Rattle.dds_guard_c.specs.Status.{fault_status, firing_status, take_status, write_status};
+ghost use Rattle.dds_guard_c.specs.Status.{fault_status, firing_status, take_status, undo_status, write_status};
 
-use dds_guard::{FiringRefused, OpenFault, TakeRefused, WriteRefused};
+use dds_guard::{FiringRefused, OpenFault, TakeRefused, UndoRefused, WriteRefused};
 
 pub(crate) const OK: u32 = 0;
 
@@ -23,6 +23,8 @@ pub(crate) const NO_PERMIT: u32 = 7;
 pub(crate) const NOT_ENOUGH: u32 = 8;
 
 pub(crate) const COUNT_LIMIT: u32 = 9;
+
+pub(crate) const NOT_WRITTEN: u32 = 13;
 
 pub(crate) fn fault_status(fault: OpenFault) -> u32
     ensures value { result ≡ fault_status fault }
@@ -63,5 +65,15 @@ pub(crate) fn write_status(refused: WriteRefused) -> u32
     match refused {
         WriteRefused::Foreign => FOREIGN,
         WriteRefused::NoPermit => NO_PERMIT,
+    }
+}
+
+pub(crate) fn undo_status(refused: UndoRefused) -> u32
+    ensures value { result ≡ undo_status (Some refused) }
+    ensures some { 0 < result }
+{
+    match refused {
+        UndoRefused::Foreign => FOREIGN,
+        UndoRefused::NotWritten => NOT_WRITTEN,
     }
 }
