@@ -1,21 +1,20 @@
 -- Topics of one version are read alike of a later one, since version 4 where those with several keys say that they're keyed.
 use Rattle.std.proofs.Common.{codes, ◌≡◌, ℕ, ◌+◌, ◌≤◌, Bool, true, false, cond, List, [], ◌∷◌, ◌++◌, length, Option, Some, None, Ok, nat_cmp, is_eq, nat_le, option_map, arith, refl, sym, ap, subst, ◌∙◌}
 use Rattle.std.specs.Cmp.Lexicographic.{slice_cmp}
-use Rattle.std.specs.Prelude.{◌&&◌}
 use Rattle.std.proofs.lemmas.Bool.{and_parts, lt-leb}
 use Rattle.std.proofs.lemmas.List.{length_push}
-use Rattle.toml.specs.Data.{Data, string, integer, float, boolean, datetime, array, table, Items, no_items, item, Members, get_member, as_array, as_table, depth, items_depth, members_depth, has_valid_dates, items_have_valid_dates, members_have_valid_dates}
+use Rattle.toml.specs.Data.{Data, string, integer, float, boolean, datetime, array, table, Items, no_items, item, Members, get_member, as_array, depth, items_depth, members_depth, has_valid_dates, items_have_valid_dates, members_have_valid_dates}
 use Rattle.std.proofs.Math.Nat.{le-max_left, le-max_right, max-le}
 use Rattle.dds_fields.specs.declared.fault.FaultKind.TheVariants.{WrongKind, TooMany, MissingKey, OutOfRange}
 use Rattle.dds_fields.specs.Paths.{key_path, index_path}
-use Rattle.dds_fields.specs.Reading.{Read, ◌>>=◌, a_new_name, a_section, a_table, an_array, an_array_of, count, each, entry, field, keys_of, only, optional, or_fault, section, unless, unlisted, where_present}
+use Rattle.dds_fields.specs.Reading.{Read, ◌>>=◌, a_new_name, a_section, an_array, an_array_of, count, each, entry, field, keys_of, only, optional, or_fault, section, unless, unlisted, where_present}
 use Rattle.dds_fields.specs.Words.{a_flag}
 use Rattle.dds_base.specs.Section.{Listed, and_entry, nothing}
 use Rattle.dds_fields.proofs.Laws.{bind_ok, ok_is, found_is}
 use Rattle.dds_lists.specs.Lists.{Topic}
 use Rattle.dds_deploy.specs.Entries.{one_more}
-use Rattle.dds_deploy.specs.Migration.{array_at, as_items, has_several, keyed_document, keyed_entry, keyed_topic, keyed_topics, set_member, with_topics}
-use Rattle.dds_deploy.specs.Topics.{a_type_name, has_to_say, key, keyed, keys, topic, topic_fields, topic_keys, topics}
+use Rattle.dds_deploy.specs.Migration.{array_at, as_items, has_several, keyed_document, keyed_topic, keyed_topics, set_member, with_topics}
+use Rattle.dds_deploy.specs.Topics.{a_type_name, key, keyed, keys, topic, topic_fields, topic_keys, topics}
 use Rattle.dds_deploy.specs.Versions.{since_fourth}
 use Rattle.dds_deploy.proofs.Later.{Keeps, a_type_name_later, each_later, is_only, more_listed, one_name, only_is, then_ok}
 use Rattle.dds_deploy.proofs.Members.{absent, dates_of, depth_of, keeps_dates, no_deeper, stays, stays_listed, there}

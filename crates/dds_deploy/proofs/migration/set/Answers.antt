@@ -1,4 +1,4 @@
-use Rattle.std.proofs.Common.{◌≡◌, IsSome, string_bytes, sym, ap, subst, ◌∙◌}
+use Rattle.std.proofs.Common.{IsSome, string_bytes, sym, ap, subst, ◌∙◌}
 use Rattle.toml.specs.Data.{get_member}
 use Rattle.toml.specs.View.{table_view, members_view, view}
 use Rattle.toml.proofs.Views.{table_index}
