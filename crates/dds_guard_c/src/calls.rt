@@ -315,7 +315,12 @@ pub extern "C" fn ddscheck_guard_permits(
 
 /// How many takes of a key at a reader no rule has spent.
 #[unsafe(no_mangle)]
-pub extern "C" fn ddscheck_guard_spare(slot: &mut Slot, reader: usize, key: usize, count: &mut u64) -> u32
+pub extern "C" fn ddscheck_guard_spare(
+    slot: &mut Slot,
+    reader: usize,
+    key: usize,
+    count: &mut u64,
+) -> u32
     requires { IsKept slot.old }
     ensures kept { IsKept slot.new }
     ensures answer { result ≡ answer_at slot.old (λ g. count_status (spare_at g reader key)) }
