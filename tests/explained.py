@@ -50,9 +50,9 @@ def endpoint_lines(case, number, name):
 def instances_lines(case, number, name):
     if number == 20:
         keys, limit = case.reached(name), case.readers[name]["max_instances"]
-        return [f"{len(keys)} keys can reach {name}, and its max_instances is {limit}"] + keys
+        return [f"{case.instances(name, keys)} keys can reach {name}, and its max_instances is {limit}"] + keys
     keys, limit = case.written(name), case.writers[name]["max_instances"]
-    return [f"rules write {len(keys)} keys at {name}, and its max_instances is {limit}"] + keys
+    return [f"rules write {case.instances(name, keys)} keys at {name}, and its max_instances is {limit}"] + keys
 
 
 def span_text(span):
@@ -107,7 +107,8 @@ def samples_lines(case, number, reader):
     bounds = {key: case.bound(reader, key) for key in case.reached(reader)}
     if number == 21:
         return [f"{reader} has max_samples {limit}, no total, and no bound for each key"] + [key for key, bound in bounds.items() if bound is None]
-    lines = [f"{reader} has max_samples {limit}, and neither a total nor the sum of its bounds is within that"]
+    policy, limit = case.samples_limit(reader)
+    lines = [f"{reader} has {policy} {limit}, and neither a total nor the sum of its bounds is within that"]
     lines += [f"total {case.total(reader)}"] if case.total(reader) is not None else []
     lines += [f"no bound {key}" if bound is None else f"bound {key} {bound}" for key, bound in bounds.items()]
     return lines + [f"sum {sum(bound or 0 for bound in bounds.values())}"]
@@ -116,6 +117,16 @@ def samples_lines(case, number, reader):
 def filter_lines(case, writer, reader):
     first = f"{writer} has history KEEP_LAST, and the filter of {reader} leaves out what rules write there"
     return [first] + [key for key in case.written(writer) if not case.hears(reader, key)]
+
+
+def together_lines(case, writer, reader):
+    """The depth of a writer whose topic has one instance."""
+    depth, numbers = case.writers[writer]["depth"], case.depths_together(writer, reader)
+    known = [number for number in numbers.values() if number is not None]
+    enough = f"{min(known)} would be enough" if known else f"no total of {reader} is given"
+    words = {"total": "total {}", "bound": "bounds {} in all", "cap": "caps {} in all", "lag": "lags {} in all", "writes": "writes {} in all"}
+    terms = [words[name].format(number) for name, number in numbers.items() if number is not None]
+    return [f"{writer} keeps {depth} of all kinds together, and {enough}"] + terms
 
 
 def depth_lines(case, writer, reader, key):
@@ -244,7 +255,7 @@ def refusal_lines(case, number, words):
     if number == 25:
         return filter_lines(case, *words)
     if number == 26:
-        return depth_lines(case, *words)
+        return depth_lines(case, *words) if len(words) == 3 else together_lines(case, *words)
     if number == 27:
         return [volatile_line(case, *words)]
     if number == 28:
@@ -270,11 +281,11 @@ def margin_lines(case):
     for one in case.bounds:
         reader, key, row = one["reader"], one["key"], one["row"]
         weight = case.weight(row, "samples", reader, key)
-        limit = of_limit(*case.instance_limit(reader))
+        limit = of_limit(*case.instance_limit(reader)) if case.is_keyed(reader) else "of no limit"
         least = shows(case.budget(row), weight)
         lines.append(f"because {reader} {key} {one['bound']} {limit}: {opening_text(case, row)} and a sample {weight}, which shows {least}")
     for one in case.totals:
-        limit = of_limit("max_samples", case.readers[one["reader"]]["max_samples"])
+        limit = of_limit(*case.samples_limit(one["reader"]))
         lines.append(f"because {one['reader']} {one['bound']} {limit}: {opening_text(case, one['row'])}")
     for row in case.rows:
         carried = carried_lines(case, row)

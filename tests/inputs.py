@@ -32,8 +32,9 @@ def keyed_deployment(topics=ENDPOINTS, limit=None, version=2):
     """So many topics of 64 keys, each with a writer and a reader, and four rules with `each` that write at 16 writers, once for each key."""
     names = short_names(topics)
     limits = "" if limit is None else f",max_samples_per_instance={limit}"
+    keyed = "keyed=true," if version > 3 else ""
     sections = {
-        "topics": [f'{{name="{t}",type="t",keys={quoted(KEYS)}}}' for t in names],
+        "topics": [f'{{name="{t}",type="t",{keyed}keys={quoted(KEYS)}}}' for t in names],
         "writers": [f'{{name="{w}",participant="p",topic="{w}",history="KEEP_ALL"}}' for w in names],
         "readers": [f'{{name="{r}",participant="p",topic="{r}",reliability="RELIABLE",history="KEEP_ALL"{limits}}}' for r in names],
         "applications": [f'{{name="a",participant="p",writers={quoted(names)},readers={quoted(names)}}}'],
@@ -85,7 +86,7 @@ def crossed_topic(endpoints, head, writer, reader, rule_fields):
         for at in range(rules_of(ENDPOINTS))
     ]
     sections = {
-        "topics": [f'{{name="t",type="t",keys={quoted(KEYS)}}}'],
+        "topics": [f'{{name="t",type="t",keyed=true,keys={quoted(KEYS)}}}'],
         "writers": [f'{{name="{w}",participant="p",topic="t",{writer}}}' for w in names],
         "readers": [f'{{name="{r}",participant="p",topic="t",reliability="RELIABLE",{reader}}}' for r in names],
         "applications": [f'{{name="a",participant="p",writers={quoted(names)},readers={quoted(names)}}}'],

@@ -30,6 +30,7 @@ class Case:
         self.readers = {r["name"]: r for r in self.lists["readers"]}
         self.writers = {w["name"]: w for w in self.lists["writers"]}
         topics = {t["name"]: t["keys"] for t in self.lists["topics"]}
+        self.keyed = {t["name"]: t.get("keyed", True) for t in self.lists["topics"]}
         self.writer_keys = {name: topics[one["topic"]] for name, one in self.writers.items()}
         self.reader_keys = {name: topics[one["topic"]] for name, one in self.readers.items()}
         self.connected = {(c["writer"], c["reader"]) for c in self.lists["connections"]}
@@ -83,6 +84,14 @@ class Case:
 
     def reached(self, reader):
         return [key for key in self.reader_keys[reader] if self.reaches(reader, key)]
+
+    def is_keyed(self, endpoint):
+        """Whether each key of an endpoint's topic has an instance of its own; else all its keys are kinds of one."""
+        return self.keyed[(self.writers.get(endpoint) or self.readers[endpoint])["topic"]]
+
+    def instances(self, endpoint, keys):
+        """How many instances these keys are of."""
+        return len(keys) if self.is_keyed(endpoint) else min(len(keys), 1)
 
     def is_watcher(self, reader):
         """A reader that is best-effort or may lose: of it the limits ask nothing."""
@@ -172,8 +181,9 @@ class Case:
         """The first limit of a writer that is less than all that it ever writes: its name, its number, the key if it's the limit of one, and how much is ever
         written, `None` where there's no such number. `None` where both limits are enough."""
         one, each = self.writers[writer], {key: self.writes_at_all(writer, key) for key in self.writer_keys[writer]}
-        sums = [("max_samples", None, None if None in each.values() else sum(each.values()))]
-        for policy, key, number in [("max_samples_per_instance", key, number) for key, number in each.items()] + sums:
+        in_all = None if None in each.values() else sum(each.values())
+        of_instances = each.items() if self.is_keyed(writer) else [(None, in_all)]
+        for policy, key, number in [("max_samples_per_instance", key, number) for key, number in of_instances] + [("max_samples", None, in_all)]:
             if one[policy] != "unlimited" and (number is None or number > one[policy]):
                 return policy, one[policy], key, number
         return None
@@ -182,6 +192,12 @@ class Case:
         """What the depth of a KEEP_LAST writer is compared with, by name."""
         numbers = {"bound": self.bound(reader, key), "total": self.total(reader), "cap": self.cap(writer, reader, key), "lag": self.lag(writer, reader, key)}
         return numbers | {"writes": self.writes_at_all(writer, key)}
+
+    def depths_together(self, writer, reader):
+        """The same where the topic has one instance, of all its kinds that rules write there."""
+        each = [self.depths(writer, reader, key) for key in self.written(writer)]
+        sums = {name: None if None in numbers else sum(numbers) for name in ("bound", "cap", "lag", "writes") for numbers in [[one[name] for one in each]]}
+        return {"total": self.total(reader)} | sums
 
     def permit(self, row, writer, key):
         """What the permit weighs that a write uses: a free write uses none."""
@@ -202,6 +218,11 @@ class Case:
         """The name of the limit of an instance, and its number."""
         one = self.readers[reader]
         return ("depth", one["depth"]) if one["history"] == "KEEP_LAST" else ("max_samples_per_instance", one["max_samples_per_instance"])
+
+    def samples_limit(self, reader):
+        """The name of the limit of a reader's samples, and its number: where its topic has one instance that of an instance, if it's the less."""
+        limits = [("max_samples", self.readers[reader]["max_samples"])] + ([] if self.is_keyed(reader) else [self.instance_limit(reader)])
+        return min((limit for limit in limits if limit[1] != "unlimited"), key=lambda limit: limit[1], default=limits[0])
 
     def rule(self, words):
         """The rule with this name, and of an entry with `each` with this key."""
@@ -241,7 +262,7 @@ def failing_profile(case):
 
 def failing_bounds(case):
     """What 21 asks: at each reader its keys come first."""
-    for reader in case.strict():
+    for reader in filter(case.is_keyed, case.strict()):
         unbounded = [key for key in case.reached(reader) if case.bound(reader, key) is None]
         if case.instance_limit(reader)[1] != "unlimited":
             yield from ((21, [reader, key]) for key in unbounded)
@@ -250,8 +271,8 @@ def failing_bounds(case):
 
 
 def is_roomy(case, reader):
-    """Whether max_samples is unlimited, or the total or the sum of bounds of all keys is within it."""
-    limit, bounds = case.readers[reader]["max_samples"], [case.bound(reader, key) for key in case.reached(reader)]
+    """Whether the limit of its samples is unlimited, or the total or the sum of bounds of all keys is within it."""
+    limit, bounds = case.samples_limit(reader)[1], [case.bound(reader, key) for key in case.reached(reader)]
     numbers = [case.total(reader), None if None in bounds else sum(bounds)]
     return limit == "unlimited" or any(number is not None and number <= limit for number in numbers)
 
@@ -259,11 +280,11 @@ def is_roomy(case, reader):
 def failing_limits(case):
     """Numbers 20 to 24; of a watcher they ask nothing."""
     strict = case.strict()
-    yield from ((20, [r]) for r in strict if is_past(len(case.reached(r)), case.readers[r]["max_instances"]))
+    yield from ((20, [r]) for r in strict if is_past(case.instances(r, case.reached(r)), case.readers[r]["max_instances"]))
     yield from failing_bounds(case)
-    yield from ((22, [r, k]) for r in strict for k in case.reached(r) if is_past(case.bound(r, k) or 0, case.instance_limit(r)[1]))
+    yield from ((22, [r, k]) for r in filter(case.is_keyed, strict) for k in case.reached(r) if is_past(case.bound(r, k) or 0, case.instance_limit(r)[1]))
     yield from ((23, [r]) for r in strict if not is_roomy(case, r))
-    yield from ((24, [w]) for w in case.writers if is_past(len(case.written(w)), case.writers[w]["max_instances"]))
+    yield from ((24, [w]) for w in case.writers if is_past(case.instances(w, case.written(w)), case.writers[w]["max_instances"]))
 
 
 def failing_depths(case):
@@ -271,9 +292,14 @@ def failing_depths(case):
     guarded = [pair for pair in case.pairs() if case.is_guarded(*pair)]
     yield from ((25, (w, r)) for w, r in guarded if not all(case.hears(r, key) for key in case.written(w)))
     for w, r in guarded:
-        for key in filter(lambda key: case.hears(r, key), case.written(w)):
-            if not any(n is not None and n <= case.writers[w]["depth"] for n in case.depths(w, r, key).values()):
-                yield 26, [w, r, key]
+        heard = [key for key in case.written(w) if case.hears(r, key)]
+        if case.is_keyed(w):
+            asked = [([w, r, key], case.depths(w, r, key)) for key in heard]
+        else:
+            asked = [([w, r], case.depths_together(w, r))] if heard else []
+        for words, numbers in asked:
+            if not any(n is not None and n <= case.writers[w]["depth"] for n in numbers.values()):
+                yield 26, words
 
 
 def failing_joins(case):

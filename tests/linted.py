@@ -160,7 +160,7 @@ def pairs():
     """The worked deployments with their certificates, and the cases of `check`."""
     for certificate in sorted((ROOT / "examples").rglob("*.cert.toml")):
         yield [certificate.with_name(certificate.name.replace(".cert", "")), certificate]
-    for case in cases(["check", "version_3", "watchers", "explain", "paces", "joins"]):
+    for case in cases(["check", "version_3", "watchers", "explain", "paces", "joins", "kinds"]):
         if case.words[0] == "check" and "-" not in case.words and FAULT.fullmatch(case.errors()) is None and not case.errors():
             yield case.words[1:3]
 

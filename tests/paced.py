@@ -20,6 +20,8 @@ def value_of(value):
         return "{ " + ", ".join(f"{field} = {value_of(one)}" for field, one in value.items()) + " }"
     if isinstance(value, list):
         return "[" + ", ".join(map(value_of, value)) + "]"
+    if isinstance(value, bool):
+        return str(value).lower()
     return f'"{value}"' if isinstance(value, str) else str(value)
 
 
@@ -79,6 +81,11 @@ def join_late(draw, found):
             writer |= draw.choice([{}, {"max_samples": draw.randint(1, 9)}, {"max_samples_per_instance": draw.randint(1, 6)}])
 
 
+def drawn_keyed(draw, keys):
+    """Whether each key has an instance of its own, which several have to say."""
+    return {"keyed": draw.random() < 0.5} if len(keys) > 1 or draw.random() < 0.3 else {}
+
+
 def drawn_deployment(draw):
     keys = {topic: ["k", "l"][: draw.choice([1, 1, 2])] for topic in ["t", "u"][: draw.randint(1, 2)]}
     places = [(draw.choice("pq"), draw.choice(list(keys))) for _ in range(draw.randint(2, 5))]
@@ -91,7 +98,7 @@ def drawn_deployment(draw):
         applications.append({"name": f"a_{place}", "participant": place} | owned)
     found = {
         "participants": [{"name": "p", "domain": 0}, {"name": "q", "domain": 0}],
-        "topics": [{"name": name, "type": "T", "keys": names} for name, names in keys.items()],
+        "topics": [{"name": name, "type": "T", "keys": names} | drawn_keyed(draw, names) for name, names in keys.items()],
         "writers": writers,
         "readers": readers,
         "applications": applications,

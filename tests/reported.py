@@ -107,12 +107,19 @@ class Answer:
         return {r["name"] for r in self.lists["readers"] if r["reliability"] == "BEST_EFFORT" or r.get("may_lose")}
 
     def limit(self, end, key):
-        """The limit of a key, or of all keys where it's none, by the second reading."""
+        """The limit of a key, or of all keys where it's none, by the second reading. Where the topic has one instance no
+        key has a limit, and of all keys it's the less of both, at a writer its depth."""
         found = next(e for e in self.lists["readers"] + self.lists["writers"] if e["name"] == end)
-        named = (
-            "max_samples" if key is None else "depth" if found["history"] == "KEEP_LAST" else "max_samples_per_instance"
-        )
-        return None if found[named] == "unlimited" else (named, found[named])
+        topic = next(topic for topic in self.lists["topics"] if topic["name"] == found["topic"])
+        of_instance = "depth" if found["history"] == "KEEP_LAST" else "max_samples_per_instance"
+        if topic.get("keyed", True):
+            named = ["max_samples" if key is None else of_instance]
+        elif found in self.lists["writers"]:
+            named = [of_instance]
+        else:
+            named = [] if key else ["max_samples", of_instance]
+        limits = [(name, found[name]) for name in named if found[name] != "unlimited"]
+        return min(limits, key=lambda limit: limit[1], default=None)
 
     def bounds(self):
         """Each number by endpoint and key: the certificate's bound of a strict reader, else that of `limits`."""

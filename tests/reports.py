@@ -91,7 +91,7 @@ def pairs():
         found[certificate.with_name(certificate.name.replace(".cert", "")), certificate] = None
     for name in ("vehicle", "plant", "instrument", "robot"):
         found[ROOT / f"examples/{name}/unsafe.toml", ROOT / f"examples/{name}/{name}.cert.toml"] = None
-    for case in commands.cases(("check", "explain", "joins", "paces", "robot", "version_2", "version_3", "watchers")):
+    for case in commands.cases(("check", "explain", "joins", "kinds", "paces", "robot", "version_2", "version_3", "watchers")):
         files = [word for word in case.words[1:] if not word.startswith("--")]
         if (
             case.words[0] == "check"

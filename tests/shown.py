@@ -93,7 +93,7 @@ def document_of(path):
 def lists_of(path):
     """Every section, with every field, in the order of the format. The start of a free rule is "unlimited". What nobody says of paces isn't there."""
     found = document_of(path)
-    topics = [{"name": t["name"], "type": t["type"], "keys": t["keys"]} for t in found.get("topics", [])]
+    topics = [{"name": t["name"], "type": t["type"], "keys": t["keys"]} | ({} if t.get("keyed", True) else {"keyed": False}) for t in found.get("topics", [])]
     keys = {t["name"]: t["keys"] for t in topics}
     writers = [endpoint(w, "RELIABLE") for w in found.get("writers", [])]
     readers = [reader_of(r, keys, found["version"]) for r in found.get("readers", [])]

@@ -58,9 +58,10 @@ def profile(one, entity, group):
 
 def type_of(topic):
     keys = "".join(f'        <enumerator name="{key}"/>\n' for key in topic["keys"])
+    member = 'key" type="string" stringMaxLength="64" key="true"/>' if topic.get("keyed", True) else 'kind" type="string" stringMaxLength="64"/>'
     return (
         f'    <module name="{topic["name"]}">\n      <enum name="keys">\n{keys}      </enum>\n      <struct name="{topic["type"]}">\n'
-        + '        <member name="key" type="string" stringMaxLength="64" key="true"/>\n        <member name="data" type="byte" arrayDimensions="32"/>\n'
+        + f'        <member name="{member}\n        <member name="data" type="byte" arrayDimensions="32"/>\n'
         + "      </struct>\n    </module>\n"
     )
 

@@ -13,6 +13,7 @@ use dds_match::planning::plan;
 use std::alloc::Global;
 
 /// The plan of the lists of a deployment, which are given up where there is no memory for it.
+#[inline(never)]
 pub fn plan_of(alloc: Global, lists: Deployment) -> Result<Plan, ToolFault>
     ensures plan { IfOk result (λ plan. plan ≡ lists) }
     ensures memory { IfErr result (λ e. e ≡ ToolFault.NoMemory) }

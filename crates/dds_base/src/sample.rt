@@ -11,8 +11,10 @@ pub struct Sample {
     pub writer: WriterNo,
     /// Its sequence number at the writer, from 1 (DDSI-RTPS 2.5, clause 8.3.5.4).
     pub sn: u64,
-    /// The key of its instance.
+    /// The number of its instance: on a keyed topic its kind, else 0.
     pub key: KeyNo,
+    /// Which key of the topic it was written with, by which rules and filters tell samples apart.
+    pub kind: KeyNo,
     pub payload: Data,
 }
 

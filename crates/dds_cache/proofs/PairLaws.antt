@@ -101,7 +101,7 @@ first_of_tickets places i key (Some p) ordered indexed h =
     let spot : place_of x.0 ≡ p =
     ap (λ (k : ℕ). ((k, x.0.writer), x.0.sn)) key_is ∙ ap (λ (w : ℕ). ((p.0.0, w), x.0.sn)) x.3 ∙ ap (λ (n : ℕ). ((p.0.0, p.0.1), n)) x.4 in
     record {
-      held = (t, x.0.payload);
+      held = (t, (x.0.kind, x.0.payload));
       there = ap (λ (q : Place). held_at places q) (sym spot) ∙ stands_at places.entries t x.0 ordered x.1;
       first = record {
         here = ap (has_key key) x.1 ∙ x.2;

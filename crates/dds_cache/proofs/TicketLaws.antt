@@ -273,14 +273,14 @@ none_below p (e ∷ es) all = cond-false _ (Some e.1) _ (ap is_eq all.0) ∙ non
 
 -- a sample with a ticket stands at its place
 pub stands_at : (es : List (Place × Held)) (t : ℕ) (x : Sample) → IsStrictlySortedBy place_cmp (keys_of es) → at (by_ticket es) t ≡ Some x
-    → lookup (is_at (place_cmp (place_of x))) es ≡ Some (t, x.payload)
+    → lookup (is_at (place_cmp (place_of x))) es ≡ Some (t, (x.kind, x.payload))
 stands_at [] t x sorted there = absurd (none_some refl there)
 stands_at (e ∷ es) t x sorted there =
     let y = sample_of e.0 e.1.1 in
     elim (cases_eq t e.1.0) [
       | inl same ↦
           let is : y ≡ x = some_same (at_put (by_ticket es) e.1.0 y) (ap (λ (n : ℕ). at (by_ticket (e ∷ es)) n) (sym same) ∙ there) in
-          subst (λ (z : Sample). lookup (is_at (place_cmp (place_of z))) (e ∷ es) ≡ Some (t, z.payload)) is
+          subst (λ (z : Sample). lookup (is_at (place_cmp (place_of z))) (e ∷ es) ≡ Some (t, (z.kind, z.payload))) is
           (cond-true _ (Some e.1) _ (ap is_eq (exact_places.tied e.0)) ∙ ap (λ (n : ℕ). Some (n, e.1.1)) (sym same))
       | inr ne ↦
           let rest = stands_at es t x (sorted_tail place_cmp e.0 (keys_of es) sorted) (sym (at_put_other (by_ticket es) e.1.0 y t ne) ∙ there) in
@@ -426,7 +426,7 @@ out_last (e ∷ m) t x none =
 pub back_out : (m : Samples) (n : Places) (o : Samples) (t : ℕ) (x : Sample) → at m t ≡ None → samples_of n ≡ m ++ (t, x) ∷ [] → IsOrdered place_cmp n
     → TakesOut (held_at n (place_of x)) (samples_of n) o → o ≡ m
 back_out m n o t x none grown ordered out =
-    let there : held_at n (place_of x) ≡ Some (t, x.payload) = stands_at n.entries t x ordered (ap (λ (l : Samples). at l t) grown ∙ at_last m t x none) in
+    let there : held_at n (place_of x) ≡ Some (t, (x.kind, x.payload)) = stands_at n.entries t x ordered (ap (λ (l : Samples). at l t) grown ∙ at_last m t x none) in
     subst (λ (q : Option Held). TakesOut q (samples_of n) o) there out ∙ ap (λ (l : Samples). remove_entry (is_at (nat_cmp t)) l) grown ∙ out_last m t x none
 
 -- the sample x stood at the place, and n are the samples without it

@@ -12,9 +12,13 @@ use Rattle.dds_base.specs.declared.sample.Sample.{Sample}
 abbrev pub Place : Type 0
 Place = (ℕ × ℕ) × ℕ
 
+-- what a sample carries: its kind and data
+abbrev pub Carried : Type 0
+Carried = ℕ × List ℕ
+
 -- the ticket of a sample's admission, and what the sample carries
 abbrev pub Held : Type 0
-Held = ℕ × List ℕ
+Held = ℕ × Carried
 
 abbrev pub Places : Type 0
 Places = BTreeMap Place Held
@@ -34,8 +38,8 @@ abbrev pub place_of : Sample → Place
 place_of x = ((x.key, x.writer), x.sn)
 
 -- the sample of a place that carries this
-abbrev pub sample_of : Place → List ℕ → Sample
-sample_of p payload = record { writer = p.0.1; sn = p.1; key = p.0.0; payload = payload }
+abbrev pub sample_of : Place → Carried → Sample
+sample_of p carried = record { writer = p.0.1; sn = p.1; key = p.0.0; kind = carried.0; payload = carried.1 }
 
 -- what stands at a place
 abbrev pub held_at : Places → Place → Option Held

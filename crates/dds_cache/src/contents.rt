@@ -15,9 +15,9 @@ ghost use Rattle.dds_cache.specs.Order.{held_at, sample_of, samples_of, TakesOut
 ghost use Rattle.dds_cache.specs.Queues.{IsApart, IsFirstQueued};
 ghost use Rattle.dds_cache.specs.Least.{IsUniform, AreListed, IsLesser, IsLeastAt, NoneAvailable};
 
-use crate::order::{Order, Place, place_of};
+use crate::order::{Carried, Order, Place, place_of};
 use crate::released::Released;
-use dds_base::{Data, KeyNo, NoMemory, Sample};
+use dds_base::{KeyNo, NoMemory, Sample};
 use std::alloc::Global;
 use std::collections::BTreeMap;
 
@@ -32,7 +32,7 @@ pub(crate) struct Contents {
 
 // The place of the least number of a key and a writer that is at most `upto`, with its ticket.
 fn first_queued(
-    places: &BTreeMap<Place, (u64, Data)>,
+    places: &BTreeMap<Place, (u64, Carried)>,
     key: usize,
     writer: usize,
     upto: u64,

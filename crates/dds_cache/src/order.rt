@@ -14,11 +14,14 @@ use std::collections::BTreeMap;
 // A key and a writer, and a number.
 pub(crate) type Place = ((usize, usize), u64);
 
+// What a sample carries: its kind and data.
+pub(crate) type Carried = (KeyNo, Data);
+
 // Each stored sample stands at its place, with the ticket of its admission, which rises, and what it carries. Under
 // KEEP_LAST, `by_age`, each key has the writers and numbers of its samples by ticket; else none has.
 #[derive(Drop)]
 pub(crate) struct Order {
-    pub(crate) places: BTreeMap<Place, (u64, Data)>,
+    pub(crate) places: BTreeMap<Place, (u64, Carried)>,
     pub(crate) tickets: BTreeMap<(usize, u64), (usize, u64)>,
     pub(crate) by_age: bool,
     pub(crate) next: u64,
@@ -36,14 +39,16 @@ pub(crate) fn place_of(sample: &Sample) -> Place
 }
 
 // The sample of a place that carries this.
-fn sample_of(place: Place, payload: Data) -> Sample
-    ensures { result ≡ sample_of place payload }
+fn sample_of(place: Place, carried: Carried) -> Sample
+    ensures { result ≡ sample_of place carried }
 {
     let ((key, writer), sn) = place;
+    let (kind, payload) = carried;
     Sample {
         writer: WriterNo::new(writer),
         sn,
         key: KeyNo::new(key),
+        kind,
         payload,
     }
 }
@@ -132,7 +137,7 @@ impl Order {
         }
         let ticket = self.next;
         let place = place_of(sample);
-        self.places.insert(place, (ticket, sample.payload))?;
+        self.places.insert(place, (ticket, (sample.kind, sample.payload)))?;
         if let Err(_) = list(&mut self.tickets, self.by_age, place, ticket) {
             self.places.remove(&place);
             return Err(NoMemory);
@@ -148,8 +153,8 @@ impl Order {
             (samples_of self.new.places) }
         ensures by_age { self.new.by_age ≡ self.old.by_age }
     {
-        let (ticket, payload) = self.places.remove(&place)?;
+        let (ticket, carried) = self.places.remove(&place)?;
         strike(&mut self.tickets, self.by_age, place.0.0, ticket);
-        Some(sample_of(place, payload))
+        Some(sample_of(place, carried))
     }
 }

@@ -1,5 +1,5 @@
 -- Sums over pairs of numbers: what is weighed over the pairs is what is weighed over the list.
-use Rattle.std.proofs.Common.{ℕ, zero, suc, ◌≡◌, ◌≢◌, ◌+◌, ◌*◌, ◌<◌, ◌==◌, ◌&&◌, if◌then◌else◌, List, [], ◌∷◌, inl, inr, refl, ap, ◌∙◌, arith}
+use Rattle.std.proofs.Common.{ℕ, zero, suc, ◌≡◌, ◌≢◌, ◌+◌, ◌*◌, ◌<◌, ◌==◌, ◌&&◌, if◌then◌else◌, List, [], ◌∷◌, inl, inr, refl, sym, ap, ◌∙◌, arith}
 use Rattle.std.proofs.lemmas.Bool.Decides.{nat_tests}
 use Rattle.dds_base.specs.Sums.{total, total_pairs, In}
 use Rattle.dds_base.proofs.SumLaws.{total_ext, total_zero, total_add, total_one, total_times}
@@ -21,6 +21,12 @@ pub pairs_times : (n m x : ℕ) (f : ℕ → ℕ → ℕ) → total_pairs n m (�
 pairs_times n m x f =
     total_ext (λ i. total m (λ j. x * f i j)) (λ i. x * total m (f i)) n (λ i l. total_times x (f i) m)
     ∙ total_times x (λ i. total m (f i)) n
+
+-- by columns
+pub pairs_swap : (n m : ℕ) (f : ℕ → ℕ → ℕ) → total_pairs n m f ≡ total m (λ j. total n (λ i. f i j))
+unfolding total
+pairs_swap zero m f = sym (total_zero (λ j. 0) m (λ j l. refl))
+pairs_swap (suc n) m f = ap (λ x. x + total m (f n)) (pairs_swap n m f) ∙ sym (total_add (λ j. total n (λ i. f i j)) (f n) m)
 
 -- one pair counts
 pub pairs_at : (n m i j : ℕ) (f : ℕ → ℕ → ℕ) → i < n → j < m → ((p q : ℕ) → i ≢ p → f p q ≡ 0) → ((q : ℕ) → j ≢ q → f i q ≡ 0) → total_pairs n m f ≡ f i j

@@ -24,15 +24,16 @@ late_volatile net w r = fails (follows_late net w r && not (net.durable_writer w
 abbrev pub is_followed_late : Network → ℕ → Bool
 is_followed_late net w = any_below net.readers (follows_late net w)
 
--- all that the writer ever writes of any key is within a finite max_samples_per_instance
-abbrev pub instances_fit : Network → ℕ → Bool
-instances_fit net w =
-    is_none (net.writer_limits w).max_samples_per_instance
-    || all_below net.keys (λ k. is_finite_within net w k (net.writer_limits w).max_samples_per_instance)
-
 -- how many samples rules ever write at the writer, of all keys together; none where there's no such number
 abbrev pub written_in_all : Network → ℕ → Option ℕ
 written_in_all net w = if all_below net.keys (is_finite net w) then Some (total net.keys (opening_permits net w)) else None
+
+-- all that the writer ever writes of any instance is within a finite max_samples_per_instance: of each key, or where the topic has one instance of all
+abbrev pub instances_fit : Network → ℕ → Bool
+instances_fit net w =
+    is_none (net.writer_limits w).max_samples_per_instance
+    || (if net.keyed_writer w then all_below net.keys (λ k. is_finite_within net w k (net.writer_limits w).max_samples_per_instance)
+    else is_within (written_in_all net w) (net.writer_limits w).max_samples_per_instance)
 
 -- all that the writer ever writes is within a finite max_samples
 abbrev pub samples_fit : Network → ℕ → Bool

@@ -1,6 +1,7 @@
-//! Questions about all numbers below one: the first answer that is there, whether each passes, and how many do.
+//! Questions about all numbers below one: the first answer that is there, whether each passes, whether one does, and
+//! how many do.
 ghost use Rattle.std.specs.Prelude.{◌≡◌, ◌<◌, ◌≤◌, ℕ, Bool, Option};
-ghost use Rattle.dds_base.specs.Sums.{count_below};
+ghost use Rattle.dds_base.specs.Sums.{any_below, count_below};
 ghost use Rattle.dds_runs.specs.First.{all_below, first_below};
 
 /// The first answer of `at` that is there, of the numbers below `n` in order.
@@ -29,6 +30,21 @@ pub fn all_below<F: Fn(usize) -> bool>(n: usize, passes: F) -> bool
         }
     }
     true
+}
+
+/// Whether some number below `n` passes.
+#[tactic(auto, using(crate::proofs::AnyBelow::any_laws))]
+pub fn any_below<F: Fn(usize) -> bool>(n: usize, passes: F) -> bool
+    requires { (i : ℕ) → i < n → F.pre passes i }
+    ensures { (end : ℕ) (f : ℕ → Bool) → n ≡ end → ((i : ℕ) (r : Bool) → i < n → F.post passes i r → r ≡ f i)
+        → result ≡ any_below end f }
+{
+    for i in 0..n {
+        if passes(i) {
+            return true;
+        }
+    }
+    false
 }
 
 /// How many of the numbers below `n` pass.

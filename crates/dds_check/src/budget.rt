@@ -70,29 +70,32 @@ fn carried_weight(plan: &Plan, weights: &Tables, reader: ReaderNo, key: KeyNo) -
     }
 }
 
-/// That of all keys of a reader.
-fn reader_carried(plan: &Plan, weights: &Tables, reader: ReaderNo) -> u128
-    requires { reader < (network_of plan.now).readers }
-    ensures value { result ≡ total (network_of plan.now).keys
-        (carried_weight (network_of plan.now) (row_of weights.now) reader) }
-    ensures small { result ≤ 2 ^ 102 }
+/// That of a key at all readers: nothing where the row weighs no sample of it.
+fn key_carried(plan: &Plan, weights: &Tables, key: KeyNo) -> u128
+    requires { key < (network_of plan.now).keys }
+    ensures value { result ≡ total (network_of plan.now).readers
+        (λ r. carried_weight (network_of plan.now) (row_of weights.now) r key) }
+    ensures small { result ≤ 2 ^ 104 }
 {
+    if !weights.names_sample(key) {
+        return 0;
+    }
     let mut total: u128 = 0;
-    for k in 0..KEYS {
-        total += carried_weight(plan, weights, reader, KeyNo::new(k));
+    for r in 0..readers_of(plan) {
+        total += carried_weight(plan, weights, ReaderNo::new(r), key);
     }
     total
 }
 
-/// That of all keys of all readers.
+/// That of all keys at all readers.
 fn all_carried(plan: &Plan, weights: &Tables) -> u128
     ensures value { result ≡ total_pairs (network_of plan.now).readers (network_of plan.now).keys
         (carried_weight (network_of plan.now) (row_of weights.now)) }
     ensures small { result ≤ 2 ^ 110 }
 {
     let mut total: u128 = 0;
-    for r in 0..readers_of(plan) {
-        total += reader_carried(plan, weights, ReaderNo::new(r));
+    for k in 0..KEYS {
+        total += key_carried(plan, weights, KeyNo::new(k));
     }
     total
 }

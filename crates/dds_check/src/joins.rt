@@ -72,19 +72,26 @@ pub fn is_followed_late(plan: &Plan, writer: WriterNo) -> bool
     false
 }
 
-/// Whether all that the writer ever writes of any key is within its `max_samples_per_instance`. `permits` are those of
-/// the writer, made by `permits_of`.
+/// Whether all that the writer ever writes of any instance is within its `max_samples_per_instance`: of each key, or
+/// where the topic has one instance of all. `permits` are those of the writer, made by `permits_of`.
 pub fn instances_fit(plan: &Plan, permits: &[Option<u64>; KEYS], writer: WriterNo) -> bool
     requires writer { writer < (network_of plan.now).writers }
     requires permits { ShowsPermits (network_of plan.now) writer permits.now }
+    requires small { AreAtMost (2 ^ 44) permits.now }
     ensures { result ≡ instances_fit (network_of plan.now) writer }
 {
     let limit = plan.writer_limits(writer).max_samples_per_instance;
-    limit.is_none()
-        || all_below(
+    if limit.is_none() {
+        return true;
+    }
+    if plan.is_keyed_writer(writer) {
+        all_below(
             KEYS,
             |k| is_finite_within(plan, permits, writer, KeyNo::new(k), limit),
         )
+    } else {
+        is_within(written_in_all(plan, permits, writer), limit)
+    }
 }
 
 /// How many samples rules ever write at the writer, of all keys together, at most 2^50. `None` where there's no such

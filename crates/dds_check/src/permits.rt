@@ -74,7 +74,7 @@ pub fn permits_of(plan: &Plan, writer: WriterNo) -> [Option<u64>; KEYS]
 }
 
 /// Whether a number is there and not above a limit.
-pub(crate) fn is_within(permits: Option<u64>, limit: Option<u32>) -> bool
+pub fn is_within(permits: Option<u64>, limit: Option<u32>) -> bool
     ensures { result ≡ is_within permits limit }
 {
     match permits {

@@ -3,7 +3,7 @@ ghost use Rattle.std.specs.Prelude.{◌≡◌, ◌<◌, ◌≤◌, ◌*◌, ◌^
 ghost use Rattle.dds_match.specs.Network.{weighed};
 ghost use Rattle.dds_weights.specs.Views.{row_view, certificate_view};
 ghost use Rattle.dds_runs.specs.Accepted.{row_of};
-ghost use Rattle.dds_weights.specs.Weighing.{weight_by};
+ghost use Rattle.dds_weights.specs.Weighing.{names_key, weight_by};
 ghost use Rattle.dds_check.specs.Tables.{weighed_by};
 
 use dds_base::{Endpoint, KeyNo, Portion, ReaderNo, WriterNo};
@@ -65,6 +65,20 @@ impl<'a> Tables<'a> {
         ensures { result ≡ (row_of self.now).permits writer key }
     {
         self.permits.at(writer, key)
+    }
+
+    /// Whether the row weighs samples of the key, at whatever reader.
+    pub fn names_sample(&self, key: KeyNo) -> bool
+        ensures { result ≡ names_key self.now.samples key }
+    {
+        self.samples.names(key)
+    }
+
+    /// Whether the row weighs takes of the key, at whatever reader.
+    pub fn names_take(&self, key: KeyNo) -> bool
+        ensures { result ≡ names_key self.now.takes key }
+    {
+        self.takes.names(key)
     }
 
     /// What a rule takes, weighed.

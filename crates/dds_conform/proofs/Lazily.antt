@@ -7,7 +7,7 @@ use Rattle.dds_base.specs.declared.portion.Portion.{Portion}
 use Rattle.dds_base.specs.Sums.{total}
 use Rattle.dds_base.proofs.SumLaws.{put_other, total_le}
 use Rattle.dds_match.specs.Network.{Network, named}
-use Rattle.dds_runs.specs.World.{World, count_key, given, has_key, opening, permits, spare, spent, used}
+use Rattle.dds_runs.specs.World.{World, count_key, given, has_kind, opening, permits, spare, spent, used}
 use Rattle.dds_runs.specs.Steps.{any_entry, is_empty}
 use Rattle.dds_runs.specs.CountRuns.{CountMove, counted, counted_all}
 use Rattle.dds_runs.specs.CountRuns.CountMove.{Writes, Fires, Takes}
@@ -77,8 +77,8 @@ pub record IsLazier (net : Network) (actions : List Action) (ms ns : List CountM
 same_written : (net : Network) (actions : List Action) (ms ns : List CountMove) → Explains net actions ms → Explains net actions ns → (w k : ℕ) → count_key k ((counted_all opening ms).written w) ≡ count_key k ((counted_all opening ns).written w)
 same_written net actions ms ns e f w k = written_count ms opening w k ∙ ap (λ xs. count_key k (opening.written w) + wrote xs w k) (e.traced ∙ sym f.traced) ∙ sym (written_count ns opening w k)
 
-same_taken : (net : Network) (actions : List Action) (ms ns : List CountMove) → Explains net actions ms → Explains net actions ns → (r k : ℕ) → count_by (has_key k) ((counted_all opening ms).taken r) ≡ count_by (has_key k) ((counted_all opening ns).taken r)
-same_taken net actions ms ns e f r k = taken_count ms opening r k ∙ ap (λ xs. count_by (has_key k) (opening.taken r) + took xs r k) (e.traced ∙ sym f.traced) ∙ sym (taken_count ns opening r k)
+same_taken : (net : Network) (actions : List Action) (ms ns : List CountMove) → Explains net actions ms → Explains net actions ns → (r k : ℕ) → count_by (has_kind k) ((counted_all opening ms).taken r) ≡ count_by (has_kind k) ((counted_all opening ns).taken r)
+same_taken net actions ms ns e f r k = taken_count ms opening r k ∙ ap (λ xs. count_by (has_kind k) (opening.taken r) + took xs r k) (e.traced ∙ sym f.traced) ∙ sym (taken_count ns opening r k)
 
 pub covered_moves : (net : Network) (actions : List Action) (ms : List CountMove) → Explains net actions ms → IsCovered net (counted_all opening ms)
 covered_moves net actions ms e = covered_all net ms opening (covered_opening net) e.allowed

@@ -5,7 +5,7 @@ use Rattle.std.proofs.lemmas.Bool.{cases_eq}
 use Rattle.dds_base.specs.Sums.{put}
 use Rattle.dds_base.proofs.SumLaws.{put_at, put_other}
 use Rattle.dds_match.specs.Network.{Network}
-use Rattle.dds_runs.specs.World.{World, count_key, has_key}
+use Rattle.dds_runs.specs.World.{World, count_key, has_kind}
 use Rattle.dds_runs.specs.CountRuns.{CountMove, counted, counted_all}
 use Rattle.dds_runs.specs.CountRuns.CountMove.{Writes, Fires, Takes}
 use Rattle.dds_runs.proofs.CountsSums.{at_pair}
@@ -29,7 +29,7 @@ pub traced_push : (ms : List CountMove) (m : CountMove) → traced (ms ++ m ∷ 
 unfolding traced
 traced_push [] m = refl
 traced_push (Writes w k d ∷ ms) m = ap (λ xs. Write w k ∷ xs) (traced_push ms m)
-traced_push (Takes r s ∷ ms) m = ap (λ xs. Take r s.key ∷ xs) (traced_push ms m)
+traced_push (Takes r s ∷ ms) m = ap (λ xs. Take r s.kind ∷ xs) (traced_push ms m)
 traced_push (Fires u ∷ ms) m = traced_push ms m
 
 pub traced_write : (w k : ℕ) (d : List ℕ) → traced (Writes w k d ∷ []) ≡ Write w k ∷ []
@@ -98,7 +98,7 @@ split net (Writes w k d ∷ ms) v [] x is h =
     let first : Write w k ≡ x = cc in
     at_once net x v (Writes w k d) ms (ap (λ y. y ∷ []) first) h.0 (λ u. omega arith)
 split net (Takes r s ∷ ms) v [] x is h =
-    let first : Take r s.key ≡ x = cc in
+    let first : Take r s.kind ≡ x = cc in
     at_once net x v (Takes r s) ms (ap (λ y. y ∷ []) first) h.0 (λ u. omega arith)
 split net (Writes w k d ∷ ms) v (a ∷ as') x is h =
     let rest : traced ms ≡ as' ++ x ∷ [] = cc in
@@ -106,8 +106,8 @@ split net (Writes w k d ∷ ms) v (a ∷ as') x is h =
     later net as' (a ∷ as') x v (Writes w k d) ms h.0 (λ xs e. let one : Write w k ∷ traced xs ≡ a ∷ as' = cc in one) (split net ms (counted v (Writes w k d)) as' x rest h.1)
 split net (Takes r s ∷ ms) v (a ∷ as') x is h =
     let rest : traced ms ≡ as' ++ x ∷ [] = cc in
-    let first : Take r s.key ≡ a = cc in
-    later net as' (a ∷ as') x v (Takes r s) ms h.0 (λ xs e. let one : Take r s.key ∷ traced xs ≡ a ∷ as' = cc in one) (split net ms (counted v (Takes r s)) as' x rest h.1)
+    let first : Take r s.kind ≡ a = cc in
+    later net as' (a ∷ as') x v (Takes r s) ms h.0 (λ xs e. let one : Take r s.kind ∷ traced xs ≡ a ∷ as' = cc in one) (split net ms (counted v (Takes r s)) as' x rest h.1)
 
 -- ── counts of what is traced
 -- how many of the actions write the key at the writer, and how many take the key at the reader
@@ -131,12 +131,12 @@ written_count (Writes i l d ∷ ms) v w k =
     let rest = written_count ms (counted v (Writes i l d)) w k in
     omega arith
 
-pub taken_count : (ms : List CountMove) (v : World) (r k : ℕ) → count_by (has_key k) ((counted_all v ms).taken r) ≡ count_by (has_key k) (v.taken r) + took (traced ms) r k
+pub taken_count : (ms : List CountMove) (v : World) (r k : ℕ) → count_by (has_kind k) ((counted_all v ms).taken r) ≡ count_by (has_kind k) (v.taken r) + took (traced ms) r k
 unfolding counted_all traced
 taken_count [] v r k = omega arith
 taken_count (Fires u ∷ ms) v r k = taken_count ms (counted v (Fires u)) r k
 taken_count (Writes w l d ∷ ms) v r k = taken_count ms (counted v (Writes w l d)) r k
 taken_count (Takes i s ∷ ms) v r k =
-    let one : count_by (has_key k) (put v.taken i (v.taken i ++ s ∷ []) r) ≡ count_by (has_key k) (v.taken r) + at_pair i s.key r k = taken_put v.taken i s r k in
+    let one : count_by (has_kind k) (put v.taken i (v.taken i ++ s ∷ []) r) ≡ count_by (has_kind k) (v.taken r) + at_pair i s.kind r k = taken_put v.taken i s r k in
     let rest = taken_count ms (counted v (Takes i s)) r k in
     omega arith

@@ -130,7 +130,7 @@ module _ (net : Network) (actions : List Action) (old : LedgerState) (r : Reache
   pub reached_take : (i k : ℕ) (new : LedgerState) → IsMoreBy (only_at i k 1) old.spare new.spare → new.permits ≡ old.permits → KeepsPlan old new → Reaches net (actions ++ Take i k ∷ []) new
   unfolding traced
   reached_take i k new more same plan =
-      let s : Sample = record { writer = 0; sn = 0; key = k; payload = [] } in
+      let s : Sample = record { writer = 0; sn = 0; key = k; kind = k; payload = [] } in
       push net actions old (at_of net actions old r) (Take i k) (Takes i s) new (no_less net actions old (Take i k) r) tt refl (λ u. refl)
       (taken_stands net (counted_all opening r.moves) old new i s r.covered more same plan r.stands)
 

@@ -5,7 +5,7 @@ use Rattle.std.proofs.lemmas.Bool.{and_left, and_right, cases_eq, cond_both, ne_
 use Rattle.dds_base.specs.Sums.{put}
 use Rattle.dds_base.proofs.SumLaws.{total_ext}
 use Rattle.dds_match.specs.Network.{Network, named}
-use Rattle.dds_runs.specs.World.{World, Sample, count_key, given, has_key, opening, permits, spent, used}
+use Rattle.dds_runs.specs.World.{World, Sample, count_key, given, has_kind, opening, permits, spent, used}
 use Rattle.dds_runs.specs.CountRuns.{CountMove, counted, counted_all}
 use Rattle.dds_runs.specs.CountRuns.CountMove.{Writes, Fires, Takes}
 use Rattle.dds_runs.proofs.CountsSums.{at_pair}
@@ -79,7 +79,7 @@ spent_more net v u there r k =
     ∙ ap (λ y. y + c u) (total_ext (λ x. c x * (0 + v.fired x)) (λ x. c x * v.fired x) net.rules (λ x d. omega arith)))
 
 -- how many samples are taken after a take
-pub taken_more : (v : World) (r : ℕ) (s : Sample) (q l : ℕ) → count_by (has_key l) ((counted v (Takes r s)).taken q) ≡ count_by (has_key l) (v.taken q) + at_pair r s.key q l
+pub taken_more : (v : World) (r : ℕ) (s : Sample) (q l : ℕ) → count_by (has_kind l) ((counted v (Takes r s)).taken q) ≡ count_by (has_kind l) (v.taken q) + at_pair r s.kind q l
 taken_more v r s q l = taken_put v.taken r s q l
 
 -- ── counts stay covered
@@ -149,7 +149,7 @@ free_stands net v s w k d free stands = record {
   spare = stands.spare;
 }
 
-pub taken_stands : (net : Network) (v : World) (old new : LedgerState) (r : ℕ) (s : Sample) → IsCovered net v → IsMoreBy (only_at r s.key 1) old.spare new.spare → new.permits ≡ old.permits → KeepsPlan old new
+pub taken_stands : (net : Network) (v : World) (old new : LedgerState) (r : ℕ) (s : Sample) → IsCovered net v → IsMoreBy (only_at r s.kind 1) old.spare new.spare → new.permits ≡ old.permits → KeepsPlan old new
     → StandsFor net v old → StandsFor net (counted v (Takes r s)) new
 taken_stands net v old new r s c more same plan stands = record {
   of = same_plan net old new plan stands.of;

@@ -1,7 +1,7 @@
 -- How a trace is judged: what the ledger stands for after the lines so far, and what an answer means.
 use Rattle.std.specs.Prelude.{◌≡◌, ◌<◌, ◌≤◌, ◌+◌, ◌-◌, ◌^◌, ℕ, true, List, [], ◌∷◌, ◌++◌, All, Some, None, map, take, slice_get, count_by}
 use Rattle.dds_match.specs.Network.{Network, named}
-use Rattle.dds_runs.specs.World.{World, opening, given, used, spent, has_key}
+use Rattle.dds_runs.specs.World.{World, opening, given, used, spent, has_kind}
 use Rattle.dds_runs.specs.CountRuns.{CountMove, counted_all}
 use Rattle.dds_rules.specs.Counts.{IsMoreBy, count_at, only_at}
 use Rattle.dds_rules.specs.Ledger.{LedgerState, KeepsPlan, exchange_at, fire_refusal}
@@ -38,7 +38,7 @@ AreKnown net es = All (λ (e : Entry). IsKnown net (entry_action e)) es
 -- in the world no more permits are used than given, and no more takes spent than made, so that differences are exact
 pub record IsCovered (net : Network) (v : World) : Type 0 where
   pub given : (w k : ℕ) → used net v w k ≤ given net v w k
-  pub taken : (r k : ℕ) → spent net v r k ≤ count_by (has_key k) (v.taken r)
+  pub taken : (r k : ℕ) → spent net v r k ≤ count_by (has_kind k) (v.taken r)
 
 -- the ledger stands for the world after moves that are these actions, with firings in between; where there is never a choice, no moves that are
 -- these actions have fired a rule less often

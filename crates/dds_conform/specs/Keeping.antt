@@ -12,7 +12,7 @@ use Rattle.dds_conform.specs.declared.actions.Action.TheVariants.{Write, Take}
 unfoldable pub traced : List CountMove → List Action
 traced [] = []
 traced (Writes w k d ∷ ms) = Write w k ∷ traced ms
-traced (Takes r s ∷ ms) = Take r s.key ∷ traced ms
+traced (Takes r s ∷ ms) = Take r s.kind ∷ traced ms
 traced (Fires u ∷ ms) = traced ms
 
 -- the rules allow a move: a write is free or has a permit, a firing has the takes that its rule needs, and the rule needs some. Which sample is taken,

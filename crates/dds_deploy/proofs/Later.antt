@@ -19,7 +19,7 @@ use Rattle.dds_deploy.specs.Entries.{one_more}
 use Rattle.dds_deploy.specs.Versions.{since_third, since_fourth}
 use Rattle.dds_deploy.specs.Policies.{consistent, endpoint_keys}
 use Rattle.dds_deploy.specs.Participants.{participant, participant_fields, participant_keys}
-use Rattle.dds_deploy.specs.Topics.{a_type_name, is_type_byte, is_type_name, topic_fields, topic, topic_keys}
+use Rattle.dds_deploy.specs.Topics.{a_type_name, is_type_byte, is_type_name}
 use Rattle.dds_deploy.specs.Readers.{reader, reader_fields, reader_keys}
 use Rattle.dds_deploy.specs.Starts.{a_start, some_times, start_field}
 use Rattle.dds_deploy.specs.Paces.{how_often}
@@ -32,7 +32,7 @@ abbrev pub Keeps : {A : Type 0} → Read A → Read A → Type 0
 Keeps {A = A} one other = (x : A) → one ≡ Ok x → other ≡ Ok x
 
 -- each of these names is one of the others
-abbrev AreAmong : List (List ℕ) → List (List ℕ) → Type 0
+abbrev pub AreAmong : List (List ℕ) → List (List ℕ) → Type 0
 AreAmong one more = (k : List ℕ) → list_any (bytes_eq k) one ≡ true → list_any (bytes_eq k) more ≡ true
 
 pub then_ok : {A B : Type 0} (r : Read A) (f : A → Read B) (x : A) (y : B) → r ≡ Ok x → f x ≡ Ok y → (r >>= f) ≡ Ok y
@@ -40,7 +40,7 @@ then_ok (Ok z) f x y e h = subst (λ u. f u ≡ Ok y) (sym (ok_is z x e)) h
 then_ok (Err p) f x y e h = absurd cc
 
 -- what only the names of the longer list allow is allowed too
-more_listed : (one more : List (List ℕ)) → AreAmong one more → (keys : List (List ℕ)) → unlisted one keys ≡ [] → unlisted more keys ≡ []
+pub more_listed : (one more : List (List ℕ)) → AreAmong one more → (keys : List (List ℕ)) → unlisted one keys ≡ [] → unlisted more keys ≡ []
 more_listed one more sub [] h = refl
 more_listed one more sub (k ∷ ks) h = by (more_listed one more sub ks) (list_any (bytes_eq k) one) refl h
   where
@@ -56,7 +56,7 @@ pub only_is : (listed : List (List ℕ)) (path : List ℕ) (ms : Members) → on
 unfolding only
 only_is listed path ms e = nothing_unlisted (λ k. key_path path (shown k)) (unlisted listed (keys_of ms)) e
 
-is_only : (listed : List (List ℕ)) (path : List ℕ) (ms : Members) → unlisted listed (keys_of ms) ≡ [] → only listed path ms ≡ Ok tt
+pub is_only : (listed : List (List ℕ)) (path : List ℕ) (ms : Members) → unlisted listed (keys_of ms) ≡ [] → only listed path ms ≡ Ok tt
 unfolding only
 is_only listed path ms e = rw e refl
 
@@ -131,7 +131,7 @@ either_among true one other all left right = left
 either_among false one other all left right = right
 
 -- one more name allows no less
-one_name : (k name : List ℕ) (names : List (List ℕ)) → list_any (bytes_eq k) names ≡ true → list_any (bytes_eq k) (name ∷ names) ≡ true
+pub one_name : (k name : List ℕ) (names : List (List ℕ)) → list_any (bytes_eq k) names ≡ true → list_any (bytes_eq k) (name ∷ names) ≡ true
 one_name k name names h = by (bytes_eq k name) (list_any (bytes_eq k) names) h
   where
     by : (x b : Bool) → b ≡ true → (x || b) ≡ true
@@ -228,20 +228,11 @@ module _ (v w : ℕ) (from : 1 ≤ v) (up : v ≤ w) where
   pub participant_later : (before : Listed Participant) (path : List ℕ) (d : Data) → Keeps (participant v before path d) (participant w before path d)
   participant_later = one_more_later (participant_keys v) (participant_keys w) participant_keys_later (λ _. participant_fields) (λ _. participant_fields) (λ s path ms x e. e)
 
-  a_type_name_later : (path : List ℕ) (d : Data) → Keeps (a_type_name v path d) (a_type_name w path d)
+  pub a_type_name_later : (path : List ℕ) (d : Data) → Keeps (a_type_name v path d) (a_type_name w path d)
   unfolding a_type_name
   a_type_name_later path d x e =
       let text = bind_ok (a_text path d) _ x e in
       then_ok (a_text path d) _ text.0 x text.1 (unless_later BadName path _ _ (test_later (since_third v) (since_third w) (since_later 3) (is_type_name text.0) (is_name text.0) (name_of_type text.0)) text.0 x text.2)
-
-  topic_fields_later : (path : List ℕ) (ms : Members) → Keeps (topic_fields v path ms) (topic_fields w path ms)
-  unfolding topic_fields
-  topic_fields_later path ms t e =
-      let name = bind_ok (field (codes "type") (a_type_name v) path ms) _ t e in
-      rw (field_later (codes "type") (a_type_name v) (a_type_name w) a_type_name_later path ms name.0 name.1) name.2
-
-  pub topic_later : (before : Listed Topic) (path : List ℕ) (d : Data) → Keeps (topic v before path d) (topic w before path d)
-  topic_later = one_more_later topic_keys topic_keys (λ k h. h) (λ _. topic_fields v) (λ _. topic_fields w) (λ _. topic_fields_later)
 
   reader_keys_later : AreAmong (reader_keys v) (reader_keys w)
   reader_keys_later =

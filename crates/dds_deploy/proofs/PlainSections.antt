@@ -15,7 +15,7 @@ use Rattle.dds_qos.specs.declared.policies.Policies.{Policies}
 use Rattle.dds_qos.specs.declared.policies.Reliability.{Reliability}
 use Rattle.dds_qos.specs.declared.policies.Reliability.TheVariants.{BestEffort, Reliable}
 use Rattle.dds_fields.specs.declared.fault.FaultKind.TheVariants.{OutOfRange, NotToml}
-use Rattle.dds_fields.specs.Reading.{Read, or_fault, a_text, a_new_name, a_known_name, an_array_of, a_list_of, count, unless, entry, optional, only, unlisted, keys_of}
+use Rattle.dds_fields.specs.Reading.{Read, or_fault, a_text, a_new_name, a_known_name, an_array_of, a_list_of, count, unless, entry, field, optional, only, unlisted, keys_of}
 use Rattle.dds_fields.specs.Words.{a_duration, a_flag}
 use Rattle.dds_base.specs.Section.{Listed, nothing}
 use Rattle.dds_fields.specs.Document.{document}
@@ -27,7 +27,7 @@ use Rattle.dds_deploy.specs.Each.{EachRule, share, each_takes, each_writes, each
 use Rattle.dds_deploy.specs.Policies.{policies, timing, presentation, durability, access_scope, coherent, ordered, duration, deadline, latency_budget, delivery, ownership, liveliness, liveliness_kind, lease, reliability, destination_order, history, history_kind, depth, resource_limits, max_samples, max_instances, max_samples_per_instance, partition, partition_list, partitions, policy_keys, endpoint_keys, consistent}
 use Rattle.dds_deploy.specs.Entries.{one_more}
 use Rattle.dds_deploy.specs.Participants.{joins, participant, participant_keys, participant_fields, participants}
-use Rattle.dds_deploy.specs.Topics.{key, keys, topic, topic_keys, topic_fields, topics}
+use Rattle.dds_deploy.specs.Topics.{has_to_say, key, keyed, keys, topic, topic_keys, topic_fields, topics}
 use Rattle.dds_deploy.specs.Writers.{writer, writer_fields, writers}
 use Rattle.dds_deploy.specs.Readers.{filter_key, filter, taking, reader, reader_fields, reader_keys, readers}
 use Rattle.dds_deploy.specs.Applications.{own, own_writers, own_readers, application, application_keys, application_fields, application_list, applications}
@@ -88,15 +88,29 @@ keys_plain = record {
       (list_plain 64 [] key_plain).plain path d x (rw (all.1, same.1) some.2);
 }
 
-topic_fields_plain : (v : ℕ) (path : List ℕ) (ms : Members) (t : Topic) → topic_fields v path ms ≡ Ok t → IsPlainAt 2 ms (codes "type") × IsPlainAt 2 ms (codes "keys")
+keyed_plain : (v n : ℕ) (path : List ℕ) (ms : Members) (b : Bool) → keyed v n path ms ≡ Ok b → IsPlainAt 2 ms (codes "keyed")
+unfolding keyed
+keyed_plain v n path ms b = by (has_to_say v n)
+  where
+    by : (says : Bool) → cond says (field (codes "keyed") a_flag path ms) (optional (codes "keyed") true a_flag path ms) ≡ Ok b → IsPlainAt 2 ms (codes "keyed")
+    by true e = field_plain flag_plain path _ e
+    by false e = optional_plain flag_plain _ path _ e
+
+topic_fields_plain : (v : ℕ) (path : List ℕ) (ms : Members) (t : Topic) → topic_fields v path ms ≡ Ok t → IsPlainAt 2 ms (codes "type") × IsPlainAt 2 ms (codes "keys") × IsPlainAt 2 ms (codes "keyed")
 unfolding topic_fields
 topic_fields_plain v path ms t e =
     let type_name = bind_ok _ _ t e in
-    let keys = bind_ok _ _ t type_name.2 in
-    (field_plain (type_name_plain v) path _ type_name.1, field_plain keys_plain path _ keys.1)
+    let names = bind_ok _ _ t type_name.2 in
+    let own = bind_ok (keyed v (length names.0) path ms) _ t names.2 in
+    (field_plain (type_name_plain v) path _ type_name.1, field_plain keys_plain path _ names.1, keyed_plain v (length names.0) path ms own.0 own.1)
 
 topic_plain : (v : ℕ) (before : Listed Topic) → ReadsPlain 3 (topic v before)
-topic_plain v before = one_more_plain topic_keys (λ _. topic_fields v) before (λ path ms t e name. let f = topic_fields_plain v path ms t e in (name, (f.0, (f.1, tt))))
+topic_plain v before = one_more_plain (topic_keys v) (λ _. topic_fields v) before (λ path ms t e name. let f = topic_fields_plain v path ms t e in by (IsPlainAt 2 ms) (f.2, (name, (f.0, (f.1, tt)))) (since_fourth v))
+  where
+    by : (P : List ℕ → Type 0) → AllByRecursion P (codes "keyed" ∷ codes "name" ∷ codes "type" ∷ codes "keys" ∷ []) → (b : Bool)
+        → AllByRecursion P (cond b (codes "keyed" ∷ codes "name" ∷ codes "type" ∷ codes "keys" ∷ []) (codes "name" ∷ codes "type" ∷ codes "keys" ∷ []))
+    by P all true = all
+    by P all false = all.1
 
 topics_plain : (v : ℕ) (ms : Members) (ts : Listed Topic) → topics v ms ≡ Ok ts → IsPlainAt 4 ms (codes "topics")
 topics_plain v ms ts e = section_plain 256 nothing (topic_plain v) ts e

@@ -1,15 +1,16 @@
 -- The section of the topics.
-use Rattle.std.specs.Prelude.{codes, ℕ, Bool, List, [], ◌∷◌, ◌++◌, ◌||◌, ◌&&◌, ◌==◌, Ok, length, nat_le, if◌then◌else◌}
+use Rattle.std.specs.Prelude.{codes, ℕ, Bool, true, List, [], ◌∷◌, ◌++◌, ◌||◌, ◌&&◌, ◌==◌, Ok, length, nat_le, if◌then◌else◌}
 use Rattle.std.specs.List.{list_all}
 use Rattle.dds_base.specs.Names.{is_name, is_name_byte, is_between}
 use Rattle.toml.specs.Data.{Data, Members}
 use Rattle.dds_base.specs.Limits.{most_topics, most_type_bytes}
 use Rattle.dds_base.specs.Grid.{most_keys}
 use Rattle.dds_fields.specs.declared.fault.FaultKind.TheVariants.{OutOfRange, BadName}
-use Rattle.dds_fields.specs.Reading.{◌>>=◌, Read, unless, a_text, a_new_name, field, each, count, an_array_of, a_section}
+use Rattle.dds_fields.specs.Reading.{◌>>=◌, Read, unless, a_text, a_new_name, field, optional, each, count, an_array_of, a_section}
+use Rattle.dds_fields.specs.Words.{a_flag}
 use Rattle.dds_base.specs.Section.{Listed, nothing}
 use Rattle.dds_lists.specs.Lists.{Topic}
-use Rattle.dds_deploy.specs.Versions.{since_third}
+use Rattle.dds_deploy.specs.Versions.{since_fourth, since_third}
 use Rattle.dds_deploy.specs.Entries.{one_more}
 
 -- one more key of a topic
@@ -39,18 +40,30 @@ a_type_name v path d = do
   text ← a_text path d
   unless BadName path (if since_third v then is_type_name text else is_name text) text
 
-abbrev pub topic_keys : List (List ℕ)
-topic_keys = codes "name" ∷ codes "type" ∷ codes "keys" ∷ []
+-- the keys of a topic's entry: since version 4 `keyed` is one
+abbrev pub topic_keys : ℕ → List (List ℕ)
+topic_keys v =
+    if since_fourth v then codes "keyed" ∷ codes "name" ∷ codes "type" ∷ codes "keys" ∷ []
+    else codes "name" ∷ codes "type" ∷ codes "keys" ∷ []
+
+-- a topic of so many keys has to say whether each has an instance of its own: since version 4 one with several
+abbrev pub has_to_say : (version keys : ℕ) → Bool
+has_to_say v n = since_fourth v && nat_le 2 n
+
+-- whether each key of a topic with so many has an instance of its own; so it is where a topic doesn't have to say
+unfoldable pub keyed : (version keys : ℕ) → List ℕ → Members → Read Bool
+keyed v n path ms = if has_to_say v n then field (codes "keyed") a_flag path ms else optional (codes "keyed") true a_flag path ms
 
 unfoldable pub topic_fields : ℕ → List ℕ → Members → Read Topic
 topic_fields v path ms = do
   type_name ← field (codes "type") (a_type_name v) path ms
-  keys ← field (codes "keys") keys path ms
-  Ok (record { type_name = type_name; keys = keys })
+  names ← field (codes "keys") keys path ms
+  own ← keyed v (length names) path ms
+  Ok (record { type_name = type_name; keys = names; keyed = own })
 
 -- one more topic
 abbrev pub topic : ℕ → Listed Topic → List ℕ → Data → Read (Listed Topic)
-topic v = one_more topic_keys (λ _. topic_fields v)
+topic v = one_more (topic_keys v) (λ _. topic_fields v)
 
 abbrev pub topics : ℕ → Members → Read (Listed Topic)
 topics v = a_section (codes "topics") most_topics (topic v) nothing

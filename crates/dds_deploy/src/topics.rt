@@ -1,5 +1,6 @@
-//! The section `topics`: their names, the names of their types, and the keys of each.
-ghost use Rattle.std.specs.Prelude.{◌≡◌, List, ℕ};
+//! The section `topics`: their names, the names of their types, the keys of each, and whether these have instances of
+//! their own.
+ghost use Rattle.std.specs.Prelude.{◌≡◌, List, ℕ, map};
 ghost use Rattle.toml.specs.View.{view, table_view};
 ghost use Rattle.dds_fields.specs.Gives.{Gives};
 ghost use Rattle.dds_base.specs.Section.{listed};
@@ -7,19 +8,20 @@ ghost use Rattle.dds_fields.specs.Places.{place_text};
 ghost use Rattle.dds_fields.specs.Reading.{field};
 ghost use Rattle.dds_lists.specs.Lists.{Topic as TopicView};
 ghost use Rattle.std.specs.List.{list_all};
-ghost use Rattle.dds_deploy.specs.Topics.{key, keys, is_type_byte, is_type_name, a_type_name, topic_keys};
-ghost use Rattle.dds_deploy.specs.Topics.{topic_fields, topics};
+ghost use Rattle.dds_deploy.specs.Topics.{key, keyed, keys, has_to_say, is_type_byte, is_type_name, a_type_name};
+ghost use Rattle.dds_deploy.specs.Topics.{topic_fields, topic_keys, topics};
 ghost use Rattle.dds_lists.specs.Views.{topic_view};
 
 use crate::entries::{Entries, section};
-use crate::versions::since_third;
+use crate::versions::{since_fourth, since_third};
 use dds_base::grid::KEYS;
 use dds_base::limits::{TOPICS, TYPE_BYTES};
 use dds_base::{Names, Section, is_name, is_name_byte};
 use dds_fields::fault::{FaultKind, ReadFault, refuse};
-use dds_fields::field::{array_of_limit, new_name_of, require, text_of};
+use dds_fields::field::{array_of_limit, new_name_of, require, text_of, value_at};
 use dds_fields::items::{Items, each};
 use dds_fields::place::Place;
+use dds_fields::words::flag_of;
 use dds_lists::Topic;
 use std::alloc::Global;
 use toml::{Table, Value};
@@ -127,6 +129,46 @@ fn type_name_field<'a>(
     type_name_of(alloc, version, &at, value)
 }
 
+// The keys that the entry of a topic may have since version 4. Before it `keyed`, the first, is none of them.
+const TOPIC_KEYS: [&str; 4] = ["keyed", "name", "type", "keys"];
+
+fn has_to_say(version: u32, keys: usize) -> bool
+    ensures { result ≡ has_to_say version keys }
+{
+    since_fourth(version) && keys >= 2
+}
+
+#[tactic(
+    auto,
+    unfolding(
+        crate::specs::Topics::keyed,
+        dds_fields::specs::Reading::field,
+        dds_fields::specs::Reading::optional
+    )
+)]
+fn keyed_of(
+    alloc: Global,
+    version: u32,
+    keys: usize,
+    path: &Place,
+    table: &Table,
+) -> Result<bool, ReadFault>
+    ensures { Gives (λ x. x) result (keyed version keys (place_text path.now) (table_view table.now)) }
+{
+    let at = Place::Key {
+        parent: path,
+        key: "keyed",
+    };
+    if has_to_say(version, keys) {
+        let value = require(alloc, &at, table, "keyed")?;
+        return flag_of(alloc, &at, value);
+    }
+    match value_at(table, "keyed") {
+        Some(value) => flag_of(alloc, &at, value),
+        None => Ok(true),
+    }
+}
+
 // What reads the topics of a file of this version.
 #[derive(Clone, Copy)]
 struct TopicEntries {
@@ -140,12 +182,18 @@ impl Entries for TopicEntries {
 
     ghost view = { topic_view };
 
-    ghost keys = { λ _. topic_keys };
+    ghost keys = { λ it. topic_keys it.version };
 
     ghost fields = { λ it _. topic_fields it.version };
 
-    fn keys(&self) -> &'static [&'static str] {
-        &["name", "type", "keys"]
+    fn keys(&self) -> &'static [&'static str]
+        ensures { map (λ key. key.now) result.now ≡ topic_keys self.now.version }
+    {
+        if since_fourth(self.version) {
+            &TOPIC_KEYS
+        } else {
+            &TOPIC_KEYS[1..]
+        }
     }
 
     #[tactic(auto, unfolding(crate::specs::Topics::topic_fields))]
@@ -158,8 +206,13 @@ impl Entries for TopicEntries {
     ) -> Result<Topic, ReadFault> {
         let type_name = type_name_field(alloc, self.version, path, table, "type")?;
         let keys = keys_field(alloc, path, table, "keys")?;
+        let keyed = keyed_of(alloc, self.version, keys.len(), path, table)?;
         let type_name = String::from_str(alloc, type_name)?;
-        Ok(Topic { type_name, keys })
+        Ok(Topic {
+            type_name,
+            keys,
+            keyed,
+        })
     }
 }
 

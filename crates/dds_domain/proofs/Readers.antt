@@ -53,7 +53,7 @@ module _ (net : Network) (v : World) (r : ℕ) (x : ReaderState) (h : ReaderStan
   acknack_is w = λ i. record { reader = h.me i; writer = w; set = missing_of (marks_are w i) (h.heard w i) }
 
 pub data_is : (net : Network) (v : World) (d : DataFor) (x : ReaderState) → ReaderStands net d.reader (part_of v d.reader) x → data_arrives x d ≡ arrival_of_data net v d
-data_is net v d x h = λ i. data_arrival (h.proxies d.sample.writer i) (is_repeat (h.watching i) (λ n. h.marks d.sample.writer n i) d.sample.sn) (h.filter d.sample.key i) (admission (h.limits i) (h.stored i) (h.keys i) d.sample)
+data_is net v d x h = λ i. data_arrival (h.proxies d.sample.writer i) (is_repeat (h.watching i) (λ n. h.marks d.sample.writer n i) d.sample.sn) (h.filter d.sample.kind i) (admission (h.limits i) (h.stored i) (h.keys i) d.sample)
 
 pub gap_is : (net : Network) (v : World) (g : GapFor) (x : ReaderState) → ReaderStands net g.reader (part_of v g.reader) x → gap_arrives x g ≡ gap_arrival (net.matched g.writer g.reader) (net.watcher g.reader) (marked v g.reader g.writer) g
 gap_is net v g x h = λ i. gap_arrival (h.proxies g.writer i) (h.watching i) (marks_are net v g.reader x h g.writer i) g

@@ -68,12 +68,12 @@ pub(crate) fn refusal_of(why: WriteRefused) -> Option<Refusal>
     }
 }
 
-/// Why a write that has to wait is refused: what the writer refuses comes first.
-pub(crate) fn refusal_of_early(writer: &Writer, key: KeyNo) -> Refusal
-    ensures { Some result
-        ≡ (write_refusal writer.now.limits writer.now.written writer.now.keys writer.now.kept key orElse Some NotYet) }
+/// Why a write of an instance that has to wait is refused: what the writer refuses comes first.
+pub(crate) fn refusal_of_early(writer: &Writer, instance: KeyNo) -> Refusal
+    ensures { Some result ≡ (write_refusal writer.now.limits writer.now.written writer.now.keys writer.now.kept instance
+        orElse Some NotYet) }
 {
-    let Some(why) = writer.refusal(key) else {
+    let Some(why) = writer.refusal(instance) else {
         return Refusal::NotYet;
     };
     match refusal_of(why) {

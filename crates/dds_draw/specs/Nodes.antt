@@ -8,14 +8,14 @@ use Rattle.dds_qos.specs.declared.policies.HistoryKind.TheVariants.{KeepLast, Ke
 use Rattle.dds_qos.specs.declared.policies.Policies.{Policies}
 use Rattle.dds_qos.specs.declared.policies.Reliability.{Reliability}
 use Rattle.dds_qos.specs.declared.policies.Reliability.TheVariants.{BestEffort, Reliable}
-use Rattle.dds_lists.specs.Lists.{Lists, Reader, Rule, Writer}
+use Rattle.dds_lists.specs.Lists.{Lists, Reader, Rule, Writer, is_keyed}
 use Rattle.dds_lists.specs.declared.lists.Pace.{Pace}
 use Rattle.dds_show.specs.Times.{time_text}
 use Rattle.dds_weights.specs.Lists.{Certificate}
 use Rattle.dds_text.specs.Names.{name_at, reader_key, reader_name, rule_text, writer_name}
 use Rattle.dds_weights.specs.declared.certificate.Bound.{Bound}
 use Rattle.dds_weights.specs.declared.certificate.Total.{Total}
-use Rattle.dds_runs.specs.Accepted.{instance_limit}
+use Rattle.dds_runs.specs.Accepted.{instance_limit, lesser_limit}
 use Rattle.dds_draw.specs.Room.{colour_of}
 
 -- how many samples of an instance stay by KEEP_LAST; nothing of KEEP_ALL (OMG DDS 1.4, clause 2.2.3.18)
@@ -65,12 +65,23 @@ certificate_lines d r limits (Some c) =
 abbrev pub endpoint_label : List ℕ → List ℕ → Policies → List ℕ
 endpoint_label name topic p = name ++ (codes "\\n" ++ (topic ++ policies_lines p))
 
+-- a word for a topic that has one instance
+abbrev pub keyed_line : Bool → List ℕ
+keyed_line keyed = if keyed then [] else codes "\\none instance"
+
+-- what the bounds and totals of a reader are compared with: where its topic has one instance, no key has a limit of its own, and the reader stores no more
+-- than an instance may have
+abbrev pub limits_of : Bool → ReaderLimits → ReaderLimits
+limits_of keyed limits =
+    if keyed then limits
+    else record { keep_last = None; max_samples = lesser_limit limits.max_samples (instance_limit limits); max_instances = limits.max_instances; max_samples_per_instance = None }
+
 -- the node of a writer with this number
 unfoldable pub writer_node : Lists → ℕ → Writer → List ℕ
 writer_node d w x =
     codes "    \"writer "
     ++ (writer_name d w
-    ++ (codes "\" [label=\"" ++ (endpoint_label (writer_name d w) (name_at d.topics.names x.topic) x.qos.offered ++ codes "\"];\n")))
+    ++ (codes "\" [label=\"" ++ (endpoint_label (writer_name d w) (name_at d.topics.names x.topic) x.qos.offered ++ (keyed_line (is_keyed d.topics x.topic) ++ codes "\"];\n"))))
 
 -- a word for a reader that may lose samples
 abbrev pub may_lose_line : Bool → List ℕ
@@ -91,10 +102,11 @@ reader_node d c r x =
     codes "    \"reader "
     ++ (reader_name d r
     ++ (codes "\" [style=filled, fillcolor="
-    ++ (colour_of c r (reader_limits_of x.qos.requested)
+    ++ (colour_of c r (limits_of (is_keyed d.topics x.topic) (reader_limits_of x.qos.requested))
     ++ (codes ", label=\""
     ++ (endpoint_label (reader_name d r) (name_at d.topics.names x.topic) x.qos.requested
-    ++ (may_lose_line x.may_lose ++ (span_lines x ++ (certificate_lines d r (reader_limits_of x.qos.requested) c ++ codes "\"];\n"))))))))
+    ++ (keyed_line (is_keyed d.topics x.topic)
+    ++ (may_lose_line x.may_lose ++ (span_lines x ++ (certificate_lines d r (limits_of (is_keyed d.topics x.topic) (reader_limits_of x.qos.requested)) c ++ codes "\"];\n")))))))))
 
 -- how often a rule may write at the opening, nothing where it may not
 abbrev pub start_line : Rule → List ℕ

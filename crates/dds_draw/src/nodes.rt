@@ -1,16 +1,17 @@
 //! Endpoints and rules as nodes, with their labels. Names have no byte that DOT escapes; a label has `\n`, two bytes,
 //! where a new line begins.
 ghost use Rattle.std.specs.Prelude.{◌≡◌, IfOk, option_map, string_bytes};
+ghost use Rattle.dds_lists.specs.Lists.{is_keyed};
 ghost use Rattle.dds_lists.specs.Views.{reader_view, rule_view, writer_view};
 ghost use Rattle.dds_weights.specs.Views.{certificate_view};
 ghost use Rattle.dds_draw.specs.Nodes.{bound_line, certificate_lines, endpoint_label, history_line, jitter_words};
 ghost use Rattle.dds_draw.specs.Nodes.{limit_line, limit_words, may_lose_line, pace_line, policies_lines};
 ghost use Rattle.dds_draw.specs.Nodes.{reader_node, reliability_line, rule_node, span_line, span_lines, start_line};
-ghost use Rattle.dds_draw.specs.Nodes.{total_line, writer_node};
+ghost use Rattle.dds_draw.specs.Nodes.{keyed_line, limits_of, total_line, writer_node};
 
 use crate::room::colour_of;
-use dds_base::{ReaderNo, RuleNo, WriterNo};
-use dds_check::limits::instance_limit;
+use dds_base::{ReaderNo, RuleNo, TopicNo, WriterNo};
+use dds_check::limits::{instance_limit, lesser_limit};
 use dds_lists::{Deployment, Pace, Reader, Rule, Writer};
 use dds_qos::{History, HistoryKind, Policies, ReaderLimits, Reliability, reader_limits};
 use dds_show::times::time_text;
@@ -145,6 +146,39 @@ fn endpoint_label(alloc: Global, name: &str, topic: &str, p: &Policies) -> TextR
     format!(in alloc; "{name}\\n{topic}{policies}")
 }
 
+/// Whether each key of a topic has an instance of its own.
+fn is_keyed(lists: &Deployment, topic: TopicNo) -> bool
+    ensures { result ≡ is_keyed lists.now.topics topic }
+{
+    if topic.number() >= lists.topics() {
+        return true;
+    }
+    lists.topic(topic).keyed
+}
+
+/// A word for a topic that has one instance.
+fn keyed_line(keyed: bool) -> &'static str
+    ensures { result.now ≡ keyed_line keyed }
+{
+    if keyed { "" } else { "\\none instance" }
+}
+
+/// What the bounds and totals of a reader are compared with: where its topic has one instance, no key has a limit of
+/// its own, and the reader stores no more than an instance may have.
+fn limits_of(keyed: bool, limits: ReaderLimits) -> ReaderLimits
+    ensures { result ≡ limits_of keyed limits }
+{
+    if keyed {
+        return limits;
+    }
+    ReaderLimits {
+        keep_last: None,
+        max_samples: lesser_limit(limits.max_samples, instance_limit(&limits)),
+        max_instances: limits.max_instances,
+        max_samples_per_instance: None,
+    }
+}
+
 /// The node of a writer.
 pub(crate) fn writer_node(
     alloc: Global,
@@ -157,7 +191,9 @@ pub(crate) fn writer_node(
     let name = writer_name(lists, writer);
     let topic = name_at(lists.topic_names(), x.topic.number());
     let label = endpoint_label(alloc, name, topic, &x.qos.offered)?;
-    format!(in alloc; "    \"writer {name}\" [label=\"{label}\"];\n")
+    let keyed = is_keyed(lists, x.topic);
+    let word = keyed_line(keyed);
+    format!(in alloc; "    \"writer {name}\" [label=\"{label}{word}\"];\n")
 }
 
 /// A word for a reader that may lose samples.
@@ -205,13 +241,15 @@ pub(crate) fn reader_node(
     let name = reader_name(lists, reader);
     let topic = name_at(lists.topic_names(), x.topic.number());
     let label = endpoint_label(alloc, name, topic, &x.qos.requested)?;
+    let keyed = is_keyed(lists, x.topic);
+    let word = keyed_line(keyed);
     let may_lose = may_lose_line(x.may_lose);
-    let limits = reader_limits(&x.qos);
+    let limits = limits_of(keyed, reader_limits(&x.qos));
     let colour = colour_of(certificate, reader, &limits);
     let spans = span_lines(alloc, x)?;
     let claims = certificate_lines(alloc, lists, certificate, reader, &limits)?;
     format!(in alloc;
-        "    \"reader {name}\" [style=filled, fillcolor={colour}, label=\"{label}{may_lose}{spans}{claims}\"];\n"
+        "    \"reader {name}\" [style=filled, fillcolor={colour}, label=\"{label}{word}{may_lose}{spans}{claims}\"];\n"
     )
 }
 

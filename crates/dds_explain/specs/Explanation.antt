@@ -8,7 +8,7 @@ use Rattle.dds_check.specs.declared.verdict.Number.TheVariants.{IntendedNotMatch
 use Rattle.dds_check.specs.declared.verdict.Subject.{Subject}
 use Rattle.dds_check.specs.declared.verdict.Subject.TheVariants as subject
 use Rattle.dds_explain.specs.Joins.{late_volatile_line, late_history_lines}
-use Rattle.dds_explain.specs.Limits.{reader_instances_lines, writer_instances_lines, no_bound_line, no_total_lines, bound_over_lines, samples_over_lines, keep_last_filter_lines, writer_depth_lines}
+use Rattle.dds_explain.specs.Limits.{instance_depth_lines, reader_instances_lines, writer_instances_lines, no_bound_line, no_total_lines, bound_over_lines, samples_over_lines, keep_last_filter_lines, writer_depth_lines}
 use Rattle.dds_explain.specs.Margin.{margin_lines}
 use Rattle.dds_explain.specs.Pairs.{not_matched_lines, not_intended_line}
 use Rattle.dds_text.specs.Names.{writer_name, reader_name}
@@ -17,12 +17,13 @@ use Rattle.dds_explain.specs.Rows.{take_raises_line, rule_raises_lines, write_ra
 use Rattle.dds_explain.specs.Shown.{bound_not_shown_lines, total_not_shown_lines}
 
 -- why a pair is refused
-abbrev pub pair_reason : Lists → Number → ℕ → ℕ → List ℕ
-pair_reason d IntendedNotMatched w r = not_matched_lines d w r
-pair_reason d UnintendedMatch w r = not_intended_line d w r
-pair_reason d KeepLastFilter w r = keep_last_filter_lines d w r
-pair_reason d LateVolatile w r = late_volatile_line d w r
-pair_reason d _ w r = []
+abbrev pub pair_reason : Lists → Certificate → Number → ℕ → ℕ → List ℕ
+pair_reason d c IntendedNotMatched w r = not_matched_lines d w r
+pair_reason d c UnintendedMatch w r = not_intended_line d w r
+pair_reason d c KeepLastFilter w r = keep_last_filter_lines d w r
+pair_reason d c WriterDepth w r = instance_depth_lines d c w r
+pair_reason d c LateVolatile w r = late_volatile_line d w r
+pair_reason d c _ w r = []
 
 -- why a key of a pair is refused
 abbrev pub pair_key_reason : Lists → Certificate → Number → ℕ → ℕ → ℕ → List ℕ
@@ -73,7 +74,7 @@ write_reason d c _ n w k = []
 
 -- what a number says of its subject; of a subject that isn't one of the number, nothing
 abbrev pub reason_of : Lists → Certificate → Number → Subject → List ℕ
-reason_of d c number (subject.Pair w r) = pair_reason d number w r
+reason_of d c number (subject.Pair w r) = pair_reason d c number w r
 reason_of d c number (subject.PairKey w r k) = pair_key_reason d c number w r k
 reason_of d c number (subject.Instance r k) = instance_reason d c number r k
 reason_of d c number (subject.Reader r) = reader_reason d c number r

@@ -1,9 +1,9 @@
 -- Why numbers 20 to 24 refuse an endpoint: how much can come, and the limit that is too small for it (DDS 1.4, clause 2.2.3.19); and why 25
 -- and 26 refuse a writer that keeps the last samples alone (DDS 1.4, clause 2.2.3.18).
-use Rattle.std.specs.Prelude.{codes, ℕ, List, [], ◌++◌, Option, Some, None, min, if◌then◌else◌}
+use Rattle.std.specs.Prelude.{codes, ℕ, Bool, true, false, not, ◌&&◌, nat_lt, List, [], ◌++◌, Option, Some, None, min, if◌then◌else◌}
 use Rattle.std.specs.Fmt.{decimal}
 use Rattle.dds_base.specs.Grid.{most_keys}
-use Rattle.dds_base.specs.Sums.{total, count_below}
+use Rattle.dds_base.specs.Sums.{total}
 use Rattle.dds_lists.specs.Lists.{Lists}
 use Rattle.dds_match.specs.Network.{Network, reach, is_written}
 use Rattle.dds_match.specs.Paces.{available_span, taken_span}
@@ -12,8 +12,8 @@ use Rattle.dds_weights.specs.Lists.{Certificate}
 use Rattle.dds_text.specs.Names.{reader_key, writer_key, writer_name, reader_name}
 use Rattle.dds_text.specs.Texts.{each_below, number_or}
 use Rattle.dds_weights.specs.declared.certificate.Bound.{Bound}
-use Rattle.dds_runs.specs.Accepted.{instance_limit, is_finite, opening_permits}
-use Rattle.dds_check.specs.Limits.{is_bounded, is_heard, reached_bound}
+use Rattle.dds_runs.specs.Accepted.{instance_limit, is_finite, opening_permits, reached_instances, samples_limit}
+use Rattle.dds_check.specs.Limits.{finite_number, is_bounded, is_heard, reached_bound, sum_written, written_instances}
 use Rattle.dds_check.specs.Tables.{bound_of, total_of}
 use Rattle.dds_explain.specs.Paces.{capped_lines, pace_lines}
 use Rattle.dds_explain.specs.Pieces.{limit_text, instance_limit_name, key_line}
@@ -26,7 +26,7 @@ reached_key d r k = if reach (network_of d) r k then key_line (reader_key d r k)
 -- how many keys can reach a reader, and which
 abbrev pub reader_instances_lines : Lists → ℕ → List ℕ
 reader_instances_lines d r =
-    codes "because " ++ (decimal (count_below most_keys (reach (network_of d) r)) ++ (codes " keys can reach " ++ (reader_name d r ++ (codes ", and its max_instances is "
+    codes "because " ++ (decimal (reached_instances (network_of d) r) ++ (codes " keys can reach " ++ (reader_name d r ++ (codes ", and its max_instances is "
     ++ (limit_text ((network_of d).reader_limits r).max_instances ++ (codes "\n" ++ each_below most_keys (reached_key d r)))))))
 
 -- ── 24
@@ -37,7 +37,7 @@ written_key d w k = if is_written (network_of d) w k then key_line (writer_key d
 -- how many keys rules write at a writer, and which
 abbrev pub writer_instances_lines : Lists → ℕ → List ℕ
 writer_instances_lines d w =
-    codes "because rules write " ++ (decimal (count_below most_keys (is_written (network_of d) w)) ++ (codes " keys at " ++ (writer_name d w ++ (codes ", and its max_instances is "
+    codes "because rules write " ++ (decimal (written_instances (network_of d) w) ++ (codes " keys at " ++ (writer_name d w ++ (codes ", and its max_instances is "
     ++ (limit_text ((network_of d).writer_limits w).max_instances ++ (codes "\n" ++ each_below most_keys (written_key d w)))))))
 
 -- ── 21
@@ -87,12 +87,24 @@ bound_line key None = codes "  no bound " ++ (key ++ codes "\n")
 abbrev pub reached_bound_line : Lists → List Bound → ℕ → ℕ → List ℕ
 reached_bound_line d bounds r k = if reach (network_of d) r k then bound_line (reader_key d r k) (bound_of bounds r k) else []
 
+-- there is a limit, and it is below the other, or there is no other
+abbrev pub is_lesser : Option ℕ → Option ℕ → Bool
+is_lesser None other = false
+is_lesser (Some n) None = true
+is_lesser (Some n) (Some m) = nat_lt n m
+
+-- the policy that limits the samples of a reader: max_samples, or where its topic has one instance that of an instance, if that is the lesser
+abbrev pub samples_limit_name : Network → ℕ → List ℕ
+samples_limit_name net r =
+    if not (net.keyed_reader r) && is_lesser (instance_limit (net.reader_limits r)) (net.reader_limits r).max_samples then instance_limit_name (net.reader_limits r)
+    else codes "max_samples"
+
 -- the total of a reader, and the bounds of its keys with their sum
 abbrev pub samples_over_lines : Lists → Certificate → ℕ → List ℕ
 samples_over_lines d c r =
-    codes "because " ++ (reader_name d r ++ (codes " has max_samples " ++ (limit_text ((network_of d).reader_limits r).max_samples
+    codes "because " ++ (reader_name d r ++ (codes " has " ++ (samples_limit_name (network_of d) r ++ (codes " " ++ (limit_text (samples_limit (network_of d) r)
     ++ (codes ", and neither a total nor the sum of its bounds is within that\n"
-    ++ (total_line (total_of c.totals r) ++ (each_below most_keys (reached_bound_line d c.bounds r) ++ (codes "  sum " ++ (decimal (total most_keys (reached_bound (network_of d) c.bounds r)) ++ codes "\n"))))))))
+    ++ (total_line (total_of c.totals r) ++ (each_below most_keys (reached_bound_line d c.bounds r) ++ (codes "  sum " ++ (decimal (total most_keys (reached_bound (network_of d) c.bounds r)) ++ codes "\n"))))))))))
 
 -- ── 25
 -- a key in a line of its own, if a rule writes it at the writer and the reader doesn't hear it
@@ -153,3 +165,24 @@ abbrev pub writer_depth_lines : Lists → Certificate → ℕ → ℕ → ℕ �
 writer_depth_lines d c w r k =
     writer_depth_line d c w r k ++ (given_bound_line (reader_key d r k) (bound_of c.bounds r k) ++ (total_line (total_of c.totals r)
     ++ (clock_lines d w r k ++ number_line (codes "writes") (writes_at_all (network_of d) w k) (codes " in all"))))
+
+-- the least depth of a writer whose topic has one instance that would be enough for a reader
+abbrev pub least_depth_together : Network → Certificate → ℕ → ℕ → Option ℕ
+least_depth_together net c w r =
+    lesser (total_of c.totals r) (lesser (sum_written net w (bound_of c.bounds r)) (lesser (sum_written net w (net.cap w r)) (lesser (sum_written net w (net.lag w r)) (sum_written net w (finite_number net w)))))
+
+-- what would be enough, if anything would
+abbrev pub together_words : List ℕ → Option ℕ → List ℕ
+together_words reader (Some n) = decimal n ++ codes " would be enough"
+together_words reader None = codes "no total of " ++ (reader ++ codes " is given")
+
+-- the depth of such a writer, what would be enough, and each number that the depth may be compared with: the total of the reader, and for the keys that
+-- rules write together the bounds, the caps, the lags, and all that is ever written
+abbrev pub instance_depth_lines : Lists → Certificate → ℕ → ℕ → List ℕ
+instance_depth_lines d c w r =
+    codes "because " ++ (writer_name d w ++ (codes " keeps " ++ (limit_text ((network_of d).writer_limits w).keep_last ++ (codes " of all kinds together, and "
+    ++ (together_words (reader_name d r) (least_depth_together (network_of d) c w r) ++ (codes "\n" ++ (total_line (total_of c.totals r)
+    ++ (number_line (codes "bounds") (sum_written (network_of d) w (bound_of c.bounds r)) (codes " in all")
+    ++ (number_line (codes "caps") (sum_written (network_of d) w ((network_of d).cap w r)) (codes " in all")
+    ++ (number_line (codes "lags") (sum_written (network_of d) w ((network_of d).lag w r)) (codes " in all")
+    ++ number_line (codes "writes") (sum_written (network_of d) w (finite_number (network_of d) w)) (codes " in all")))))))))))

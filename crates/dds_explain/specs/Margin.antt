@@ -8,9 +8,10 @@ use Rattle.dds_weights.specs.Lists.{Certificate, Row}
 use Rattle.dds_text.specs.Names.{reader_key, reader_name}
 use Rattle.dds_weights.specs.declared.certificate.Bound.{Bound}
 use Rattle.dds_weights.specs.declared.certificate.Total.{Total}
-use Rattle.dds_runs.specs.Accepted.{row_of, budget, instance_limit}
+use Rattle.dds_runs.specs.Accepted.{row_of, budget, instance_limit, samples_limit}
 use Rattle.dds_explain.specs.declared.budgets.Budget.{Budget}
 use Rattle.dds_explain.specs.Budgets.{budget_of, carried_lines, carried_text}
+use Rattle.dds_explain.specs.Limits.{samples_limit_name}
 use Rattle.dds_explain.specs.Pieces.{instance_limit_name}
 use Rattle.dds_explain.specs.Shown.{shown_text}
 
@@ -29,9 +30,11 @@ margin_text claim limit row b =
 abbrev pub bound_words : Lists → Bound → List ℕ
 bound_words d b = reader_name d b.reader ++ (codes " " ++ (reader_key d b.reader b.key ++ (codes " " ++ decimal b.bound)))
 
--- the limit of an instance of a reader
+-- the limit of an instance of a reader; where its topic has one instance a key has none of its own
 abbrev pub named_instance_limit : Lists → ℕ → List ℕ
-named_instance_limit d r = named_limit (instance_limit_name ((network_of d).reader_limits r)) (instance_limit ((network_of d).reader_limits r))
+named_instance_limit d r =
+    if (network_of d).keyed_reader r then named_limit (instance_limit_name ((network_of d).reader_limits r)) (instance_limit ((network_of d).reader_limits r))
+    else codes "no limit"
 
 -- a bound beside its limit, and the least that its row shows
 abbrev pub bound_line : Lists → Row → Bound → List ℕ
@@ -51,7 +54,7 @@ total_words d t = reader_name d t.reader ++ (codes " " ++ decimal t.bound)
 -- a total beside its limit
 abbrev pub total_line : Lists → Row → Total → List ℕ
 total_line d row t =
-    margin_text (total_words d t) (named_limit (codes "max_samples") ((network_of d).reader_limits t.reader).max_samples) row (budget_of (network_of d) (row_of row)) ++ codes "\n"
+    margin_text (total_words d t) (named_limit (samples_limit_name (network_of d) t.reader) (samples_limit (network_of d) t.reader)) row (budget_of (network_of d) (row_of row)) ++ codes "\n"
 
 -- the same by the place of the row
 abbrev pub total_margin : Lists → Certificate → Total → List ℕ

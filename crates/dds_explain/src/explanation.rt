@@ -7,7 +7,7 @@ ghost use Rattle.dds_explain.specs.Explanation.{writer_reason};
 
 use crate::joins::{late_history_lines, late_volatile_line};
 use crate::limits::{
-    bound_over_lines, keep_last_filter_lines, no_bound_line, no_total_lines,
+    bound_over_lines, instance_depth_lines, keep_last_filter_lines, no_bound_line, no_total_lines,
     reader_instances_lines, samples_over_lines, writer_depth_lines, writer_instances_lines,
 };
 use crate::margin::margin_lines;
@@ -29,16 +29,19 @@ use std::alloc::Global;
 fn pair_reason(
     alloc: Global,
     plan: &Plan,
+    certificate: &Certificate,
     number: Number,
     writer: WriterNo,
     reader: ReaderNo,
 ) -> TextResult
-    ensures { IfOk result (λ text. string_bytes text ≡ pair_reason plan.now number writer reader) }
+    ensures { IfOk result
+        (λ text. string_bytes text ≡ pair_reason plan.now (certificate_view certificate.now) number writer reader) }
 {
     match number {
         Number::IntendedNotMatched => not_matched_lines(alloc, plan, writer, reader),
         Number::UnintendedMatch => not_intended_line(alloc, plan, writer, reader),
         Number::KeepLastFilter => keep_last_filter_lines(alloc, plan, writer, reader),
+        Number::WriterDepth => instance_depth_lines(alloc, plan, certificate, writer, reader),
         Number::LateVolatile => late_volatile_line(alloc, plan, writer, reader),
         _ => Ok(String::new(alloc)),
     }
@@ -189,7 +192,7 @@ fn reason_of(
         (λ text. string_bytes text ≡ reason_of plan.now (certificate_view certificate.now) number subject) }
 {
     match subject {
-        Subject::Pair { writer, reader } => pair_reason(alloc, plan, number, writer, reader),
+        Subject::Pair { writer, reader } => pair_reason(alloc, plan, certificate, number, writer, reader),
         Subject::PairKey {
             writer,
             reader,

@@ -5,6 +5,7 @@ ghost use Rattle.dds_base.specs.Grid.{most_keys};
 ghost use Rattle.dds_match.specs.Plan.{network_of};
 ghost use Rattle.dds_check.specs.Joins.{written_in_all};
 ghost use Rattle.dds_explain.specs.Joins.{first_unfit, history_line, history_lines, late_history_lines};
+ghost use Rattle.dds_explain.specs.Joins.{is_instance_unfit, unfit_all_lines};
 ghost use Rattle.dds_explain.specs.Joins.{late_volatile_line, of_key, unfit_key, unfit_key_line, unfit_key_lines};
 ghost use Rattle.dds_explain.specs.Joins.{unfit_lines, volatile_line, volatile_name};
 
@@ -78,12 +79,12 @@ fn unfit_key(plan: &Plan, writer: WriterNo, key: KeyNo) -> Option<KeyNo>
     }
 }
 
-/// The first such key of a writer whose `max_samples_per_instance` is finite.
+/// The first such key of a writer of a keyed topic whose `max_samples_per_instance` is finite.
 fn first_unfit(plan: &Plan, writer: WriterNo) -> Option<KeyNo>
     ensures { result ≡ first_unfit (network_of plan.now) writer }
 {
     let limit = writer_limits(plan, writer).max_samples_per_instance;
-    if limit.is_none() {
+    if !plan.is_keyed_writer(writer) || limit.is_none() {
         return None;
     }
     first_below(
@@ -147,20 +148,49 @@ fn written_in_all(plan: &Plan, writer: WriterNo) -> Option<u128>
     }
 }
 
-/// The `max_samples` of a writer, and how much is ever written there, if there is such a number.
-fn unfit_lines(alloc: Global, plan: &Plan, writer: WriterNo) -> TextResult
-    ensures { IfOk result (λ text. string_bytes text ≡ unfit_lines plan.now writer) }
+/// Whether the topic of a writer has one instance, and all that it ever writes is above its `max_samples_per_instance`.
+fn is_instance_unfit(plan: &Plan, writer: WriterNo) -> bool
+    ensures { result ≡ is_instance_unfit (network_of plan.now) writer }
 {
-    let limit = limit_text(alloc, writer_limits(plan, writer).max_samples)?;
+    writer.number() < plan.lists().writers()
+        && !plan.is_keyed_writer(writer)
+        && !joins::instances_fit(plan, &permits_of(plan, writer), writer)
+}
+
+/// A limit by name of all that a writer ever writes, and how much that is, if there is such a number.
+fn unfit_all_lines(
+    alloc: Global,
+    plan: &Plan,
+    writer: WriterNo,
+    policy: &str,
+    limit: Option<u32>,
+) -> TextResult
+    ensures { IfOk result (λ text. string_bytes text ≡ unfit_all_lines plan.now writer policy.now limit) }
+{
+    let limit = limit_text(alloc, limit)?;
     let line = history_line(
         alloc,
         writer_name(plan.lists(), writer),
-        "max_samples",
+        policy,
         limit.as_str(),
         "",
     )?;
     let writes = number_line(alloc, "writes", written_in_all(plan, writer), " in all")?;
     format!(in alloc; "{line}{writes}")
+}
+
+/// The `max_samples` of a writer, or where its topic has one instance its `max_samples_per_instance`, if that is too
+/// small.
+fn unfit_lines(alloc: Global, plan: &Plan, writer: WriterNo) -> TextResult
+    ensures { IfOk result (λ text. string_bytes text ≡ unfit_lines plan.now writer) }
+{
+    let limits = writer_limits(plan, writer);
+    if is_instance_unfit(plan, writer) {
+        let limit = limits.max_samples_per_instance;
+        unfit_all_lines(alloc, plan, writer, "max_samples_per_instance", limit)
+    } else {
+        unfit_all_lines(alloc, plan, writer, "max_samples", limits.max_samples)
+    }
 }
 
 /// The limit of a key that is too small, else that of all keys.

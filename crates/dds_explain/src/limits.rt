@@ -5,20 +5,26 @@ ghost use Rattle.dds_base.specs.Grid.{most_keys};
 ghost use Rattle.dds_match.specs.Plan.{network_of};
 ghost use Rattle.dds_text.specs.Texts.{each_below};
 ghost use Rattle.dds_weights.specs.Views.{certificate_view};
+ghost use Rattle.dds_runs.specs.Accepted.{samples_limit};
 ghost use Rattle.dds_check.specs.Limits.{is_bounded, is_heard};
 ghost use Rattle.dds_explain.specs.Limits.{bound_line, bound_over_line, bound_over_lines, bound_text, clock_lines};
 ghost use Rattle.dds_explain.specs.Limits.{depth_words, given_bound_line, keep_last_filter_lines, least_depth, lesser};
 ghost use Rattle.dds_explain.specs.Limits.{no_bound_line, no_total_lines, number_line, reached_bound_line, reached_key};
 ghost use Rattle.dds_explain.specs.Limits.{reader_instances_lines, samples_over_lines, total_line, unbounded_key};
 ghost use Rattle.dds_explain.specs.Limits.{unheard_key, writer_depth_line, writer_depth_lines, writer_instances_lines};
-ghost use Rattle.dds_explain.specs.Limits.{written_key};
+ghost use Rattle.dds_explain.specs.Limits.{instance_depth_lines, is_lesser, samples_limit_name};
+ghost use Rattle.dds_explain.specs.Limits.{together_words, written_key};
 
 use crate::paces::{capped_lines, pace_lines};
 use crate::pieces::{instance_limit_name, key_line, limit_text, reader_limits, writer_limits};
 use crate::weights::writes_at_all;
 use dds_base::grid::KEYS;
 use dds_base::{KeyNo, ReaderNo, WriterNo};
-use dds_check::limits::{is_bounded, is_heard, sum_of_bounds};
+use dds_check::limits::{
+    bounds_together, caps_together, is_bounded, is_heard, lags_together, samples_limit,
+    sum_of_bounds, writes_together,
+};
+use dds_check::permits::permits_of;
 use dds_check::{Bounds, find_bound, find_total, instance_limit, reached, written};
 use dds_match::Plan;
 use dds_text::names::{reader_key, reader_name, writer_key, writer_name};
@@ -266,6 +272,43 @@ fn reached_bound_lines(alloc: Global, plan: &Plan, bounds: &Bounds, reader: Read
     )
 }
 
+/// The most samples that a reader may store, if there is a limit.
+pub(crate) fn limit_of_samples(plan: &Plan, reader: ReaderNo) -> Option<u32>
+    ensures { result ≡ samples_limit (network_of plan.now) reader }
+{
+    if reader.number() < plan.lists().readers() {
+        samples_limit(plan, reader)
+    } else {
+        None
+    }
+}
+
+/// Whether there is a limit, and it is below the other, or there is no other.
+fn is_lesser(one: Option<u32>, other: Option<u32>) -> bool
+    ensures { result ≡ is_lesser one other }
+{
+    match one {
+        Some(n) => match other {
+            Some(m) => n < m,
+            None => true,
+        },
+        None => false,
+    }
+}
+
+/// The policy that limits the samples of a reader: max_samples, or where its topic has one instance that of an
+/// instance, if that is the lesser.
+pub(crate) fn samples_limit_name(plan: &Plan, reader: ReaderNo) -> &'static str
+    ensures { result.now ≡ samples_limit_name (network_of plan.now) reader }
+{
+    let limits = reader_limits(plan, reader);
+    if !plan.is_keyed_reader(reader) && is_lesser(instance_limit(&limits), limits.max_samples) {
+        instance_limit_name(&limits)
+    } else {
+        "max_samples"
+    }
+}
+
 /// The total of a reader, and the bounds of its keys with their sum.
 pub(crate) fn samples_over_lines(
     alloc: Global,
@@ -277,13 +320,14 @@ pub(crate) fn samples_over_lines(
         (λ text. string_bytes text ≡ samples_over_lines plan.now (certificate_view certificate.now) reader) }
 {
     let name = reader_name(plan.lists(), reader);
-    let limit = limit_text(alloc, reader_limits(plan, reader).max_samples)?;
+    let policy = samples_limit_name(plan, reader);
+    let limit = limit_text(alloc, limit_of_samples(plan, reader))?;
     let total = total_line(alloc, find_total(certificate.totals.as_slice(), reader))?;
     let bounds = Bounds::new(&certificate.bounds);
     let lines = reached_bound_lines(alloc, plan, &bounds, reader)?;
     let sum = sum_of_bounds(plan, &bounds, reader);
     format!(in alloc;
-        "because {name} has max_samples {limit}, and neither a total nor the sum of its bounds is within that\n\
+        "because {name} has {policy} {limit}, and neither a total nor the sum of its bounds is within that\n\
         {total}{lines}  sum {sum}\n"
     )
 }
@@ -478,4 +522,63 @@ pub(crate) fn writer_depth_lines(
     let writes = writes_at_all(plan, writer, key);
     let writes = number_line(alloc, "writes", writes, " in all")?;
     format!(in alloc; "{line}{bound}{total}{clock}{writes}")
+}
+
+/// A number of 64 bits as one of 128.
+fn wide(number: Option<u64>) -> Option<u128>
+    ensures { result ≡ number }
+{
+    match number {
+        Some(n) => Some(u128::from(n)),
+        None => None,
+    }
+}
+
+/// What would be enough for a reader, if anything would.
+fn together_words(alloc: Global, reader: &str, least: Option<u128>) -> TextResult
+    ensures { IfOk result (λ text. string_bytes text ≡ together_words reader.now least) }
+{
+    match least {
+        Some(n) => format!(in alloc; "{n} would be enough"),
+        None => format!(in alloc; "no total of {reader} is given"),
+    }
+}
+
+/// The depth of a writer whose topic has one instance, what would be enough, and each number that the depth may be
+/// compared with.
+pub(crate) fn instance_depth_lines(
+    alloc: Global,
+    plan: &Plan,
+    certificate: &Certificate,
+    writer: WriterNo,
+    reader: ReaderNo,
+) -> TextResult
+    ensures { IfOk result
+        (λ text. string_bytes text ≡ instance_depth_lines plan.now (certificate_view certificate.now) writer reader) }
+{
+    let depth = limit_text(alloc, writer_limits(plan, writer).keep_last)?;
+    let total = find_total(&certificate.totals, reader);
+    let bounded = wide(bounds_together(
+        plan,
+        &Bounds::new(&certificate.bounds),
+        writer,
+        reader,
+    ));
+    let capped = wide(caps_together(plan, writer, reader));
+    let lagged = wide(lags_together(plan, writer, reader));
+    let ever = wide(writes_together(plan, &permits_of(plan, writer), writer));
+    let least = lesser(
+        widened(total),
+        lesser(bounded, lesser(capped, lesser(lagged, ever))),
+    );
+    let enough = together_words(alloc, reader_name(plan.lists(), reader), least)?;
+    let writer = writer_name(plan.lists(), writer);
+    let total = total_line(alloc, total)?;
+    let bounded = number_line(alloc, "bounds", bounded, " in all")?;
+    let capped = number_line(alloc, "caps", capped, " in all")?;
+    let lagged = number_line(alloc, "lags", lagged, " in all")?;
+    let ever = number_line(alloc, "writes", ever, " in all")?;
+    format!(in alloc;
+        "because {writer} keeps {depth} of all kinds together, and {enough}\n{total}{bounded}{capped}{lagged}{ever}"
+    )
 }

@@ -10,6 +10,7 @@ ghost use Rattle.dds_explain.specs.Margin.{total_margin, total_words};
 ghost use Rattle.dds_explain.specs.Shown.{brief_bound, brief_total};
 
 use crate::budgets::{Budget, carried_lines, carried_text};
+use crate::limits::{limit_of_samples, samples_limit_name};
 use crate::pieces::{instance_limit_name, reader_limits};
 use crate::shown::{bound_head, shown_text, total_head};
 use crate::weights::sample_weight;
@@ -55,10 +56,13 @@ fn bound_words(alloc: Global, plan: &Plan, bound: &Bound) -> TextResult
     format!(in alloc; "{name} {key} {number}")
 }
 
-/// The limit of an instance of a reader.
+/// The limit of an instance of a reader; where its topic has one instance a key has none of its own.
 fn named_instance_limit(alloc: Global, plan: &Plan, reader: ReaderNo) -> TextResult
     ensures { IfOk result (λ text. string_bytes text ≡ named_instance_limit plan.now reader) }
 {
+    if !plan.is_keyed_reader(reader) {
+        return String::from_str(alloc, "no limit");
+    }
     let limits = reader_limits(plan, reader);
     named_limit(alloc, instance_limit_name(&limits), instance_limit(&limits))
 }
@@ -194,8 +198,8 @@ fn total_line(alloc: Global, plan: &Plan, row: &Row, budget: Budget, total: &Tot
     ensures { IfOk result (λ text. string_bytes text ≡ total_line plan.now (row_view row.now) total.now) }
 {
     let words = total_words(alloc, plan, total)?;
-    let max_samples = reader_limits(plan, total.reader).max_samples;
-    let limit = named_limit(alloc, "max_samples", max_samples)?;
+    let policy = samples_limit_name(plan, total.reader);
+    let limit = named_limit(alloc, policy, limit_of_samples(plan, total.reader))?;
     let margin = margin_text(alloc, words.as_str(), limit.as_str(), row, budget)?;
     format!(in alloc; "{margin}\n")
 }

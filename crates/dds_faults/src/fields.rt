@@ -80,6 +80,8 @@ pub(crate) enum Need {
     InVersion1,
     /// Where the entry has this other field.
     With(&'static str),
+    /// Where this other field of the entry is a list of several, in the versions that have the field.
+    WithSeveral(&'static str),
     Never,
 }
 

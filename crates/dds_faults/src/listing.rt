@@ -133,22 +133,37 @@ fn check_keys(
     Ok(())
 }
 
-fn is_needed(walk: &Walk, need: Need, table: &Table) -> bool {
-    match need {
+fn has_several(table: &Table, key: &str) -> bool {
+    match table.get(key) {
+        Some(value) => match value.as_array() {
+            Some(list) => list.len() >= 2,
+            None => false,
+        },
+        None => false,
+    }
+}
+
+fn is_needed(walk: &Walk, field: &Field, table: &Table) -> bool {
+    match field.need {
         Need::Always => true,
         Need::InVersion1 => walk.version <= 1,
         Need::With(other) => table.get(other).is_some(),
+        Need::WithSeveral(other) => field.since <= walk.version && has_several(table, other),
         Need::Never => false,
     }
 }
 
-// What would be right where a field is missing: a rule with `each` names no key, and a topic always has one.
+// What would be right where a field is missing: a rule with `each` names no key, and a topic always has one, and says
+// of several whether they have instances of their own.
 fn help_with_absent(walk: &Walk, entry: Entry, key: &str) -> Result<Option<String>, NoMemory> {
     let help = match entry {
         Entry::Portion(_) if key == "key" && walk.version >= 2 => {
             "name one, or give the rule `each = true` for every key"
         }
         Entry::Topic if key == "keys" => KEYLESS,
+        Entry::Topic if key == "keyed" => {
+            "with `true` each key has an instance of its own, with `false` they are kinds of samples of one instance"
+        }
         _ => return Ok(None),
     };
     Ok(Some(String::from_str(walk.alloc, help)?))
@@ -158,6 +173,7 @@ fn words_of_absent(alloc: Global, entry: Entry, field: &Field) -> Result<String,
     let (noun, key) = (entry.noun(), field.key);
     match field.need {
         Need::With(other) => format!(in alloc; "{noun} with `{other}` needs `{key}`"),
+        Need::WithSeveral(other) => format!(in alloc; "{noun} with several `{other}` needs `{key}`"),
         _ => format!(in alloc; "{noun} needs `{key}`"),
     }
 }
@@ -170,7 +186,7 @@ fn check_absent(
     field: &Field,
     at: &Place,
 ) -> Result<(), NoMemory> {
-    if !is_needed(walk, field.need, spot.table) {
+    if !is_needed(walk, field, spot.table) {
         return Ok(());
     }
     let help = help_with_absent(walk, entry, field.key)?;

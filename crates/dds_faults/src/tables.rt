@@ -85,7 +85,7 @@ static PARTICIPANT: [Field; 3] = [
     },
 ];
 
-static TOPIC: [Field; 3] = [
+static TOPIC: [Field; 4] = [
     Field {
         key: "name",
         takes: Takes::NewName(Named::Topics),
@@ -103,6 +103,12 @@ static TOPIC: [Field; 3] = [
         takes: Takes::TopicKeys,
         need: Need::Always,
         since: 1,
+    },
+    Field {
+        key: "keyed",
+        takes: Takes::Flag,
+        need: Need::WithSeveral("keys"),
+        since: 4,
     },
 ];
 

@@ -11,6 +11,7 @@ use crate::spot::Spot;
 use crate::words::{first_line, later_lines};
 use dds_base::{KeyNo, NoMemory, ReaderNo, RuleNo, WriterNo};
 use dds_check::joins::instances_fit;
+use dds_check::limits::instance_limit;
 use dds_check::permits::permits_of;
 use dds_check::{No, Number, Subject};
 use dds_explain::{Budgets, reason};
@@ -75,6 +76,16 @@ fn is_clocked(plan: &Plan, reader: ReaderNo, key: KeyNo) -> bool {
         && plan.cap(*writer, reader, key).is_none())
 }
 
+/// Whether a clock writes some key that a reader of a topic with one instance hears, whose keys share its limits.
+fn is_clocked_together(plan: &Plan, reader: ReaderNo) -> bool {
+    let lists = plan.lists();
+    if reader.number() >= lists.readers() || plan.is_keyed_reader(reader) {
+        return false;
+    }
+    let filter = &lists.reader(reader).filter;
+    filter.iter().any(|key| is_clocked(plan, reader, *key))
+}
+
 /// What would be right where a clock writes a key of which no sample may be lost.
 const CLOCKED: &str =
     "a clock writes it, so no bound holds: set `may_lose = true`, or let the rule take something";
@@ -88,6 +99,9 @@ fn cure_of(plan: &Plan, no: &No) -> &'static str {
         (Number::NoBound, Subject::Instance { reader, key })
         | (Number::WriterDepth, Subject::PairKey { reader, key, .. })
             if is_clocked(plan, reader, key) => { CLOCKED }
+        (Number::BoundOverSamples, Subject::Reader(reader))
+        | (Number::WriterDepth, Subject::Pair { reader, .. })
+            if is_clocked_together(plan, reader) => { CLOCKED }
         _ => cure(no.number),
     }
 }
@@ -185,8 +199,8 @@ fn is_depth_lower(plan: &Plan, reader: ReaderNo) -> bool {
     }
 }
 
-/// The place of the field of a reader that limits a key: its depth where that's the lower limit, or its history where
-/// the depth is left out.
+/// The place of the field of a reader that limits an instance: its depth where that's the lower limit, or its history
+/// where the depth is left out.
 fn limit_place(
     alloc: Global,
     files: &Files,
@@ -229,7 +243,20 @@ fn instance_place(
     }
 }
 
-/// The place of a reader: of 33 that of its total.
+/// Whether what limits all samples of a reader is its limit of an instance: its topic has one, and `max_samples` isn't
+/// the lesser.
+fn is_instance_lower(plan: &Plan, reader: ReaderNo) -> bool {
+    if reader.number() >= plan.lists().readers() || plan.is_keyed_reader(reader) {
+        return false;
+    }
+    let limits = plan.reader_limits(reader);
+    match (instance_limit(&limits), limits.max_samples) {
+        (Some(one), Some(all)) => one < all,
+        (one, _) => one.is_some(),
+    }
+}
+
+/// The place of a reader: of 23 that of its limit, of 33 that of its total.
 fn reader_place(
     alloc: Global,
     files: &Files,
@@ -245,6 +272,9 @@ fn reader_place(
                 "totals",
                 total_place(judged.certificate, reader),
             )
+        }
+        Number::BoundOverSamples if is_instance_lower(judged.plan, reader) => {
+            limit_place(alloc, files, judged, reader)
         }
         _ => in_deployment(alloc, files, "readers", reader.number(), number),
     }

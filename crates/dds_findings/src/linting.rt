@@ -478,6 +478,7 @@ fn plan_findings(
 }
 
 /// What is found of the lists of a deployment, which are needed no longer.
+#[inline(never)]
 fn lists_findings(
     alloc: Global,
     files: &Files,
@@ -502,6 +503,7 @@ fn lists_findings(
 }
 
 /// The findings of the faults of a deployment.
+#[inline(never)]
 #[tactic(auto, using(crate::proofs::FaultLists::some_listed))]
 fn deployment_findings(
     alloc: Global,

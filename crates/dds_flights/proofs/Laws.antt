@@ -335,27 +335,27 @@ module _ (net : Network) (known : IsNetwork net) (v : World) (w k : ℕ) (bases 
 
 -- ── worlds
 -- a take of a sample adds one for its reader, writer and key
-took_one : (taken : ℕ → List Sample) (r : ℕ) (s : Sample) (w q l : ℕ) → count_by (λ t. eqb t.writer w && eqb t.key l) (put taken r (taken r ++ s ∷ []) q)
-    ≡ count_by (λ t. eqb t.writer w && eqb t.key l) (taken q) + cond (eqb r q) (cond (eqb s.writer w && eqb s.key l) 1 0) 0
+took_one : (taken : ℕ → List Sample) (r : ℕ) (s : Sample) (w q l : ℕ) → count_by (λ t. eqb t.writer w && eqb t.kind l) (put taken r (taken r ++ s ∷ []) q)
+    ≡ count_by (λ t. eqb t.writer w && eqb t.kind l) (taken q) + cond (eqb r q) (cond (eqb s.writer w && eqb s.kind l) 1 0) 0
 took_one taken r s w q l = elim (cases_eq r q) [
-  | inl e ↦ subst (λ j. count_by (λ t. eqb t.writer w && eqb t.key l) (put taken r (taken r ++ s ∷ []) j) ≡ count_by (λ t. eqb t.writer w && eqb t.key l) (taken j) + cond (eqb r j) (cond (eqb s.writer w && eqb s.key l) 1 0) 0) e
-      (rw (put_at taken r (taken r ++ s ∷ []), eq-eqb r r refl) (sum_by_push (λ (t : Sample). cond (eqb t.writer w && eqb t.key l) 1 0) (taken r) s))
+  | inl e ↦ subst (λ j. count_by (λ t. eqb t.writer w && eqb t.kind l) (put taken r (taken r ++ s ∷ []) j) ≡ count_by (λ t. eqb t.writer w && eqb t.kind l) (taken j) + cond (eqb r j) (cond (eqb s.writer w && eqb s.kind l) 1 0) 0) e
+      (rw (put_at taken r (taken r ++ s ∷ []), eq-eqb r r refl) (sum_by_push (λ (t : Sample). cond (eqb t.writer w && eqb t.kind l) 1 0) (taken r) s))
   | inr ne ↦ rw (put_other taken r q (taken r ++ s ∷ []) ne, ne_eqb r q ne) (omega arith)
 ]
 
-took_here : (taken : ℕ → List Sample) (r : ℕ) (s : Sample) (q l : ℕ) → count_by (λ t. eqb t.writer s.writer && eqb t.key l) (put taken r (taken r ++ s ∷ []) q)
-    ≡ count_by (λ t. eqb t.writer s.writer && eqb t.key l) (taken q) + cond (eqb q r && eqb l s.key) 1 0
-took_here taken r s q l = took_one taken r s s.writer q l ∙ ap (λ n. count_by (λ t. eqb t.writer s.writer && eqb t.key l) (taken q) + n) (rw (eq-eqb s.writer s.writer refl) (turned (cases_eq r q) (cases_eq s.key l)))
+took_here : (taken : ℕ → List Sample) (r : ℕ) (s : Sample) (q l : ℕ) → count_by (λ t. eqb t.writer s.writer && eqb t.kind l) (put taken r (taken r ++ s ∷ []) q)
+    ≡ count_by (λ t. eqb t.writer s.writer && eqb t.kind l) (taken q) + cond (eqb q r && eqb l s.kind) 1 0
+took_here taken r s q l = took_one taken r s s.writer q l ∙ ap (λ n. count_by (λ t. eqb t.writer s.writer && eqb t.kind l) (taken q) + n) (rw (eq-eqb s.writer s.writer refl) (turned (cases_eq r q) (cases_eq s.kind l)))
   where
-    turned : ((r ≡ q) ⊎ (r ≢ q)) → ((s.key ≡ l) ⊎ (s.key ≢ l)) → ◌≡◌ {A = ℕ} (cond (eqb r q) (cond (eqb s.key l) 1 0) 0) (cond (eqb q r && eqb l s.key) 1 0)
-    turned (inl e) (inl f) = rw (eq-eqb r q e, eq-eqb q r (sym e), eq-eqb s.key l f, eq-eqb l s.key (sym f)) refl
-    turned (inl e) (inr f) = rw (eq-eqb r q e, eq-eqb q r (sym e), ne_eqb s.key l f, ne_eqb l s.key (λ g. f (sym g))) refl
+    turned : ((r ≡ q) ⊎ (r ≢ q)) → ((s.kind ≡ l) ⊎ (s.kind ≢ l)) → ◌≡◌ {A = ℕ} (cond (eqb r q) (cond (eqb s.kind l) 1 0) 0) (cond (eqb q r && eqb l s.kind) 1 0)
+    turned (inl e) (inl f) = rw (eq-eqb r q e, eq-eqb q r (sym e), eq-eqb s.kind l f, eq-eqb l s.kind (sym f)) refl
+    turned (inl e) (inr f) = rw (eq-eqb r q e, eq-eqb q r (sym e), ne_eqb s.kind l f, ne_eqb l s.kind (λ g. f (sym g))) refl
     turned (inr e) f = rw (ne_eqb r q e, ne_eqb q r (λ g. e (sym g))) refl
 
-took_other : (taken : ℕ → List Sample) (r : ℕ) (s : Sample) (w q l : ℕ) → s.writer ≢ w → count_by (λ t. eqb t.writer w && eqb t.key l) (put taken r (taken r ++ s ∷ []) q) ≡ count_by (λ t. eqb t.writer w && eqb t.key l) (taken q)
+took_other : (taken : ℕ → List Sample) (r : ℕ) (s : Sample) (w q l : ℕ) → s.writer ≢ w → count_by (λ t. eqb t.writer w && eqb t.kind l) (put taken r (taken r ++ s ∷ []) q) ≡ count_by (λ t. eqb t.writer w && eqb t.kind l) (taken q)
 took_other taken r s w q l ne = took_one taken r s w q l ∙ rw (ne_eqb s.writer w ne) (none (eqb r q))
   where
-    none : (b : Bool) → count_by (λ t. eqb t.writer w && eqb t.key l) (taken q) + cond b 0 0 ≡ count_by (λ t. eqb t.writer w && eqb t.key l) (taken q)
+    none : (b : Bool) → count_by (λ t. eqb t.writer w && eqb t.kind l) (taken q) + cond b 0 0 ≡ count_by (λ t. eqb t.writer w && eqb t.kind l) (taken q)
     none true = omega arith
     none false = omega arith
 
@@ -368,8 +368,8 @@ flies_on_write net v w k n d fs counts number stand =
 
 -- after a reader took a sample of the writer
 pub flies_on_take : (net : Network) (v : World) (r : ℕ) (s : Sample) (fs : List FlightState) → FlightsStand net s.writer (v.written s.writer) (taken_from v s.writer) fs
-    → FlightsStand net s.writer (v.written s.writer) (taken_from (record v { taken = put v.taken r (v.taken r ++ s ∷ []) }) s.writer) (map (after_take r s.key) fs)
-flies_on_take net v r s fs = take_flies net s.writer r s.key (v.written s.writer) (taken_from v s.writer) (taken_from (record v { taken = put v.taken r (v.taken r ++ s ∷ []) }) s.writer) fs (took_here v.taken r s)
+    → FlightsStand net s.writer (v.written s.writer) (taken_from (record v { taken = put v.taken r (v.taken r ++ s ∷ []) }) s.writer) (map (after_take r s.kind) fs)
+flies_on_take net v r s fs = take_flies net s.writer r s.kind (v.written s.writer) (taken_from v s.writer) (taken_from (record v { taken = put v.taken r (v.taken r ++ s ∷ []) }) s.writer) fs (took_here v.taken r s)
 
 -- what a reader took of another writer stays
 pub took_elsewhere : (v : World) (r : ℕ) (s : Sample) (w : ℕ) → s.writer ≢ w → taken_from (record v { taken = put v.taken r (v.taken r ++ s ∷ []) }) w ≡ taken_from v w

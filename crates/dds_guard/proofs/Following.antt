@@ -32,14 +32,14 @@ with_it net v old new held rest plan of gives takes = subst (Follows net v) (sym
   spare = takes;
 })
 
-takes : (r k : ℕ) (old new : GuardState) → IsTaken r k old new → (s : Sample) → s.key ≡ k → Moves (Takes r s) old new
+takes : (r k : ℕ) (old new : GuardState) → IsTaken r k old new → (s : Sample) → s.kind ≡ k → Moves (Takes r s) old new
 takes r k old new is s key net v known counts follows = with_it net _ old new old.held is.rest is.plan follows.of
     (λ w l own. ap (λ (g : GuardState). permits_of g w l) is.rest ∙ ap (λ t. count_at t w l - used_by old.held w l) is.permits ∙ follows.permits w l own)
     (λ q l own. (
     let now = is.spare.counts q l in
     let was = follows.spare q l own in
     let more = take_spare net known v counts r s q l in
-    let one : at_pair r s.key q l ≡ only_at r k 1 q l = rw key refl in
+    let one : at_pair r s.kind q l ≡ only_at r k 1 q l = rw key refl in
     omega arith))
 
 fires : (u : ℕ) (old new : GuardState) → fire_refusal old.ledger u ≡ None → IsFired u old new → Moves (Fires u) old new
@@ -118,12 +118,12 @@ elsewhere (Takes r s) net v g known counts may there follows = record {
   spare = λ q l own. (
       let was = follows.spare q l own in
       let more = take_spare net known v counts r s q l in
-      let apart : at_pair r s.key q l ≡ 0 = elim (cases_eq r q) [
-        | inl e ↦ elim (cases_eq s.key l) [
+      let apart : at_pair r s.kind q l ≡ 0 = elim (cases_eq r q) [
+        | inl e ↦ elim (cases_eq s.kind l) [
           | inl f ↦ absurd (true≢false (sym own ∙ ap (λ n. takes_key g n l) (sym e) ∙ ap (takes_key g r) (sym f) ∙ there))
-          | inr ne ↦ at_apart r s.key q l ne
+          | inr ne ↦ at_apart r s.kind q l ne
         ]
-        | inr ne ↦ at_other r s.key q l ne
+        | inr ne ↦ at_other r s.kind q l ne
       ] in
       omega arith);
 }

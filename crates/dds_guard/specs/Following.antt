@@ -31,7 +31,7 @@ MovesPaid w k d old new = (net : Network) (v : World) → IsNetwork net → Coun
 abbrev pub IsElsewhere : Network → GuardState → CountMove → Type 0
 IsElsewhere net g (Writes w k d) = has g.writers w ≡ false
 IsElsewhere net g (Fires u) = ((w k : ℕ) → has g.writers w ≡ true → named (net.rule u).writes w k ≡ 0) × ((r k : ℕ) → takes_key g r k ≡ true → named (net.rule u).takes r k ≡ 0)
-IsElsewhere net g (Takes r s) = takes_key g r s.key ≡ false
+IsElsewhere net g (Takes r s) = takes_key g r s.kind ≡ false
 
 -- every count is what it was, and so is all else but which write can be taken back: so the new guard follows each world that the old one followed
 pub record IsAsBefore (old new : GuardState) : Type 0 where
@@ -46,7 +46,7 @@ pub record IsAsBefore (old new : GuardState) : Type 0 where
 pub record GoesOnFollowing : Type 0 where
   pub opens : (d : Lists) (a : ℕ) (g : GuardState) → IsOpened d a g → Follows (network_of d) opening g
   pub elsewhere : (m : CountMove) (net : Network) (v : World) (g : GuardState) → IsNetwork net → CountsOk net v → Suffices net v m → IsElsewhere net g m → Follows net v g → Follows net (counted v m) g
-  pub takes : (r k : ℕ) (old new : GuardState) → IsTaken r k old new → (s : Sample) → s.key ≡ k → Moves (Takes r s) old new
+  pub takes : (r k : ℕ) (old new : GuardState) → IsTaken r k old new → (s : Sample) → s.kind ≡ k → Moves (Takes r s) old new
   pub fires : (u : ℕ) (old new : GuardState) → fire_refusal old.ledger u ≡ None → IsFired u old new → Moves (Fires u) old new
   pub writes : (w k : ℕ) (d : List ℕ) (old new : GuardState) → has old.writers w ≡ true → permits_of old w k ≢ 0 → IsPaid w k old new → MovesPaid w k d old new
   pub undoes : (w k : ℕ) (old between new : GuardState) → IsPaid w k old between → IsPaid w k new between → IsAsBefore old new

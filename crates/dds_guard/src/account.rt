@@ -92,7 +92,7 @@ impl Account {
         requires reader { r < self.old.ledger.spare.endpoints }
         requires key { key < most_keys }
         ensures answer { is_ok result ≡ nat_lt (count_at self.old.ledger.spare r key) (2 ^ 64 - 1) }
-        ensures world { OnOk result ((s : Sample) → s.key ≡ key
+        ensures world { OnOk result ((s : Sample) → s.kind ≡ key
             → Makes (Takes r s) self.old.ledger self.new.ledger) }
         ensures spare { OnOk result (IsMoreBy (only_at r key 1) self.old.ledger.spare self.new.ledger.spare) }
         ensures permits { self.new.ledger.permits ≡ self.old.ledger.permits }

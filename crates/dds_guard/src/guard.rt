@@ -145,7 +145,7 @@ impl Guard {
     pub fn take(&mut self, reader: ReaderNo, key: KeyNo) -> Result<(), TakeRefused>
         ensures answer { result_err result ≡ take_refusal self.old reader key }
         ensures taken { OnOk result (IsTaken reader key self.old self.new) }
-        ensures world { OnOk result ((s : Sample) → s.key ≡ key
+        ensures world { OnOk result ((s : Sample) → s.kind ≡ key
             → Makes (Takes reader s) self.old.ledger self.new.ledger) }
         ensures err { OnErr result (self.new ≡ self.old) }
     {

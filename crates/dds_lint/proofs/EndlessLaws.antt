@@ -2,7 +2,7 @@
 use Rattle.std.proofs.Common.{ℕ, zero, suc, eq-eqb, inl, inr, ◌≡◌, ◌<◌, ◌≤◌, ◌&&◌, ◌||◌, ◌==◌, Bool, true, false, List, [], ◌∷◌, slice_get, Option, Some, None, is_some, not, if◌then◌else◌, refl, sym, subst, arith}
 use Rattle.std.specs.Prelude.{is_none}
 use Rattle.std.specs.List.{list_any}
-use Rattle.std.proofs.lemmas.Bool.{and_from, cases_eq, false≢true, or_cases, or_left, or_right}
+use Rattle.std.proofs.lemmas.Bool.{and_from, cases_Bool, cases_eq, false≢true, or_cases, or_left, or_right}
 use Rattle.std.proofs.lemmas.Option.{none-some, same_Some}
 use Rattle.dds_base.proofs.Bools.{both_parts}
 use Rattle.dds_base.proofs.SumLaws.{total_at}
@@ -12,9 +12,9 @@ use Rattle.dds_lists.specs.Lists.{Lists}
 use Rattle.dds_lists.specs.WellFormed.{IsWellFormed}
 use Rattle.dds_weights.specs.Lists as lists
 use Rattle.dds_check.specs.Accepts.{first_no}
-use Rattle.dds_match.specs.Network.{IsNetwork, Network, is_named, is_written, reach}
+use Rattle.dds_match.specs.Network.{IsNetwork, Network, instance, is_named, is_written, reach}
 use Rattle.dds_match.specs.Plan.{network_of}
-use Rattle.dds_runs.specs.Accepted.{Accepted, Bound, Certificate, IsBound, IsTotal, Row, Shows, Total, capped, carried, certificate_of, instance_limit, leaves_to_caps, permit, spread}
+use Rattle.dds_runs.specs.Accepted.{Accepted, Bound, Certificate, IsBound, IsTotal, Row, Shows, Total, capped, carried, certificate_of, instance_limit, is_beside, leaves_to_caps, lesser_limit, permit, samples_limit, spread}
 use Rattle.dds_runs.specs.First.{first_below}
 use Rattle.dds_check.proofs.FirstLemmas.{first_below_all}
 use Rattle.dds_check.proofs.Mapped.{list_any_one}
@@ -88,31 +88,48 @@ never_free : (free more : Bool) → (not free && more) ≡ true → free ≡ tru
 never_free true more h e = false≢true h
 never_free false more h e = false≢true e
 
+-- the samples of a reader have a limit where max_samples is one, and where its topic has one instance, where an instance has one
+limited_some : (b : Bool) (one other : Option ℕ) → is_some one ≡ true → is_some (if b then one else lesser_limit one other) ≡ true
+limited_some true one other h = h
+limited_some false None other h = absurd (false≢true h)
+limited_some false (Some m) None h = refl
+limited_some false (Some m) (Some n) h = refl
+
+limited_by : (b : Bool) (one other : Option ℕ) → b ≡ false → is_some other ≡ true → is_some (if b then one else lesser_limit one other) ≡ true
+limited_by true one other e h = absurd (false≢true (sym e))
+limited_by false None other e h = h
+limited_by false (Some m) None e h = refl
+limited_by false (Some m) (Some n) e h = refl
+
 -- where there is a limit, a row of an accepted certificate shows a bound
 is_shown : (net : Network) (cert : Certificate) → Accepted net cert → (w k r : ℕ) → net.watcher r ≡ false → net.matched w r ≡ true → reach net r k ≡ true → is_written net w k ≡ true → has_limit net w r ≡ true → net.free w k ≡ true → is_none (net.cap w r k) ≡ true → is_none (net.lag w r k) ≡ true → (row : Row) × In row cert.rows × (n : ℕ) × Shows net row n r k
 is_shown net cert accepted w k r strict matched reached written limited free uncapped unlagged = elim (or_cases (is_some (net.reader_limits r).max_samples) (is_some (instance_limit (net.reader_limits r)) || is_some (net.writer_limits w).keep_last) limited) [
-  | inl all ↦ (let m = some_there (net.reader_limits r).max_samples all in elim (accepted.samples r m.0 strict m.1) [
-    | inl total ↦ by_total total.0 total.1
-    | inr each ↦ by_bound (each.0 k) (each.1 k reached)
-  ])
+  | inl all ↦ by_samples (limited_some (net.keyed_reader r) (net.reader_limits r).max_samples (instance_limit (net.reader_limits r)) all)
   | inr rest ↦ elim (or_cases (is_some (instance_limit (net.reader_limits r))) (is_some (net.writer_limits w).keep_last) rest) [
-    | inl one ↦ (let m = some_there (instance_limit (net.reader_limits r)) one in let b = accepted.key_bounds r k m.0 strict reached m.1 in by_bound b.0 b.1)
+    | inl one ↦ elim (cases_Bool (net.keyed_reader r)) [
+      | inl keyed ↦ (let m = some_there (instance_limit (net.reader_limits r)) one in let b = accepted.key_bounds r k m.0 strict keyed reached m.1 in by_bound b.0 b.1)
+      | inr unkeyed ↦ by_samples (limited_by (net.keyed_reader r) (net.reader_limits r).max_samples (instance_limit (net.reader_limits r)) unkeyed one)
+    ]
     | inr kept ↦ (let d = some_there (net.writer_limits w).keep_last kept in elim (accepted.depths w r k d.0 matched strict d.1 written) [
-      | inl b ↦ elim b.1 [
-        | inl bound ↦ by_bound b.0 bound
-        | inr total ↦ by_total b.0 total
+      | inl b ↦ elim b [
+        | inl total ↦ by_total total.0 total.1
+        | inr bounds ↦ by_bound (bounds.0 k) (bounds.1 k beside)
       ]
       | inr rest ↦ elim rest [
-        | inl c ↦ absurd (some_none (net.cap w r k) c.0 uncapped c.1)
+        | inl c ↦ absurd (some_none (net.cap w r k) (c.0 k) uncapped (c.1 k beside))
         | inr others ↦ elim others [
-          | inl l ↦ absurd (some_none (net.lag w r k) l.0 unlagged l.1)
-          | inr once ↦ absurd (never_free (net.free w k) _ once.0 free)
+          | inl l ↦ absurd (some_none (net.lag w r k) (l.0 k) unlagged (l.1 k beside))
+          | inr once ↦ absurd (never_free (net.free w k) _ (once.1 k beside).0 free)
         ]
       ]
     ])
   ]
 ]
   where
+    -- the key is of its own instance
+    beside : is_beside net w k k ≡ true
+    beside = and_from (is_written net w k) (instance net w k == instance net w k) written (eq-eqb (instance net w k) (instance net w k) refl)
+
     by_bound : (n : ℕ) → IsBound cert r k n → (row : Row) × In row cert.rows × (m : ℕ) × Shows net row m r k
     by_bound n found =
         let b : Bound = found.0 in
@@ -124,6 +141,12 @@ is_shown net cert accepted w k r strict matched reached written limited free unc
         let t : Total = found.0 in
         let held = accepted.totals t found.1 in
         (t.row, held.0, t.bound, subst (λ s. Shows net t.row t.bound s k) found.2 (held.1 k (subst (λ s. reach net s k ≡ true) (sym found.2) reached)))
+
+    by_samples : is_some (samples_limit net r) ≡ true → (row : Row) × In row cert.rows × (m : ℕ) × Shows net row m r k
+    by_samples some = let m = some_there (samples_limit net r) some in elim (accepted.samples r m.0 strict m.1) [
+      | inl total ↦ by_total total.0 total.1
+      | inr each ↦ by_bound (each.0 k) (each.1 k reached)
+    ]
 
 -- ── a rule
 -- no free rule writes to a strict reader where there is a limit and neither a cap nor a lag

@@ -1,5 +1,6 @@
 -- The first condition of all that fail is the one with which the checker refuses.
 use Rattle.std.proofs.Common.{ℕ, Bool, true, false, ◌≡◌, List, [], ◌++◌, slice_get, Option, None, refl, ap₂, ◌∙◌, if◌then◌else◌}
+use Rattle.std.specs.Option.{option_to_list}
 use Rattle.dds_qos.specs.declared.profile.Outside.{Outside}
 use Rattle.dds_qos.specs.declared.profile.Outside.TheVariants.{WriterKeepsLast, Exclusive, SourceOrder, OrderedOrCoherent, WriterBestEffort}
 use Rattle.dds_lists.specs.Lists.{Lists}
@@ -11,12 +12,12 @@ use Rattle.dds_runs.specs.Accepted.{row_of}
 use Rattle.dds_check.specs.declared.verdict.No.{No}
 use Rattle.dds_check.specs.Accepts.{first_no}
 use Rattle.dds_check.specs.Joins.{late_volatile, late_history, joins_no}
-use Rattle.dds_check.specs.Limits.{of_strict, reader_instances, no_bound, no_total, no_bounds, reader_bound_over, bound_over, samples_over, writer_instances, keep_last_filter, writer_depth, pair_depth, limits_no}
+use Rattle.dds_check.specs.Limits.{of_strict, reader_instances, no_bound, no_total, no_bounds, reader_bound_over, bound_over, samples_over, writer_instances, keep_last_filter, instance_depth, writer_depth, pair_depth, limits_no}
 use Rattle.dds_check.specs.Pairs.{not_matched, not_intended, first_pair, pairs_no}
 use Rattle.dds_check.specs.Profile.{first_outside, profile_no}
 use Rattle.dds_check.specs.Rows.{take_raises, row_take_raises, rule_raises, row_rule_raises, write_raises, row_write_raises, rows_no}
 use Rattle.dds_check.specs.Shown.{shown_no}
-use Rattle.dds_lint.specs.Conditions.{every_pair, pairs_nos, every_outside, profile_nos, if_strict, no_bounds_nos, bounds_over_nos, depth_nos, bounds_nos, depths_nos, limits_nos, joins_nos, row_take_nos, row_rule_nos, row_write_nos, rows_nos, shown_nos, all_nos}
+use Rattle.dds_lint.specs.Conditions.{every_pair, pairs_nos, every_outside, profile_nos, if_strict, no_bounds_nos, bounds_over_nos, depth_nos, pair_depth_nos, bounds_nos, depths_nos, limits_nos, joins_nos, row_take_nos, row_rule_nos, row_write_nos, rows_nos, shown_nos, all_nos}
 use Rattle.dds_lint.specs.Every.{every_below, those_below}
 use Rattle.dds_lint.proofs.EveryLaws.{orElse_assoc, first_of_both, first_of_one, first_every, first_those, first_every_in}
 
@@ -60,11 +61,18 @@ bounds_first net cert =
     let over = readers_first net (bounds_over_nos net cert.bounds) (reader_bound_over net cert.bounds) (λ r. first_those net.keys (bound_over net cert.bounds r)) in
     both _ _ _ _ (both _ _ _ _ none over) (first_those net.readers (of_strict net (samples_over net cert.bounds cert.totals))) ∙ simp orElse_assoc
 
+depth_first : (net : Network) (cert : lists.Certificate) (w r : ℕ) → slice_get (pair_depth_nos net cert.bounds cert.totals w r) 0 ≡ pair_depth net cert.bounds cert.totals w r
+depth_first net cert w r = go (net.keyed_writer w)
+  where
+    go : (b : Bool) → slice_get (if b then those_below net.keys (writer_depth net cert.bounds cert.totals w r) else option_to_list (instance_depth net cert.bounds cert.totals w r)) 0
+        ≡ (if b then first_below net.keys (writer_depth net cert.bounds cert.totals w r) else instance_depth net cert.bounds cert.totals w r)
+    go true = first_those net.keys (writer_depth net cert.bounds cert.totals w r)
+    go false = first_of_one (instance_depth net cert.bounds cert.totals w r)
+
 pub depths_first : (net : Network) (cert : lists.Certificate) → slice_get (depths_nos net cert) 0 ≡ first_pair net (pair_depth net cert.bounds cert.totals)
 depths_first net cert =
     first_every net.writers (depth_nos net cert.bounds cert.totals) (λ w. first_below net.readers (pair_depth net cert.bounds cert.totals w))
-    (λ w. first_every net.readers (λ r. those_below net.keys (writer_depth net cert.bounds cert.totals w r)) (pair_depth net cert.bounds cert.totals w)
-    (λ r. first_those net.keys (writer_depth net cert.bounds cert.totals w r)))
+    (λ w. first_every net.readers (pair_depth_nos net cert.bounds cert.totals w) (pair_depth net cert.bounds cert.totals w) (depth_first net cert w))
 
 pub limits_first : (net : Network) (cert : lists.Certificate) → slice_get (limits_nos net cert) 0 ≡ limits_no net cert
 unfolding limits_no

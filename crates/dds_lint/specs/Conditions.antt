@@ -12,7 +12,7 @@ use Rattle.dds_weights.specs.declared.certificate.Total.{Total}
 use Rattle.dds_runs.specs.Accepted.{row_of}
 use Rattle.dds_check.specs.declared.verdict.No.{No}
 use Rattle.dds_check.specs.Joins.{late_volatile, late_history}
-use Rattle.dds_check.specs.Limits.{of_strict, reader_instances, no_bound, no_total, bound_over, samples_over, writer_instances, keep_last_filter, writer_depth}
+use Rattle.dds_check.specs.Limits.{of_strict, reader_instances, no_bound, no_total, bound_over, samples_over, writer_instances, keep_last_filter, instance_depth, writer_depth}
 use Rattle.dds_check.specs.Pairs.{not_matched, not_intended}
 use Rattle.dds_check.specs.Profile.{writer_outside, reader_outside}
 use Rattle.dds_check.specs.Rows.{take_raises, rule_raises, write_raises}
@@ -48,9 +48,14 @@ no_bounds_nos net bounds totals r = those_below net.keys (no_bound net bounds r)
 abbrev pub bounds_over_nos : Network → List Bound → ℕ → List No
 bounds_over_nos net bounds r = those_below net.keys (bound_over net bounds r)
 
+-- 26 at a writer and a reader: of each key, or where the topic has one instance of the two
+abbrev pub pair_depth_nos : Network → List Bound → List Total → ℕ → ℕ → List No
+pair_depth_nos net bounds totals w r =
+    if net.keyed_writer w then those_below net.keys (writer_depth net bounds totals w r) else option_to_list (instance_depth net bounds totals w r)
+
 -- 26 at a writer
 abbrev pub depth_nos : Network → List Bound → List Total → ℕ → List No
-depth_nos net bounds totals w = every_below net.readers (λ r. those_below net.keys (writer_depth net bounds totals w r))
+depth_nos net bounds totals w = every_below net.readers (pair_depth_nos net bounds totals w)
 
 -- 20, 24 and 25, which ask no certificate
 abbrev pub instances_nos : Network → List No

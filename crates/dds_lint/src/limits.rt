@@ -1,20 +1,22 @@
 //! Numbers 20 to 26: the endpoints whose limits the instances or the bounds are above.
-ghost use Rattle.std.specs.Prelude.{◌≡◌, ◌++◌, ◌<◌, OnOk};
+ghost use Rattle.std.specs.Prelude.{◌≡◌, ◌++◌, ◌<◌, ◌^◌, OnOk};
 ghost use Rattle.std.specs.Option.{option_to_list};
 ghost use Rattle.dds_match.specs.Plan.{network_of};
 ghost use Rattle.dds_weights.specs.Views.{certificate_view};
-ghost use Rattle.dds_check.specs.Limits.{reader_instances, no_total, samples_over, writer_instances};
+ghost use Rattle.dds_check.specs.Limits.{instance_depth, reader_instances, no_total, samples_over, writer_instances};
 ghost use Rattle.dds_check.specs.Limits.{keep_last_filter, of_strict};
+ghost use Rattle.dds_check.specs.Permits.{AreAtMost, ShowsPermits};
 ghost use Rattle.dds_lint.specs.Conditions.{bounds_nos, bounds_nos_by, bounds_over_nos, depth_nos, depths_nos};
-ghost use Rattle.dds_lint.specs.Conditions.{every_pair, if_strict, instances_nos, no_bounds_nos, written_nos};
+ghost use Rattle.dds_lint.specs.Conditions.{every_pair, if_strict, instances_nos, no_bounds_nos, pair_depth_nos};
+ghost use Rattle.dds_lint.specs.Conditions.{written_nos};
 ghost use Rattle.dds_lint.specs.Every.{every_below, those_below};
 
 use crate::every::push_below;
 use dds_base::grid::KEYS;
 use dds_base::{KeyNo, NoMemory, ReaderNo, WriterNo};
 use dds_check::limits::{
-    bound_over, keep_last_filter, no_bound, no_total, reader_instances, samples_over, writer_depth,
-    writer_instances,
+    bound_over, instance_depth, keep_last_filter, no_bound, no_total, reader_instances,
+    samples_over, writer_depth, writer_instances,
 };
 use dds_check::permits::permits_of;
 use dds_check::{Bounds, No, Totals};
@@ -221,6 +223,63 @@ pub(crate) fn push_written(nos: &mut Vec<No>, plan: &Plan) -> Result<(), NoMemor
     push_filters(nos, plan)
 }
 
+fn push_instance_depth(
+    nos: &mut Vec<No>,
+    plan: &Plan,
+    bounds: &Bounds,
+    totals: &Totals,
+    permits: &[Option<u64>; KEYS],
+    writer: WriterNo,
+    reader: ReaderNo,
+) -> Result<(), NoMemory>
+    requires writer { writer < (network_of plan.now).writers }
+    requires permits { ShowsPermits (network_of plan.now) writer permits.now }
+    requires small { AreAtMost (2 ^ 44) permits.now }
+    ensures { OnOk result (nos.new.items ≡ nos.old.items
+        ++ option_to_list (instance_depth (network_of plan.now) bounds.now totals.now writer reader)) }
+{
+    push_below(
+        nos,
+        1,
+        |_| instance_depth(plan, bounds, totals, permits, writer, reader),
+    )
+}
+
+// Adds what 26 refuses of a writer and a reader: each key, or where the topic has one instance the two.
+fn push_depths_at(
+    nos: &mut Vec<No>,
+    plan: &Plan,
+    bounds: &Bounds,
+    totals: &Totals,
+    permits: &[Option<u64>; KEYS],
+    writer: WriterNo,
+    reader: ReaderNo,
+) -> Result<(), NoMemory>
+    requires writer { writer < (network_of plan.now).writers }
+    requires permits { ShowsPermits (network_of plan.now) writer permits.now }
+    requires small { AreAtMost (2 ^ 44) permits.now }
+    ensures { OnOk result (nos.new.items ≡ nos.old.items
+        ++ pair_depth_nos (network_of plan.now) bounds.now totals.now writer reader) }
+{
+    let bounds = bounds.near(reader);
+    if !plan.is_keyed_writer(writer) {
+        return push_instance_depth(nos, plan, &bounds, totals, permits, writer, reader);
+    }
+    push_below(
+        nos,
+        KEYS,
+        |k| writer_depth(
+            plan,
+            &bounds,
+            totals,
+            permits,
+            writer,
+            reader,
+            KeyNo::new(k),
+        ),
+    )
+}
+
 fn push_depths_of(
     nos: &mut Vec<No>,
     plan: &Plan,
@@ -234,20 +293,14 @@ fn push_depths_of(
 {
     let permits = permits_of(plan, writer);
     for r in 0..readers_of(plan) {
-        let reader = ReaderNo::new(r);
-        let bounds = bounds.near(reader);
-        push_below(
+        push_depths_at(
             nos,
-            KEYS,
-            |k| writer_depth(
-                plan,
-                &bounds,
-                totals,
-                &permits,
-                writer,
-                reader,
-                KeyNo::new(k),
-            ),
+            plan,
+            bounds,
+            totals,
+            &permits,
+            writer,
+            ReaderNo::new(r),
         )?;
     }
     Ok(())

@@ -1,5 +1,5 @@
 -- The lists of a deployment, as contracts see them.
-use Rattle.std.specs.Prelude.{ℕ, Bool, Option, List, [], ◌∷◌, ◌++◌, ◌==◌, nat_le, length, unwrap_or, option_map, slice_get, if◌then◌else◌}
+use Rattle.std.specs.Prelude.{ℕ, Bool, true, Option, List, [], ◌∷◌, ◌++◌, ◌==◌, nat_le, length, unwrap_or, option_map, slice_get, if◌then◌else◌}
 use Rattle.std.specs.List.{list_any, range_with_len}
 use Rattle.dds_base.specs.declared.portion.Portion.{Portion}
 use Rattle.dds_qos.specs.declared.policies.WriterQos.{WriterQos}
@@ -19,6 +19,8 @@ pub record Participant : Type 0 where
 pub record Topic : Type 0 where
   pub type_name : List ℕ
   pub keys : List (List ℕ)
+  -- each key has an instance of its own; else the topic has one instance, and its keys are kinds of samples
+  pub keyed : Bool
 
 pub record Writer : Type 0 where
   pub participant : ℕ
@@ -94,6 +96,10 @@ all_keys keys = range_with_len 0 (length keys)
 -- whether a number is among these
 abbrev pub has : List ℕ → ℕ → Bool
 has numbers n = list_any (λ m. m == n) numbers
+
+-- each key of the topic with this number has an instance of its own; so it is where there is no such topic
+abbrev pub is_keyed : Listed Topic → ℕ → Bool
+is_keyed topics t = unwrap_or (option_map (λ (x : Topic). x.keyed) (slice_get topics.entries t)) true
 
 -- the topic of the endpoint with this number
 abbrev pub writer_topic : Listed Writer → ℕ → ℕ

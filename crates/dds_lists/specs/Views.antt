@@ -15,7 +15,7 @@ abbrev pub participant_view : CodeParticipant → Participant
 participant_view p = record { domain = p.domain; joins = p.joins }
 
 abbrev pub topic_view : CodeTopic → Topic
-topic_view t = record { type_name = string_bytes t.type_name; keys = t.keys }
+topic_view t = record { type_name = string_bytes t.type_name; keys = t.keys; keyed = t.keyed }
 
 abbrev pub writer_view : CodeWriter → Writer
 writer_view w = record { participant = w.participant; topic = w.topic; qos = w.qos; partitions = map string_bytes w.partitions.items }

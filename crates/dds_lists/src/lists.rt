@@ -30,11 +30,14 @@ pub struct Participant {
     pub joins: Joins,
 }
 
-/// A keyed topic: a name, the name of its type, and the names of its instances' keys, 1 to 64 of them.
+/// A topic: the name of its type, and the names of its keys, 1 to 64 of them.
 #[derive(Drop)]
 pub struct Topic {
     pub type_name: String,
     pub keys: Names,
+    /// Whether each key has an instance of its own. If not, the topic has one instance, and its keys are kinds of
+    /// samples: rules, filters and bounds tell them apart, and DDS doesn't.
+    pub keyed: bool,
 }
 
 /// A data writer.

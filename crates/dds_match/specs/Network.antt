@@ -23,6 +23,9 @@ pub record Network : Type 0 where
   pub writes_key : ℕ → ℕ → Bool
   -- the key is in the reader's filter
   pub hears : ℕ → ℕ → Bool
+  -- each key of the topic of a writer, or of a reader, has an instance of its own. Else the topic has one instance, and its keys are kinds of samples
+  pub keyed_writer : ℕ → Bool
+  pub keyed_reader : ℕ → Bool
   pub writer_limits : ℕ → WriterLimits
   pub reader_limits : ℕ → ReaderLimits
   pub rule : ℕ → Rule
@@ -44,6 +47,18 @@ pub record Network : Type 0 where
   -- more has to wait. None where nothing bounds them
   pub lag : ℕ → ℕ → ℕ → Option ℕ
 
+-- the number of the instance that samples of a key belong to: a keyed topic has one for each of its keys, any other the one with the number 0
+abbrev pub instance_of : (keyed : Bool) → ℕ → ℕ
+instance_of true k = k
+instance_of false k = 0
+
+-- the instance of a key at a writer, and at a reader
+abbrev pub instance : Network → ℕ → ℕ → ℕ
+instance net w k = instance_of (net.keyed_writer w) k
+
+abbrev pub instance_at : Network → ℕ → ℕ → ℕ
+instance_at net r k = instance_of (net.keyed_reader r) k
+
 -- the list names the endpoint and key
 abbrev pub is_named : List (Portion ℕ) → ℕ → ℕ → Bool
 is_named es i k = list_any (λ e. (e.endpoint == i) && (e.key == k)) es
@@ -57,6 +72,7 @@ is_written net w k = any_below net.rules (λ u. is_named (net.rule u).writes w k
 pub record IsNetwork (net : Network) : Type 0 where
   pub matched_writer : (w r : ℕ) → net.matched w r ≡ true → w < net.writers
   pub matched_reader : (w r : ℕ) → net.matched w r ≡ true → r < net.readers
+  pub same_topic : (w r : ℕ) → net.matched w r ≡ true → net.keyed_writer w ≡ net.keyed_reader r
   pub heard_reader : (r k : ℕ) → net.hears r k ≡ true → r < net.readers
   pub heard_key : (r k : ℕ) → net.hears r k ≡ true → k < net.keys
   pub written_writer : (w k : ℕ) → net.writes_key w k ≡ true → w < net.writers

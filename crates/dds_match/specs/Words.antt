@@ -9,7 +9,7 @@ use Rattle.dds_qos.specs.declared.policies.Durability.{Durability}
 use Rattle.dds_qos.specs.declared.policies.Durability.TheVariants.{Volatile, TransientLocal, Transient, Persistent}
 use Rattle.dds_lists.specs.declared.lists.Joins.{Joins}
 use Rattle.dds_lists.specs.declared.lists.Joins.TheVariants.{Before, Any}
-use Rattle.dds_lists.specs.Lists.{Participant, Writer, Reader, Rule, Lists}
+use Rattle.dds_lists.specs.Lists.{Participant, Writer, Reader, Rule, Lists, is_keyed}
 use Rattle.dds_lists.specs.WellFormed.{filter_at, writer_key_count}
 use Rattle.dds_match.specs.Matching.{why_not}
 use Rattle.dds_match.specs.Network.{is_named}
@@ -79,6 +79,13 @@ durable_writer d w = option_map_or (λ (x : Writer). is_durable x.qos.offered.du
 
 abbrev pub durable_reader : Lists → ℕ → Bool
 durable_reader d r = option_map_or (λ (x : Reader). is_durable x.qos.requested.durability) (slice_get d.readers.entries r) false
+
+-- each key of the topic of a writer, or of a reader, has an instance of its own; so it is where there is no such endpoint
+abbrev pub keyed_writer : Lists → ℕ → Bool
+keyed_writer d w = option_map_or (λ (x : Writer). is_keyed d.topics x.topic) (slice_get d.writers.entries w) true
+
+abbrev pub keyed_reader : Lists → ℕ → Bool
+keyed_reader d r = option_map_or (λ (x : Reader). is_keyed d.topics x.topic) (slice_get d.readers.entries r) true
 
 -- the writer is the participant's
 abbrev pub is_writer_of : Lists → ℕ → ℕ → Bool

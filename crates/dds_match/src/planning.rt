@@ -13,7 +13,7 @@ pub fn plan(alloc: Global, deployment: Deployment) -> Result<Plan, (NoMemory, De
     ensures err { IfErr result (λ e. e.1 ≡ deployment) }
 {
     match Tables::of(alloc, &deployment) {
-        Ok(tables) => Ok(Plan::of(deployment, tables)),
+        Ok(tables) => Plan::of(alloc, deployment, tables),
         Err(_) => Err((NoMemory, deployment)),
     }
 }

@@ -28,7 +28,7 @@ arrival_of Stored = New
 arrival_of (Overwrote old) = Overwrites old
 arrival_of (Rejected why) = Refuses why
 
--- what a DATA does, in this order: its writer isn't matched, it came before, its key isn't in the filter; then admission
+-- what a DATA does, in this order: its writer isn't matched, it came before, its kind isn't in the filter; then admission
 abbrev pub data_arrival : (matched repeated relevant : Bool) → Admit → Arrival
 data_arrival matched repeated relevant answer =
     if not matched then Stranger

@@ -1,10 +1,10 @@
--- What a take may give: of some writer, the available sample of the key with its least number.
+-- What a take may give: of some writer, the available sample of the instance with its least number.
 use Rattle.std.specs.Prelude.{◌≡◌, ℕ, ◌≤◌, Bool, ◌&&◌, List, filter}
 use Rattle.dds_base.specs.declared.sample.Sample.{Sample}
 use Rattle.dds_base.specs.Sums.{In}
 use Rattle.dds_qos.specs.Samples.{has_key}
 
--- the stored samples of the key that are available, by a test of what is
+-- the stored samples of the instance that are available, by a test of what is
 abbrev pub available_of : (Sample → Bool) → ℕ → List Sample → List Sample
 available_of is_available k stored = filter (λ s. has_key k s && is_available s) stored
 

@@ -49,13 +49,13 @@ heard_of r w = heard_in w r.proxies
 abbrev pub owes_to : ReaderState → ℕ → Bool
 owes_to r w = not r.watching && owes_in w r.proxies
 
--- the key is in the filter
+-- the kind is in the filter
 abbrev pub of_filter : ReaderState → ℕ → Bool
 of_filter r key = list_any (λ k. k == key) r.filter
 
 -- what a DATA does
 abbrev pub data_arrives : ReaderState → DataFor → Arrival
-data_arrives r d = data_arrival (is_proxy r d.sample.writer) (is_repeat r.watching (is_marked r d.sample.writer) d.sample.sn) (of_filter r d.sample.key) (admission r.limits r.stored r.keys d.sample)
+data_arrives r d = data_arrival (is_proxy r d.sample.writer) (is_repeat r.watching (is_marked r d.sample.writer) d.sample.sn) (of_filter r d.sample.kind) (admission r.limits r.stored r.keys d.sample)
 
 -- what a GAP does
 abbrev pub gap_arrives : ReaderState → GapFor → Arrival

@@ -14,7 +14,7 @@ use Rattle.dds_base.specs.declared.messages.Packet.TheVariants.{Data, Gap, Heart
 use Rattle.dds_base.specs.declared.events.Refusal.TheVariants.{Foreign}
 use Rattle.dds_match.specs.Network.{Network, follows, named}
 use Rattle.dds_runs.proofs.CountsWeights.{fired_put}
-use Rattle.dds_runs.specs.World.{World, Sample, Packet, entry_at, has_key, opening, spent}
+use Rattle.dds_runs.specs.World.{World, Sample, Packet, entry_at, has_kind, opening, spent}
 use Rattle.dds_runs.specs.Steps.{Event, Reply, Refusal, AtPlace, May, Refused, RefusedOr, Replies, Write, Written, Fire, Fired, Take, Took, SendData, SendGap, SendHeartbeat, SendAckNack, Sent, Deliver, Arrived, Acked, Lose, Dropped, after, after_acknack, after_data, after_gap, after_heartbeat, after_packet, after_watched, arrival_of_data, arrived_from, acknack_packet, data_packet, gap_packet, heartbeat_packet, packet_reply, put_packet, refusal, sample_of, send, sent_place, take_away}
 use Rattle.dds_recap.specs.Tally.{IsMoreBy, Rises, number_at, only_at, pair_cmp}
 use Rattle.dds_recap.specs.Recap.{Arrives, Follows, Notes, all_came_by, all_gone_by, came_by, data_of, gone_by, key_at, place_at}
@@ -106,8 +106,8 @@ unknown_noted net u reply old past = none_noted net (Fire u) reply old
     ap (after net v (Fire u)) (subst (λ (o : Option Refusal). RefusedOr o reply (reply ≡ Fired)) foreign may))
 
 -- ── takes
-pub take_noted : (net : Network) (r k : ℕ) (s : Sample) (old : Recap) (taken : Tally) (by_key in_all : Levels) → IsMoreBy (only_at r s.key 1) old.taken taken
-    → by_key.came ≡ old.by_key.came → IsMoreBy (only_at r s.key 1) old.by_key.gone by_key.gone → Rises old.by_key by_key
+pub take_noted : (net : Network) (r k : ℕ) (s : Sample) (old : Recap) (taken : Tally) (by_key in_all : Levels) → IsMoreBy (only_at r s.kind 1) old.taken taken
+    → by_key.came ≡ old.by_key.came → IsMoreBy (only_at r s.kind 1) old.by_key.gone by_key.gone → Rises old.by_key by_key
     → in_all.came ≡ old.in_all.came → IsMoreBy (only_at r 0 1) old.in_all.gone in_all.gone → Rises old.in_all in_all
     → Notes net (Take r k) (Took s) old (record old { taken = taken; by_key = by_key; in_all = in_all })
 take_noted net r k s old taken by_key in_all took came gone rises all_came all_gone all_rises = record {
@@ -126,7 +126,7 @@ take_noted net r k s old taken by_key in_all took came gone rises all_came all_g
         let two = f.all_gone q in
         let three = length_put v.taken r s q in
         omega (arith, one, two, three);
-    taken = λ q l. took.numbers q l ∙ (ap (λ n. n + only_at r s.key 1 q l) (f.taken q l) ∙ sym (count_put v.taken r s q l));
+    taken = λ q l. took.numbers q l ∙ (ap (λ n. n + only_at r s.kind 1 q l) (f.taken q l) ∙ sym (count_put v.taken r s q l));
     spent = f.spent;
   };
   by_key = rises;
@@ -264,7 +264,7 @@ arrived_stores : (net : Network) (v : World) (a : Arrival) (o : Option Packet) �
 arrived_stores net v a None at = absurd at
 arrived_stores net v a (Some (Data d)) at =
     let is : a ≡ arrival_of_data net v d = same_arrival a (arrival_of_data net v d) at in
-    subst (λ (x : Arrival). Stores (Some (d.reader, d.sample.key)) a v (cond (net.watcher d.reader) (after_watched v d.reader d.sample x) (after_data v d.reader d.sample x))) is
+    subst (λ (x : Arrival). Stores (Some (d.reader, d.sample.kind)) a v (cond (net.watcher d.reader) (after_watched v d.reader d.sample x) (after_data v d.reader d.sample x))) is
     (data_arrived net v d.reader d.sample a (net.watcher d.reader))
   where
     same_arrival : (x y : Arrival) → Arrived x ≡ Arrived y → x ≡ y
@@ -306,7 +306,7 @@ stored_follows net v w bus m a old mid new stores f cleared places arrives = rec
       let two = ap (λ (x : Recap). number_at x.by_key.gone r k) cleared in
       let three = f.gone r k in
       let four = stores.overwritten r k in
-      let five = ap (λ (xs : ℕ → List Sample). count_by (has_key k) (xs r)) stores.taken in
+      let five = ap (λ (xs : ℕ → List Sample). count_by (has_kind k) (xs r)) stores.taken in
       omega (arith, one, two, three, four, five);
   all_came = λ r.
       let one = arrives.all_came r in
@@ -323,7 +323,7 @@ stored_follows net v w bus m a old mid new stores f cleared places arrives = rec
       omega (arith, one, two, three, four, five);
   taken = λ r k.
       ap (λ (x : Recap). number_at x.taken r k) arrives.same ∙ (ap (λ (x : Recap). number_at x.taken r k) cleared
-      ∙ (f.taken r k ∙ ap (λ (xs : ℕ → List Sample). count_by (has_key k) (xs r)) (sym stores.taken)));
+      ∙ (f.taken r k ∙ ap (λ (xs : ℕ → List Sample). count_by (has_kind k) (xs r)) (sym stores.taken)));
   spent = λ r k.
       ap (λ (x : Recap). number_at x.spent r k) arrives.same ∙ (ap (λ (x : Recap). number_at x.spent r k) cleared
       ∙ (f.spent r k ∙ ap (λ (fired : ℕ → ℕ). total net.rules (λ u. named (net.rule u).takes r k * fired u)) (sym stores.fired)));
@@ -452,7 +452,7 @@ new_arrives r k x by_key in_all came gone rises all_came all_gone all_rises = re
 }
 
 -- one sample went before
-pub overwrote_arrives : (r k : ℕ) (s : Sample) (x y : Recap) (by_key in_all : Levels) → by_key.came ≡ x.by_key.came → IsMoreBy (only_at r s.key 1) x.by_key.gone by_key.gone → Rises x.by_key by_key
+pub overwrote_arrives : (r k : ℕ) (s : Sample) (x y : Recap) (by_key in_all : Levels) → by_key.came ≡ x.by_key.came → IsMoreBy (only_at r s.kind 1) x.by_key.gone by_key.gone → Rises x.by_key by_key
     → in_all.came ≡ x.in_all.came → IsMoreBy (only_at r 0 1) x.in_all.gone in_all.gone → Rises x.in_all in_all → Arrives (Some (r, k)) New (record x { by_key = by_key; in_all = in_all }) y
     → Arrives (Some (r, k)) (Overwrote s) x y
 overwrote_arrives r k s x y by_key in_all came gone rises all_came all_gone all_rises after = record {

@@ -9,7 +9,7 @@ use Rattle.dds_base.specs.declared.sample.Arrival.{Arrival}
 use Rattle.dds_base.specs.declared.sample.Arrival.TheVariants.{New, Repeat, Irrelevant, Overwrote, Rejected, Heard, Lost, Stranger}
 use Rattle.dds_base.specs.declared.portion.Portion.{Portion}
 use Rattle.dds_match.specs.Network.{Network, named}
-use Rattle.dds_runs.specs.World.{World, Sample, entry_at, has_key}
+use Rattle.dds_runs.specs.World.{World, Sample, entry_at, has_kind}
 use Rattle.dds_runs.specs.Steps.{after_data, after_watched, give_up, sample_of}
 use Rattle.dds_recap.specs.Tally.{only_at}
 use Rattle.dds_recap.specs.Recap.{all_came_by, all_gone_by, came_by, gone_by}
@@ -17,9 +17,9 @@ use Rattle.dds_recap.specs.Recap.{all_came_by, all_gone_by, came_by, gone_by}
 -- ── lists that grow at one place
 -- how many of each list have the key
 pub count_put : (f : ℕ → List Sample) (i : ℕ) (s : Sample) (r k : ℕ)
-    → count_by (has_key k) (put f i (f i ++ s ∷ []) r) ≡ count_by (has_key k) (f r) + only_at i s.key 1 r k
+    → count_by (has_kind k) (put f i (f i ++ s ∷ []) r) ≡ count_by (has_kind k) (f r) + only_at i s.kind 1 r k
 count_put f i s r k = elim (cases_eq i r) [
-  | inl e ↦ rw (eq-eqb i r e) (sum_by_push (λ (x : Sample). cond (has_key k x) 1 0) (f i) s ∙ ap (λ (j : ℕ). count_by (has_key k) (f j) + cond (s.key == k) 1 0) e)
+  | inl e ↦ rw (eq-eqb i r e) (sum_by_push (λ (x : Sample). cond (has_kind k x) 1 0) (f i) s ∙ ap (λ (j : ℕ). count_by (has_kind k) (f j) + cond (s.kind == k) 1 0) e)
   | inr ne ↦ rw (ne_eqb i r ne) (omega arith)
 ]
 
@@ -89,8 +89,8 @@ pub record Stores (m : Option (ℕ × ℕ)) (a : Arrival) (v w : World) : Type 0
   pub fired : w.fired ≡ v.fired
   pub bus : w.bus ≡ v.bus
   pub taken : w.taken ≡ v.taken
-  pub received : (r k : ℕ) → count_by (has_key k) (w.received r) ≡ count_by (has_key k) (v.received r) + came_by m a r k
-  pub overwritten : (r k : ℕ) → count_by (has_key k) (w.overwritten r) ≡ count_by (has_key k) (v.overwritten r) + gone_by m a r k
+  pub received : (r k : ℕ) → count_by (has_kind k) (w.received r) ≡ count_by (has_kind k) (v.received r) + came_by m a r k
+  pub overwritten : (r k : ℕ) → count_by (has_kind k) (w.overwritten r) ≡ count_by (has_kind k) (v.overwritten r) + gone_by m a r k
   pub all_received : (r : ℕ) → length (w.received r) ≡ length (v.received r) + all_came_by m a r
   pub all_overwritten : (r : ℕ) → length (w.overwritten r) ≡ length (v.overwritten r) + all_gone_by m a r
 
@@ -103,22 +103,22 @@ none_stored m a v w written fired bus taken received overwritten came gone all_c
   fired = fired;
   bus = bus;
   taken = taken;
-  received = λ r k. let none = came r k in ap (λ (f : ℕ → List Sample). count_by (has_key k) (f r)) received ∙ omega arith;
-  overwritten = λ r k. let none = gone r k in ap (λ (f : ℕ → List Sample). count_by (has_key k) (f r)) overwritten ∙ omega arith;
+  received = λ r k. let none = came r k in ap (λ (f : ℕ → List Sample). count_by (has_kind k) (f r)) received ∙ omega arith;
+  overwritten = λ r k. let none = gone r k in ap (λ (f : ℕ → List Sample). count_by (has_kind k) (f r)) overwritten ∙ omega arith;
   all_received = λ r. let none = all_came r in ap (λ (f : ℕ → List Sample). length (f r)) received ∙ omega arith;
   all_overwritten = λ r. let none = all_gone r in ap (λ (f : ℕ → List Sample). length (f r)) overwritten ∙ omega arith;
 }
 
 -- a DATA at its reader. What the reader gives up besides has no part in it
 data_stored : (v u : World) (r : ℕ) (s : Sample) (a : Arrival) → u.written ≡ v.written → u.fired ≡ v.fired → u.bus ≡ v.bus → u.taken ≡ v.taken
-    → u.received ≡ v.received → u.overwritten ≡ v.overwritten → Stores (Some (r, s.key)) a v (after_data u r s a)
+    → u.received ≡ v.received → u.overwritten ≡ v.overwritten → Stores (Some (r, s.kind)) a v (after_data u r s a)
 data_stored v u r s New written fired bus taken received overwritten = record {
   written = written;
   fired = fired;
   bus = bus;
   taken = taken;
-  received = λ q k. count_put u.received r s q k ∙ ap (λ (f : ℕ → List Sample). count_by (has_key k) (f q) + only_at r s.key 1 q k) received;
-  overwritten = λ q k. ap (λ (f : ℕ → List Sample). count_by (has_key k) (f q)) overwritten ∙ omega arith;
+  received = λ q k. count_put u.received r s q k ∙ ap (λ (f : ℕ → List Sample). count_by (has_kind k) (f q) + only_at r s.kind 1 q k) received;
+  overwritten = λ q k. ap (λ (f : ℕ → List Sample). count_by (has_kind k) (f q)) overwritten ∙ omega arith;
   all_received = λ q. length_put u.received r s q ∙ ap (λ (f : ℕ → List Sample). length (f q) + only_at r 0 1 q 0) received;
   all_overwritten = λ q. ap (λ (f : ℕ → List Sample). length (f q)) overwritten ∙ omega arith;
 }
@@ -127,27 +127,27 @@ data_stored v u r s (Overwrote old) written fired bus taken received overwritten
   fired = fired;
   bus = bus;
   taken = taken;
-  received = λ q k. count_put u.received r s q k ∙ ap (λ (f : ℕ → List Sample). count_by (has_key k) (f q) + only_at r s.key 1 q k) received;
+  received = λ q k. count_put u.received r s q k ∙ ap (λ (f : ℕ → List Sample). count_by (has_kind k) (f q) + only_at r s.kind 1 q k) received;
   overwritten = λ q k.
-      ap (λ (f : ℕ → List Sample). count_by (has_key k) (put f r (f r ++ old ∷ []) q)) overwritten ∙ count_put v.overwritten r old q k;
+      ap (λ (f : ℕ → List Sample). count_by (has_kind k) (put f r (f r ++ old ∷ []) q)) overwritten ∙ count_put v.overwritten r old q k;
   all_received = λ q. length_put u.received r s q ∙ ap (λ (f : ℕ → List Sample). length (f q) + only_at r 0 1 q 0) received;
   all_overwritten = λ q. ap (λ (f : ℕ → List Sample). length (put f r (f r ++ old ∷ []) q)) overwritten ∙ length_put v.overwritten r old q;
 }
 data_stored v u r s (Irrelevant n) written fired bus taken received overwritten =
-    none_stored (Some (r, s.key)) (Irrelevant n) v (after_data u r s (Irrelevant n)) written fired bus taken received overwritten (λ q k. refl) (λ q k. refl) (λ q. refl) (λ q. refl)
+    none_stored (Some (r, s.kind)) (Irrelevant n) v (after_data u r s (Irrelevant n)) written fired bus taken received overwritten (λ q k. refl) (λ q k. refl) (λ q. refl) (λ q. refl)
 data_stored v u r s Repeat written fired bus taken received overwritten =
-    none_stored (Some (r, s.key)) Repeat v (after_data u r s Repeat) written fired bus taken received overwritten (λ q k. refl) (λ q k. refl) (λ q. refl) (λ q. refl)
+    none_stored (Some (r, s.kind)) Repeat v (after_data u r s Repeat) written fired bus taken received overwritten (λ q k. refl) (λ q k. refl) (λ q. refl) (λ q. refl)
 data_stored v u r s (Rejected why) written fired bus taken received overwritten =
-    none_stored (Some (r, s.key)) (Rejected why) v (after_data u r s (Rejected why)) written fired bus taken received overwritten (λ q k. refl) (λ q k. refl) (λ q. refl) (λ q. refl)
+    none_stored (Some (r, s.kind)) (Rejected why) v (after_data u r s (Rejected why)) written fired bus taken received overwritten (λ q k. refl) (λ q k. refl) (λ q. refl) (λ q. refl)
 data_stored v u r s Heard written fired bus taken received overwritten =
-    none_stored (Some (r, s.key)) Heard v (after_data u r s Heard) written fired bus taken received overwritten (λ q k. refl) (λ q k. refl) (λ q. refl) (λ q. refl)
+    none_stored (Some (r, s.kind)) Heard v (after_data u r s Heard) written fired bus taken received overwritten (λ q k. refl) (λ q k. refl) (λ q. refl) (λ q. refl)
 data_stored v u r s (Lost n) written fired bus taken received overwritten =
-    none_stored (Some (r, s.key)) (Lost n) v (after_data u r s (Lost n)) written fired bus taken received overwritten (λ q k. refl) (λ q k. refl) (λ q. refl) (λ q. refl)
+    none_stored (Some (r, s.kind)) (Lost n) v (after_data u r s (Lost n)) written fired bus taken received overwritten (λ q k. refl) (λ q k. refl) (λ q. refl) (λ q. refl)
 data_stored v u r s Stranger written fired bus taken received overwritten =
-    none_stored (Some (r, s.key)) Stranger v (after_data u r s Stranger) written fired bus taken received overwritten (λ q k. refl) (λ q k. refl) (λ q. refl) (λ q. refl)
+    none_stored (Some (r, s.kind)) Stranger v (after_data u r s Stranger) written fired bus taken received overwritten (λ q k. refl) (λ q k. refl) (λ q. refl) (λ q. refl)
 
 -- a DATA at a watcher
-watched_stored : (v : World) (r : ℕ) (s : Sample) (a : Arrival) → Stores (Some (r, s.key)) a v (after_watched v r s a)
+watched_stored : (v : World) (r : ℕ) (s : Sample) (a : Arrival) → Stores (Some (r, s.kind)) a v (after_watched v r s a)
 watched_stored v r s New = data_stored v (give_up v r s.writer s.sn) r s New refl refl refl refl refl refl
 watched_stored v r s (Overwrote old) = data_stored v (give_up v r s.writer s.sn) r s (Overwrote old) refl refl refl refl refl refl
 watched_stored v r s (Irrelevant n) = data_stored v (give_up v r s.writer s.sn) r s (Irrelevant n) refl refl refl refl refl refl
@@ -159,7 +159,7 @@ watched_stored v r s Stranger = data_stored v v r s Stranger refl refl refl refl
 
 -- what arrives with a DATA
 pub data_arrived : (net : Network) (v : World) (r : ℕ) (s : Sample) (a : Arrival) (watcher : Bool)
-    → Stores (Some (r, s.key)) a v (cond watcher (after_watched v r s a) (after_data v r s a))
+    → Stores (Some (r, s.kind)) a v (cond watcher (after_watched v r s a) (after_data v r s a))
 data_arrived net v r s a true = watched_stored v r s a
 data_arrived net v r s a false = data_stored v v r s a refl refl refl refl refl refl
 

@@ -1,12 +1,12 @@
 -- How many samples a reader holds unread, and the most that it held at once in a run.
 use Rattle.std.specs.Prelude.{ℕ, zero, suc, ◌+◌, ◌-◌, max, count_by, length, List, [], ◌∷◌}
 use Rattle.dds_match.specs.Network.{Network}
-use Rattle.dds_runs.specs.World.{World, has_key, opening}
+use Rattle.dds_runs.specs.World.{World, has_kind, opening}
 use Rattle.dds_runs.specs.Steps.{Event, Reply, after}
 
 -- the samples of the key that the reader has stored, less those taken and those overwritten
 abbrev pub held : World → ℕ → ℕ → ℕ
-held v r k = count_by (has_key k) (v.received r) - (count_by (has_key k) (v.taken r) + count_by (has_key k) (v.overwritten r))
+held v r k = count_by (has_kind k) (v.received r) - (count_by (has_kind k) (v.taken r) + count_by (has_kind k) (v.overwritten r))
 
 -- the same of all keys
 abbrev pub held_in_all : World → ℕ → ℕ

@@ -4,7 +4,7 @@ use Rattle.std.specs.Ordering.{nat_cmp}
 use Rattle.std.specs.BTreeMap as tree
 use Rattle.dds_base.specs.declared.messages.Packet.TheVariants.{Data, Gap, Heartbeat, AckNack}
 use Rattle.dds_match.specs.Network.{Network}
-use Rattle.dds_runs.specs.World.{World, Packet, entry_at, has_key, spent}
+use Rattle.dds_runs.specs.World.{World, Packet, entry_at, has_kind, spent}
 use Rattle.dds_runs.specs.Steps.{Event, Reply, May, after}
 use Rattle.dds_base.specs.declared.sample.Arrival.{Arrival}
 use Rattle.dds_base.specs.declared.sample.Arrival.TheVariants.{New, Overwrote}
@@ -21,7 +21,7 @@ place_at x i = tree.get nat_cmp x.places i
 
 -- the reader and the key of a packet, if it is a DATA
 abbrev pub data_of : Option Packet → Option (ℕ × ℕ)
-data_of (Some (Data d)) = Some (d.reader, d.sample.key)
+data_of (Some (Data d)) = Some (d.reader, d.sample.kind)
 data_of (Some (Gap g)) = None
 data_of (Some (Heartbeat h)) = None
 data_of (Some (AckNack a)) = None
@@ -36,11 +36,11 @@ spare_at x r k = number_at x.taken r k - number_at x.spent r k
 pub record Follows (net : Network) (v : World) (x : Recap) : Type 0 where
   pub keys : (w n : ℕ) → key_at x w n ≡ option_map (λ (e : ℕ × List ℕ). e.0) (entry_at (v.written w) n)
   pub places : (i : ℕ) → place_at x i ≡ data_of (v.bus i)
-  pub came : (r k : ℕ) → number_at x.by_key.came r k ≡ count_by (has_key k) (v.received r)
-  pub gone : (r k : ℕ) → number_at x.by_key.gone r k ≡ count_by (has_key k) (v.taken r) + count_by (has_key k) (v.overwritten r)
+  pub came : (r k : ℕ) → number_at x.by_key.came r k ≡ count_by (has_kind k) (v.received r)
+  pub gone : (r k : ℕ) → number_at x.by_key.gone r k ≡ count_by (has_kind k) (v.taken r) + count_by (has_kind k) (v.overwritten r)
   pub all_came : (r : ℕ) → number_at x.in_all.came r 0 ≡ length (v.received r)
   pub all_gone : (r : ℕ) → number_at x.in_all.gone r 0 ≡ length (v.taken r) + length (v.overwritten r)
-  pub taken : (r k : ℕ) → number_at x.taken r k ≡ count_by (has_key k) (v.taken r)
+  pub taken : (r k : ℕ) → number_at x.taken r k ≡ count_by (has_kind k) (v.taken r)
   pub spent : (r k : ℕ) → number_at x.spent r k ≡ spent net v r k
 
 -- so many samples are stored more at a reader, by what a DATA of this reader and key did
@@ -51,7 +51,7 @@ came_by _ _ r k = 0
 
 -- and so many are overwritten more
 abbrev pub gone_by : Option (ℕ × ℕ) → Arrival → ℕ → ℕ → ℕ
-gone_by (Some m) (Overwrote old) r k = only_at m.0 old.key 1 r k
+gone_by (Some m) (Overwrote old) r k = only_at m.0 old.kind 1 r k
 gone_by _ _ r k = 0
 
 -- the same of all keys

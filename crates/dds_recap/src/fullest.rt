@@ -1,31 +1,64 @@
 //! The lines that say how full each reader was.
 ghost use Rattle.std.specs.Prelude.{◌≡◌, ◌<◌, IfOk, length, max, string_bytes};
 ghost use Rattle.dds_recap.specs.Held.{greatest};
-ghost use Rattle.dds_recap.specs.Lines.{fullest, limit_text, reader_line, reader_lines};
+ghost use Rattle.dds_recap.specs.Lines.{fullest, is_by_instance, limit_text, limit_words};
+ghost use Rattle.dds_recap.specs.Lines.{reader_line, reader_lines};
+ghost use Rattle.dds_match.specs.Plan.{network_of};
 ghost use Rattle.dds_recap.specs.Tally.{most_at, most_in_all_at};
 
 use crate::recap::Recap;
 use dds_base::ReaderNo;
 use dds_check::instance_limit;
+use dds_check::limits::is_over;
 use dds_match::Plan;
 use dds_qos::ReaderLimits;
 use dds_text::names::{keys_of_reader, name_at};
 use dds_text::texts::{TextResult, text_below};
 use std::alloc::Global;
 
-/// The limit that a reader is held against, with its name: that of an instance where it is finite, else `max_samples`.
-fn limit_text(alloc: Global, limits: &ReaderLimits) -> TextResult
-    ensures { IfOk result (λ text. string_bytes text ≡ limit_text limits.now) }
+/// The first of a depth, a limit of an instance and one of all samples that is there, with its name.
+fn limit_words(
+    alloc: Global,
+    depth: Option<u32>,
+    instance: Option<u32>,
+    all: Option<u32>,
+) -> TextResult
+    ensures { IfOk result (λ text. string_bytes text ≡ limit_words depth instance all) }
 {
-    match (
-        limits.keep_last,
-        limits.max_samples_per_instance,
-        limits.max_samples,
-    ) {
+    match (depth, instance, all) {
         (Some(depth), _, _) => format!(in alloc; " of depth {depth}"),
         (None, Some(most), _) => format!(in alloc; " of max_samples_per_instance {most}"),
         (None, None, Some(most)) => format!(in alloc; " of max_samples {most}"),
         (None, None, None) => Ok(String::new(alloc)),
+    }
+}
+
+/// Whether the limit of an instance comes before `max_samples`: each key has an instance of its own, or it's the less.
+fn is_by_instance(plan: &Plan, reader: ReaderNo, limits: &ReaderLimits) -> bool
+    requires { limits.now ≡ (network_of plan.now).reader_limits reader }
+    ensures { result ≡ is_by_instance (network_of plan.now) reader }
+{
+    let one = instance_limit(limits);
+    let all = limits.max_samples;
+    plan.is_keyed_reader(reader) || one.is_some() && (all.is_none() || is_over(all, one))
+}
+
+/// The limit that a reader is held against, with its name: that of an instance where it is finite, else `max_samples`;
+/// where its topic has one instance the less of both.
+fn limit_text(alloc: Global, plan: &Plan, reader: ReaderNo) -> TextResult
+    requires { reader < length plan.now.readers.entries }
+    ensures { IfOk result (λ text. string_bytes text ≡ limit_text (network_of plan.now) reader) }
+{
+    let limits = plan.reader_limits(reader);
+    if is_by_instance(plan, reader, &limits) {
+        limit_words(
+            alloc,
+            limits.keep_last,
+            limits.max_samples_per_instance,
+            limits.max_samples,
+        )
+    } else {
+        limit_words(alloc, None, None, limits.max_samples)
     }
 }
 
@@ -48,12 +81,14 @@ fn larger(one: u64, other: u64) -> u64
     if one < other { other } else { one }
 }
 
-/// The most samples that a reader held at once: of one key where an instance is limited, else in all.
+/// The most samples that a reader held at once: of one key where an instance is limited and each key has its own, else
+/// in all.
 fn fullest(plan: &Plan, recap: &Recap, reader: ReaderNo) -> u64
     requires { reader < length plan.now.readers.entries }
     ensures { result ≡ fullest plan.now (most_at recap.now.by_key) (most_in_all_at recap.now.in_all) reader }
 {
-    if instance_limit(&plan.reader_limits(reader)).is_some() {
+    let is_limited = instance_limit(&plan.reader_limits(reader)).is_some();
+    if plan.is_keyed_reader(reader) && is_limited {
         most_of_a_key(recap, reader, keys_of_reader(plan.lists(), reader).len())
     } else {
         recap.in_all.most(reader.number(), 0)
@@ -69,7 +104,7 @@ fn reader_line(alloc: Global, plan: &Plan, recap: &Recap, reader: usize) -> Text
     let number = ReaderNo::new(reader);
     let name = name_at(plan.lists().reader_names(), reader);
     let fullest = fullest(plan, recap, number);
-    let limit = limit_text(alloc, &plan.reader_limits(number))?;
+    let limit = limit_text(alloc, plan, number)?;
     format!(in alloc; "reader {name} fullest {fullest}{limit}\n")
 }
 

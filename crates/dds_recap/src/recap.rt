@@ -90,7 +90,7 @@ impl Recap {
             → Notes net (Take reader key) reply.now self.old self.new) }
     {
         if let Reply::Took(sample) = reply {
-            let (reader, key) = (reader.number(), sample.key.number());
+            let (reader, key) = (reader.number(), sample.kind.number());
             self.taken.add(reader, key, 1)?;
             self.by_key.remove(reader, key)?;
             self.in_all.remove(reader, 0)?;
@@ -172,7 +172,7 @@ impl Recap {
         match arrival {
             Arrival::New => self.arrive(reader, key),
             Arrival::Overwrote(old) => {
-                self.by_key.remove(reader, old.key.number())?;
+                self.by_key.remove(reader, old.kind.number())?;
                 self.in_all.remove(reader, 0)?;
                 self.arrive(reader, key)
             }

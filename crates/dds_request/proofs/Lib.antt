@@ -3,3 +3,4 @@ mod Helps
 mod Numbers
 mod Requested
 mod WordLists
+mod Joined

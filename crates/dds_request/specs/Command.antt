@@ -110,23 +110,18 @@ linting =
 abbrev pub top_app : App
 top_app = on_top (λ s. record s { subcommand_required = true; has_version = true }) (new_app (codes "ddscheck"))
 
+-- the command, with the subcommands that match, check and run a deployment and look for a certificate of it
+abbrev pub with_checks : App → App
+with_checks app = with_subcommand (with_subcommand (with_subcommand (with_subcommand app matching.top) checking.top) searching.top) running.top
+
+-- with those that print a deployment in another form, and look for a run that loses a sample
+abbrev pub with_forms : App → App
+with_forms app = with_subcommand (with_subcommand (with_subcommand (with_subcommand app migrating.top) showing.top) drawing.top) refuting.top
+
+-- with those that replay events, find limits and faults, and say whether a trace keeps the rules
+abbrev pub with_findings : App → App
+with_findings app = with_subcommand (with_subcommand (with_subcommand (with_subcommand app replaying.top) limiting.top) conforming.top) linting.top
+
 -- the command with its subcommands
 abbrev pub whole : App
-whole =
-    with_subcommand
-    (with_subcommand
-    (with_subcommand
-    (with_subcommand
-    (with_subcommand
-    (with_subcommand
-    (with_subcommand
-    (with_subcommand
-    (with_subcommand (with_subcommand (with_subcommand (with_subcommand top_app matching.top) checking.top) searching.top) running.top)
-    migrating.top)
-    showing.top)
-    drawing.top)
-    refuting.top)
-    replaying.top)
-    limiting.top)
-    conforming.top)
-    linting.top
+whole = with_findings (with_forms (with_checks top_app))

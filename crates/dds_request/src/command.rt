@@ -1,4 +1,6 @@
-//! The command, its subcommands and their arguments, as `clap` knows them.
+//! The command, its subcommands and their arguments, as `clap` knows them. A command goes from hand to hand by value
+//! while it's put together, so each function that does that isn't inlined: what it takes of the stack is given back
+//! before the next one.
 ghost use Rattle.std.specs.Prelude.{◌≡◌, IfOk, IsOk, OnOk, codes, false};
 ghost use Rattle.clap.specs.Words.{app_of, rule_of, with_subcommand};
 ghost use Rattle.clap.specs.declared.builder.command.Command.TheViews.{out-Command as fields_of};
@@ -6,7 +8,8 @@ ghost use Rattle.dds_request.specs.Command.{checking, conforming, count_rule, dr
 ghost use Rattle.dds_request.specs.Command.{linting, matching, migrating, one_file, optional_file_rule};
 ghost use Rattle.dds_request.specs.Command.{optional_wish_rule, refuting, replaying};
 ghost use Rattle.dds_request.specs.Command.{running, searching, seconds_rule, seed_rule, showing, styled};
-ghost use Rattle.dds_request.specs.Command.{top_app, two_files, whole, wish_rule, wishing};
+ghost use Rattle.dds_request.specs.Command.{top_app, two_files, whole, wish_rule, wishing, with_checks, with_findings};
+ghost use Rattle.dds_request.specs.Command.{with_forms};
 
 use clap::{Arg, ArgAction, Command, value_parser};
 use dds_base::NoMemory;
@@ -165,6 +168,7 @@ fn styled<'a>(alloc: Global, command: Command<'a>) -> Result<Command<'a>, NoMemo
     command.arg(wish(alloc, "format", "FORMAT", "text", STYLE))
 }
 
+#[inline(never)]
 fn match_command<'a>(alloc: Global) -> Result<Command<'a>, NoMemory>
     ensures app { IfOk result (λ c. app_of c ≡ matching) }
     ensures local { IfOk result (λ c. (fields_of c).has_globals ≡ false) }
@@ -179,6 +183,7 @@ fn match_command<'a>(alloc: Global) -> Result<Command<'a>, NoMemory>
     styled(alloc, command)
 }
 
+#[inline(never)]
 fn propose_command<'a>(alloc: Global) -> Result<Command<'a>, NoMemory>
     ensures app { IfOk result (λ c. app_of c ≡ searching) }
     ensures local { IfOk result (λ c. (fields_of c).has_globals ≡ false) }
@@ -216,6 +221,7 @@ fn two_files_command<'a>(
         .arg(file(alloc, "certificate", CERTIFICATE))
 }
 
+#[inline(never)]
 fn check_command<'a>(alloc: Global) -> Result<Command<'a>, NoMemory>
     ensures app { IfOk result (λ c. app_of c ≡ checking) }
     ensures local { IfOk result (λ c. (fields_of c).has_globals ≡ false) }
@@ -248,6 +254,7 @@ fn seconds<'a>(alloc: Global, help: &'a str) -> Arg<'a>
 }
 
 /// The command that runs a deployment, with the arguments that say what the run is like.
+#[inline(never)]
 fn wishing_command<'a>(alloc: Global) -> Result<Command<'a>, NoMemory>
     ensures app { IfOk result (λ c. app_of c ≡ wishing) }
     ensures local { IfOk result (λ c. (fields_of c).has_globals ≡ false) }
@@ -263,6 +270,7 @@ fn wishing_command<'a>(alloc: Global) -> Result<Command<'a>, NoMemory>
     .arg(seed(alloc, "late", LATE))
 }
 
+#[inline(never)]
 fn run_command<'a>(alloc: Global) -> Result<Command<'a>, NoMemory>
     ensures app { IfOk result (λ c. app_of c ≡ running) }
     ensures local { IfOk result (λ c. (fields_of c).has_globals ≡ false) }
@@ -273,6 +281,7 @@ fn run_command<'a>(alloc: Global) -> Result<Command<'a>, NoMemory>
     styled(alloc, command)
 }
 
+#[inline(never)]
 fn show_command<'a>(alloc: Global) -> Result<Command<'a>, NoMemory>
     ensures app { IfOk result (λ c. app_of c ≡ showing) }
     ensures local { IfOk result (λ c. (fields_of c).has_globals ≡ false) }
@@ -285,6 +294,7 @@ fn show_command<'a>(alloc: Global) -> Result<Command<'a>, NoMemory>
     .arg(wish(alloc, "format", "FORMAT", "json", FORMAT))
 }
 
+#[inline(never)]
 fn draw_command<'a>(alloc: Global) -> Result<Command<'a>, NoMemory>
     ensures app { IfOk result (λ c. app_of c ≡ drawing) }
     ensures local { IfOk result (λ c. (fields_of c).has_globals ≡ false) }
@@ -297,6 +307,7 @@ fn draw_command<'a>(alloc: Global) -> Result<Command<'a>, NoMemory>
     .arg(optional_file(alloc, "certificate", DRAWN_CERTIFICATE))
 }
 
+#[inline(never)]
 fn refute_command<'a>(alloc: Global) -> Result<Command<'a>, NoMemory>
     ensures app { IfOk result (λ c. app_of c ≡ refuting) }
     ensures local { IfOk result (λ c. (fields_of c).has_globals ≡ false) }
@@ -310,6 +321,7 @@ fn refute_command<'a>(alloc: Global) -> Result<Command<'a>, NoMemory>
     styled(alloc, command)
 }
 
+#[inline(never)]
 fn replay_command<'a>(alloc: Global) -> Result<Command<'a>, NoMemory>
     ensures app { IfOk result (λ c. app_of c ≡ replaying) }
     ensures local { IfOk result (λ c. (fields_of c).has_globals ≡ false) }
@@ -323,6 +335,7 @@ fn replay_command<'a>(alloc: Global) -> Result<Command<'a>, NoMemory>
     styled(alloc, command)
 }
 
+#[inline(never)]
 fn conform_command<'a>(alloc: Global) -> Result<Command<'a>, NoMemory>
     ensures app { IfOk result (λ c. app_of c ≡ conforming) }
     ensures local { IfOk result (λ c. (fields_of c).has_globals ≡ false) }
@@ -337,6 +350,7 @@ fn conform_command<'a>(alloc: Global) -> Result<Command<'a>, NoMemory>
     styled(alloc, command)
 }
 
+#[inline(never)]
 fn limits_command<'a>(alloc: Global) -> Result<Command<'a>, NoMemory>
     ensures app { IfOk result (λ c. app_of c ≡ limiting) }
     ensures local { IfOk result (λ c. (fields_of c).has_globals ≡ false) }
@@ -352,6 +366,7 @@ fn limits_command<'a>(alloc: Global) -> Result<Command<'a>, NoMemory>
     styled(alloc, command)
 }
 
+#[inline(never)]
 fn lint_command<'a>(alloc: Global) -> Result<Command<'a>, NoMemory>
     ensures app { IfOk result (λ c. app_of c ≡ linting) }
     ensures local { IfOk result (λ c. (fields_of c).has_globals ≡ false) }
@@ -367,6 +382,7 @@ fn lint_command<'a>(alloc: Global) -> Result<Command<'a>, NoMemory>
     .arg(optional_wish(alloc, "allow", "NOTES", ALLOW))
 }
 
+#[inline(never)]
 fn migrate_command<'a>(alloc: Global) -> Result<Command<'a>, NoMemory>
     ensures app { IfOk result (λ c. app_of c ≡ migrating) }
     ensures local { IfOk result (λ c. (fields_of c).has_globals ≡ false) }
@@ -380,6 +396,7 @@ fn migrate_command<'a>(alloc: Global) -> Result<Command<'a>, NoMemory>
 }
 
 /// The command, and a subcommand more that has no global argument.
+#[inline(never)]
 fn with_command<'a>(
     command: Command<'a>,
     below: Result<Command<'a>, NoMemory>,
@@ -407,20 +424,46 @@ fn top_command<'a>(alloc: Global) -> Command<'a>
         .subcommand_required(true)
 }
 
-/// The whole command. `NoMemory` is the only error.
-pub(crate) fn whole_command<'a>(alloc: Global) -> Result<Command<'a>, NoMemory>
-    ensures { IfOk result (λ c. app_of c ≡ whole) }
+/// The command, with the subcommands that match, check and run a deployment and look for a certificate of it.
+#[inline(never)]
+fn with_checks<'a>(alloc: Global, command: Command<'a>) -> Result<Command<'a>, NoMemory>
+    ensures { IfOk result (λ c. app_of c ≡ with_checks (app_of command.entry)) }
 {
-    let command = with_command(top_command(alloc), match_command(alloc))?;
+    let command = with_command(command, match_command(alloc))?;
     let command = with_command(command, check_command(alloc))?;
     let command = with_command(command, propose_command(alloc))?;
-    let command = with_command(command, run_command(alloc))?;
+    with_command(command, run_command(alloc))
+}
+
+/// The command, with the subcommands that print a deployment in another form, and look for a run that loses a sample.
+#[inline(never)]
+fn with_forms<'a>(alloc: Global, command: Command<'a>) -> Result<Command<'a>, NoMemory>
+    ensures { IfOk result (λ c. app_of c ≡ with_forms (app_of command.entry)) }
+{
     let command = with_command(command, migrate_command(alloc))?;
     let command = with_command(command, show_command(alloc))?;
     let command = with_command(command, draw_command(alloc))?;
-    let command = with_command(command, refute_command(alloc))?;
+    with_command(command, refute_command(alloc))
+}
+
+/// The command, with the subcommands that replay events, find limits and faults, and say whether a trace keeps the
+/// rules.
+#[inline(never)]
+fn with_findings<'a>(alloc: Global, command: Command<'a>) -> Result<Command<'a>, NoMemory>
+    ensures { IfOk result (λ c. app_of c ≡ with_findings (app_of command.entry)) }
+{
     let command = with_command(command, replay_command(alloc))?;
     let command = with_command(command, limits_command(alloc))?;
     let command = with_command(command, conform_command(alloc))?;
     with_command(command, lint_command(alloc))
+}
+
+/// The whole command. `NoMemory` is the only error.
+#[inline(never)]
+pub(crate) fn whole_command<'a>(alloc: Global) -> Result<Command<'a>, NoMemory>
+    ensures { IfOk result (λ c. app_of c ≡ whole) }
+{
+    let command = with_checks(alloc, top_command(alloc))?;
+    let command = with_forms(alloc, command)?;
+    with_findings(alloc, command)
 }

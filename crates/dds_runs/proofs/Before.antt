@@ -10,7 +10,7 @@ use Rattle.dds_runs.specs.Accepted.{Row, leaves_to_caps, capped, carried, spread
 use Rattle.dds_runs.proofs.Caps.{any_below_at}
 use Rattle.dds_qos.specs.Profile.{is_best_effort}
 use Rattle.dds_lists.specs.Lists.{Lists, Reader, Rule}
-use Rattle.dds_match.specs.Network.{Network, is_named}
+use Rattle.dds_match.specs.Network.{Network, is_named, instance}
 use Rattle.dds_match.specs.Plan.{network_of, rule_of, no_rule, frees}
 use Rattle.dds_match.proofs.Known.{all_at}
 use Rattle.dds_base.specs.declared.events.Refusal.TheVariants.{Foreign, NoPermit, NotYet}
@@ -89,7 +89,7 @@ as_before net = record {
   heartbeat = λ v w r. refl;
   gap_refused = λ v w r n. refl;
   write_refused = λ v w k d. ap (λ (o : Option Refusal). cond (not (net.writes_key w k)) (Some Foreign) (cond (eqb (given net v w k - count_key k (v.written w)) 0) (Some NoPermit) o))
-      (late (write_refusal ((plain net).writer_limits w) (length (v.written w)) (written_keys v w) (kept (plain net) v w) k) (is_early (plain net) v w k) (none_below net.readers (λ r. net.matched w r && false) (λ r. and_false (net.matched w r))));
+      (late (write_refusal ((plain net).writer_limits w) (length (v.written w)) (written_keys net v w) (kept (plain net) v w) (instance net w k)) (is_early (plain net) v w k) (none_below net.readers (λ r. net.matched w r && false) (λ r. and_false (net.matched w r))));
   depth = λ w d e. absurd cc;
 }
 

@@ -1,5 +1,5 @@
 -- What caps bound: what is in flight to a reader of each writer, and so the samples of a row that caps carry.
-use Rattle.std.proofs.Common.{◌≡◌, inl, inr, ℕ, zero, suc, ◌+◌, ◌-◌, ◌*◌, ◌≤◌, ◌<◌, Bool, true, false, cond, eqb, ◌&&◌, ◌||◌, List, ◌∷◌, Option, Some, None, refl, sym, subst, arith}
+use Rattle.std.proofs.Common.{◌≡◌, inl, inr, ℕ, zero, suc, ◌+◌, ◌-◌, ◌*◌, ◌≤◌, ◌<◌, Bool, true, false, cond, ◌&&◌, ◌||◌, List, ◌∷◌, Option, Some, None, refl, sym, subst, arith}
 use Rattle.std.specs.Prelude.{count_by, is_none}
 use Rattle.std.specs.Option.{option_map_or}
 use Rattle.std.proofs.Math.Nat.{mul-le-mul_left}
@@ -10,7 +10,7 @@ use Rattle.dds_base.specs.declared.portion.Portion.{Portion}
 use Rattle.dds_base.proofs.SumLaws.{total_ext, total_le, total_add}
 use Rattle.dds_qos.specs.Admission.{is_reached}
 use Rattle.dds_match.specs.Network.{Network, IsNetwork, weighed}
-use Rattle.dds_runs.specs.World.{World, has_key, count_key, taken_from, untaken, unavailable, supply, in_flight}
+use Rattle.dds_runs.specs.World.{World, has_kind, count_key, taken_from, untaken, unavailable, supply, in_flight}
 use Rattle.dds_runs.specs.Steps.{is_early}
 use Rattle.dds_runs.specs.Accepted.{Row, RowHolds, leaves_to_caps, capped, carried, opening_weight, budget, permit}
 use Rattle.dds_runs.specs.Certified.{weight}
@@ -97,7 +97,7 @@ module _ (net : Network) (v : World) (counts : CountsOk net v) where
           (λ w b. each_capped r k w (any_below_at net.writers w (λ x. net.matched x r && is_none (net.cap x r k)) b at)) in
           let sum = total_add taken most net.writers in
           let parts = counts.parts r k in
-          cond_both (net.hears r k) (supply net v r k - count_by (has_key k) (v.taken r)) 0 (λ x. x ≤ n) (λ t. omega arith) (λ f. omega arith)
+          cond_both (net.hears r k) (supply net v r k - count_by (has_kind k) (v.taken r)) 0 (λ x. x ≤ n) (λ t. omega arith) (λ f. omega arith)
 
   -- with what caps carry the row stays within its budget
   pub within_budget : (row : Row) → weight net (uncarried net row) v ≤ opening_weight net row → weight net row v ≤ budget net row

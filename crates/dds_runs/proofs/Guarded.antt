@@ -13,7 +13,7 @@ use Rattle.dds_qos.specs.Reading.{arrival_of}
 use Rattle.dds_qos.specs.declared.admission.Admit.{Admit}
 use Rattle.dds_qos.specs.declared.admission.Admit.TheVariants.{Stored}
 use Rattle.dds_qos.specs.declared.admission.Admit.TheVariants.{Overwrote as Replaced}
-use Rattle.dds_match.specs.Network.{Network, IsNetwork, named}
+use Rattle.dds_match.specs.Network.{Network, IsNetwork, instance_at, named}
 use Rattle.dds_runs.specs.World.{World, Sample, Packet, marked, is_dropped, spare, stored, known_keys}
 use Rattle.dds_runs.specs.Steps.{Event, Reply, Refusal, DataFor, is_empty, refusal, RefusedOr, Replies, May, after, GapFor, HeartbeatFor, covers, new_by_gap, after_gap, after_heartbeat, packet_reply, after_packet, after_data, after_watched, arrival_of_data, admission, available, IsLeastOfWriter, new_by_heartbeat, lost_or_heard, data_packet, gap_packet, heartbeat_packet, acknack_packet, send, take_away, arrived_from, AtPlace}
 use Rattle.dds_runs.specs.Runs.{Move, MayMove, after_move, replay, IsRunFrom, brought, is_watchers, reader_of}
@@ -202,8 +202,8 @@ module _ (net : Network) (known : IsNetwork net) (cert : Certificate) (accepted 
     replied : (e : Event) (reply : Reply) → refusal net v e ≡ None → Replies net v e reply → Goes (Do e) (after net v e reply) reply
     replied (Write w k d) reply e h = subst (λ x. Goes (Do (Write w k d)) (after net v (Write w k d) x) x) (sym h) (write_guarded w k d e, tt)
     replied (Fire u) reply e h = subst (λ x. Goes (Do (Fire u)) (after net v (Fire u) x) x) (sym h) (fire_guarded u e, tt)
-    replied (Take r k) reply e h = subst (λ x. Goes (Do (Take r k)) (after net v (Take r k) x) x) (sym h.2) (take_guarded r k h.0 h.1, tt)
-    replied (SendData w r n) reply e h = subst (λ x. Goes (Do (SendData w r n)) (after net v (SendData w r n) x) x) (sym h) (send_guarded (data_packet v w r n), tt)
+    replied (Take r k) reply e h = subst (λ x. Goes (Do (Take r k)) (after net v (Take r k) x) x) (sym h.2) (take_guarded r (instance_at net r k) h.0 h.1, tt)
+    replied (SendData w r n) reply e h = subst (λ x. Goes (Do (SendData w r n)) (after net v (SendData w r n) x) x) (sym h) (send_guarded (data_packet net v w r n), tt)
     replied (SendGap w r n) reply e h = subst (λ x. Goes (Do (SendGap w r n)) (after net v (SendGap w r n) x) x) (sym h) (send_guarded (gap_packet net v w r n), tt)
     replied (SendHeartbeat w r) reply e h = subst (λ x. Goes (Do (SendHeartbeat w r)) (after net v (SendHeartbeat w r) x) x) (sym h) (send_guarded (heartbeat_packet net v w r), tt)
     replied (SendAckNack r w) reply e h = subst (λ x. Goes (Do (SendAckNack r w)) (after net v (SendAckNack r w) x) x) (sym h) (send_guarded (acknack_packet v r w), tt)

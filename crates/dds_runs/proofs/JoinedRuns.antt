@@ -1,20 +1,20 @@
 -- A run with joins is a run of the network, and what an accepted certificate gives to those that come late.
-use Rattle.std.proofs.Common.{◌≡◌, ◌⊎◌, inl, inr, ℕ, zero, suc, ◌≤◌, ◌<◌, Bool, true, false, eqb, not, ◌&&◌, ◌||◌, List, [], ◌∷◌, Option, Some, None, refl, sym, ap, ◌∙◌, subst, arith}
+use Rattle.std.proofs.Common.{◌≡◌, inl, inr, ℕ, zero, suc, ◌≤◌, ◌<◌, Bool, true, false, cond, eqb, not, ◌&&◌, List, [], ◌∷◌, Some, None, refl, ap, ◌∙◌, subst, arith}
 use Rattle.std.specs.Prelude.{count_by, length}
-use Rattle.std.specs.List.{list_any}
-use Rattle.std.proofs.lemmas.Bool.{false≢true, true≢false, and_parts, or_cases, or_left, or_right, eqb-true, eq-eqb, both_ways, cases_lt}
+use Rattle.std.proofs.lemmas.Bool.{false≢true, and_parts, or_cases, or_left, or_right, eqb-true, ne_eqb, both_ways, cases_lt}
 use Rattle.dds_base.specs.Sums.{In, any_below, total}
 use Rattle.dds_base.specs.declared.portion.Portion.{Portion}
-use Rattle.dds_base.proofs.SumLaws.{total_le, total_ext}
-use Rattle.dds_match.specs.Network.{Network, IsNetwork, is_late, is_named, is_written}
-use Rattle.dds_runs.specs.World.{World, Sample, opening, count_key, has_key}
+use Rattle.dds_base.proofs.SumLaws.{total_le, total_ext, total_zero}
+use Rattle.dds_match.specs.Network.{Network, IsNetwork, instance, is_late, is_named}
+use Rattle.dds_runs.specs.World.{World, Sample, opening, entry_at, count_key, count_instance, has_kind}
 use Rattle.dds_runs.specs.Runs.{replay, IsRunFrom, after_move}
-use Rattle.dds_runs.specs.Accepted.{Certificate, Accepted, opening_permits}
+use Rattle.dds_runs.specs.Accepted.{Certificate, Accepted, is_finite, opening_permits}
 use Rattle.dds_runs.specs.Joins.{Step, moves_of, IsJoinedFrom, JoinedRuns, EarlyPairs, Histories}
 use Rattle.dds_runs.specs.Joins.Step.{Moves, Comes}
 use Rattle.dds_runs.proofs.StoredPlaces.{numbered, numbered_count}
-use Rattle.dds_runs.proofs.OrderHistories.{filter_has, written_entry_of}
-use Rattle.dds_runs.proofs.StoredInFlight.{finite_written, length_by_key, none_of_key, wrote_by_rule}
+use Rattle.dds_runs.proofs.Instances.{count_sum, instance_le, number_of}
+use Rattle.dds_runs.proofs.OrderHistories.{numbered_entry_of}
+use Rattle.dds_runs.proofs.StoredInFlight.{finite_written, length_by_kind, wrote_by_rule}
 use Rattle.dds_runs.proofs.Opening.{world_healthy}
 use Rattle.dds_runs.proofs.Sound.{Sound}
 use Rattle.dds_base.specs.Sums.{put}
@@ -65,25 +65,29 @@ ruled net known w k (suc n) le h = elim (or_cases (is_named (net.rule n).writes 
 
 module _ (net : Network) (known : IsNetwork net) (v : World) (sound : Sound net v) where
   -- each key that a writer wrote is one of the network's
-  key_below : (w : ℕ) (s : Sample) → In s (numbered w 1 (v.written w)) → s.key < net.keys
-  key_below w s i =
-      let x = written_entry_of v w s.key s (filter_has (has_key s.key) (numbered w 1 (v.written w)) s i (eq-eqb s.key s.key refl)) in
-      known.written_key w s.key (ruled net known w s.key net.rules (omega arith) (wrote_by_rule net known v sound w s.sn (s.key, s.payload) x.3))
+  entry_below : (w n : ℕ) (e : ℕ × List ℕ) → entry_at (v.written w) n ≡ Some e → e.0 < net.keys
+  entry_below w n e at = known.written_key w e.0 (ruled net known w e.0 net.rules (omega arith) (wrote_by_rule net known v sound w n e at))
+
+  key_below : (w : ℕ) (s : Sample) → In s (numbered (instance net w) w 1 (v.written w)) → s.kind < net.keys
+  key_below w s i = entry_below w s.sn (s.kind, s.payload) (numbered_entry_of (instance net w) w (v.written w) s i).2
 
   -- so what it wrote is the sum of what it wrote of each
   length_written : (w : ℕ) → length (v.written w) ≡ total net.keys (λ k. count_key k (v.written w))
   length_written w =
-      numbered_length w 1 (v.written w) ∙ (length_by_key net known v sound (numbered w 1 (v.written w)) net.keys (key_below w)
-      ∙ total_ext (λ k. count_by (has_key k) (numbered w 1 (v.written w))) (λ k. count_key k (v.written w)) net.keys (λ k b. numbered_count w 1 k (v.written w)))
+      numbered_length (instance net w) w 1 (v.written w) ∙ (length_by_kind net known v sound (numbered (instance net w) w 1 (v.written w)) net.keys (key_below w)
+      ∙ total_ext (λ k. count_by (has_kind k) (numbered (instance net w) w 1 (v.written w))) (λ k. count_key k (v.written w)) net.keys (λ k b. numbered_count (instance net w) w 1 k (v.written w)))
     where
-      numbered_length : (w n : ℕ) (es : List (ℕ × List ℕ)) → length es ≡ length (numbered w n es)
-      numbered_length w n [] = refl
-      numbered_length w n (e ∷ es) = ap suc (numbered_length w (suc n) es)
+      numbered_length : (f : ℕ → ℕ) (w n : ℕ) (es : List (ℕ × List ℕ)) → length es ≡ length (numbered f w n es)
+      numbered_length f w n [] = refl
+      numbered_length f w n (e ∷ es) = ap suc (numbered_length f w (suc n) es)
 
-  none_above : (w k : ℕ) → net.keys ≤ k → count_key k (v.written w) ≡ 0
-  none_above w k above =
-      sym (numbered_count w 1 k (v.written w))
-      ∙ none_of_key net known v sound (numbered w 1 (v.written w)) k (λ s i same. let b = key_below w s i in omega arith)
+  -- and what it wrote of an instance the sum of what it wrote of its keys
+  instance_written : (w j : ℕ) → count_instance (instance net w) j (v.written w) ≡ total net.keys (λ k. cond (eqb (instance net w k) j) (count_key k (v.written w)) 0)
+  instance_written w j = count_sum (instance net w) j net.keys (λ k. eqb (instance net w k) j) (v.written w) (λ x i. (let at = number_of (v.written w) x i in (refl, entry_below w at.0 x at.1)))
+
+  none_above : (w j : ℕ) → net.keys ≤ j → count_instance (instance net w) j (v.written w) ≡ 0
+  none_above w j above = instance_written w j ∙ total_zero (λ k. cond (eqb (instance net w k) j) (count_key k (v.written w)) 0) net.keys
+      (λ k b. ap (λ t. cond t (count_key k (v.written w)) 0) (ne_eqb (instance net w k) j (λ same. (let x = instance_le net w k in absurd (omega arith)))))
 
   module _ (cert : Certificate) (accepted : Accepted net cert) (w r : ℕ) (m : net.matched w r ≡ true) (strict : net.watcher r ≡ false) (late : is_late net w r ≡ true) (all : (net.writer_limits w).keep_last ≡ None) where
     samples : (most : ℕ) → (net.writer_limits w).max_samples ≡ Some most → length (v.written w) ≤ most
@@ -94,11 +98,20 @@ module _ (net : Network) (known : IsNetwork net) (v : World) (sound : Sound net 
         let few = fits.1 in
         omega arith
 
-    instances : (k most : ℕ) → (net.writer_limits w).max_samples_per_instance ≡ Some most → count_key k (v.written w) ≤ most
-    instances k most limit = elim (cases_lt k net.keys) [
-      | inl below ↦ (let fits = accepted.late_instances w r k most m strict late all limit below in let few = finite_written net known v sound w k fits.0 in let within = fits.1 in omega arith)
-      | inr above ↦ (let none = none_above w k above in omega arith)
+    instances : (j most : ℕ) → (net.writer_limits w).max_samples_per_instance ≡ Some most → count_instance (instance net w) j (v.written w) ≤ most
+    instances j most limit = elim (cases_lt j net.keys) [
+      | inl below ↦
+          (let fits = accepted.late_instances w r j most m strict late all limit below in
+          let sum = instance_written w j in
+          let each = total_le (λ k. cond (eqb (instance net w k) j) (count_key k (v.written w)) 0) (λ k. cond (eqb (instance net w k) j) (opening_permits net w k) 0) net.keys (λ k b. place fits.0 k b (eqb (instance net w k) j) refl) in
+          let few = fits.1 in
+          omega arith)
+      | inr above ↦ (let none = none_above w j above in omega arith)
     ]
+      where
+        place : ((k : ℕ) → k < net.keys → instance net w k ≡ j → is_finite net w k ≡ true) → (k : ℕ) → k < net.keys → (t : Bool) → eqb (instance net w k) j ≡ t → cond t (count_key k (v.written w)) 0 ≤ cond t (opening_permits net w k) 0
+        place finite k b true e = finite_written net known v sound w k (finite k b (eqb-true (instance net w k) j e))
+        place finite k b false e = omega arith
 
 pub histories_law : Histories
 histories_law net cert ms known accepted run =

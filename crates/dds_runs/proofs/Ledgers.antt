@@ -3,7 +3,7 @@ use Rattle.std.proofs.Common.{◌≡◌, ◌≢◌, inl, inr, ℕ, ◌≤◌, fa
 use Rattle.std.proofs.lemmas.Bool.{eq-eqb}
 use Rattle.dds_base.specs.Sums.{In}
 use Rattle.dds_match.specs.Network.{Network, IsNetwork}
-use Rattle.dds_runs.specs.World.{World, Sample, opening, has_key, holds, in_flight}
+use Rattle.dds_runs.specs.World.{World, Sample, opening, has_kind, holds, in_flight}
 use Rattle.dds_runs.specs.Accepted.{Row}
 use Rattle.dds_runs.specs.Certified.{weight}
 use Rattle.dds_runs.specs.Facts.{CountsOk, IsWrittenFor}
@@ -24,11 +24,11 @@ record Tallied (net : Network) (v : World) : Type 0 where
   pub written : (r : ℕ) (s : Sample) → In s (v.taken r) → IsWrittenFor net v r s
 
 -- a written sample that was not taken is in flight
-not_taken : (net : Network) (known : IsNetwork net) (v : World) → Tallied net v → (r : ℕ) (s : Sample) → IsWrittenFor net v r s → holds (v.taken r) s ≡ false → in_flight net v r s.key ≢ 0
+not_taken : (net : Network) (known : IsNetwork net) (v : World) → Tallied net v → (r : ℕ) (s : Sample) → IsWrittenFor net v r s → holds (v.taken r) s ≡ false → in_flight net v r s.kind ≢ 0
 not_taken net known v t r s w apart =
-    let b = supply_holds net known v r s.key (s ∷ v.taken r) (apart, t.distinct r) (λ x i. elim i [ inl e ↦ subst (IsWrittenFor net v r) e w | inr j ↦ t.written r x j ]) in
-    let c = count_cons (has_key s.key) s (v.taken r) in
-    let one : ◌≡◌ {A = ℕ} (cond (eqb s.key s.key) 1 0) 1 = rw (eq-eqb s.key s.key refl) in
+    let b = supply_holds net known v r s.kind (s ∷ v.taken r) (apart, t.distinct r) (λ x i. elim i [ inl e ↦ subst (IsWrittenFor net v r) e w | inr j ↦ t.written r x j ]) in
+    let c = count_cons (has_kind s.kind) s (v.taken r) in
+    let one : ◌≡◌ {A = ℕ} (cond (eqb s.kind s.kind) 1 0) 1 = rw (eq-eqb s.kind s.kind refl) in
     rw w.hears (λ z. absurd (omega arith))
 
 module _ (net : Network) (known : IsNetwork net) where
@@ -41,7 +41,7 @@ module _ (net : Network) (known : IsNetwork net) where
   tallied_step v t (Fires u) h = record {
     counts = fire_counts net known v t.counts u h.0 (rw h.1.2 refl) h.2;
     distinct = t.distinct;
-    written = λ r s i. (let x = t.written r s i in record { matched = x.matched; hears = x.hears; entry = x.entry });
+    written = λ r s i. (let x = t.written r s i in record { matched = x.matched; hears = x.hears; entry = x.entry; key = x.key });
   }
   tallied_step v t (Takes r s) h = record {
     counts = take_counts net known v t.counts r s h.0.matched h.0.hears (not_taken net known v t r s h.0 h.1) (take_room net v r s (t.distinct r) (t.written r) h.0 h.1);
@@ -52,7 +52,7 @@ module _ (net : Network) (known : IsNetwork net) where
   }
     where
       same : (q : ℕ) (x : Sample) → IsWrittenFor net v q x → IsWrittenFor net (counted v (Takes r s)) q x
-      same q x y = record { matched = y.matched; hears = y.hears; entry = y.entry }
+      same q x y = record { matched = y.matched; hears = y.hears; entry = y.entry; key = y.key }
 
   weight_step : (v : World) → Tallied net v → (row : Row) → Balanced net row → (m : CountMove) → Suffices net v m → weight net row (counted v m) ≤ weight net row v
   weight_step v t row holds (Writes w k d) h = write_weight net known v t.counts row holds w k d h.0 h.1

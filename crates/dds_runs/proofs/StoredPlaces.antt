@@ -4,7 +4,7 @@ use Rattle.std.specs.Prelude.{count_by, filter, slice_get}
 use Rattle.std.proofs.lemmas.Bool.{eq-eqb, ne_eqb, cases_eq, cond_both, and_left, and_right, and_from, or_parts, or_from, or_left, or_right}
 use Rattle.std.proofs.lemmas.List.Sums.{sum_by-cons}
 use Rattle.dds_base.specs.Sums.{In}
-use Rattle.dds_runs.specs.World.{Sample, is_same, holds, has_key, count_key}
+use Rattle.dds_runs.specs.World.{Sample, is_same, holds, has_key, has_kind, count_key, count_instance}
 
 -- no place stands twice
 abbrev pub Distinct : List Sample → Type 0
@@ -119,43 +119,53 @@ pub filter_distinct : (p : Sample → Bool) (ss : List Sample) → Distinct ss �
 filter_distinct p [] d = tt
 filter_distinct p (s ∷ ss) d = cond_both (p s) (s ∷ filter p ss) (filter p ss) Distinct (λ e. (filter_apart p ss s d.0, filter_distinct p ss d.1)) (λ e. filter_distinct p ss d.1)
 
--- the sample is of the writer and the key
+-- the sample is of the writer and the instance
 abbrev pub of_writer_key : ℕ → ℕ → Sample → Bool
-of_writer_key w k s = eqb s.writer w && eqb s.key k
+of_writer_key w j s = eqb s.writer w && eqb s.key j
+
+-- the sample is of the writer and the kind
+abbrev pub of_writer_kind : ℕ → ℕ → Sample → Bool
+of_writer_kind w k s = eqb s.writer w && eqb s.kind k
 
 -- ── all that matched writers have written
--- the samples of a history, from number n
-abbrev pub numbered : ℕ → ℕ → List (ℕ × List ℕ) → List Sample
-numbered w n [] = []
-numbered w n (e ∷ es) = record { writer = w; sn = n; key = e.0; payload = e.1 } ∷ numbered w (suc n) es
+-- the samples of a history, from number n, by the instance of each key
+abbrev pub numbered : (ℕ → ℕ) → ℕ → ℕ → List (ℕ × List ℕ) → List Sample
+numbered f w n [] = []
+numbered f w n (e ∷ es) = record { writer = w; sn = n; key = f e.0; kind = e.0; payload = e.1 } ∷ numbered f w (suc n) es
 
-pub numbered_above : (w n : ℕ) (es : List (ℕ × List ℕ)) (s : Sample) → s.sn < n → holds (numbered w n es) s ≡ false
-numbered_above w n [] s b = refl
-numbered_above w n (e ∷ es) s b = or_from (eqb w s.writer && eqb n s.sn) (holds (numbered w (suc n) es) s) (and_right (eqb w s.writer) (eqb n s.sn) (ne_eqb n s.sn (λ x. absurd (omega arith)))) (numbered_above w (suc n) es s (omega arith))
+pub numbered_above : (f : ℕ → ℕ) (w n : ℕ) (es : List (ℕ × List ℕ)) (s : Sample) → s.sn < n → holds (numbered f w n es) s ≡ false
+numbered_above f w n [] s b = refl
+numbered_above f w n (e ∷ es) s b = or_from (eqb w s.writer && eqb n s.sn) (holds (numbered f w (suc n) es) s) (and_right (eqb w s.writer) (eqb n s.sn) (ne_eqb n s.sn (λ x. absurd (omega arith)))) (numbered_above f w (suc n) es s (omega arith))
 
-pub numbered_other : (w n : ℕ) (es : List (ℕ × List ℕ)) (s : Sample) → w ≢ s.writer → holds (numbered w n es) s ≡ false
-numbered_other w n [] s ne = refl
-numbered_other w n (e ∷ es) s ne = or_from (eqb w s.writer && eqb n s.sn) (holds (numbered w (suc n) es) s) (and_left (eqb w s.writer) (eqb n s.sn) (ne_eqb w s.writer ne)) (numbered_other w (suc n) es s ne)
+pub numbered_other : (f : ℕ → ℕ) (w n : ℕ) (es : List (ℕ × List ℕ)) (s : Sample) → w ≢ s.writer → holds (numbered f w n es) s ≡ false
+numbered_other f w n [] s ne = refl
+numbered_other f w n (e ∷ es) s ne = or_from (eqb w s.writer && eqb n s.sn) (holds (numbered f w (suc n) es) s) (and_left (eqb w s.writer) (eqb n s.sn) (ne_eqb w s.writer ne)) (numbered_other f w (suc n) es s ne)
 
-pub numbered_distinct : (w n : ℕ) (es : List (ℕ × List ℕ)) → Distinct (numbered w n es)
-numbered_distinct w n [] = tt
-numbered_distinct w n (e ∷ es) = (numbered_above w (suc n) es (record { writer = w; sn = n; key = e.0; payload = e.1 }) (omega arith), numbered_distinct w (suc n) es)
+pub numbered_distinct : (f : ℕ → ℕ) (w n : ℕ) (es : List (ℕ × List ℕ)) → Distinct (numbered f w n es)
+numbered_distinct f w n [] = tt
+numbered_distinct f w n (e ∷ es) = (numbered_above f w (suc n) es (record { writer = w; sn = n; key = f e.0; kind = e.0; payload = e.1 }) (omega arith), numbered_distinct f w (suc n) es)
 
-pub numbered_in : (w n i : ℕ) (es : List (ℕ × List ℕ)) (e : ℕ × List ℕ) → slice_get es i ≡ Some e → In (record { writer = w; sn = n + i; key = e.0; payload = e.1 }) (numbered w n es)
-numbered_in w n i [] e h = absurd (cc)
-numbered_in w n zero (x ∷ es) e h =
+pub numbered_in : (f : ℕ → ℕ) (w n i : ℕ) (es : List (ℕ × List ℕ)) (e : ℕ × List ℕ) → slice_get es i ≡ Some e → In (record { writer = w; sn = n + i; key = f e.0; kind = e.0; payload = e.1 }) (numbered f w n es)
+numbered_in f w n i [] e h = absurd (cc)
+numbered_in f w n zero (x ∷ es) e h =
     let same : x ≡ e = cc in
     let num : n ≡ n + 0 = omega arith in
-    inl (ap (λ (y : ℕ × List ℕ). record { writer = w; sn = n; key = y.0; payload = y.1 }) same ∙ ap (λ m. record { writer = w; sn = m; key = e.0; payload = e.1 }) num)
-numbered_in w n (suc i) (x ∷ es) e h =
+    inl (ap (λ (y : ℕ × List ℕ). record { writer = w; sn = n; key = f y.0; kind = y.0; payload = y.1 }) same ∙ ap (λ m. record { writer = w; sn = m; key = f e.0; kind = e.0; payload = e.1 }) num)
+numbered_in f w n (suc i) (x ∷ es) e h =
     let num : suc n + i ≡ n + suc i = omega arith in
-    inr (subst (λ m. In (record { writer = w; sn = m; key = e.0; payload = e.1 }) (numbered w (suc n) es)) num (numbered_in w (suc n) i es e h))
+    inr (subst (λ m. In (record { writer = w; sn = m; key = f e.0; kind = e.0; payload = e.1 }) (numbered f w (suc n) es)) num (numbered_in f w (suc n) i es e h))
 
-pub numbered_count : (w n k : ℕ) (es : List (ℕ × List ℕ)) → count_by (has_key k) (numbered w n es) ≡ count_key k es
-numbered_count w n k [] = refl
-numbered_count w n k (e ∷ es) =
-    count_cons (has_key k) (record { writer = w; sn = n; key = e.0; payload = e.1 }) (numbered w (suc n) es)
-    ∙ (ap (λ x. cond (eqb e.0 k) 1 0 + x) (numbered_count w (suc n) k es) ∙ sym (sum_by-cons (λ (x : ℕ × List ℕ). cond (eqb x.0 k) 1 0) e es))
+pub numbered_count : (f : ℕ → ℕ) (w n k : ℕ) (es : List (ℕ × List ℕ)) → count_by (has_kind k) (numbered f w n es) ≡ count_key k es
+numbered_count f w n k [] = refl
+numbered_count f w n k (e ∷ es) =
+    count_cons (has_kind k) (record { writer = w; sn = n; key = f e.0; kind = e.0; payload = e.1 }) (numbered f w (suc n) es)
+    ∙ (ap (λ x. cond (eqb e.0 k) 1 0 + x) (numbered_count f w (suc n) k es) ∙ sym (sum_by-cons (λ (x : ℕ × List ℕ). cond (eqb x.0 k) 1 0) e es))
+
+pub numbered_instances : (f : ℕ → ℕ) (w n j : ℕ) (es : List (ℕ × List ℕ)) → count_by (has_key j) (numbered f w n es) ≡ count_instance f j es
+numbered_instances f w n j [] = refl
+numbered_instances f w n j (e ∷ es) =
+    count_cons (has_key j) (record { writer = w; sn = n; key = f e.0; kind = e.0; payload = e.1 }) (numbered f w (suc n) es)
+    ∙ (ap (λ x. cond (eqb (f e.0) j) 1 0 + x) (numbered_instances f w (suc n) j es) ∙ sym (sum_by-cons (λ (x : ℕ × List ℕ). cond (eqb (f x.0) j) 1 0) e es))
 
 pub filter_in : (p : Sample → Bool) (ss : List Sample) (s : Sample) → In s (filter p ss) → In s ss × (p s ≡ true)
 filter_in p [] s = λ i. absurd i

@@ -2,7 +2,7 @@
 -- its span, and so was what isn't available there yet, so that no write is early.
 use Rattle.std.proofs.Common.{◌≡◌, inl, inr, ℕ, zero, suc, ◌+◌, ◌-◌, ◌≤◌, ◌<◌, Bool, true, false, cond, eqb, leb, not, ◌&&◌, ◌||◌, List, [], ◌∷◌, ◌++◌, Option, Some, None, refl, sym, ap, ◌∙◌, subst, arith, map}
 use Rattle.std.specs.Prelude.{count_by, filter, length, slice_get, option_map, option_and_then, drop}
-use Rattle.std.proofs.lemmas.Bool.{eqb-true, eq-eqb, ne_eqb, lt-leb, leb-false, cases_eq, and_from, and_parts, false≢true, true≢false}
+use Rattle.std.proofs.lemmas.Bool.{eqb-true, eq-eqb, ne_eqb, lt-leb, leb-false, cases_eq, and_from, and_parts, both_ways, false≢true, true≢false}
 use Rattle.std.proofs.lemmas.Option.{none-some, same_Some, slice_get-map}
 use Rattle.std.proofs.lemmas.List.Sums.{sum_by-cons, sum_by-append}
 use Rattle.dds_base.specs.Sums.{In, put}
@@ -12,21 +12,20 @@ use Rattle.dds_base.specs.declared.events.Refusal.TheVariants.{Foreign, NoPermit
 use Rattle.dds_base.proofs.SumLaws.{put_at, put_other}
 use Rattle.dds_qos.specs.Admission.{is_reached}
 use Rattle.dds_lists.specs.Lists.{Lists}
-use Rattle.dds_match.specs.Network.{Network, IsNetwork}
+use Rattle.dds_match.specs.Network.{Network, IsNetwork, instance}
 use Rattle.dds_match.specs.Paces.{available_span, counted, in_flight, is_awaited, most_within, taken_span}
 use Rattle.dds_match.specs.Plan.{network_of}
 use Rattle.dds_runs.specs.First.{◌orElse◌}
-use Rattle.dds_runs.specs.World.{World, Sample, opening, entry_at, has_key, has_number, count_key, taken_from, untaken, unavailable, base, permits, kept, written_keys}
+use Rattle.dds_runs.specs.World.{World, Sample, opening, entry_at, has_kind, has_number, count_key, taken_from, untaken, unavailable, base, permits, kept, written_keys}
 use Rattle.dds_runs.specs.Steps.{Reply, Refusal, is_early, write_refusal, RefusedOr}
 use Rattle.dds_runs.specs.Runs.{Move, MayMove, after_move, replay, IsRunFrom, IsWideRun}
 use Rattle.dds_runs.specs.Runs.Move.{Do, Redeliver}
-use Rattle.dds_runs.specs.Certified.{wrote_one}
 use Rattle.dds_runs.specs.Timed.{Timed, untimed, Clocks, is_write, is_writers, count_since, write_times, entry_at_time, KeepsClocks, AreCaps, uncapped, TimedRuns, clocks_of, DeploymentRuns}
 use Rattle.dds_runs.proofs.CountsWeights.{after_write}
-use Rattle.dds_runs.proofs.StoredPlaces.{count_cons, count_same, count_filter, count_part, filter_in, filter_distinct, of_writer_key, numbered, numbered_distinct}
+use Rattle.dds_runs.proofs.StoredPlaces.{count_cons, count_same, count_filter, count_part, filter_in, filter_distinct, of_writer_kind, numbered, numbered_distinct}
 use Rattle.dds_runs.proofs.StoredSupply.{numbered_writer}
 use Rattle.dds_runs.proofs.Sound.{Sound}
-use Rattle.dds_runs.proofs.OrderHistories.{number_in, filter_has, same_entry, written_entry_of}
+use Rattle.dds_runs.proofs.OrderHistories.{number_in, same_entry, numbered_entry_of}
 use Rattle.dds_runs.proofs.OrderChanges.{Change, move_change, map_append, append_assoc, append_nil}
 use Rattle.dds_runs.proofs.Opening.{world_healthy}
 use Rattle.dds_runs.proofs.Longer.{replay_append, run_front}
@@ -84,11 +83,8 @@ since_is w k t (m ∷ ms) =
     omega arith
 
 -- what writes nothing adds no entry
-quiet_one : (w t : ℕ) (m : Move) (reply : Reply) → ((x k : ℕ) → wrote_one x k m reply ≡ []) → entries_one w t m reply ≡ []
-quiet_one w t (Do (Write x j d)) (Written n) none = absurd (some (none x j))
-  where
-    some : ◌≡◌ {A = List (ℕ × List ℕ)} (cond (eqb x x && eqb j j) ((n, d) ∷ []) []) [] → ⊥
-    some e = let f : ◌≡◌ {A = List (ℕ × List ℕ)} ((n, d) ∷ []) [] = rw (eq-eqb x x refl, eq-eqb j j refl) at e in cc
+quiet_one : (w t : ℕ) (m : Move) (reply : Reply) → ((x k : ℕ) → is_write x k m reply ≡ false) → entries_one w t m reply ≡ []
+quiet_one w t (Do (Write x j d)) (Written n) none = absurd (both_ways (eqb x x && eqb j j) (none x j) (and_from (eqb x x) (eqb j j) (eq-eqb x x refl) (eq-eqb j j refl)))
 quiet_one w t _ _ none = refl
 
 module _ (net : Network) where
@@ -126,15 +122,15 @@ key_count k (x ∷ xs) =
     omega arith
 
 -- where each entry of the key before time t has a number that passes, those of the key are no more than the later ones and those that pass
-early_count : (w k t n : ℕ) (passes : ℕ → Bool) (xs : List (ℕ × (ℕ × List ℕ)))
+early_count : (f : ℕ → ℕ) (w k t n : ℕ) (passes : ℕ → Bool) (xs : List (ℕ × (ℕ × List ℕ)))
     → ((i m : ℕ) (x : ℕ × (ℕ × List ℕ)) → slice_get xs i ≡ Some x → x.1.0 ≡ k → x.0 < t → m ≡ n + i → passes m ≡ true)
-    → count_by (λ x. eqb x.1.0 k) xs ≤ count_by (is_late k t) xs + count_by (λ s. has_key k s && passes s.sn) (numbered w n (map what xs))
-early_count w k t n passes [] each = omega arith
-early_count w k t n passes (x ∷ xs) each =
-    let rest = early_count w k t (suc n) passes xs (λ i m y at key before same. each (suc i) m y at key before (omega arith)) in
+    → count_by (λ x. eqb x.1.0 k) xs ≤ count_by (is_late k t) xs + count_by (λ s. has_kind k s && passes s.sn) (numbered f w n (map what xs))
+early_count f w k t n passes [] each = omega arith
+early_count f w k t n passes (x ∷ xs) each =
+    let rest = early_count f w k t (suc n) passes xs (λ i m y at key before same. each (suc i) m y at key before (omega arith)) in
     let all = sum_by-cons (λ (y : ℕ × (ℕ × List ℕ)). cond (eqb y.1.0 k) 1 0) x xs in
     let late = sum_by-cons (λ (y : ℕ × (ℕ × List ℕ)). cond (is_late k t y) 1 0) x xs in
-    let passed = count_cons (λ s. has_key k s && passes s.sn) (record { writer = w; sn = n; key = x.1.0; payload = x.1.1 }) (numbered w (suc n) (map what xs)) in
+    let passed = count_cons (λ s. has_kind k s && passes s.sn) (record { writer = w; sn = n; key = f x.1.0; kind = x.1.0; payload = x.1.1 }) (numbered f w (suc n) (map what xs)) in
     let here = one (eqb x.1.0 k) (leb t x.0) (passes n) (λ key before. each 0 n x refl (eqb-true x.1.0 k key) (leb-false t x.0 before) (omega arith)) in
     omega arith
   where
@@ -164,18 +160,18 @@ late_count k t (suc b) (x ∷ xs) each =
     omega arith
 
 -- the written samples of the key whose number is taken are no more than those that are taken
-taken_count : (net : Network) (v : World) → Sound net v → (w r k : ℕ) → count_by (λ s. has_key k s && has_number (v.taken r) w s.sn) (numbered w 1 (v.written w)) ≤ taken_from v w r k
+taken_count : (net : Network) (v : World) → Sound net v → (w r k : ℕ) → count_by (λ s. has_kind k s && has_number (v.taken r) w s.sn) (numbered (instance net w) w 1 (v.written w)) ≤ taken_from v w r k
 taken_count net v sound w r k =
-    let part = count_part (filter mine all) (v.taken r) (of_writer_key w k) (filter_distinct mine all (numbered_distinct w 1 (v.written w))) (sound.taken_distinct r) each in
-    let found = count_filter (of_writer_key w k) mine all in
-    let same = count_same (λ s. of_writer_key w k s && mine s) mine all (λ s i. table (eqb s.writer w) (eqb s.key k) (has_number (v.taken r) w s.sn) (eq-eqb s.writer w (numbered_writer w 1 (v.written w) s i))) in
+    let part = count_part (filter mine all) (v.taken r) (of_writer_kind w k) (filter_distinct mine all (numbered_distinct (instance net w) w 1 (v.written w))) (sound.taken_distinct r) each in
+    let found = count_filter (of_writer_kind w k) mine all in
+    let same = count_same (λ s. of_writer_kind w k s && mine s) mine all (λ s i. table (eqb s.writer w) (eqb s.kind k) (has_number (v.taken r) w s.sn) (eq-eqb s.writer w (numbered_writer (instance net w) w 1 (v.written w) s i))) in
     omega arith
   where
     all : List Sample
-    all = numbered w 1 (v.written w)
+    all = numbered (instance net w) w 1 (v.written w)
 
     mine : Sample → Bool
-    mine s = has_key k s && has_number (v.taken r) w s.sn
+    mine s = has_kind k s && has_number (v.taken r) w s.sn
 
     table : (a b c : Bool) → a ≡ true → ((a && b) && (b && c)) ≡ (b && c)
     table true true c e = refl
@@ -185,17 +181,19 @@ taken_count net v sound w r k =
     each : (s : Sample) → In s (filter mine all) → In s (v.taken r)
     each s i =
         let a = filter_in mine all s i in
-        let b = and_parts (has_key k s) (has_number (v.taken r) w s.sn) a.1 in
-        let e = written_entry_of v w k s (filter_has (has_key k) all s a.0 b.0) in
+        let b = and_parts (has_kind k s) (has_number (v.taken r) w s.sn) a.1 in
+        let e = numbered_entry_of (instance net w) w (v.written w) s a.0 in
         let t = number_in (v.taken r) w s.sn b.1 in
-        subst (λ x. In x (v.taken r)) (same_entry t.0 s (t.2 ∙ sym e.0) t.3 v.written (sound.samples r t.0 (sound.taken_in r t.0 t.1)).entry
-        (subst (λ x. entry_at (v.written x) s.sn ≡ Some (s.key, s.payload)) (sym e.0) e.3)) t.1
+        let from = sound.samples r t.0 (sound.taken_in r t.0 t.1) in
+        subst (λ x. In x (v.taken r)) (same_entry (instance net) t.0 s (t.2 ∙ sym e.0) t.3 v.written (from.entry, from.key)
+        (subst (λ x. entry_at (v.written x) s.sn ≡ Some (s.kind, s.payload)) (sym e.0) e.2, subst (λ x. s.key ≡ instance net x s.kind) (sym e.0) e.3)) t.1
 
 -- ── both networks
 uncapped_known : (net : Network) → IsNetwork net → IsNetwork (uncapped net)
 uncapped_known net known = record {
   matched_writer = known.matched_writer;
   matched_reader = known.matched_reader;
+  same_topic = known.same_topic;
   heard_reader = known.heard_reader;
   heard_key = known.heard_key;
   written_writer = known.written_writer;
@@ -246,11 +244,11 @@ module _ (net : Network) (known : IsNetwork net) (clocks : Clocks) (caps : AreCa
     untaken_late w r k n span cap within =
         let wrote : here.written w ≡ map what (entries w before) = entries_are (uncapped net) before opening front w in
         let count : count_key k (here.written w) ≡ count_by (λ x. eqb x.1.0 k) (entries w before) = ap (count_key k) wrote ∙ key_count k (entries w before) in
-        let split = early_count w k (m.at - span) 1 (has_number (here.taken r) w) (entries w before) (taken wrote) in
+        let split = early_count (instance net w) w k (m.at - span) 1 (has_number (here.taken r) w) (entries w before) (taken wrote) in
         let since = since_is w k (m.at - span) before in
         let few = taken_count (uncapped net) here sound w r k in
-        let same : count_by (λ s. has_key k s && has_number (here.taken r) w s.sn) (numbered w 1 (here.written w)) ≡ count_by (λ s. has_key k s && has_number (here.taken r) w s.sn) (numbered w 1 (map what (entries w before))) =
-        ap (λ es. count_by (λ (s : Sample). has_key k s && has_number (here.taken r) w s.sn) (numbered w 1 es)) wrote in
+        let same : count_by (λ s. has_kind k s && has_number (here.taken r) w s.sn) (numbered (instance net w) w 1 (here.written w)) ≡ count_by (λ s. has_kind k s && has_number (here.taken r) w s.sn) (numbered (instance net w) w 1 (map what (entries w before))) =
+        ap (λ es. count_by (λ (s : Sample). has_kind k s && has_number (here.taken r) w s.sn) (numbered (instance net w) w 1 es)) wrote in
         omega arith
       where
         taken : here.written w ≡ map what (entries w before) → (i j : ℕ) (x : ℕ × (ℕ × List ℕ)) → slice_get (entries w before) i ≡ Some x → x.1.0 ≡ k → x.0 < m.at - span → j ≡ 1 + i → has_number (here.taken r) w j ≡ true
@@ -309,7 +307,7 @@ module _ (net : Network) (known : IsNetwork net) (clocks : Clocks) (caps : AreCa
     move_may (Redeliver p) reply em er h = h
     move_may (Do (Write w k d)) reply em er h =
         write_may (not (net.writes_key w k)) (not (net.free w k) && eqb (permits net here w k) 0) (is_early net here w k) (is_early (uncapped net) here w k)
-        (write_refusal (net.writer_limits w) (length (here.written w)) (written_keys here w) (kept net here w) k) reply (reply ≡ Written (suc (length (here.written w))))
+        (write_refusal (net.writer_limits w) (length (here.written w)) (written_keys net here w) (kept net here w) (instance net w k)) reply (reply ≡ Written (suc (length (here.written w))))
         (none_below net.readers (λ r. net.matched w r && false) (λ r. and_false (net.matched w r)))
         (λ e. not_early w k (subst (λ x. is_write w k x m.reply ≡ true) (sym em) (subst (λ y. is_write w k (Do (Write w k d)) y ≡ true) (sym (er ∙ e)) (and_from (eqb w w) (eqb k k) (eq-eqb w w refl) (eq-eqb k k refl)))))
         h

@@ -12,7 +12,7 @@ use Rattle.dds_qos.specs.Profile.{is_best_effort}
 use Rattle.dds_qos.specs.Samples.{in_instance}
 use Rattle.dds_qos.specs.Writing.{is_awaited, is_last, gap_of}
 use Rattle.dds_lists.specs.Lists.{Lists, Reader, Rule}
-use Rattle.dds_match.specs.Network.{Network}
+use Rattle.dds_match.specs.Network.{Network, instance}
 use Rattle.dds_match.specs.Plan.{network_of}
 use Rattle.dds_runs.specs.World.{World, Sample, given, permits, count_key, history, bases, kept, is_kept, is_written, is_dropped, is_at_hand, is_relevant, written_keys}
 use Rattle.dds_runs.specs.Steps.{refusal, gap_packet, heartbeat_packet}
@@ -28,7 +28,7 @@ is_outstanding net v w n = is_written v w n && is_awaited (bases net v w) n
 
 -- the awaited samples of a writer, which are all that it keeps
 abbrev pub outstanding : Network → World → ℕ → List Sample
-outstanding net v w = filter (λ (s : Sample). is_awaited (bases net v w) s.sn) (history v w)
+outstanding net v w = filter (λ (s : Sample). is_awaited (bases net v w) s.sn) (history net v w)
 
 -- what each definition is for such a network
 pub record IsAsBefore (net : Network) : Type 0 where
@@ -55,9 +55,9 @@ pub record IsAsBefore (net : Network) : Type 0 where
       ≡ (if not (net.writes_key w k) then Some Foreign
       else if (given net v w k - count_key k (v.written w)) == 0 then Some NoPermit
       else if nat_le last_number (length (v.written w)) then Some SequenceEnd
-      else if is_one_too_many (net.writer_limits w).max_instances (written_keys v w) k then Some InstanceLimit
+      else if is_one_too_many (net.writer_limits w).max_instances (written_keys net v w) (instance net w k) then Some InstanceLimit
       else if is_reached (net.writer_limits w).max_samples (length (outstanding net v w)) then Some Full
-      else if is_reached (net.writer_limits w).max_samples_per_instance (in_instance k (outstanding net v w)) then Some InstanceFull
+      else if is_reached (net.writer_limits w).max_samples_per_instance (in_instance (instance net w k) (outstanding net v w)) then Some InstanceFull
       else None)
   -- an accepted certificate owes nothing to depths of writers
   pub depth : (w d : ℕ) → ((plain net).writer_limits w).keep_last ≡ Some d → ⊥

@@ -2,8 +2,8 @@
 use Rattle.std.specs.Prelude.{◌≡◌, ◌⊎◌, ◌≤◌, ℕ, Bool, true, false, not, List, [], ◌∷◌, length, Option, Some, None, option_map}
 use Rattle.dds_base.specs.Sums.{In, put}
 use Rattle.dds_base.specs.declared.messages.Packet.TheVariants.{Data, Gap, Heartbeat, AckNack}
-use Rattle.dds_match.specs.Network.{Network, is_late}
-use Rattle.dds_runs.specs.World.{World, Packet, opening, count_key}
+use Rattle.dds_match.specs.Network.{Network, instance, is_late}
+use Rattle.dds_runs.specs.World.{World, Packet, opening, count_instance}
 use Rattle.dds_runs.specs.Steps.{Reply, SendData, SendGap, SendHeartbeat, SendAckNack, after}
 use Rattle.dds_runs.specs.Runs.{Move, MayMove, after_move, brought, reader_of, replay, IsWideRun}
 use Rattle.dds_runs.specs.Runs.Move.{Do, Redeliver}
@@ -66,7 +66,7 @@ EarlyPairs = (net : Network) (cert : Certificate) → Accepted net cert → (w r
 abbrev pub Histories : Type 0
 Histories = InEachWorld (λ net cert v. (w r : ℕ) → net.matched w r ≡ true → net.watcher r ≡ false → is_late net w r ≡ true → (net.writer_limits w).keep_last ≡ None
     → ((m : ℕ) → (net.writer_limits w).max_samples ≡ Some m → length (v.written w) ≤ m)
-    × ((k m : ℕ) → (net.writer_limits w).max_samples_per_instance ≡ Some m → count_key k (v.written w) ≤ m))
+    × ((j m : ℕ) → (net.writer_limits w).max_samples_per_instance ≡ Some m → count_instance (instance net w) j (v.written w) ≤ m))
 
 -- who is there after these steps, where these were there before
 abbrev pub there_after : (ℕ → Bool) → List Step → ℕ → Bool

@@ -11,3 +11,4 @@ pub mod CountRuns
 pub mod Timed
 pub mod Joins
 pub mod Before
+pub mod KeyedTopics

@@ -17,7 +17,7 @@ pub use Rattle.dds_qos.specs.Admission.{is_reached, admission}
 pub use Rattle.dds_qos.specs.Taking.{available_of, IsLeastOfWriter}
 pub use Rattle.dds_qos.specs.Reading.{lost_or_heard, marks_it, new_by_gap, new_by_heartbeat, gap_arrival, heartbeat_arrival, is_repeat, data_arrival, heard_after, missing_of}
 pub use Rattle.dds_qos.specs.Writing.{write_refusal, gap_of, heartbeat_of, counts_ack, base_after}
-use Rattle.dds_match.specs.Network.{Network, follows, named}
+use Rattle.dds_match.specs.Network.{Network, follows, instance, instance_at, named}
 use Rattle.dds_runs.specs.First.{◌orElse◌}
 pub use Rattle.dds_runs.specs.First.{is_empty}
 use Rattle.dds_lists.specs.Lists.{Rule}
@@ -36,13 +36,13 @@ is_none_of None = true
 is_none_of (Some x) = false
 
 -- ── available samples
--- a sample is of the key, and no number of its writer below it is unmarked at the reader: its number is below the base
+-- a sample is of the instance, and no number of its writer below it is unmarked at the reader: its number is below the base
 abbrev pub is_available : World → ℕ → ℕ → Sample → Bool
-is_available v r k s = has_key k s && nat_lt s.sn (base v r s.writer)
+is_available v r j s = has_key j s && nat_lt s.sn (base v r s.writer)
 
--- the stored samples of the key that the reader's application may take
+-- the stored samples of the instance that the reader's application may take
 abbrev pub available : World → ℕ → ℕ → List Sample
-available v r k = available_of (λ s. nat_lt s.sn (base v r s.writer)) k (stored v r)
+available v r j = available_of (λ s. nat_lt s.sn (base v r s.writer)) j (stored v r)
 
 -- ── refusals
 -- a rule can't fire: it needs no takes at all, or of something that it needs fewer takes are unspent
@@ -58,13 +58,22 @@ fire_passes_limit net v rule = any_entry (λ e. nat_le (2 ^ 64) (permits net v e
 abbrev pub is_early : Network → World → ℕ → ℕ → Bool
 is_early net v w k = any_below net.readers (λ r. net.matched w r && (is_reached (net.cap w r k) (untaken v w r k) || is_reached (net.lag w r k) (unavailable v w r k)))
 
+-- 2^64 - 1 takes of the key at the reader are unspent
+abbrev pub is_count_full : Network → World → ℕ → ℕ → Bool
+is_count_full net v r k = nat_le (2 ^ 64 - 1) (spare net v r k)
+
+-- a take would bring a count of unspent takes above 2^64 - 1: that of the key, or where its topic isn't keyed that of some key that the reader hears,
+-- of each of which the take may give a sample
+abbrev pub take_passes_limit : Network → World → ℕ → ℕ → Bool
+take_passes_limit net v r k = if net.keyed_reader r then is_count_full net v r k else any_below net.keys (λ j. net.hears r j && is_count_full net v r j)
+
 -- why an event is refused: the first test that holds. Foreign speaks of an endpoint, key or rule that isn't there, or of a pair that doesn't
 -- match. A watcher gets DATA alone, and sends nothing
 abbrev pub refusal : Network → World → Event → Option Refusal
 refusal net v (Write w k d) =
     if not (net.writes_key w k) then Some Foreign
     else if not (net.free w k) && (permits net v w k == 0) then Some NoPermit
-    else write_refusal (net.writer_limits w) (length (v.written w)) (written_keys v w) (kept net v w) k orElse (if is_early net v w k then Some NotYet else None)
+    else write_refusal (net.writer_limits w) (length (v.written w)) (written_keys net v w) (kept net v w) (instance net w k) orElse (if is_early net v w k then Some NotYet else None)
 refusal net v (Fire u) =
     if nat_le net.rules u then Some Foreign
     else if fire_needs_more net v (net.rule u) then Some NotEnough
@@ -72,8 +81,8 @@ refusal net v (Fire u) =
     else None
 refusal net v (Take r k) =
     if not (net.hears r k) then Some Foreign
-    else if nat_le (2 ^ 64 - 1) (spare net v r k) then Some CountLimit
-    else if is_empty (available v r k) then Some Empty
+    else if take_passes_limit net v r k then Some CountLimit
+    else if is_empty (available v r (instance_at net r k)) then Some Empty
     else None
 refusal net v (SendData w r n) =
     if not (net.matched w r) then Some Foreign
@@ -90,14 +99,14 @@ refusal net v (Deliver i keep) = if is_none_of (v.bus i) then Some NoPacket else
 refusal net v (Lose i) = if is_none_of (v.bus i) then Some NoPacket else None
 
 -- ── messages
--- the sample under a number of a writer, by the entry of its history; it has no key or data where nothing is written there
-abbrev pub sample_of : ℕ → ℕ → Option (ℕ × List ℕ) → Sample
-sample_of w n None = record { writer = w; sn = n; key = 0; payload = [] }
-sample_of w n (Some e) = record { writer = w; sn = n; key = e.0; payload = e.1 }
+-- the sample under a number of a writer, by the entry of its history and the instance of each key; it has no key or data where nothing is written there
+abbrev pub sample_of : (ℕ → ℕ) → ℕ → ℕ → Option (ℕ × List ℕ) → Sample
+sample_of f w n None = record { writer = w; sn = n; key = 0; kind = 0; payload = [] }
+sample_of f w n (Some e) = record { writer = w; sn = n; key = f e.0; kind = e.0; payload = e.1 }
 
 -- the DATA of a writer to a reader with a number (DDSI-RTPS 2.5, clause 8.4)
-abbrev pub data_packet : World → ℕ → ℕ → ℕ → Packet
-data_packet v w r n = Data (record { reader = r; sample = sample_of w n (entry_at (v.written w) n) })
+abbrev pub data_packet : Network → World → ℕ → ℕ → ℕ → Packet
+data_packet net v w r n = Data (record { reader = r; sample = sample_of (instance net w) w n (entry_at (v.written w) n) })
 
 -- the GAP of a writer to a reader from a number on that the reader won't get, irrelevant or dropped, up to the next that it may still get or
 -- that is unwritten
@@ -139,7 +148,7 @@ send v p = record v { sent = p ∷ v.sent; bus = put_packet v.bus p (sent_place 
 -- cache answers on its sample, in this order
 abbrev pub arrival_of_data : Network → World → DataFor → Arrival
 arrival_of_data net v d =
-    data_arrival (net.matched d.sample.writer d.reader) (is_repeat (net.watcher d.reader) (marked v d.reader d.sample.writer) d.sample.sn) (net.hears d.reader d.sample.key)
+    data_arrival (net.matched d.sample.writer d.reader) (is_repeat (net.watcher d.reader) (marked v d.reader d.sample.writer) d.sample.sn) (net.hears d.reader d.sample.kind)
     (admission (net.reader_limits d.reader) (stored v d.reader) (known_keys v d.reader) d.sample)
 
 -- the reader stores one more sample
@@ -205,11 +214,11 @@ AtPlace None P = ⊥
 AtPlace (Some p) P = P p
 
 -- ── steps
--- the reply may answer an event that isn't refused. It is fixed, but for Take: of any writer the least available number may be taken
+-- the reply may answer an event that isn't refused. It is fixed, but for Take: of any writer the least available number of the instance may be taken
 abbrev pub Replies : Network → World → Event → Reply → Type 0
 Replies net v (Write w k d) reply = reply ≡ Written (suc (length (v.written w)))
 Replies net v (Fire u) reply = reply ≡ Fired
-Replies net v (Take r k) reply = (s : Sample) × IsLeastOfWriter s (available v r k) × (reply ≡ Took s)
+Replies net v (Take r k) reply = (s : Sample) × IsLeastOfWriter s (available v r (instance_at net r k)) × (reply ≡ Took s)
 Replies net v (SendData w r n) reply = reply ≡ Sent (sent_place v)
 Replies net v (SendGap w r n) reply = reply ≡ Sent (sent_place v)
 Replies net v (SendHeartbeat w r) reply = reply ≡ Sent (sent_place v)
@@ -231,7 +240,7 @@ abbrev pub changed : Network → World → Event → Reply → World
 changed net v (Write w k d) reply = record v { written = put v.written w (v.written w ++ (k, d) ∷ []) }
 changed net v (Fire u) reply = record v { fired = put v.fired u (suc (v.fired u)) }
 changed net v (Take r k) (Took s) = record v { taken = put v.taken r (v.taken r ++ s ∷ []) }
-changed net v (SendData w r n) reply = send v (data_packet v w r n)
+changed net v (SendData w r n) reply = send v (data_packet net v w r n)
 changed net v (SendGap w r n) reply = send v (gap_packet net v w r n)
 changed net v (SendHeartbeat w r) reply = send v (heartbeat_packet net v w r)
 changed net v (SendAckNack r w) reply = send v (acknack_packet v r w)

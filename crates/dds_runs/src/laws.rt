@@ -5,6 +5,7 @@
 ghost use Rattle.dds_runs.specs.Before.{Before};
 ghost use Rattle.dds_runs.specs.CountRuns.{CountRuns};
 ghost use Rattle.dds_runs.specs.Joins.{EarlyPairs, Histories, JoinedRuns, Silences};
+ghost use Rattle.dds_runs.specs.KeyedTopics.{Keyed};
 ghost use Rattle.dds_runs.specs.Laws.{Counts, Headline, Order, Packets, Parts, Settled, Stored, Watched};
 ghost use Rattle.dds_runs.specs.Timed.{DeploymentRuns, TimedRuns};
 ghost use Rattle.dds_runs.specs.Unsafe.{EqualBoundOverflows, FilteredWriterLoses, ForgottenReaderOverflows};
@@ -34,7 +35,8 @@ pub fn stored()
     ensures { Stored }
 {}
 
-/// The fourth pass: what a strict reader took of a writer and key is a prefix of what was written, in order, once.
+/// The fourth pass: what a strict reader took of a writer and instance is a prefix of what was written that it hears,
+/// in order, once.
 pub fn order()
     ensures { Order }
 {}
@@ -45,7 +47,7 @@ pub fn settled()
     ensures { Settled }
 {}
 
-/// What a reader took of a writer and key is a part of what was written: with its data, in order, once.
+/// What a reader took of a writer and instance is a part of what was written: with its key and data, in order, once.
 pub fn parts()
     ensures { Parts }
 {}
@@ -105,4 +107,10 @@ pub fn filtered_writer()
 /// of a system that has none of them: each is written out in full there.
 pub fn before()
     ensures { Before }
+{}
+
+/// Where each topic is keyed, the definitions of runs and certificates are those of a system without other topics: each
+/// is written out in full there.
+pub fn keyed()
+    ensures { Keyed }
 {}

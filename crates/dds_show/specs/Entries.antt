@@ -31,9 +31,13 @@ joins_field Any = codes ", \"joins\": \"any\""
 abbrev pub participant_entry : List ℕ → Participant → List ℕ
 participant_entry name x = codes "{\"name\": \"" ++ (name ++ (codes "\", \"domain\": " ++ (decimal x.domain ++ (joins_field x.joins ++ codes "}"))))
 
+-- whether each key of a topic has an instance of its own, where it hasn't
+abbrev pub keyed_field : Bool → List ℕ
+keyed_field keyed = if keyed then [] else codes ", \"keyed\": false"
+
 abbrev pub topic_entry : List ℕ → Topic → List ℕ
 topic_entry name x =
-    codes "{\"name\": \"" ++ (name ++ (codes "\", \"type\": \"" ++ (x.type_name ++ (codes "\", \"keys\": [" ++ (name_items x.keys ++ codes "]}")))))
+    codes "{\"name\": \"" ++ (name ++ (codes "\", \"type\": \"" ++ (x.type_name ++ (codes "\", \"keys\": [" ++ (name_items x.keys ++ (codes "]" ++ (keyed_field x.keyed ++ codes "}")))))))
 
 -- the fields of a writer or a reader up to its policies: its name, participant and topic
 abbrev pub place_fields : Lists → List ℕ → ℕ → ℕ → List ℕ

@@ -7,7 +7,8 @@ ghost use Rattle.dds_lists.specs.Views.{writer_view};
 ghost use Rattle.dds_text.specs.Names.{name_at};
 ghost use Rattle.dds_text.specs.Texts.{each_below};
 ghost use Rattle.dds_show.specs.Pieces.{comma, quoted};
-ghost use Rattle.dds_show.specs.Entries.{application_entry, connection_entry, joins_field, may_lose_field};
+ghost use Rattle.dds_show.specs.Entries.{application_entry, connection_entry, joins_field, keyed_field};
+ghost use Rattle.dds_show.specs.Entries.{may_lose_field};
 ghost use Rattle.dds_show.specs.Entries.{nanoseconds_field, numbered_items, origin_fields, pace_fields};
 ghost use Rattle.dds_show.specs.Entries.{participant_entry, place_fields, portion_entry, qos_fields, reader_entry};
 ghost use Rattle.dds_show.specs.Entries.{rule_entry, span_fields, start_text, take_entry, take_items, topic_entry};
@@ -68,12 +69,20 @@ pub(crate) fn participant_entry(alloc: Global, name: &str, x: &Participant) -> T
     format!(in alloc; "{{\"name\": \"{name}\", \"domain\": {domain}{joins}}}")
 }
 
+/// Whether each key of a topic has an instance of its own, where it hasn't.
+fn keyed_field(keyed: bool) -> &'static str
+    ensures { result.now ≡ keyed_field keyed }
+{
+    if keyed { "" } else { ", \"keyed\": false" }
+}
+
 pub(crate) fn topic_entry(alloc: Global, name: &str, x: &Topic) -> TextResult
     ensures { IfOk result (λ text. string_bytes text ≡ topic_entry name.now (topic_view x.now)) }
 {
     let type_name = x.type_name.as_str();
     let keys = name_items(alloc, &x.keys)?;
-    format!(in alloc; "{{\"name\": \"{name}\", \"type\": \"{type_name}\", \"keys\": [{keys}]}}")
+    let keyed = keyed_field(x.keyed);
+    format!(in alloc; "{{\"name\": \"{name}\", \"type\": \"{type_name}\", \"keys\": [{keys}]{keyed}}}")
 }
 
 /// The fields of a writer or a reader up to its policies: its name, participant and topic.

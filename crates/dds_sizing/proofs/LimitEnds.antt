@@ -88,6 +88,7 @@ pub subject_plain : (d : Lists) (one : Need) → has_float (subject_document d o
 subject_plain d (need.Key r k room) = refl
 subject_plain d (need.Reader r room) = refl
 subject_plain d (need.Writer w k room) = refl
+subject_plain d (need.WriterTotal w room) = refl
 
 limited_plain : (subject : Data) (least : Least) (limit : Option Limit) → has_float subject ≡ false → has_float (limited_document subject least limit) ≡ false
 limited_plain subject least None plain = rw (least_plain least, plain) refl

@@ -19,6 +19,7 @@ abbrev pub subject_document : Lists → Need → Data
 subject_document d (need.Key r k room) = object (member (codes "key") (string (reader_key d r k)) (member (codes "reader") (string (reader_name d r)) no_members))
 subject_document d (need.Reader r room) = object (member (codes "reader") (string (reader_name d r)) no_members)
 subject_document d (need.Writer w k room) = object (member (codes "key") (string (writer_key d w k)) (member (codes "writer") (string (writer_name d w)) no_members))
+subject_document d (need.WriterTotal w room) = object (member (codes "writer") (string (writer_name d w)) no_members)
 
 -- the number of samples for which room is needed, or the word for why there is none
 abbrev pub least_document : Least → Data

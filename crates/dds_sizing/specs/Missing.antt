@@ -1,5 +1,5 @@
 -- What a thorough search says on the error output where it found no certificate.
-use Rattle.std.specs.Prelude.{ℕ, ◌≡◌, ◌⊎◌, nat_lt, List, ◌++◌, codes, true, false, Some, if◌then◌else◌}
+use Rattle.std.specs.Prelude.{ℕ, ◌≡◌, ◌⊎◌, ◌&&◌, not, nat_lt, List, ◌++◌, codes, true, false, Some, if◌then◌else◌}
 use Rattle.std.specs.Fmt.{decimal}
 use Rattle.std.specs.Option.{option_map_or}
 use Rattle.dds_lists.specs.Lists.{Lists}
@@ -14,7 +14,9 @@ use Rattle.dds_search.specs.declared.answer.Least.{Least}
 use Rattle.dds_search.specs.declared.answer.Least.TheVariants.{Shown, Unbounded, Unknown}
 use Rattle.dds_search.specs.declared.answer.Missing.{Missing}
 use Rattle.dds_search.specs.declared.answer.Missing.TheVariants.{Structure, Limit, Short, Rows, Refused}
-use Rattle.dds_search.specs.Depths.{is_deep_anyway}
+use Rattle.dds_runs.specs.Accepted.{instance_limit}
+use Rattle.dds_explain.specs.Limits.{is_lesser}
+use Rattle.dds_search.specs.Depths.{hears_some, is_deep_anyway, is_deep_for_all}
 use Rattle.dds_search.specs.declared.budget.Shortage.{Shortage}
 use Rattle.dds_sizing.specs.Shortages.{shortage_word}
 
@@ -31,12 +33,26 @@ abbrev pub IsDepthFor : Network → ℕ → ℕ → ℕ → ℕ → Type 0
 IsDepthFor net w r k depth =
     (net.matched w r ≡ true) × (is_written net w k ≡ true) × ((net.writer_limits w).keep_last ≡ Some depth) × (is_deep_anyway net w r k depth ≡ false)
 
+-- the same of a writer whose topic has one instance, of all that it writes
+abbrev pub IsDepthForAll : Network → ℕ → ℕ → ℕ → Type 0
+IsDepthForAll net w r depth =
+    (net.matched w r ≡ true) × (net.keyed_writer w ≡ false) × (hears_some net w r ≡ true) × ((net.writer_limits w).keep_last ≡ Some depth)
+    × (is_deep_for_all net w r depth ≡ false)
+
+-- the name of the limit that a reader sets for all its samples
+abbrev pub own_total_name : Network → ℕ → List ℕ
+own_total_name net r =
+    if nat_lt r net.readers && (not (net.keyed_reader r) && is_lesser (instance_limit (net.reader_limits r)) (net.reader_limits r).max_samples) then own_name net r
+    else codes "max_samples"
+
 -- the limit of a target by the names of the endpoint and the key: the reader's own, or the depth of a writer
 abbrev pub IsLimitText : Lists → Target → List ℕ → Type 0
 IsLimitText d (Instance r k) text =
     (text ≡ own_name (network_of d) r ++ (codes " of " ++ (reader_name d r ++ (codes " " ++ reader_key d r k))))
     ⊎ ((w depth : ℕ) × IsDepthFor (network_of d) w r k depth × (text ≡ codes "the history depth of " ++ (writer_name d w ++ (codes " " ++ writer_key d w k))))
-IsLimitText d (Reader r) text = text ≡ codes "max_samples of " ++ reader_name d r
+IsLimitText d (Reader r) text =
+    (text ≡ own_total_name (network_of d) r ++ (codes " of " ++ reader_name d r))
+    ⊎ ((w depth : ℕ) × IsDepthForAll (network_of d) w r depth × (text ≡ codes "the history depth of " ++ writer_name d w))
 
 -- what shows the bounds that are compared: of the samples of a reader a single row
 abbrev pub shower : Target → List ℕ

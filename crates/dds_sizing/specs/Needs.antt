@@ -8,6 +8,9 @@ use Rattle.dds_propose.specs.declared.targets.Target.{Target}
 use Rattle.dds_propose.specs.declared.targets.Target.TheVariants as target
 use Rattle.dds_propose.specs.Targets.{reader_of}
 use Rattle.dds_runs.specs.Accepted.{is_finite, opening_permits}
+use Rattle.dds_check.specs.Limits.{finite_number, sum_written}
+use Rattle.dds_search.specs.Depths.{hears_some}
+use Rattle.dds_search.specs.Sizes as summing
 use Rattle.dds_search.specs.Sizes.{lesser, total_of, within_32_bits}
 use Rattle.dds_search.specs.declared.answer.Least.{Least}
 use Rattle.dds_search.specs.declared.answer.Least.TheVariants.{Shown, Unbounded, Unknown}
@@ -34,13 +37,23 @@ depth_or None most = limit_by MaxSamplesPerInstance most
 abbrev pub key_limit : ReaderLimits → Option Limit
 key_limit limits = depth_or limits.keep_last limits.max_samples_per_instance
 
--- the same of the reader with this number
+-- the same of the reader with this number; where its topic has one instance no key has a limit of its own
 abbrev pub limit_of_key : Network → ℕ → Option Limit
-limit_of_key net r = if nat_lt r net.readers then key_limit (net.reader_limits r) else None
+limit_of_key net r = if nat_lt r net.readers then (if net.keyed_reader r then key_limit (net.reader_limits r) else None) else None
 
--- what limits all samples of the reader with this number together
+-- the lesser of two limits, the first of them where they are equal
+abbrev pub lesser_of : Option Limit → Option Limit → Option Limit
+lesser_of None other = other
+lesser_of (Some one) None = Some one
+lesser_of (Some one) (Some other) = if nat_lt other.most one.most then Some other else Some one
+
+-- what limits all samples of the reader with this number together: max_samples, or where its topic has one instance that of an instance, if it is the lesser
 abbrev pub limit_of_total : Network → ℕ → Option Limit
-limit_of_total net r = if nat_lt r net.readers then limit_by MaxSamples (net.reader_limits r).max_samples else None
+limit_of_total net r =
+    if nat_lt r net.readers then
+        (if net.keyed_reader r then limit_by MaxSamples (net.reader_limits r).max_samples
+        else lesser_of (limit_by MaxSamples (net.reader_limits r).max_samples) (key_limit (net.reader_limits r)))
+    else None
 
 -- ── readers
 -- what a reader needs by the size of this target: of a key its bound, of all samples together the lesser of what one row shows and of the sum of the bounds of
@@ -91,6 +104,62 @@ unfoldable pub greatest_of : Network → ℕ → ℕ → Option Least → List S
 greatest_of net w k greatest [] = greatest
 greatest_of net w k greatest (size ∷ sizes) = greatest_of net w k (with_size net w k greatest size) sizes
 
+-- ── writers whose topic has one instance
+-- the target is of a reader that the writer matches, which hears some key that rules write there
+abbrev pub is_for_all : Network → ℕ → Target → Bool
+is_for_all net w (target.Instance r k) = false
+is_for_all net w (target.Reader r) = net.matched w r && hears_some net w r
+
+-- the target is of a key of the reader that rules write at the writer
+abbrev pub is_written_key : Network → (w r : ℕ) → Target → Bool
+is_written_key net w r (target.Instance q k) = (q == r) && is_written net w k
+is_written_key net w r (target.Reader q) = false
+
+-- the sum of the sizes of a reader's keys that rules write at the writer
+abbrev pub with_written : Network → (w r : ℕ) → Option ℕ → Size → Option ℕ
+with_written net w r sum size = if is_written_key net w r size.target then summing.with_least sum size.least else sum
+
+unfoldable pub sum_of_written : Network → (w r : ℕ) → Option ℕ → List Size → Option ℕ
+sum_of_written net w r sum [] = sum
+sum_of_written net w r sum (size ∷ more) = sum_of_written net w r (with_written net w r sum size) more
+
+-- a number below 2 ^ 32
+abbrev pub narrow : Option ℕ → Option ℕ
+narrow (Some n) = within_32_bits n
+narrow None = None
+
+-- how deep the writer has to be for the reader: by what is known of what the reader stores, or less by the sum of the sizes of the keys that rules write
+-- there, of the caps or of the lags of the writer at the reader, or by all that it ever writes
+abbrev pub depth_for_all : Network → List Size → (w r : ℕ) → Least → Least
+depth_for_all net all w r least =
+    lesser (lesser (lesser (lesser least (sum_of_written net w r (Some 0) all)) (narrow (sum_written net w (net.cap w r)))) (narrow (sum_written net w (net.lag w r))))
+    (narrow (sum_written net w (finite_number net w)))
+
+-- the greatest of some depths and that for one size more, if it is of a reader that the writer matches
+abbrev pub with_reader_size : Network → List Size → ℕ → Option Least → Size → Option Least
+with_reader_size net all w greatest size =
+    if is_for_all net w size.target then Some (with_least greatest (depth_for_all net all w (reader_of size.target) size.least)) else greatest
+
+-- with those of a list of sizes
+unfoldable pub greatest_for_all : Network → List Size → ℕ → Option Least → List Size → Option Least
+greatest_for_all net all w greatest [] = greatest
+greatest_for_all net all w greatest (size ∷ more) = greatest_for_all net all w (with_reader_size net all w greatest size) more
+
+-- what a writer with this depth needs of all keys together, if a strict reader takes what it writes
+abbrev pub need_of_all : ℕ → ℕ → Option Least → Option Need
+need_of_all w depth (Some least) = Some (need.WriterTotal w (record { least = least; limit = limit_by Depth (Some depth) }))
+need_of_all w depth None = None
+
+-- the same of a writer with KEEP_LAST
+abbrev pub kept_total : Network → List Size → ℕ → Option ℕ → Option Need
+kept_total net sizes w (Some depth) = need_of_all w depth (greatest_for_all net sizes w None sizes)
+kept_total net sizes w None = None
+
+-- what the writer with this number needs of all keys: the greatest depth for one of its strict readers
+abbrev pub total_depth : Network → List Size → ℕ → Option Need
+total_depth net sizes w = kept_total net sizes w (net.writer_limits w).keep_last
+
+-- ── of a key
 -- what a writer with this depth needs of a key, if a strict reader takes it
 abbrev pub need_at : ℕ → ℕ → ℕ → Option Least → Option Need
 need_at w k depth (Some least) = Some (need.Writer w k (record { least = least; limit = limit_by Depth (Some depth) }))
@@ -110,9 +179,12 @@ abbrev pub list_of : Option Need → List Need
 list_of (Some one) = one ∷ []
 list_of None = []
 
--- what the writer needs, in the order of its keys
-unfoldable pub writer_needs : Network → List Size → ℕ → List Need
-writer_needs net sizes w = flat_map (λ k. list_of (depth_need net sizes w k)) (range_with_len 0 net.keys)
+-- what the writer needs: where its topic has one instance of all its keys together, and else of each, in their order
+unfoldable pub key_needs : Network → List Size → ℕ → List Need
+key_needs net sizes w = flat_map (λ k. list_of (depth_need net sizes w k)) (range_with_len 0 net.keys)
+
+abbrev pub writer_needs : Network → List Size → ℕ → List Need
+writer_needs net sizes w = if net.keyed_writer w then key_needs net sizes w else list_of (total_depth net sizes w)
 
 -- ── both
 -- what readers need, in the order of the sizes, and then what writers need, in file order
@@ -130,6 +202,7 @@ abbrev pub room_of : Need → Room
 room_of (need.Key r k room) = room
 room_of (need.Reader r room) = room
 room_of (need.Writer w k room) = room
+room_of (need.WriterTotal w room) = room
 
 abbrev pub is_bounded : Need → Bool
 is_bounded one = is_shown (room_of one).least

@@ -18,6 +18,7 @@ abbrev pub subject_words : Lists → Need → List ℕ
 subject_words d (need.Key r k room) = codes "reader " ++ (reader_name d r ++ (codes " " ++ reader_key d r k))
 subject_words d (need.Reader r room) = codes "reader " ++ (reader_name d r ++ codes " total")
 subject_words d (need.Writer w k room) = codes "writer " ++ (writer_name d w ++ (codes " " ++ writer_key d w k))
+subject_words d (need.WriterTotal w room) = codes "writer " ++ (writer_name d w ++ codes " total")
 
 -- the number of samples for which room is needed, or the word for why there is none
 abbrev pub least_word : Least → List ℕ

@@ -11,7 +11,7 @@ use Rattle.dds_weights.specs.Views.{certificate_view}
 use Rattle.dds_propose.specs.declared.targets.Target.{Target}
 use Rattle.dds_propose.specs.declared.targets.Target.TheVariants as target
 use Rattle.dds_search.specs.Reasons.{IsReason}
-use Rattle.dds_search.specs.Sizes.{every_target}
+use Rattle.dds_search.specs.Sizes.{every_target, total_of}
 use Rattle.dds_search.specs.declared.answer.Least.{Least}
 use Rattle.dds_search.specs.declared.answer.Least.TheVariants.{Shown, Unbounded, Unknown}
 use Rattle.dds_search.specs.declared.certificate.rays.Firings.{Firings}
@@ -22,7 +22,7 @@ use Rattle.dds_search.specs.declared.certificate.sizes.Size.{Size}
 use Rattle.dds_explain.specs.Explanation.{margins}
 use Rattle.dds_explain.specs.Paces.{span_text}
 use Rattle.dds_propose.specs.Targets.{reader_of}
-use Rattle.dds_sizing.specs.Needs.{depth_for, is_for, limit_of_key, limit_of_total}
+use Rattle.dds_sizing.specs.Needs.{depth_for, depth_for_all, is_for, is_for_all, limit_of_key, limit_of_total}
 use Rattle.dds_sizing.specs.NeedsText.{least_word, policy_word}
 use Rattle.dds_sizing.specs.Spans.{IsLongest}
 use Rattle.dds_sizing.specs.declared.needs.Limit.{Limit}
@@ -152,8 +152,22 @@ because_of_reader d w k room e =
     because_line (writer_name d w ++ (codes " " ++ writer_key d w k)) room
     (depth_words (is_as_much e.size.least room.least) ++ reader_name d (reader_of e.size.target))
 
+-- the same of a writer whose topic has one instance, of all its keys
+abbrev pub is_for_all_as_much : Network → List Size → ℕ → Least → Explained → Bool
+is_for_all_as_much net sizes w least e =
+    is_for_all net w e.size.target && is_as_much (depth_for_all net sizes w (reader_of e.size.target) e.size.least) least
+
+abbrev pub because_of_all : Lists → List Size → ℕ → Room → Explained → List ℕ
+because_of_all d sizes w room e =
+    because_line (writer_name d w) room
+    (depth_words (is_as_much (total_of sizes (reader_of e.size.target) e.size.least) room.least) ++ reader_name d (reader_of e.size.target))
+
+abbrev pub because_of_total : Lists → List Explained → ℕ → Room → List ℕ
+because_of_total d es w room = option_map_or (because_of_all d (sizes_of es) w room) (find (is_for_all_as_much (network_of d) (sizes_of es) w room.least) es) []
+
 -- the line for a need
 abbrev pub because_of : Lists → List Explained → Need → List ℕ
 because_of d es (need.Key r k room) = because_of_target es (target.Instance r k)
 because_of d es (need.Reader r room) = option_map_or (because_of_size d r room) (find (λ e. is_target (target.Reader r) e.size.target) es) []
 because_of d es (need.Writer w k room) = option_map_or (because_of_reader d w k room) (find (is_for_as_much (network_of d) w k room.least) es) []
+because_of d es (need.WriterTotal w room) = because_of_total d es w room

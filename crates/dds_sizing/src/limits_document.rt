@@ -40,6 +40,10 @@ pub(crate) fn subject_document(
             let writer = writer_name(lists, *writer);
             json!(in alloc; {"writer": writer, "key": key})
         }
+        Need::WriterTotal { writer, .. } => {
+            let writer = writer_name(lists, *writer);
+            json!(in alloc; {"writer": writer})
+        }
     }
 }
 

@@ -1,23 +1,27 @@
 //! How much room each strict reader needs, and how deep the history of each writer with KEEP_LAST has to be, beside the
 //! limits that the deployment has.
-ghost use Rattle.std.specs.Prelude.{◌≡◌, ◌<◌, ◌++◌, IfOk, None, flat_map, map, option_map};
+ghost use Rattle.std.specs.Prelude.{◌≡◌, ◌<◌, ◌++◌, IfOk, None, Some, flat_map, map, option_map};
 ghost use Rattle.std.specs.List.{range_with_len};
 ghost use Rattle.dds_match.specs.Plan.{network_of};
 ghost use Rattle.dds_runs.specs.Accepted.{instance_limit};
 ghost use Rattle.dds_search.specs.Sizes.{lesser};
 ghost use Rattle.dds_sizing.specs.Needs.{all_written, are_met, depth_for, depth_need, greater, greatest_of};
-ghost use Rattle.dds_sizing.specs.Needs.{has_unbounded};
-ghost use Rattle.dds_sizing.specs.Needs.{is_bounded, is_for, is_low, is_met, is_short, key_limit};
+ghost use Rattle.dds_sizing.specs.Needs.{depth_for_all, greatest_for_all, has_unbounded, is_for_all};
+ghost use Rattle.dds_sizing.specs.Needs.{is_written_key, key_needs, narrow, sum_of_written, total_depth};
+ghost use Rattle.dds_sizing.specs.Needs.{with_reader_size, with_written};
+ghost use Rattle.dds_sizing.specs.Needs.{is_bounded, is_for, is_low, is_met, is_short, key_limit, lesser_of};
 ghost use Rattle.dds_sizing.specs.Needs.{limit_of_key, limit_of_total, limit_by, list_of, need_at, need_of, needs_of};
 ghost use Rattle.dds_sizing.specs.Needs.{room_of, with_least, with_size, writer_needs};
 
 use dds_base::grid::KEYS;
 use dds_base::{KeyNo, NoMemory, ReaderNo, WriterNo};
 use dds_check::finite::{is_finite, opening_permits};
+use dds_check::limits::{caps_together, lags_together, writes_together};
+use dds_check::permits::permits_of;
 use dds_match::Plan;
 use dds_propose::targets::Target;
 use dds_qos::ReaderLimits;
-use dds_search::{Least, Size, total_of};
+use dds_search::{Least, Size, hears_some, total_of, with_bound};
 use std::alloc::Global;
 
 /// The policy by which an endpoint limits its samples.
@@ -62,6 +66,11 @@ pub enum Need {
         key: KeyNo,
         room: Room,
     },
+    /// Those of all keys together at a writer with KEEP_LAST whose topic has one instance.
+    WriterTotal {
+        writer: WriterNo,
+        room: Room,
+    },
 }
 
 /// How much room is needed.
@@ -69,7 +78,10 @@ pub(crate) fn room_of(need: &Need) -> Room
     ensures { result ≡ room_of need.now }
 {
     match need {
-        Need::Key { room, .. } | Need::Reader { room, .. } | Need::Writer { room, .. } => *room,
+        Need::Key { room, .. }
+        | Need::Reader { room, .. }
+        | Need::Writer { room, .. }
+        | Need::WriterTotal { room, .. } => *room,
     }
 }
 
@@ -97,24 +109,48 @@ fn key_limit(limits: &ReaderLimits) -> Option<Limit>
     }
 }
 
-/// What limits a key of the reader with this number.
+/// What limits a key of the reader with this number; where its topic has one instance no key has a limit of its own.
 pub(crate) fn limit_of_key(plan: &Plan, reader: ReaderNo) -> Option<Limit>
     ensures { result ≡ limit_of_key (network_of plan.now) reader }
 {
     if reader.number() >= plan.lists().readers() {
         return None;
     }
-    key_limit(&plan.reader_limits(reader))
+    if plan.is_keyed_reader(reader) {
+        key_limit(&plan.reader_limits(reader))
+    } else {
+        None
+    }
 }
 
-/// What limits all samples of the reader with this number together.
+/// The lesser of two limits, the first of them where they are equal.
+fn lesser_of(one: Option<Limit>, other: Option<Limit>) -> Option<Limit>
+    ensures { result ≡ lesser_of one other }
+{
+    let Some(first) = one else {
+        return other;
+    };
+    match other {
+        Some(second) if second.most < first.most => other,
+        _ => one,
+    }
+}
+
+/// What limits all samples of the reader with this number together: max_samples, or where its topic has one instance
+/// that of an instance, if it is the lesser.
 pub(crate) fn limit_of_total(plan: &Plan, reader: ReaderNo) -> Option<Limit>
     ensures { result ≡ limit_of_total (network_of plan.now) reader }
 {
     if reader.number() >= plan.lists().readers() {
         return None;
     }
-    limit_by(Policy::MaxSamples, plan.reader_limits(reader).max_samples)
+    let limits = plan.reader_limits(reader);
+    let samples = limit_by(Policy::MaxSamples, limits.max_samples);
+    if plan.is_keyed_reader(reader) {
+        samples
+    } else {
+        lesser_of(samples, key_limit(&limits))
+    }
 }
 
 /// What a reader needs by a size, which is one of these.
@@ -286,6 +322,140 @@ fn depth_need(plan: &Plan, sizes: &[Size], writer: WriterNo, key: KeyNo) -> Opti
     }
 }
 
+/// Whether a target is of a reader that the writer matches, which hears some key that rules write there.
+pub(crate) fn is_for_all(plan: &Plan, writer: WriterNo, target: &Target) -> bool
+    ensures { result ≡ is_for_all (network_of plan.now) writer target.now }
+{
+    match target {
+        Target::Instance { .. } => false,
+        Target::Reader(reader) => {
+            plan.matched(writer, *reader) && hears_some(plan, writer, *reader)
+        }
+    }
+}
+
+/// Whether a target is of a key of the reader that rules write at the writer.
+fn is_written_key(plan: &Plan, writer: WriterNo, reader: ReaderNo, target: &Target) -> bool
+    ensures { result ≡ is_written_key (network_of plan.now) writer reader target.now }
+{
+    match target {
+        Target::Instance { reader: other, key } => {
+            *other == reader && plan.is_written(writer, *key)
+        }
+        Target::Reader(_) => false,
+    }
+}
+
+/// A sum with one more size, if it is of a key of the reader that rules write at the writer.
+fn with_written(
+    plan: &Plan,
+    writer: WriterNo,
+    reader: ReaderNo,
+    sum: Option<u32>,
+    size: &Size,
+) -> Option<u32>
+    ensures { result ≡ with_written (network_of plan.now) writer reader sum size.now }
+{
+    if is_written_key(plan, writer, reader, &size.target) {
+        with_bound(sum, size.least)
+    } else {
+        sum
+    }
+}
+
+/// The sum of the sizes of a reader's keys that rules write at the writer. `None` where one of these isn't known or the
+/// sum is above 4,294,967,295.
+fn sum_of_written(
+    plan: &Plan,
+    sizes: &[Size],
+    writer: WriterNo,
+    reader: ReaderNo,
+) -> Option<u32>
+    ensures { result ≡ sum_of_written (network_of plan.now) writer reader (Some 0) sizes.now }
+{
+    let mut sum = Some(0);
+    for size in sizes {
+        sum = with_written(plan, writer, reader, sum, size);
+    }
+    sum
+}
+
+/// A number below 2^32.
+fn narrow(number: Option<u64>) -> Option<u32>
+    ensures { result ≡ narrow number }
+{
+    let number = number?;
+    if number < 4294967296 {
+        Some(number as u32)
+    } else {
+        None
+    }
+}
+
+/// How deep the history of a writer whose topic has one instance has to be for one of the readers that it matches,
+/// where so much is known of what that reader stores.
+pub(crate) fn depth_for_all(
+    plan: &Plan,
+    sizes: &[Size],
+    writer: WriterNo,
+    reader: ReaderNo,
+    least: Least,
+) -> Least
+    ensures { result ≡ depth_for_all (network_of plan.now) sizes.now writer reader least }
+{
+    let permits = permits_of(plan, writer);
+    let least = lesser(least, sum_of_written(plan, sizes, writer, reader));
+    let least = lesser(least, narrow(caps_together(plan, writer, reader)));
+    let least = lesser(least, narrow(lags_together(plan, writer, reader)));
+    lesser(least, narrow(writes_together(plan, &permits, writer)))
+}
+
+/// The greatest of some depths and that for one size more, if it is of a reader that the writer matches.
+fn with_reader_size(
+    plan: &Plan,
+    sizes: &[Size],
+    writer: WriterNo,
+    greatest: Option<Least>,
+    size: &Size,
+) -> Option<Least>
+    ensures { result ≡ with_reader_size (network_of plan.now) sizes.now writer greatest size.now }
+{
+    if is_for_all(plan, writer, &size.target) {
+        let depth = depth_for_all(plan, sizes, writer, size.target.reader(), size.least);
+        Some(with_least(greatest, depth))
+    } else {
+        greatest
+    }
+}
+
+/// The greatest depth for the readers that the writer matches, if one of these is among the sizes.
+fn greatest_for_all(plan: &Plan, sizes: &[Size], writer: WriterNo) -> Option<Least>
+    ensures { result ≡ greatest_for_all (network_of plan.now) sizes.now writer None sizes.now }
+{
+    let mut greatest = None;
+    for size in sizes {
+        greatest = with_reader_size(plan, sizes, writer, greatest, size);
+    }
+    greatest
+}
+
+/// What a writer with KEEP_LAST whose topic has one instance needs of all its keys together. `None` where it keeps all,
+/// or no strict reader takes what it writes.
+fn total_depth(plan: &Plan, sizes: &[Size], writer: WriterNo) -> Option<Need>
+    requires { writer < (network_of plan.now).writers }
+    ensures { result ≡ total_depth (network_of plan.now) sizes.now writer }
+{
+    let depth = plan.writer_limits(writer).keep_last?;
+    let least = greatest_for_all(plan, sizes, writer)?;
+    Some(Need::WriterTotal {
+        writer,
+        room: Room {
+            least,
+            limit: limit_by(Policy::Depth, Some(depth)),
+        },
+    })
+}
+
 /// Adds a need, if it is there.
 fn push_need(needs: &mut Vec<Need>, need: Option<Need>) -> Result<(), NoMemory>
     ensures { IfOk result (λ _. needs.new.items ≡ needs.old.items ++ list_of need) }
@@ -296,7 +466,24 @@ fn push_need(needs: &mut Vec<Need>, need: Option<Need>) -> Result<(), NoMemory>
     Ok(())
 }
 
-/// What a writer needs, in the order of its keys.
+/// What a writer needs of each key, in their order.
+fn key_needs(
+    alloc: Global,
+    plan: &Plan,
+    sizes: &[Size],
+    writer: WriterNo,
+) -> Result<Vec<Need>, NoMemory>
+    requires { writer < (network_of plan.now).writers }
+    ensures { IfOk result (λ needs. needs.items ≡ key_needs (network_of plan.now) sizes.now writer) }
+{
+    let mut needs = Vec::new(alloc);
+    for k in 0..KEYS {
+        push_need(&mut needs, depth_need(plan, sizes, writer, KeyNo::new(k)))?;
+    }
+    Ok(needs)
+}
+
+/// What a writer needs: where its topic has one instance of all its keys together, and else of each.
 fn writer_needs(
     alloc: Global,
     plan: &Plan,
@@ -306,10 +493,11 @@ fn writer_needs(
     requires { writer < (network_of plan.now).writers }
     ensures { IfOk result (λ needs. needs.items ≡ writer_needs (network_of plan.now) sizes.now writer) }
 {
-    let mut needs = Vec::new(alloc);
-    for k in 0..KEYS {
-        push_need(&mut needs, depth_need(plan, sizes, writer, KeyNo::new(k)))?;
+    if plan.is_keyed_writer(writer) {
+        return key_needs(alloc, plan, sizes, writer);
     }
+    let mut needs = Vec::new(alloc);
+    push_need(&mut needs, total_depth(plan, sizes, writer))?;
     Ok(needs)
 }
 

@@ -29,6 +29,10 @@ fn subject_text(alloc: Global, lists: &Deployment, need: &Need) -> Result<String
             let writer = writer_name(lists, *writer);
             format!(in alloc; "writer {writer} {key}")
         }
+        Need::WriterTotal { writer, .. } => {
+            let writer = writer_name(lists, *writer);
+            format!(in alloc; "writer {writer} total")
+        }
     }
 }
 

@@ -4,12 +4,15 @@ ghost use Rattle.dds_match.specs.Plan.{network_of};
 ghost use Rattle.dds_search.specs.Reasons.{IsReason, IsReasoned};
 ghost use Rattle.dds_sizing.specs.Needs.{limit_of_key};
 ghost use Rattle.dds_sizing.specs.Reasons.{AreExplained, IsExplained, IsSpanText, IsTargetSpan, because_line};
-ghost use Rattle.dds_sizing.specs.Reasons.{because_of, because_of_reader, span_line};
+ghost use Rattle.dds_sizing.specs.Reasons.{because_of, because_of_all, because_of_reader, because_of_total};
+ghost use Rattle.dds_sizing.specs.Reasons.{is_for_all_as_much, span_line};
 ghost use Rattle.dds_sizing.specs.Reasons.{because_of_size, because_of_target, deeds, depth_words, firings_words};
 ghost use Rattle.dds_sizing.specs.Reasons.{is_as_much, is_for_as_much, is_target, limit_of_target, limit_or_none};
 ghost use Rattle.dds_sizing.specs.Reasons.{listed, reason_line, sizes_of, target_words, unshown_line, writes_words};
 
-use crate::needs::{Limit, Need, Room, depth_for, is_for, limit_of_key, limit_of_total};
+use crate::needs::{
+    Limit, Need, Room, depth_for, depth_for_all, is_for, is_for_all, limit_of_key, limit_of_total,
+};
 use crate::needs_text::{least_text, policy_word};
 use crate::spans::longest_span;
 use dds_base::{KeyNo, NoMemory, ReaderNo, WriterNo};
@@ -17,7 +20,9 @@ use dds_explain::{margins, span_text};
 use dds_lists::Deployment;
 use dds_match::Plan;
 use dds_propose::targets::Target;
-use dds_search::{Budget, Firings, Least, Measurer, Reason, Reasoned, Size, Writes, every_target};
+use dds_search::{
+    Budget, Firings, Least, Measurer, Reason, Reasoned, Size, Writes, every_target, total_of,
+};
 use dds_text::names::{reader_key, reader_name, rule_text, writer_key, writer_name};
 use dds_text::texts::{TextResult, text_of_each};
 use std::alloc::Global;
@@ -466,6 +471,78 @@ fn because_of_reader(
     because_line(alloc, who.as_str(), room, why.as_str())
 }
 
+/// Whether a size is one of a reader for which a writer whose topic has one instance has to be so deep.
+fn is_for_all_as_much(
+    plan: &Plan,
+    sizes: &[Size],
+    writer: WriterNo,
+    least: Least,
+    explained: &Explained,
+) -> bool
+    ensures { result ≡ is_for_all_as_much (network_of plan.now) sizes.now writer least explained.now }
+{
+    let size = explained.size;
+    is_for_all(plan, writer, &size.target)
+        && is_as_much(
+            depth_for_all(plan, sizes, writer, size.target.reader(), size.least),
+            least,
+        )
+}
+
+/// The first of these that is of a reader for which the writer has to be so deep.
+fn find_reader_for_all<'a>(
+    plan: &Plan,
+    explained: &'a [Explained],
+    sizes: &[Size],
+    writer: WriterNo,
+    least: Least,
+) -> Option<&'a Explained>
+    ensures { option_map (λ e. e.now) result
+        ≡ find (is_for_all_as_much (network_of plan.now) sizes.now writer least) explained.now }
+{
+    explained
+        .iter()
+        .find(|one| is_for_all_as_much(plan, sizes, writer, least, one))
+}
+
+/// Why a writer whose topic has one instance needs so much: a reader does, or no more can be missing there.
+fn because_of_all(
+    alloc: Global,
+    lists: &Deployment,
+    sizes: &[Size],
+    writer: WriterNo,
+    room: Room,
+    explained: &Explained,
+) -> TextResult
+    ensures { IfOk result
+        (λ text. string_bytes text ≡ because_of_all lists.now sizes.now writer room explained.now) }
+{
+    let reader = explained.size.target.reader();
+    let total = total_of(sizes, reader, explained.size.least);
+    let words = depth_words(is_as_much(total, room.least));
+    let reader = reader_name(lists, reader);
+    let why = format!(in alloc; "{words}{reader}")?;
+    because_line(alloc, writer_name(lists, writer), room, why.as_str())
+}
+
+/// The line for what a writer needs of all its keys together.
+fn because_of_total(
+    alloc: Global,
+    plan: &Plan,
+    explained: &[Explained],
+    writer: WriterNo,
+    room: Room,
+) -> TextResult
+    ensures { IfOk result
+        (λ text. string_bytes text ≡ because_of_total plan.now explained.now writer room) }
+{
+    let sizes = sizes_of(alloc, explained)?;
+    match find_reader_for_all(plan, explained, &sizes, writer, room.least) {
+        Some(one) => because_of_all(alloc, plan.lists(), &sizes, writer, room, one),
+        None => Ok(String::new(alloc)),
+    }
+}
+
 /// The line for a need. `NoMemory` is the only error.
 pub(crate) fn because_of(
     alloc: Global,
@@ -492,6 +569,9 @@ pub(crate) fn because_of(
                 Some(one) => because_of_reader(alloc, plan.lists(), *writer, *key, *room, one),
                 None => Ok(String::new(alloc)),
             }
+        }
+        Need::WriterTotal { writer, room } => {
+            because_of_total(alloc, plan, explained, *writer, *room)
         }
     }
 }

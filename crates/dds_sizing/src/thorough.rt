@@ -5,7 +5,9 @@ ghost use Rattle.dds_runs.specs.Accepted.{instance_limit};
 ghost use Rattle.dds_answers.specs.Answers.{Gives};
 ghost use Rattle.dds_answers.specs.Fault.{IsAnswerFault};
 ghost use Rattle.dds_answers.specs.Outcome.{unproposed};
-ghost use Rattle.dds_sizing.specs.Missing.{IsDepthFor, IsLimitText, IsMissingText, least_line, length_line, own_name};
+ghost use Rattle.dds_explain.specs.Limits.{is_lesser};
+ghost use Rattle.dds_sizing.specs.Missing.{IsDepthFor, IsDepthForAll, IsLimitText, IsMissingText, least_line};
+ghost use Rattle.dds_sizing.specs.Missing.{length_line, own_name, own_total_name};
 ghost use Rattle.dds_sizing.specs.Missing.{short_line, shower};
 ghost use Rattle.dds_sizing.specs.Searches.{SaysWhy, found_end};
 
@@ -15,7 +17,9 @@ use dds_base::{KeyNo, NoMemory, ReaderNo, WriterNo};
 use dds_check::No;
 use dds_match::Plan;
 use dds_propose::targets::Target;
-use dds_search::{Found, Least, Missing, Shortage, is_deep_anyway};
+use dds_search::{
+    Found, Least, Missing, Shortage, hears_some, is_deep_anyway, is_deep_for_all,
+};
 use dds_text::names::{reader_key, reader_name, writer_key, writer_name};
 use dds_weights::Certificate;
 use std::alloc::Global;
@@ -52,12 +56,71 @@ fn depth_for(plan: &Plan, writer: WriterNo, reader: ReaderNo, key: KeyNo) -> Opt
     }
 }
 
-/// Whether a limit is lower than another, or the only one.
-fn is_lower(limit: u32, other: Option<u32>) -> bool {
-    match other {
-        Some(other) => limit < other,
-        None => true,
+/// The limit of all samples of a reader by its own policies, with its name: where its topic has one instance that of an
+/// instance, if it is the lesser.
+fn own_total(plan: &Plan, reader: ReaderNo) -> (&'static str, Option<u32>)
+    ensures { result.0.now ≡ own_total_name (network_of plan.now) reader }
+{
+    if reader.number() >= plan.lists().readers() {
+        return ("max_samples", None);
     }
+    let (name, own) = own_limit(plan, reader);
+    let most = plan.reader_limits(reader).max_samples;
+    if !plan.is_keyed_reader(reader) && is_lesser(own, most) {
+        (name, own)
+    } else {
+        ("max_samples", most)
+    }
+}
+
+/// Whether there is a limit, and it is lower than another or the only one.
+fn is_lesser(limit: Option<u32>, other: Option<u32>) -> bool
+    ensures { result ≡ is_lesser limit other }
+{
+    match (limit, other) {
+        (Some(limit), Some(other)) => limit < other,
+        (limit, None) => limit.is_some(),
+        (None, Some(_)) => false,
+    }
+}
+
+/// How many samples of all keys together a writer whose topic has one instance keeps for a reader by KEEP_LAST. `None`
+/// where it keeps all, doesn't match the reader, or writes nothing that it hears, and where it's deep enough whatever
+/// bounds there are.
+fn depth_for_all(plan: &Plan, writer: WriterNo, reader: ReaderNo) -> Option<u32>
+    ensures { IfSome result (IsDepthForAll (network_of plan.now) writer reader) }
+{
+    if writer.number() >= plan.lists().writers() || plan.is_keyed_writer(writer) {
+        return None;
+    }
+    let depth = plan.writer_limits(writer).keep_last?;
+    if plan.matched(writer, reader)
+        && hears_some(plan, writer, reader)
+        && !is_deep_for_all(plan, writer, reader, depth)
+    {
+        Some(depth)
+    } else {
+        None
+    }
+}
+
+/// The first of the writers that keep the fewest samples for a reader of a topic with one instance, where that is fewer
+/// than its own limit.
+fn lowest_for_all(plan: &Plan, reader: ReaderNo, own: Option<u32>) -> Option<WriterNo>
+    ensures { IfSome result (λ w. (depth : ℕ) × IsDepthForAll (network_of plan.now) w reader depth) }
+{
+    let mut lowest = own;
+    let mut found = None;
+    for w in 0..plan.lists().writers() {
+        let writer = WriterNo::new(w);
+        if let Some(depth) = depth_for_all(plan, writer, reader) {
+            if is_lesser(Some(depth), lowest) {
+                lowest = Some(depth);
+                found = Some(writer);
+            }
+        }
+    }
+    found
 }
 
 /// The first of the writers that keep the fewest samples of a key for a reader, where that is fewer than its own limit.
@@ -69,7 +132,7 @@ fn lowest_writer(plan: &Plan, reader: ReaderNo, key: KeyNo, own: Option<u32>) ->
     for w in 0..plan.lists().writers() {
         let writer = WriterNo::new(w);
         if let Some(depth) = depth_for(plan, writer, reader, key) {
-            if is_lower(depth, lowest) {
+            if is_lesser(Some(depth), lowest) {
                 lowest = Some(depth);
                 found = Some(writer);
             }
@@ -103,16 +166,32 @@ fn instance_text(
     }
 }
 
+/// The limit of all samples of a reader, with its names: the reader's own, or the depth of a writer where that is
+/// lower.
+fn total_text(alloc: Global, plan: &Plan, reader: ReaderNo) -> Result<String, NoMemory>
+    ensures { IfOk result (λ text. IsLimitText plan.now (Target.Reader reader) (string_bytes text)) }
+{
+    let lists = plan.lists();
+    let (name, own) = own_total(plan, reader);
+    match lowest_for_all(plan, reader, own) {
+        Some(writer) => {
+            let writer = writer_name(lists, writer);
+            format!(in alloc; "the history depth of {writer}")
+        }
+        None => {
+            let reader = reader_name(lists, reader);
+            format!(in alloc; "{name} of {reader}")
+        }
+    }
+}
+
 /// The limit of a target, with the names of the endpoint and of the key.
 fn limit_text(alloc: Global, plan: &Plan, target: &Target) -> Result<String, NoMemory>
     ensures { IfOk result (λ text. IsLimitText plan.now target.now (string_bytes text)) }
 {
     match target {
         Target::Instance { reader, key } => instance_text(alloc, plan, *reader, *key),
-        Target::Reader(reader) => {
-            let reader = reader_name(plan.lists(), *reader);
-            format!(in alloc; "max_samples of {reader}")
-        }
+        Target::Reader(reader) => total_text(alloc, plan, *reader),
     }
 }
 

@@ -43,7 +43,7 @@ key_written e _ _ = None
 
 -- the key that is taken at this reader, if one is
 abbrev pub key_taken : ℕ → Event → Reply → Option ℕ
-key_taken e (event.Take r k) (reply.Took s) = if r == e then Some k else None
+key_taken e (event.Take r k) (reply.Took s) = if r == e then Some s.kind else None
 key_taken e _ _ = None
 
 -- the key with which an endpoint does so by an event, if it does

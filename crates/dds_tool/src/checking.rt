@@ -15,6 +15,7 @@ use std::alloc::Global;
 
 /// What `check` comes to for the bytes of a deployment and of a certificate: the report on them. With its reason, where
 /// that is asked for, comes what the parser says of a file that is no TOML.
+#[inline(never)]
 pub(crate) fn check_files(
     alloc: Global,
     deployment: &[u8],

@@ -51,6 +51,7 @@ use std::time::Clock;
 const MAX_LINES: usize = 67_108_864;
 
 /// What a command comes to that is asked for of the bytes of a deployment.
+#[inline(never)]
 fn find_outcome<'a, C: Clock>(
     rt: &C,
     alloc: Global,
@@ -95,6 +96,7 @@ fn answer_task<C: Clock>(
 }
 
 /// What a command comes to that is asked for of the bytes of a deployment and of a second file.
+#[inline(never)]
 fn find_pair_outcome<'a, R: Threads + Wait + Clock + Sync>(
     rt: &R,
     alloc: Global,
@@ -323,6 +325,7 @@ fn obey<R: Threads + Wait + Clock + Sync, S: Sources, O: Output, E: Output>(
 /// with `Yes`. A bad file ends the command with the line of the very fault that its bytes have. The command ends with
 /// `Device` only where a file or the output has failed, and with `Run` only where a run was asked for and the check
 /// said yes.
+#[inline(never)]
 pub fn tool<R: Threads + Wait + Clock + Sync, W: AsStr, S: Sources, O: Output, E: Output>(
     rt: &R,
     alloc: Global,

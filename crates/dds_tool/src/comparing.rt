@@ -16,6 +16,7 @@ use dds_request::Comparison;
 use std::alloc::Global;
 
 /// What `match` comes to for the bytes of a deployment.
+#[inline(never)]
 pub(crate) fn compare_endpoints(
     alloc: Global,
     deployment: &[u8],

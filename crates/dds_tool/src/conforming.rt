@@ -183,6 +183,7 @@ fn judge(
 }
 
 /// What the trace that bytes are comes to.
+#[inline(never)]
 fn judge_trace(
     alloc: Global,
     plan: Plan,
@@ -203,6 +204,7 @@ fn judge_trace(
 }
 
 /// What `conform` comes to for the bytes of a deployment and of a trace.
+#[inline(never)]
 pub(crate) fn conform_trace(
     alloc: Global,
     deployment: &[u8],

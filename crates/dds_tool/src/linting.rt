@@ -15,6 +15,7 @@ use dds_options::{Deny, LintStyle};
 use std::alloc::Global;
 
 /// What `lint` comes to for the bytes of a deployment and of a certificate, if there is one: everything that it finds.
+#[inline(never)]
 pub(crate) fn lint_files<'a>(
     alloc: Global,
     deployment: &[u8],

@@ -18,6 +18,7 @@ use std::alloc::Global;
 use std::time::Clock;
 
 /// What the rounds give for a plan.
+#[inline(never)]
 fn propose_for(alloc: Global, plan: Plan) -> Result<Outcome<'static>, ToolFault>
     ensures comes { (names : FileNames) → (style : Style) → ComesTo names style ⊥
         (MayInStyle style (MayPropose (Ok plan))) result }
@@ -33,6 +34,7 @@ fn propose_for(alloc: Global, plan: Plan) -> Result<Outcome<'static>, ToolFault>
 }
 
 /// What `propose` comes to for the bytes of a deployment.
+#[inline(never)]
 pub(crate) fn propose_certificate(
     alloc: Global,
     deployment: &[u8],
@@ -48,6 +50,7 @@ pub(crate) fn propose_certificate(
 }
 
 /// What the searches find for a plan, which may take so many seconds.
+#[inline(never)]
 fn search_for<C: Clock>(
     rt: &C,
     alloc: Global,
@@ -69,6 +72,7 @@ fn search_for<C: Clock>(
 }
 
 /// What `propose --thorough` comes to for the bytes of a deployment, where its searches may take so many seconds.
+#[inline(never)]
 pub(crate) fn search_certificate<C: Clock>(
     rt: &C,
     alloc: Global,

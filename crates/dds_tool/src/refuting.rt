@@ -134,6 +134,7 @@ pub(crate) fn answer_refutation(
 }
 
 /// What is known of the runs of a plan.
+#[inline(never)]
 fn refute_plan<C: Clock>(
     alloc: Global,
     plan: Plan,
@@ -149,6 +150,7 @@ fn refute_plan<C: Clock>(
 }
 
 /// What `refute` comes to for the bytes of a deployment.
+#[inline(never)]
 pub(crate) fn refute_deployment<C: Clock>(
     alloc: Global,
     deployment: &[u8],

@@ -20,6 +20,7 @@ use dds_sizing::{answer_limits, answer_search};
 use std::alloc::Global;
 
 /// The answer with what a command came to, which is needed no longer, on files with these names and in this style.
+#[inline(never)]
 pub(crate) fn render(
     alloc: Global,
     outcome: Outcome,

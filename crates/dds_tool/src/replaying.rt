@@ -152,6 +152,7 @@ fn events_fault(fault: EventsFault) -> ToolFault
 }
 
 /// The replies to the events that bytes say, on a plan.
+#[inline(never)]
 fn replay_events(alloc: Global, plan: Plan, events: &[u8]) -> Result<Outcome<'static>, ToolFault>
     ensures comes { (names : FileNames) → (style : Style) → ComesTo names style ⊥
         (MayReplay style (Ok plan) events.now) result }
@@ -167,6 +168,7 @@ fn replay_events(alloc: Global, plan: Plan, events: &[u8]) -> Result<Outcome<'st
 }
 
 /// What `replay` comes to for the bytes of a deployment and of a file of events.
+#[inline(never)]
 pub(crate) fn replay_files(
     alloc: Global,
     deployment: &[u8],

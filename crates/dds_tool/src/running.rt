@@ -368,6 +368,7 @@ fn refusal(no: No, plan: Plan, certificate: Certificate, detail: Detail) -> Outc
 
 /// What `run` comes to for the bytes of a deployment and of a certificate: the report of a check that says no, and else
 /// what the applications did. `Run` comes where the journal became full or a thread couldn't be made.
+#[inline(never)]
 pub(crate) fn run_files<R: Threads + Wait + Clock + Sync>(
     rt: &R,
     alloc: Global,

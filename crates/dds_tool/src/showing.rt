@@ -18,6 +18,7 @@ use dds_options::{Format, LaterVersion};
 use std::alloc::Global;
 
 /// What `show` comes to for the bytes of a deployment.
+#[inline(never)]
 pub(crate) fn show_deployment(
     alloc: Global,
     deployment: &[u8],
@@ -34,6 +35,7 @@ pub(crate) fn show_deployment(
 }
 
 /// What `migrate` comes to for the bytes of a deployment of a version before this one.
+#[inline(never)]
 pub(crate) fn migrate_deployment(
     alloc: Global,
     deployment: &[u8],
@@ -68,6 +70,7 @@ fn draw_with(alloc: Global, plan: Plan, certificate: &[u8]) -> Result<Outcome<'s
 }
 
 /// What is drawn of a plan and the bytes of a certificate, if there are some.
+#[inline(never)]
 fn draw_plan(
     alloc: Global,
     plan: Plan,
@@ -87,6 +90,7 @@ fn draw_plan(
 }
 
 /// What `draw` comes to for the bytes of a deployment, and of a certificate if one is given.
+#[inline(never)]
 pub(crate) fn draw_deployment(
     alloc: Global,
     deployment: &[u8],

@@ -17,6 +17,7 @@ use std::alloc::Global;
 use std::time::Clock;
 
 /// What is found of the limits that a plan needs.
+#[inline(never)]
 fn size_plan<C: Clock>(
     alloc: Global,
     plan: Plan,
@@ -37,6 +38,7 @@ fn size_plan<C: Clock>(
 }
 
 /// What `limits` comes to for the bytes of a deployment.
+#[inline(never)]
 pub(crate) fn size_limits<C: Clock>(
     alloc: Global,
     deployment: &[u8],

@@ -77,8 +77,8 @@ fn key_done(act: Act, endpoint: usize, event: &Event, reply: &Reply) -> Option<K
     match (act, event, reply) {
         (Act::Write, Event::Write { writer, key, .. }, Reply::Written(_))
             if writer.number() == endpoint => Some(*key),
-        (Act::Take, Event::Take { reader, key }, Reply::Took(_)) if reader.number() == endpoint =>
-            Some(*key),
+        (Act::Take, Event::Take { reader, .. }, Reply::Took(sample))
+            if reader.number() == endpoint => Some(sample.kind),
         _ => None,
     }
 }

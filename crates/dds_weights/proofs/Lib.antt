@@ -4,3 +4,4 @@ pub mod FitLaws
 pub mod PlaceLaws
 pub mod OrderLaws
 pub mod TextLaws
+pub mod WeighingLaws

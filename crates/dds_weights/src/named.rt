@@ -1,12 +1,29 @@
-//! What a list names: whether an endpoint and key stand twice in it, found in one pass by a table on the stack, and
-//! whether totals name a reader.
-ghost use Rattle.std.specs.Prelude.{◌≡◌, ◌==◌, ◌&&◌, All};
+//! What a list names: whether an endpoint and key stand twice in it, found in one pass by a word of 64 bits for each
+//! endpoint, one for each key, and whether totals name a reader.
+ghost use Rattle.std.specs.Prelude.{◌≡◌, ◌<◌, ◌==◌, ◌&&◌, ◌||◌, All, ℕ};
+ghost use Rattle.dds_base.specs.Grid.{most_keys};
 ghost use Rattle.dds_weights.specs.Fits.{is_distinct, same_bound_place};
-ghost use Rattle.dds_weights.specs.Named.{IsWithin, bound_place, has_total};
+ghost use Rattle.dds_weights.specs.Named.{IsWithin, bound_place, has_bit, has_total};
 
 use crate::certificate::{Bound, Total, Weight};
-use dds_base::grid::{KEYS, PLACES};
+use dds_base::grid::ENDPOINTS;
 use dds_base::{Endpoint, ReaderNo};
+
+/// Whether a word has the bit of a key.
+fn has_bit(word: u64, key: usize) -> bool
+    requires { key < most_keys }
+    ensures { result ≡ has_bit word key }
+{
+    word >> key & 1 == 1
+}
+
+/// A word with the bit of one more key.
+fn with_bit(word: u64, key: usize) -> u64
+    requires { key < most_keys }
+    ensures { (k : ℕ) → k < most_keys → has_bit result k ≡ (has_bit word k || (k == key)) }
+{
+    word | 1 << key
+}
 
 /// Whether no two of the weights are of one endpoint and key.
 pub(crate) fn weights_name_nothing_twice<E: Endpoint>(weights: &[Weight<E>]) -> bool
@@ -14,13 +31,15 @@ pub(crate) fn weights_name_nothing_twice<E: Endpoint>(weights: &[Weight<E>]) -> 
     ensures { result ≡ is_distinct
         (λ x y. (E.number_of y.endpoint == E.number_of x.endpoint) && (y.key == x.key)) weights.now }
 {
-    let mut seen = [false; PLACES];
+    let mut seen = [0; ENDPOINTS];
     for weight in weights {
-        let place = weight.endpoint.place() * KEYS + weight.key.number();
-        if seen[place] {
+        let endpoint = weight.endpoint.place();
+        let key = weight.key.number();
+        let word: u64 = seen[endpoint];
+        if has_bit(word, key) {
             return false;
         }
-        seen[place] = true;
+        seen[endpoint] = with_bit(word, key);
     }
     true
 }
@@ -30,13 +49,15 @@ pub(crate) fn bounds_name_nothing_twice(bounds: &[Bound]) -> bool
     requires { All (λ b. IsWithin (bound_place b)) bounds.now }
     ensures { result ≡ is_distinct same_bound_place bounds.now }
 {
-    let mut seen = [false; PLACES];
+    let mut seen = [0; ENDPOINTS];
     for bound in bounds {
-        let place = bound.reader.number() * KEYS + bound.key.number();
-        if seen[place] {
+        let reader = bound.reader.number();
+        let key = bound.key.number();
+        let word: u64 = seen[reader];
+        if has_bit(word, key) {
             return false;
         }
-        seen[place] = true;
+        seen[reader] = with_bit(word, key);
     }
     true
 }

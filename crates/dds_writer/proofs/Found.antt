@@ -64,16 +64,16 @@ module _ (xs : List Sample) (rising : AreRising number xs) where
 
   -- ── the sample of a writer under a number, where a reader takes its key
   pub found_nowhere : (w n : ℕ) (p : ProxyState) → None ≡ position (λ (t : Sample). t.sn == n) xs → position (is_found w n p) xs ≡ None
-  found_nowhere w n p missing = nowhere (is_found w n p) xs (λ t i. and_left (is_numbered w n t) (hears p t.key) (and_right (t.writer == w) (t.sn == n) (none_at (λ (t : Sample). t.sn == n) xs (sym missing) t i)))
+  found_nowhere w n p missing = nowhere (is_found w n p) xs (λ t i. and_left (is_numbered w n t) (hears p t.kind) (and_right (t.writer == w) (t.sn == n) (none_at (λ (t : Sample). t.sn == n) xs (sym missing) t i)))
 
-  pub found_place : (w n at : ℕ) (p : ProxyState) (x : Sample) → Some at ≡ position (λ (t : Sample). t.sn == n) xs → x ≡ get_or xs at x → true ≡ (x.writer == w) → true ≡ hears p x.key → Some at ≡ position (is_found w n p) xs
+  pub found_place : (w n at : ℕ) (p : ProxyState) (x : Sample) → Some at ≡ position (λ (t : Sample). t.sn == n) xs → x ≡ get_or xs at x → true ≡ (x.writer == w) → true ≡ hears p x.kind → Some at ≡ position (is_found w n p) xs
   found_place w n at p x found read mine heard =
       let place = position-Some (λ (t : Sample). t.sn == n) xs at x (sym found) in
       let is = eqb-true x.sn n (ap (λ (t : Sample). t.sn == n) read ∙ place.1) in
-      let passes = and_from (is_numbered w n x) (hears p x.key) (and_from (x.writer == w) (x.sn == n) (sym mine) (eq-eqb x.sn n is)) (sym heard) in
+      let passes = and_from (is_numbered w n x) (hears p x.kind) (and_from (x.writer == w) (x.sn == n) (sym mine) (eq-eqb x.sn n is)) (sym heard) in
       sym (position_is (is_found w n p) xs at x place.0 (ap (is_found w n p) (sym read) ∙ passes)
-      (λ k before. and_left (is_numbered w n (get_or xs k x)) (hears p (get_or xs k x).key) (and_right ((get_or xs k x).writer == w) ((get_or xs k x).sn == n) (place.2 k before))))
+      (λ k before. and_left (is_numbered w n (get_or xs k x)) (hears p (get_or xs k x).kind) (and_right ((get_or xs k x).writer == w) ((get_or xs k x).sn == n) (place.2 k before))))
 
   pub found_other : (w n at : ℕ) (p : ProxyState) (x : Sample) → Some at ≡ position (λ (t : Sample). t.sn == n) xs → x ≡ get_or xs at x → is_found w n p x ≡ false → None ≡ position (is_found w n p) xs
   found_other w n at p x found read fails = sym (only_place (is_found w n p) n at x (sym found) read fails
-      (λ t its. eqb-true t.sn n (and_parts (t.writer == w) (t.sn == n) (and_parts (is_numbered w n t) (hears p t.key) its).0).1))
+      (λ t its. eqb-true t.sn n (and_parts (t.writer == w) (t.sn == n) (and_parts (is_numbered w n t) (hears p t.kind) its).0).1))

@@ -101,14 +101,14 @@ pub first_bounds : (s : WriterState) → IsKept s → (1 ≤ first_kept (keeps s
 first_bounds s kept = (least_from (keeps s) s.written 1, (let u = least_upto (keeps s) s.written 1 in omega arith))
 
 -- ── relevant
-pub relevant_sample : (s : WriterState) → IsKept s → (p : ProxyState) (x : Sample) → In x s.kept → hears p x.key ≡ true → is_relevant s p x.sn ≡ true
+pub relevant_sample : (s : WriterState) → IsKept s → (p : ProxyState) (x : Sample) → In x s.kept → hears p x.kind ≡ true → is_relevant s p x.sn ≡ true
 relevant_sample s kept p x i h = any_in (is_found s.me x.sn p) s.kept x i
-    (and_from (is_numbered s.me x.sn x) (hears p x.key) (and_from (x.writer == s.me) (x.sn == x.sn) (eq-eqb x.writer s.me (kept.own x i).writer) (eq-eqb x.sn x.sn refl)) h)
+    (and_from (is_numbered s.me x.sn x) (hears p x.kind) (and_from (x.writer == s.me) (x.sn == x.sn) (eq-eqb x.writer s.me (kept.own x i).writer) (eq-eqb x.sn x.sn refl)) h)
 
-pub relevant_is : (s : WriterState) (p : ProxyState) (n : ℕ) → is_relevant s p n ≡ true → (x : Sample) × In x s.kept × (x.sn ≡ n) × (hears p x.key ≡ true)
+pub relevant_is : (s : WriterState) (p : ProxyState) (n : ℕ) → is_relevant s p n ≡ true → (x : Sample) × In x s.kept × (x.sn ≡ n) × (hears p x.kind ≡ true)
 relevant_is s p n h =
     let x = any_one (is_found s.me n p) s.kept h in
-    let a = and_parts (is_numbered s.me n x.0) (hears p x.0.key) x.2 in
+    let a = and_parts (is_numbered s.me n x.0) (hears p x.0.kind) x.2 in
     let b = and_parts (x.0.writer == s.me) (x.0.sn == n) a.0 in
     (x.0, x.1, eqb-true x.0.sn n b.1, a.1)
 
@@ -129,13 +129,13 @@ place_in (y ∷ xs) x d (inr i) = let p = place_in xs x d i in (suc p.0, (let b 
 gap_fails : (s : WriterState) (p : ProxyState) (i : ℕ) → is_relevant s p i ≡ false → 1 ≤ i → i ≤ s.written → (is_relevant s p i || not (is_written s.written i)) ≡ false
 gap_fails s p i f a b = rw (f, le-leb 1 i a, le-leb i s.written b) refl
 
-pub gap_found : (s : WriterState) → IsKept s → (p : ProxyState) (start at : ℕ) (x : Sample) → start ≤ s.written → position (λ y. ltb start y.sn && hears p y.key) s.kept ≡ Some at → x ≡ get_or s.kept at x
+pub gap_found : (s : WriterState) → IsKept s → (p : ProxyState) (start at : ℕ) (x : Sample) → start ≤ s.written → position (λ y. ltb start y.sn && hears p y.kind) s.kept ≡ Some at → x ≡ get_or s.kept at x
     → (x.sn ≡ gap_end (is_relevant s p) s.written start) × (start < x.sn) × (x.sn ≤ s.written)
 gap_found s kept p start at x within found read =
-    let place = position-Some (λ y. ltb start y.sn && hears p y.key) s.kept at x found in
+    let place = position-Some (λ y. ltb start y.sn && hears p y.kind) s.kept at x found in
     let here : In x s.kept = subst (λ y. In y s.kept) (sym read) (in_at s.kept at x place.0) in
-    let both : (ltb start x.sn && hears p x.key) ≡ true = subst (λ y. (ltb start y.sn && hears p y.key) ≡ true) (sym read) place.1 in
-    let parts = and_parts (ltb start x.sn) (hears p x.key) both in
+    let both : (ltb start x.sn && hears p x.kind) ≡ true = subst (λ y. (ltb start y.sn && hears p y.kind) ≡ true) (sym read) place.1 in
+    let parts = and_parts (ltb start x.sn) (hears p x.kind) both in
     let above : start < x.sn = ltb-true start x.sn parts.0 in
     let own = kept.own x here in
     let high = own.upto in (
@@ -146,7 +146,7 @@ gap_found s kept p start at x within found read =
       high,
     )
   where
-    none : (i : ℕ) (b : Bool) → is_relevant s p i ≡ b → suc start ≤ i → i < x.sn → at < length s.kept → ((k : ℕ) → k < at → (ltb start (get_or s.kept k x).sn && hears p (get_or s.kept k x).key) ≡ false) → is_relevant s p i ≡ false
+    none : (i : ℕ) (b : Bool) → is_relevant s p i ≡ b → suc start ≤ i → i < x.sn → at < length s.kept → ((k : ℕ) → k < at → (ltb start (get_or s.kept k x).sn && hears p (get_or s.kept k x).kind) ≡ false) → is_relevant s p i ≡ false
     none i false e a c inside before = e
     none i true e a c inside before =
         let y = relevant_is s p i e in
@@ -154,15 +154,15 @@ gap_found s kept p start at x within found read =
         let number : (get_or s.kept q.0 x).sn ≡ i = ap (λ (z : Sample). z.sn) q.2 ∙ y.2 in
         let last : (get_or s.kept at x).sn ≡ x.sn = ap (λ (z : Sample). z.sn) (sym read) in
         elim (cases_lt q.0 at) [
-          | inl early ↦ absurd (both_ways (ltb start (get_or s.kept q.0 x).sn && hears p (get_or s.kept q.0 x).key) (before q.0 early)
-              (and_from (ltb start (get_or s.kept q.0 x).sn) (hears p (get_or s.kept q.0 x).key) (lt-ltb start (get_or s.kept q.0 x).sn (omega arith)) (ap (λ (z : Sample). hears p z.key) q.2 ∙ y.3)))
+          | inl early ↦ absurd (both_ways (ltb start (get_or s.kept q.0 x).sn && hears p (get_or s.kept q.0 x).kind) (before q.0 early)
+              (and_from (ltb start (get_or s.kept q.0 x).sn) (hears p (get_or s.kept q.0 x).kind) (lt-ltb start (get_or s.kept q.0 x).sn (omega arith)) (ap (λ (z : Sample). hears p z.kind) q.2 ∙ y.3)))
           | inr late ↦ elim (cases_eq q.0 at) [
             | inl same ↦ absurd (let n : (get_or s.kept q.0 x).sn ≡ (get_or s.kept at x).sn = ap (λ k. (get_or s.kept k x).sn) same in omega arith)
             | inr ne ↦ absurd (let less = before_less s.kept at q.0 x kept.rising (omega arith) q.1 in omega arith)
           ]
         ]
 
-pub gap_open : (s : WriterState) (p : ProxyState) (start : ℕ) → start ≤ s.written → position (λ y. ltb start y.sn && hears p y.key) s.kept ≡ None → suc s.written ≡ gap_end (is_relevant s p) s.written start
+pub gap_open : (s : WriterState) (p : ProxyState) (start : ℕ) → start ≤ s.written → position (λ y. ltb start y.sn && hears p y.kind) s.kept ≡ None → suc s.written ≡ gap_end (is_relevant s p) s.written start
 gap_open s p start within missing =
     sym (least_is (λ n. is_relevant s p n || not (is_written s.written n)) (s.written - start) (suc start) (suc s.written) (omega arith) (omega arith)
     (λ i a b. gap_fails s p i (none i (is_relevant s p i) refl a) (omega arith) (omega arith)) (inl (omega arith)))
@@ -172,8 +172,8 @@ gap_open s p start within missing =
     none i true e a =
         let y = relevant_is s p i e in
         let number = y.2 in
-        absurd (both_ways (ltb start y.0.sn && hears p y.0.key) (none_at (λ z. ltb start z.sn && hears p z.key) s.kept missing y.0 y.1)
-        (and_from (ltb start y.0.sn) (hears p y.0.key) (lt-ltb start y.0.sn (omega arith)) y.3))
+        absurd (both_ways (ltb start y.0.sn && hears p y.0.kind) (none_at (λ z. ltb start z.sn && hears p z.kind) s.kept missing y.0 y.1)
+        (and_from (ltb start y.0.sn) (hears p y.0.kind) (lt-ltb start y.0.sn (omega arith)) y.3))
 
 -- ── silent
 lowest_is : (bases : List ℕ) (written n : ℕ) → n ≤ written → is_awaited bases n ≡ leb (lowest written bases) n
@@ -212,7 +212,7 @@ data_found s kept p n at x found read =
     let ended = kept.ended in
     record {
       among = here;
-      number = eqb-true x.sn n (and_parts (x.writer == s.me) (x.sn == n) (and_parts (is_numbered s.me n x) (hears p x.key) both).0).1;
+      number = eqb-true x.sn n (and_parts (x.writer == s.me) (x.sn == n) (and_parts (is_numbered s.me n x) (hears p x.kind) both).0).1;
       relevant = any_in (is_found s.me n p) s.kept x here both;
       from = own.from;
       upto = omega arith;

@@ -22,19 +22,19 @@ AreBelow n samples = (s : Sample) → In s samples → s.sn < n
 abbrev pub AreOf : ℕ → List Sample → Type 0
 AreOf w samples = (s : Sample) → In s samples → s.writer ≡ w
 
--- the keys that count as written
+-- the instances that count as written
 abbrev pub written_keys : BTreeMap ℕ ℕ → Keys
 written_keys counts = set.from_list (keys counts)
 
--- the sample has the number of the writer, and the reader of the proxy takes its key
+-- the sample has the number of the writer, and the reader of the proxy takes its kind
 abbrev pub is_found : (w n : ℕ) → ProxyState → Sample → Bool
-is_found w n p s = is_numbered w n s && hears p s.key
+is_found w n p s = is_numbered w n s && hears p s.kind
 
--- some kept sample has the number, and the reader of the proxy takes its key
+-- some kept sample has the number, and the reader of the proxy takes its kind
 abbrev pub is_heard_in : List Sample → ProxyState → ℕ → Bool
-is_heard_in kept p n = list_any (λ s. (s.sn == n) && hears p s.key) kept
+is_heard_in kept p n = list_any (λ s. (s.sn == n) && hears p s.kind) kept
 
--- the number is written and none below the least awaited one, and no kept sample has it whose key the reader of the proxy takes
+-- the number is written and none below the least awaited one, and no kept sample has it whose kind the reader of the proxy takes
 abbrev pub is_silent_in : (kept : List Sample) → (w low written : ℕ) → ProxyState → ℕ → Bool
 is_silent_in kept w low written p n = (is_written written n && nat_le low n) && not (is_relevant_in (hears p) kept w n)
 

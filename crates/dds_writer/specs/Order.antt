@@ -1,4 +1,4 @@
--- The keys and the numbers of kept samples, in order of key and then of number.
+-- The instances and the numbers of kept samples, in order of instance and then of number; and so their kinds and numbers.
 use Rattle.std.specs.Prelude.{◌≡◌, ℕ, ◌≤◌, min, max, Bool, true, false, ◌&&◌, ◌==◌, List, Option, None, Some}
 use Rattle.std.specs.List.{list_any}
 use Rattle.std.specs.Option.{MatchOption}
@@ -23,13 +23,20 @@ lists pairs k n = contains pair_cmp pairs (k, n)
 abbrev pub lists_among : Pairs → List ℕ → ℕ → Bool
 lists_among pairs keys n = list_any (λ k. lists pairs k n) keys
 
--- the sample has the key k and the number n
-abbrev pub is_pair : (k n : ℕ) → Sample → Bool
-is_pair k n s = (s.key == k) && (s.sn == n)
+-- what samples are in order of: their instances, or their kinds
+abbrev pub key_of : Sample → ℕ
+key_of s = s.key
 
--- listed are the key and the number of each sample, and nothing else
-abbrev pub IsOrderOf : List Sample → Pairs → Type 0
-IsOrderOf samples pairs = (k n : ℕ) → lists pairs k n ≡ list_any (is_pair k n) samples
+abbrev pub kind_of : Sample → ℕ
+kind_of s = s.kind
+
+-- the sample has this instance, or kind, and the number n
+abbrev pub is_pair : (Sample → ℕ) → (k n : ℕ) → Sample → Bool
+is_pair of k n s = (of s == k) && (s.sn == n)
+
+-- listed are the instance, or the kind, and the number of each sample, and nothing else
+abbrev pub IsOrderOf : (Sample → ℕ) → List Sample → Pairs → Type 0
+IsOrderOf of samples pairs = (k n : ℕ) → lists pairs k n ≡ list_any (is_pair of k n) samples
 
 -- n is the least number from `from` on that passes the test
 pub record IsNext (p : ℕ → Bool) (from n : ℕ) : Type 0 where

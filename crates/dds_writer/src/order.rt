@@ -1,15 +1,16 @@
-//! The keys and the numbers of the kept samples, in order of key and then of number, so that what comes next of a key
-//! is found without a walk over the samples.
+//! The instances and the numbers of the kept samples, in order of instance and then of number, and so their kinds and
+//! numbers: the oldest of an instance, and what comes next of a kind, is found without a walk over the samples.
 
 ghost use Rattle.std.specs.Prelude.{◌≡◌, ℕ, suc, ◌==◌, ◌&&◌, ◌||◌, not, false, OnOk, OnErr};
-ghost use Rattle.dds_writer.specs.Order.{lists, lists_among, lesser, greater, TellsLast, TellsNext};
+ghost use Rattle.dds_writer.specs.Order.{key_of, kind_of, is_pair, lists, lists_among, lesser, greater};
+ghost use Rattle.dds_writer.specs.Order.{TellsLast, TellsNext};
 
-use dds_base::{KeyNo, NoMemory};
+use dds_base::{KeyNo, NoMemory, Sample};
 use std::alloc::Global;
 use std::collections::BTreeSet;
 use std::ops::Bound;
 
-// Pairs of a key and a number.
+// Pairs of an instance, or a kind, and a number: a key.
 #[derive(Drop)]
 pub(crate) struct Order {
     pub(crate) pairs: BTreeSet<(usize, u64)>,
@@ -101,6 +102,56 @@ impl Order {
             greatest = greater(greatest, self.last(*key, end));
         }
         greatest
+    }
+}
+
+// The kept samples in both orders: by instance and by kind.
+#[derive(Drop)]
+pub(crate) struct Orders {
+    pub(crate) keys: Order,
+    pub(crate) kinds: Order,
+}
+
+impl Orders {
+    // Nothing is listed. What is listed later takes its memory from `alloc`.
+    pub(crate) fn new(alloc: Global) -> Orders
+        ensures keys { (k n : ℕ) → lists result.keys.pairs k n ≡ false }
+        ensures kinds { (k n : ℕ) → lists result.kinds.pairs k n ≡ false }
+    {
+        Orders {
+            keys: Order::new(alloc),
+            kinds: Order::new(alloc),
+        }
+    }
+
+    // Lists a sample that isn't listed.
+    pub(crate) fn insert(&mut self, sample: &Sample) -> Result<(), NoMemory>
+        requires { lists self.old.keys.pairs sample.now.key sample.now.sn ≡ false }
+        ensures keys { OnOk result ((k n : ℕ)
+            → lists self.new.keys.pairs k n ≡ (lists self.old.keys.pairs k n || is_pair key_of k n sample.now)) }
+        ensures kinds { OnOk result ((k n : ℕ)
+            → lists self.new.kinds.pairs k n ≡ (lists self.old.kinds.pairs k n || is_pair kind_of k n sample.now)) }
+        ensures keys_err { OnErr result ((k n : ℕ) → lists self.new.keys.pairs k n ≡ lists self.old.keys.pairs k n) }
+        ensures kinds_err { OnErr result ((k n : ℕ)
+            → lists self.new.kinds.pairs k n ≡ lists self.old.kinds.pairs k n) }
+    {
+        self.keys.insert(sample.key, sample.sn)?;
+        if let Err(_) = self.kinds.insert(sample.kind, sample.sn) {
+            self.keys.remove(sample.key, sample.sn);
+            return Err(NoMemory);
+        }
+        Ok(())
+    }
+
+    // Lists a sample no more.
+    pub(crate) fn remove(&mut self, sample: &Sample)
+        ensures keys { (k n : ℕ) → lists self.new.keys.pairs k n
+            ≡ (lists self.old.keys.pairs k n && not (is_pair key_of k n sample.now)) }
+        ensures kinds { (k n : ℕ) → lists self.new.kinds.pairs k n
+            ≡ (lists self.old.kinds.pairs k n && not (is_pair kind_of k n sample.now)) }
+    {
+        self.keys.remove(sample.key, sample.sn);
+        self.kinds.remove(sample.kind, sample.sn);
     }
 }
 

@@ -9,7 +9,7 @@ use crate::history::History;
 use crate::proxies::MatchedReader;
 use dds_base::{Numbered, ReaderNo, WriterNo, place_of};
 
-// Whether a number is written and none below the least awaited one, and no sample of it is kept whose key the reader
+// Whether a number is written and none below the least awaited one, and no sample of it is kept whose kind the reader
 // takes.
 fn is_silent(
     history: &History,
@@ -65,7 +65,7 @@ pub(crate) fn next_wanted(proxy: &MatchedReader, from: u64, written: u64) -> Opt
 
 // The first place whose sample a watcher is to be sent.
 pub(crate) fn next_unsent(history: &History, proxy: &MatchedReader) -> Option<usize>
-    ensures { result ≡ position (λ s. is_unsent proxy.now s.key s.sn) history.now.kept.items }
+    ensures { result ≡ position (λ s. is_unsent proxy.now s.kind s.sn) history.now.kept.items }
 {
     history.next_heard(proxy, proxy.sent)
 }

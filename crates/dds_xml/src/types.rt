@@ -1,8 +1,8 @@
-//! The types of topics in XML. The type of a topic is a struct of a key and 32 bytes, in a module of the topic's name.
-//! The enum beside it has the topic's keys.
+//! The types of topics in XML. The type of a topic is a struct of a key and 32 bytes, in a module of the topic's name;
+//! where the topic has one instance, of a kind, which is no key, and 32 bytes. The enum beside it has the topic's keys.
 ghost use Rattle.std.specs.Prelude.{◌≡◌, IfOk, string_bytes};
 ghost use Rattle.dds_lists.specs.Views.{topic_view};
-ghost use Rattle.dds_xml.specs.Types.{enumerator, enumerators, module_element, types_section};
+ghost use Rattle.dds_xml.specs.Types.{enumerator, enumerators, key_member, module_element, types_section};
 
 use dds_base::{Names, TopicNo};
 use dds_lists::{Deployment, Topic};
@@ -24,16 +24,27 @@ fn enumerators(alloc: Global, keys: &Names) -> TextResult
     text_below(alloc, keys.len(), |k| enumerator(alloc, name_at(keys, k)))
 }
 
+/// The member by which samples are told apart: a key, or where the topic has one instance a kind.
+fn key_member(keyed: bool) -> &'static str
+    ensures { result.now ≡ key_member keyed }
+{
+    if keyed {
+        "        <member name=\"key\" type=\"string\" stringMaxLength=\"64\" key=\"true\"/>\n"
+    } else {
+        "        <member name=\"kind\" type=\"string\" stringMaxLength=\"64\"/>\n"
+    }
+}
+
 /// The module of a topic: its keys and its type.
 fn module_element(alloc: Global, name: &str, x: &Topic) -> TextResult
     ensures { IfOk result (λ text. string_bytes text ≡ module_element name.now (topic_view x.now)) }
 {
     let keys = enumerators(alloc, &x.keys)?;
     let type_name = x.type_name.as_str();
+    let member = key_member(x.keyed);
     format!(in alloc;
         "    <module name=\"{name}\">\n      <enum name=\"keys\">\n{keys}      </enum>\n      \
-         <struct name=\"{type_name}\">\n        \
-         <member name=\"key\" type=\"string\" stringMaxLength=\"64\" key=\"true\"/>\n        \
+         <struct name=\"{type_name}\">\n{member}        \
          <member name=\"data\" type=\"byte\" arrayDimensions=\"32\"/>\n      </struct>\n    </module>\n"
     )
 }

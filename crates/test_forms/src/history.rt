@@ -36,7 +36,7 @@ pub(crate) fn place_of(
     ensures { result ≡ position (is_found me sn proxy.now) kept.now }
 {
     kept.iter()
-        .position(|s| s.writer == me && s.sn == sn && proxy.hears(s.key))
+        .position(|s| s.writer == me && s.sn == sn && proxy.hears(s.kind))
 }
 
 // Whether a kept sample of the writer has the number, and the reader takes its key.
@@ -44,14 +44,14 @@ pub(crate) fn is_relevant(kept: &[Sample], me: WriterNo, proxy: &MatchedReader, 
     ensures { result ≡ is_relevant_in (hears proxy.now) kept.now me sn }
 {
     kept.iter()
-        .any(|s| s.writer == me && s.sn == sn && proxy.hears(s.key))
+        .any(|s| s.writer == me && s.sn == sn && proxy.hears(s.kind))
 }
 
 // The first place of a sample with a greater number whose key the reader takes.
 pub(crate) fn next_heard(kept: &[Sample], proxy: &MatchedReader, start: u64) -> Option<usize>
-    ensures { result ≡ position (λ s. nat_lt start s.sn && hears proxy.now s.key) kept.now }
+    ensures { result ≡ position (λ s. nat_lt start s.sn && hears proxy.now s.kind) kept.now }
 {
-    kept.iter().position(|s| start < s.sn && proxy.hears(s.key))
+    kept.iter().position(|s| start < s.sn && proxy.hears(s.kind))
 }
 
 // Whether a number is written and none below the least awaited one, and no sample of it is kept whose key the reader
@@ -115,9 +115,9 @@ pub(crate) fn next_wanted(proxy: &MatchedReader, from: u64, written: u64) -> Opt
 
 // The first place whose sample a watcher is to be sent.
 pub(crate) fn next_unsent(kept: &[Sample], proxy: &MatchedReader) -> Option<usize>
-    ensures { result ≡ position (λ s. is_unsent proxy.now s.key s.sn) kept.now }
+    ensures { result ≡ position (λ s. is_unsent proxy.now s.kind s.sn) kept.now }
 {
-    kept.iter().position(|s| proxy.is_unsent(s.key, s.sn))
+    kept.iter().position(|s| proxy.is_unsent(s.kind, s.sn))
 }
 
 // Takes out what every strict reader acknowledged.

@@ -84,17 +84,17 @@ impl MatchedReader {
     }
 
     // Whether a sample is to be sent to a watcher: it takes the key, and the number is above all that was sent.
-    pub(crate) fn is_unsent(&self, key: KeyNo, n: u64) -> bool
-        ensures { result ≡ is_unsent self.now key n }
+    pub(crate) fn is_unsent(&self, kind: KeyNo, n: u64) -> bool
+        ensures { result ≡ is_unsent self.now kind n }
     {
-        self.hears(key) && self.sent < n
+        self.hears(kind) && self.sent < n
     }
 
     // Whether the reader takes the key.
-    pub(crate) fn hears(&self, key: KeyNo) -> bool
-        ensures { result ≡ hears self.now key }
+    pub(crate) fn hears(&self, kind: KeyNo) -> bool
+        ensures { result ≡ hears self.now kind }
     {
-        self.filter.iter().any(|k| *k == key)
+        self.filter.iter().any(|k| *k == kind)
     }
 
     // Whether a pending number is to be sent: not acknowledged, and asked for or never sent.

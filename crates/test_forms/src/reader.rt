@@ -244,7 +244,7 @@ impl PlainReader {
             return Ok(Arrival::Repeat);
         }
         let from = least_marked(self.watching, sn);
-        if !has_key(&self.filter, message.sample.key) {
+        if !takes_kind(&self.filter, message.sample.kind) {
             self.held.mark_upto(writer, from, sn)?;
             return Ok(Arrival::Irrelevant(1));
         }
@@ -319,10 +319,10 @@ fn least_marked(watching: bool, sn: u64) -> u64
     if watching { 1 } else { sn }
 }
 
-fn has_key(filter: &[KeyNo], key: KeyNo) -> bool
-    ensures { result ≡ list_any (λ k. k == key) filter.now }
+fn takes_kind(filter: &[KeyNo], kind: KeyNo) -> bool
+    ensures { result ≡ list_any (λ k. k == kind) filter.now }
 {
-    filter.iter().any(|k| *k == key)
+    filter.iter().any(|k| *k == kind)
 }
 
 fn arrival_of(answer: Admit) -> Arrival

@@ -209,7 +209,7 @@ impl PlainWriter {
     /// sample is kept where some matched strict reader is to acknowledge it, and held as the last one, outside all
     /// limits, where some matched reader is a watcher. An `Err` is the first refusal that holds, changes nothing and
     /// uses no number: `SequenceEnd`, `InstanceLimit`, `Full`, `InstanceFull`; where none holds, `NoMemory`.
-    pub fn write(&mut self, key: KeyNo, payload: Data) -> Result<u64, WriteRefused>
+    pub fn write(&mut self, key: KeyNo, kind: KeyNo, payload: Data) -> Result<u64, WriteRefused>
         ensures ok { IfOk result
             (λ n. write_refusal self.old.limits self.old.written self.old.keys self.old.kept key ≡ None) }
         ensures number { IfOk result (λ n. n ≡ self.old.written + 1) }
@@ -218,9 +218,9 @@ impl PlainWriter {
           limits = self.old.limits;
           proxies = self.old.proxies;
           kept = make_room self.old.limits key self.old.kept ++ still_awaited (bases_of self.old.proxies)
-              (record { writer = self.old.me; sn = n; key = key; payload = payload } ∷ []);
+              (record { writer = self.old.me; sn = n; key = key; kind = kind; payload = payload } ∷ []);
           last = cond (is_watched self.old.proxies)
-              (Some (record { writer = self.old.me; sn = n; key = key; payload = payload })) None;
+              (Some (record { writer = self.old.me; sn = n; key = key; kind = kind; payload = payload })) None;
           keys = set.insert self.old.keys key;
           written = n;
         }) }
@@ -241,6 +241,7 @@ impl PlainWriter {
             writer,
             sn,
             key,
+            kind,
             payload,
         };
         make_room(&mut self.kept, key, &self.limits);
@@ -282,7 +283,7 @@ impl PlainWriter {
         if sample.sn != sn {
             return None;
         }
-        if !proxy.hears(sample.key) {
+        if !proxy.hears(sample.kind) {
             return None;
         }
         DataMsg::new(reader, sample)
@@ -448,7 +449,7 @@ impl PlainWriter {
             return Some(Due::Data(self.kept[at].sn));
         }
         let sample = self.last?;
-        if proxy.is_unsent(sample.key, sample.sn) {
+        if proxy.is_unsent(sample.kind, sample.sn) {
             Some(Due::Data(sample.sn))
         } else {
             None

@@ -71,7 +71,7 @@ fn arrival_of(answer: &Admit) -> Arrival {
     }
 }
 
-/// A sample arrives at a reader that takes its key, and it didn't come before.
+/// A sample arrives at a reader that takes its kind, and it didn't come before.
 fn admit(world: &mut World, reader: ReaderNo, sample: &Sample) -> Result<Arrival, NoMemory> {
     let answer = admission(world, reader, sample)?;
     if !answer.is_rejected() {
@@ -101,7 +101,7 @@ fn marks_it(arrival: &Arrival) -> bool {
 /// A DATA of a matched writer that didn't come before arrives.
 fn on_fresh_data(world: &mut World, message: &DataMsg) -> Result<Arrival, NoMemory> {
     let (reader, sample) = (message.reader, &message.sample);
-    if !world.layout.hears(reader, sample.key) {
+    if !world.layout.hears(reader, sample.kind) {
         if let Some(held) = world.from_writer_mut(reader, sample.writer) {
             held.irrelevant.push(sample.sn)?;
         }

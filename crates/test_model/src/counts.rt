@@ -3,7 +3,7 @@
 
 use crate::layout::RuleLayout;
 use crate::world::World;
-use crate::writing::count_of;
+use crate::writing::count_of_kind;
 use dds_base::{Endpoint, KeyNo, Portion, ReaderNo, WriterNo};
 
 /// The sum of the counts of an endpoint and a key in a list, 0 where it isn't named.
@@ -51,7 +51,7 @@ impl World {
     /// How many samples of a key a reader's application took.
     fn taken_of(&self, reader: ReaderNo, key: KeyNo) -> usize {
         match self.readers.get(reader.number()) {
-            Some(past) => count_of(&past.taken, key),
+            Some(past) => count_of_kind(&past.taken, key),
             None => 0,
         }
     }
@@ -61,7 +61,7 @@ impl World {
         match self.readers.get(reader.number()) {
             Some(past) => {
                 let from = past.taken.iter().filter(|s| s.writer == writer);
-                from.filter(|s| s.key == key).count()
+                from.filter(|s| s.kind == key).count()
             }
             None => 0,
         }

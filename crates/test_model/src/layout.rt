@@ -11,6 +11,8 @@ use dds_qos::{ReaderLimits, WriterLimits};
 pub struct WriterLayout {
     /// The keys of its topic are the numbers below this.
     pub keys: usize,
+    /// Whether each key of its topic has an instance of its own. If not, the topic has one instance, number 0.
+    pub keyed: bool,
     pub limits: WriterLimits,
     /// The readers that match it. Each is in the list of readers.
     pub readers: Vec<ReaderNo>,
@@ -21,6 +23,8 @@ pub struct WriterLayout {
 pub struct ReaderLayout {
     /// The keys that it takes.
     pub filter: Vec<KeyNo>,
+    /// Whether each key of its topic has an instance of its own.
+    pub keyed: bool,
     pub limits: ReaderLimits,
     /// Whether it is best-effort, or may lose: no writer waits for it.
     pub watcher: bool,
@@ -108,6 +112,22 @@ impl Layout {
         }
     }
 
+    /// The instance of a key at a writer.
+    pub fn instance(&self, writer: WriterNo, key: KeyNo) -> KeyNo {
+        match self.writers.get(writer.number()) {
+            Some(layout) => instance_of(layout.keyed, key),
+            None => key,
+        }
+    }
+
+    /// The instance of a key at a reader.
+    pub fn instance_at(&self, reader: ReaderNo, key: KeyNo) -> KeyNo {
+        match self.readers.get(reader.number()) {
+            Some(layout) => instance_of(layout.keyed, key),
+            None => key,
+        }
+    }
+
     /// Whether writes of the key at the writer use no permit: some free rule names them.
     pub fn is_free(&self, writer: WriterNo, key: KeyNo) -> bool {
         self.rules.iter().any(|rule| rule.frees(writer, key))
@@ -138,6 +158,11 @@ impl Layout {
             },
         }
     }
+}
+
+/// The instance that samples of a key belong to.
+fn instance_of(keyed: bool, key: KeyNo) -> KeyNo {
+    if keyed { key } else { KeyNo::new(0) }
 }
 
 /// Whether a finite limit is reached by so many. An unlimited one never is.

@@ -71,16 +71,17 @@ impl World {
         Ok(stored)
     }
 
-    /// How many samples of a key a reader stores, available or not.
-    pub fn unread(&self, reader: ReaderNo, key: KeyNo) -> Result<usize, NoMemory> {
+    /// How many samples of an instance a reader stores, available or not.
+    pub fn unread(&self, reader: ReaderNo, instance: KeyNo) -> Result<usize, NoMemory> {
         let stored = self.stored(reader)?;
-        Ok(count_of(&stored, key))
+        Ok(count_of(&stored, instance))
     }
 
-    /// The stored samples of a key whose number is below their writer's base.
+    /// The stored samples of the instance of a key whose number is below their writer's base.
     pub(crate) fn available(&self, reader: ReaderNo, key: KeyNo) -> Result<Vec<Sample>, NoMemory> {
+        let instance = self.layout.instance_at(reader, key);
         let mut available = self.stored(reader)?;
-        available.retain(|s| s.key == key && s.sn < self.base(reader, s.writer));
+        available.retain(|s| s.key == instance && s.sn < self.base(reader, s.writer));
         Ok(available)
     }
 }

@@ -10,12 +10,25 @@ fn is_least(sample: &Sample, samples: &[Sample]) -> bool {
         .any(|s| s.writer == sample.writer && s.sn < sample.sn)
 }
 
+/// Whether no more takes of some key can be counted of which the take may give a sample: one that the reader hears, of
+/// the same instance.
+fn is_count_full(world: &World, reader: ReaderNo, key: KeyNo) -> bool {
+    let Some(layout) = world.layout.readers.get(reader.number()) else {
+        return false;
+    };
+    let instance = world.layout.instance_at(reader, key);
+    layout.filter.iter().any(|k| {
+        world.layout.instance_at(reader, *k) == instance
+            && world.unspent(reader, *k) >= u128::from(u64::MAX)
+    })
+}
+
 /// Why a take is refused, the first reason, where so many samples are available.
 fn refusal(world: &World, reader: ReaderNo, key: KeyNo, available: usize) -> Option<Refusal> {
     if !world.layout.hears(reader, key) {
         return Some(Refusal::Foreign);
     }
-    if world.unspent(reader, key) >= u128::from(u64::MAX) {
+    if is_count_full(world, reader, key) {
         return Some(Refusal::CountLimit);
     }
     if available == 0 {
@@ -46,7 +59,7 @@ fn chosen(available: &[Sample], wanted: &Option<Sample>) -> Option<Sample> {
     }
 }
 
-/// A reader's application takes a sample of a key, the wanted one if it may.
+/// A reader's application takes a sample of the instance of a key, the wanted one if it may.
 pub(crate) fn take(
     world: &mut World,
     reader: ReaderNo,

@@ -5,8 +5,8 @@ use crate::world::{Entry, LAST_NUMBER, World};
 use crate::writing::{count_of, keys_of};
 use dds_base::{Data, KeyNo, NoMemory, Refusal, Reply, WriterNo};
 
-/// Whether the key is new to the writer while max_instances keys are written.
-fn is_one_key_too_many(world: &World, writer: WriterNo, key: KeyNo) -> Result<bool, NoMemory> {
+/// Whether the instance is new to the writer while max_instances of them are written.
+fn is_one_too_many(world: &World, writer: WriterNo, key: KeyNo) -> Result<bool, NoMemory> {
     let history = world.history(writer)?;
     let keys = keys_of(world, &history)?;
     let limit = world.layout.writer_limits(writer).max_instances;
@@ -44,8 +44,8 @@ fn refusal(world: &World, writer: WriterNo, key: KeyNo) -> Result<Option<Refusal
     Ok(None)
 }
 
-/// Why a write is refused that needs to wait for nobody: the first reason. Where KEEP_LAST's depth of the key is kept,
-/// the sample takes the place of the oldest of them.
+/// Why a write is refused that needs to wait for nobody: the first reason. Where KEEP_LAST's depth of the
+/// instance is kept, the sample takes the place of the oldest of them.
 fn refusal_at_once(
     world: &World,
     writer: WriterNo,
@@ -60,12 +60,13 @@ fn refusal_at_once(
     if world.written(writer) >= LAST_NUMBER {
         return Ok(Some(Refusal::SequenceEnd));
     }
-    if is_one_key_too_many(world, writer, key)? {
+    let instance = world.layout.instance(writer, key);
+    if is_one_too_many(world, writer, instance)? {
         return Ok(Some(Refusal::InstanceLimit));
     }
     let limits = world.layout.writer_limits(writer);
     let kept = world.kept(writer)?;
-    let of_key = count_of(&kept, key);
+    let of_key = count_of(&kept, instance);
     if is_reached(limits.keep_last, of_key) {
         return Ok(None);
     }

@@ -1,13 +1,13 @@
 //! What a writer has written and keeps, worked out from its past.
 
 ghost use Rattle.std.specs.Prelude.{◌≡◌};
-ghost use Rattle.dds_qos.specs.Samples.{in_instance};
+ghost use Rattle.dds_qos.specs.Samples.{in_instance, of_kind};
 
 use crate::layout::is_reached;
 use crate::world::World;
 use dds_base::{KeyNo, NoMemory, ReaderNo, Sample, WriterNo};
 
-/// The keys of some samples, none twice.
+/// The instances of some samples, none twice.
 pub(crate) fn keys_of(world: &World, samples: &[Sample]) -> Result<Vec<KeyNo>, NoMemory> {
     let mut keys: Vec<KeyNo> = Vec::new(world.alloc);
     for sample in samples {
@@ -18,11 +18,18 @@ pub(crate) fn keys_of(world: &World, samples: &[Sample]) -> Result<Vec<KeyNo>, N
     Ok(keys)
 }
 
-/// How many of the samples have the key.
+/// How many of the samples are of the instance.
 pub(crate) fn count_of(samples: &[Sample], key: KeyNo) -> usize
     ensures { result ≡ in_instance key samples.now }
 {
     samples.iter().filter(|s| s.key == key).count()
+}
+
+/// How many of the samples are of the kind.
+pub(crate) fn count_of_kind(samples: &[Sample], kind: KeyNo) -> usize
+    ensures { result ≡ of_kind kind samples.now }
+{
+    samples.iter().filter(|s| s.kind == kind).count()
 }
 
 impl World {
@@ -40,7 +47,8 @@ impl World {
         Some(Sample {
             writer,
             sn,
-            key: entry.key,
+            key: self.layout.instance(writer, entry.key),
+            kind: entry.key,
             payload: entry.payload,
         })
     }
@@ -59,14 +67,16 @@ impl World {
         1 <= sn && sn <= self.written(writer) && self.is_awaited(writer, sn)
     }
 
-    /// How many samples of a key are written after a number.
-    fn count_after(&self, writer: WriterNo, sn: u64, key: KeyNo) -> usize {
+    /// How many samples of an instance are written after a number.
+    fn count_after(&self, writer: WriterNo, sn: u64, instance: KeyNo) -> usize {
         let later = self.entries(writer).iter().skip(sn as usize);
-        later.filter(|e| e.key == key).count()
+        later
+            .filter(|e| self.layout.instance(writer, e.key) == instance)
+            .count()
     }
 
-    /// Whether the writer dropped a number: by KEEP_LAST, once as many later samples of its key are written as the
-    /// depth.
+    /// Whether the writer dropped a number: by KEEP_LAST, once as many later samples of its instance are written as
+    /// the depth.
     fn is_dropped(&self, writer: WriterNo, sn: u64) -> bool {
         match self.sample(writer, sn) {
             Some(sample) => is_reached(
@@ -110,10 +120,10 @@ impl World {
         Ok(kept)
     }
 
-    /// Whether a number is written, and its key is in the reader's filter.
+    /// Whether a number is written, and its kind is in the reader's filter.
     pub(crate) fn is_relevant(&self, writer: WriterNo, reader: ReaderNo, sn: u64) -> bool {
         match self.sample(writer, sn) {
-            Some(sample) => self.layout.hears(reader, sample.key),
+            Some(sample) => self.layout.hears(reader, sample.kind),
             None => false,
         }
     }

@@ -6,8 +6,8 @@ ghost use Rattle.dds_search.specs.Sizes.{IsShownSize};
 use crate::answer::Least;
 use crate::certificate::attempt::Climber;
 use crate::certificate::sizes::{Size, size_of};
-use crate::limits::{depth_of, lowest_writer};
-use dds_base::{KeyNo, NoMemory, ReaderNo, WriterNo};
+use crate::limits::{depth_for, lowest_writer};
+use dds_base::{NoMemory, ReaderNo, WriterNo};
 use dds_match::Plan;
 use dds_propose::targets::Target;
 use std::alloc::Global;
@@ -24,23 +24,30 @@ fn is_greater(one: Least, other: Least) -> bool {
     }
 }
 
-/// The greater of a size and of that of a key at a reader, where the writer's depth counts for it.
+/// The same as a target, at another reader.
+fn target_at(target: &Target, reader: ReaderNo) -> Target {
+    match target {
+        Target::Instance { key, .. } => Target::Instance { reader, key: *key },
+        Target::Reader(_) => Target::Reader(reader),
+    }
+}
+
+/// The greater of a size and of that of a target, where the writer's depth counts for it.
 fn greater_of<C: Clock>(
     alloc: Global,
     plan: &Plan,
     climber: &mut Climber<C>,
     greatest: Size,
     writer: WriterNo,
-    reader: ReaderNo,
-    key: KeyNo,
+    target: Target,
 ) -> Result<Size, NoMemory>
     requires { IsShownSize (network_of plan.now) greatest }
     ensures { IfOk result (IsShownSize (network_of plan.now)) }
 {
-    if plan.watcher(reader) || depth_of(plan, writer, reader, key).is_none() {
+    if plan.watcher(target.reader()) || depth_for(plan, writer, &target).is_none() {
         return Ok(greatest);
     }
-    let other = size_of(alloc, plan, climber, Target::Instance { reader, key })?;
+    let other = size_of(alloc, plan, climber, target)?;
     if is_greater(other.least, greatest.least) {
         Ok(other)
     } else {
@@ -48,49 +55,23 @@ fn greater_of<C: Clock>(
     }
 }
 
-/// The greatest of a size and of those of the key at the readers for which the writer's depth counts.
+/// The greatest of a size and of those of the same at the readers for which the writer's depth counts.
 fn greatest_of<C: Clock>(
     alloc: Global,
     plan: &Plan,
     climber: &mut Climber<C>,
     size: Size,
     writer: WriterNo,
-    key: KeyNo,
 ) -> Result<Size, NoMemory>
     requires { IsShownSize (network_of plan.now) size }
     ensures { IfOk result (IsShownSize (network_of plan.now)) }
 {
     let mut greatest = size;
     for reader in plan.readers_of(writer) {
-        greatest = greater_of(alloc, plan, climber, greatest, writer, *reader, key)?;
+        let target = target_at(&size.target, *reader);
+        greatest = greater_of(alloc, plan, climber, greatest, writer, target)?;
     }
     Ok(greatest)
-}
-
-/// The key of a target. `None` where all samples of a reader count.
-fn key_of(target: &Target) -> Option<KeyNo> {
-    match target {
-        Target::Instance { key, .. } => Some(*key),
-        Target::Reader(_) => None,
-    }
-}
-
-/// The same for the writer whose depth is the lowest one for a key of a reader.
-fn greatest_at<C: Clock>(
-    alloc: Global,
-    plan: &Plan,
-    climber: &mut Climber<C>,
-    size: Size,
-    reader: ReaderNo,
-    key: KeyNo,
-) -> Result<Size, NoMemory>
-    requires { IsShownSize (network_of plan.now) size }
-    ensures { IfOk result (IsShownSize (network_of plan.now)) }
-{
-    match lowest_writer(plan, reader, key) {
-        Some(writer) => greatest_of(alloc, plan, climber, size, writer, key),
-        None => Ok(size),
-    }
 }
 
 /// The size of a limit that has no certificate: where that is the depth of a writer, the greatest that one of its
@@ -104,9 +85,8 @@ pub(crate) fn greatest_size<C: Clock>(
     requires { IsShownSize (network_of plan.now) size }
     ensures { IfOk result (IsShownSize (network_of plan.now)) }
 {
-    let reader = size.target.reader();
-    match key_of(&size.target) {
-        Some(key) => greatest_at(alloc, plan, climber, size, reader, key),
+    match lowest_writer(plan, &size.target) {
+        Some(writer) => greatest_of(alloc, plan, climber, size, writer),
         None => Ok(size),
     }
 }

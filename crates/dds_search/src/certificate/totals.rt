@@ -18,7 +18,7 @@ fn is_key_of(reader: ReaderNo, target: &Target) -> bool
 }
 
 /// A sum with one more bound, `None` where there is no such bound or the sum is above 4,294,967,295.
-fn with_least(sum: Option<u32>, least: Least) -> Option<u32>
+pub fn with_bound(sum: Option<u32>, least: Least) -> Option<u32>
     ensures { result ≡ with_least sum least }
 {
     match least {
@@ -32,7 +32,7 @@ fn with_size(reader: ReaderNo, sum: Option<u32>, size: &Size) -> Option<u32>
     ensures { result ≡ with_size reader sum size.now }
 {
     if is_key_of(reader, &size.target) {
-        with_least(sum, size.least)
+        with_bound(sum, size.least)
     } else {
         sum
     }

@@ -52,7 +52,8 @@ enum Made {
     Refused(Refusal),
     Written,
     Fired,
-    Took,
+    /// A sample of this key was taken.
+    Took(KeyNo),
     /// The packet is at this place of the bus, or was lost on a full one.
     Sent(Option<usize>),
     /// A sample was rejected, overwritten or given up.
@@ -67,7 +68,7 @@ fn made_by(reply: Reply) -> Made {
         Reply::Refused(why) => Made::Refused(why),
         Reply::Written(_) => Made::Written,
         Reply::Fired => Made::Fired,
-        Reply::Took(_) => Made::Took,
+        Reply::Took(sample) => Made::Took(sample.kind),
         Reply::Sent(place) => Made::Sent(place),
         Reply::Arrived(Arrival::Rejected(_) | Arrival::Overwrote(_) | Arrival::Lost(_)) => {
             Made::Lost
@@ -339,15 +340,15 @@ impl Making {
         self.bring_all(writer, reader)
     }
 
-    /// Takes all samples of a key that a reader has.
+    /// Takes all samples of a key's instance that a reader has.
     fn take_all(&mut self, reader: ReaderNo, key: KeyNo) -> Result<(), Halt>
         ensures plan { self.new.simulator.plan ≡ self.old.simulator.plan }
     {
         for _ in 0..EVENTS {
-            if self.step(Event::Take { reader, key })? != Made::Took {
+            let Made::Took(taken) = self.step(Event::Take { reader, key })? else {
                 return Ok(());
-            }
-            self.add_spare(reader, key, 1);
+            };
+            self.add_spare(reader, taken, 1);
         }
         Err(Halt::Long)
     }
@@ -443,29 +444,42 @@ impl Making {
         Ok(())
     }
 
-    /// Takes a sample of a key, which is brought if need be.
+    /// Takes samples until one of the key comes, which is brought if need be. Where the topic has one instance those of
+    /// other keys may come before it.
     fn take(&mut self, reader: ReaderNo, key: KeyNo) -> Result<(), Halt>
+        ensures plan { self.new.simulator.plan ≡ self.old.simulator.plan }
+    {
+        for _ in 0..EVENTS {
+            if self.take_one(reader, key)? == key {
+                return Ok(());
+            }
+        }
+        Err(Halt::Long)
+    }
+
+    /// Takes a sample of a key's instance, for which one of the key is brought if need be. Its key is answered.
+    fn take_one(&mut self, reader: ReaderNo, key: KeyNo) -> Result<KeyNo, Halt>
         ensures plan { self.new.simulator.plan ≡ self.old.simulator.plan }
     {
         let event = Event::Take { reader, key };
         let made = self.step(event)?;
         if !matches!(made, Made::Refused(Refusal::Empty)) {
-            return self.took(reader, key, made);
+            return self.took(reader, made);
         }
         self.more(reader, &[key])?;
         let made = self.step(event)?;
-        self.took(reader, key, made)
+        self.took(reader, made)
     }
 
-    /// Notes a sample that was taken.
-    fn took(&mut self, reader: ReaderNo, key: KeyNo, made: Made) -> Result<(), Halt>
+    /// Notes a sample that was taken. Its key is answered.
+    fn took(&mut self, reader: ReaderNo, made: Made) -> Result<KeyNo, Halt>
         ensures plan { self.new.simulator.plan ≡ self.old.simulator.plan }
     {
-        if made != Made::Took {
+        let Made::Took(key) = made else {
             return Err(Halt::Stuck);
-        }
+        };
         self.add_spare(reader, key, 1);
-        Ok(())
+        Ok(key)
     }
 
     /// How many takes of a key are unspent.

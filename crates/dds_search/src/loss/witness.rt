@@ -52,7 +52,7 @@ fn brought(simulator: &Simulator, event: &Event) -> Option<(ReaderNo, KeyNo)>
     };
     match simulator.at(*place) {
         Some(Packet::Data(data)) if !simulator.plan().watcher(data.reader) => {
-            Some((data.reader, data.sample.key))
+            Some((data.reader, data.sample.kind))
         }
         _ => None,
     }

@@ -23,6 +23,7 @@ fn data_has_a_number(rt: HostRuntime) {
             writer: WriterNo::new(0),
             sn,
             key: KeyNo::new(0),
+            kind: KeyNo::new(0),
             payload: [0; 32],
         };
         let data = DataMsg::new(ReaderNo::new(0), sample);

@@ -32,6 +32,7 @@ pub(crate) fn sample(writer: usize, sn: u64, key: usize) -> Sample
         writer: WriterNo::new(writer),
         sn,
         key: KeyNo::new(key),
+        kind: KeyNo::new(key),
         payload: [(sn % 251) as u8; 32],
     }
 }

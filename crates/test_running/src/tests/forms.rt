@@ -134,7 +134,7 @@ pub(crate) trait WriterForm: Drop {
     fn base(&self, reader: ReaderNo) -> u64
         requires { IsTrue (is_matched reader (state self.now).proxies) };
 
-    fn write(&mut self, key: KeyNo, payload: Data) -> Result<u64, WriteRefused>;
+    fn write(&mut self, key: KeyNo, kind: KeyNo, payload: Data) -> Result<u64, WriteRefused>;
 
     fn data(&self, reader: ReaderNo, sn: u64) -> Option<DataMsg>
         requires { IsTrue (is_matched reader (state self.now).proxies) };

@@ -4,7 +4,7 @@ use crate::tests::chance::Chance;
 use crate::tests::comparing::{Both, expect_same};
 use crate::tests::plans::{NO_MEMORY, plan_of};
 use crate::tests::seen::{Kind, kind_of};
-use crate::tests::texts::{DROPPING, FIELD, FILTERED, LAST, WATCHED};
+use crate::tests::texts::{DROPPING, FIELD, FILTERED, KINDS, LAST, WATCHED};
 use dds_match::Plan;
 use std::alloc::Global;
 use std::process::Abort;
@@ -103,6 +103,18 @@ fn a_reader_and_two_watchers(rt: HostRuntime) {
 fn writers_of_the_last_one_or_two(rt: HostRuntime) {
     let wanted = [Kind::Lost, Kind::Irrelevant, Kind::Full, Kind::Overwrote];
     expect_kinds(&rt, rt.alloc(), DROPPING, &wanted);
+}
+
+#[test]
+fn one_instance_of_two_kinds(rt: HostRuntime) {
+    let wanted = [
+        Kind::SamplesPerInstanceLimit,
+        Kind::Overwrote,
+        Kind::Irrelevant,
+        Kind::Lost,
+        Kind::InstanceFull,
+    ];
+    expect_kinds(&rt, rt.alloc(), KINDS, &wanted);
 }
 
 #[test]

@@ -5,6 +5,7 @@ ghost use Rattle.dds_match.specs.Plan.{network_of};
 
 use crate::tests::plans::NO_MEMORY;
 use crate::tests::speakers::{Accounts, Listener, Speaker};
+use dds_base::grid::KEYS;
 use dds_base::{
     Arrival, Data, DataMsg, Event, GapMsg, Heartbeat, KeyNo, NoMemory, Packet, ReaderNo, Refusal,
     Reply, RuleNo, WriterNo,
@@ -78,9 +79,10 @@ impl Peers {
         key: KeyNo,
         payload: Data,
     ) -> Result<Reply, NoMemory> {
-        if !plan.writes_key(writer, key) {
+        if writer.number() >= plan.lists().writers() || !plan.writes_key(writer, key) {
             return Ok(Reply::Refused(Refusal::Foreign));
         }
+        let instance = plan.instance(writer, key);
         let free = plan.is_free(writer, key);
         if !free && self.accounts.ledger.permits(writer, key) == 0 {
             return Ok(Reply::Refused(Refusal::NoPermit));
@@ -88,7 +90,7 @@ impl Peers {
         let Some(speaker) = self.writers.get_mut(writer.number()) else {
             return Ok(Reply::Refused(Refusal::Foreign));
         };
-        let reply = speaker.write(key, payload)?;
+        let reply = speaker.write(instance, key, payload)?;
         if !free && matches!(reply, Reply::Written(_)) {
             self.accounts.use_permit(writer, key);
         }
@@ -103,18 +105,23 @@ impl Peers {
     }
 
     fn take(&mut self, plan: &Plan, reader: ReaderNo, key: KeyNo) -> Reply {
-        if !plan.hears(reader, key) {
+        if reader.number() >= plan.lists().readers() || !plan.hears(reader, key) {
             return Reply::Refused(Refusal::Foreign);
         }
-        if self.accounts.ledger.spare(reader, key) == u64::MAX {
-            return Reply::Refused(Refusal::CountLimit);
+        let instance = plan.instance_at(reader, key);
+        for k in 0..KEYS {
+            let kind = KeyNo::new(k);
+            let given = plan.hears(reader, kind) && plan.instance_at(reader, kind) == instance;
+            if given && self.accounts.ledger.spare(reader, kind) == u64::MAX {
+                return Reply::Refused(Refusal::CountLimit);
+            }
         }
         let Some(listener) = self.readers.get_mut(reader.number()) else {
             return Reply::Refused(Refusal::Foreign);
         };
-        match listener.take(key) {
+        match listener.take(instance) {
             Some(sample) => {
-                self.accounts.note_take(reader, key);
+                self.accounts.note_take(reader, sample.kind);
                 Reply::Took(sample)
             }
             None => Reply::Refused(Refusal::Empty),

@@ -83,6 +83,7 @@ fn writer_layout(rt: &impl Abort, alloc: Global, plan: &Plan, writer: WriterNo) 
     }
     WriterLayout {
         keys,
+        keyed: plan.is_keyed_writer(writer),
         limits,
         readers: readers_of(rt, alloc, plan, writer),
     }
@@ -94,6 +95,7 @@ fn reader_layout(rt: &impl Abort, alloc: Global, plan: &Plan, reader: ReaderNo) 
     let limits = plan.reader_limits(reader);
     ReaderLayout {
         filter: filter_of(rt, alloc, plan, reader),
+        keyed: plan.is_keyed_reader(reader),
         limits,
         watcher: plan.watcher(reader),
     }

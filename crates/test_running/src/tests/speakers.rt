@@ -88,9 +88,14 @@ impl Speaker {
         Speaker { writer }
     }
 
-    /// A write of a key for which there is a permit.
-    pub(crate) fn write(&mut self, key: KeyNo, payload: Data) -> Result<Reply, NoMemory> {
-        match self.writer.write(key, payload) {
+    /// A write of an instance and a kind for which there is a permit.
+    pub(crate) fn write(
+        &mut self,
+        key: KeyNo,
+        kind: KeyNo,
+        payload: Data,
+    ) -> Result<Reply, NoMemory> {
+        match self.writer.write(key, kind, payload) {
             Ok(sn) => Ok(Reply::Written(sn)),
             Err(WriteRefused::SequenceEnd) => Ok(Reply::Refused(Refusal::SequenceEnd)),
             Err(WriteRefused::InstanceLimit) => Ok(Reply::Refused(Refusal::InstanceLimit)),

@@ -369,3 +369,62 @@ application = "answering"
 takes = [{ reader = "s", key = "all", count = 2 }]
 writes = [{ writer = "w", key = "k", count = 1 }]
 "#;
+
+/// A topic with one instance for the kinds a and b. A writer keeps the last two samples of both together, another all,
+/// of which it may keep three. A reader has room for two samples of both, one hears a alone and keeps the last, and a
+/// watcher stores one sample.
+pub(crate) const KINDS: &str = r#"version = 4
+participants = [{ name = "p", domain = 0 }, { name = "q", domain = 0 }]
+topics = [{ name = "t", type = "Num", keyed = false, keys = ["a", "b"] }]
+writers = [
+  { name = "two", participant = "p", topic = "t", depth = 2 },
+  { name = "all", participant = "p", topic = "t", history = "KEEP_ALL", max_samples_per_instance = 3 },
+]
+applications = [
+  { name = "aw", participant = "p", writers = ["two", "all"] },
+  { name = "ar", participant = "q", readers = ["r", "last", "one"] },
+]
+connections = [
+  { writer = "two", reader = "r" },
+  { writer = "two", reader = "last" },
+  { writer = "two", reader = "one" },
+  { writer = "all", reader = "r" },
+  { writer = "all", reader = "last" },
+  { writer = "all", reader = "one" },
+]
+
+[[readers]]
+name = "r"
+participant = "q"
+topic = "t"
+reliability = "RELIABLE"
+history = "KEEP_ALL"
+max_samples_per_instance = 2
+max_instances = 1
+
+[[readers]]
+name = "last"
+participant = "q"
+topic = "t"
+filter = ["a"]
+reliability = "RELIABLE"
+depth = 1
+
+[[readers]]
+name = "one"
+participant = "q"
+topic = "t"
+history = "KEEP_ALL"
+max_samples_per_instance = 1
+
+[[rules]]
+name = "seed"
+application = "aw"
+writes = [
+  { writer = "two", key = "a", count = 1 },
+  { writer = "two", key = "b", count = 1 },
+  { writer = "all", key = "a", count = 1 },
+  { writer = "all", key = "b", count = 1 },
+]
+start = 100
+"#;

@@ -40,7 +40,8 @@ impl<W: WriterForm> Speaker<W> {
 
     /// Writes a sample of the key, whose bytes are all this one.
     pub(crate) fn attempt(&mut self, key: usize, byte: u8) -> Result<u64, WriteRefused> {
-        self.writer.write(KeyNo::new(key), [byte; 32])
+        self.writer
+            .write(KeyNo::new(key), KeyNo::new(key), [byte; 32])
     }
 
     // Writes, and once more where no memory was left and nothing changed.

@@ -14,7 +14,7 @@ pub loop-k-preserved : goal.loop-k-preserved
 loop-k-preserved c =
     let net = network_of c.args.plan.now in
     let raises = write_raises net (row_of c.args.weights.now) c.args.row in
-    elim c.match-find_raising.branch [
+    elim c.match-find_raising_write.branch [
       | in-Some w ↦ rw (w.end-is, w.first-is) (first_moved net.writers raises c.loop-k.k c.loop-k.end w.in-Some.writer c.loop-k.first w.in-Some.no c.loop-k.invariant (subst (λ k. IsFirstBelow c.loop-k.end (λ v. raises v k) w.in-Some.writer w.in-Some.no) c.new.ensures w.in-Some.ensures))
       | in_default w ↦ rw (w.end-is, w.first-is) (first_kept net.writers raises c.loop-k.k c.loop-k.end c.loop-k.first c.loop-k.invariant (subst (λ k. first_below c.loop-k.end (λ v. raises v k) ≡ None) c.new.ensures w.in_default.ensures))
     ]

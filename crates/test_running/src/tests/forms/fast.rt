@@ -143,8 +143,8 @@ impl WriterForm for Writer {
         self.base(reader)
     }
 
-    fn write(&mut self, key: KeyNo, payload: Data) -> Result<u64, WriteRefused> {
-        self.write(key, payload)
+    fn write(&mut self, key: KeyNo, kind: KeyNo, payload: Data) -> Result<u64, WriteRefused> {
+        self.write(key, kind, payload)
     }
 
     fn data(&self, reader: ReaderNo, sn: u64) -> Option<DataMsg> {

@@ -12,7 +12,7 @@ pub returns-in-Err-clause-err : goal.returns-in-Err-clause-err
 returns-in-Err-clause-err c =
     let s = c.args.self.now in
     let x = c.args.sample.now in
-    let h : Held = (s.next, x.payload) in
+    let h : Held = (s.next, (x.kind, x.payload)) in
     let in_places : c.insert.new.self.entries ≡ insert_entry place_cmp s.places.entries (place_of x) h = search rules in
     let out : c.remove.new.self.entries ≡ remove_entry (is_at (place_cmp (place_of x))) c.insert.new.self.entries = search rules in
     out ∙ ap (λ es. remove_entry (is_at (place_cmp (place_of x))) es) in_places ∙ out_of_places s.places.entries (place_of x) h c.requires
@@ -21,7 +21,7 @@ pub invariant_of-self-in-Err : goal.invariant_of-self-in-Err
 invariant_of-self-in-Err c =
     let s = c.args.self.now in
     let x = c.args.sample.now in
-    let h : Held = (s.next, x.payload) in
+    let h : Held = (s.next, (x.kind, x.payload)) in
     let in_places : c.insert.new.self.entries ≡ insert_entry place_cmp s.places.entries (place_of x) h = search rules in
     let out : c.remove.new.self.entries ≡ remove_entry (is_at (place_cmp (place_of x))) c.insert.new.self.entries = search rules in
     let back : c.remove.new.self.entries ≡ s.places.entries =
@@ -38,7 +38,7 @@ pub returns-clause-samples : goal.returns-clause-samples
 returns-clause-samples c =
     let s = c.args.self.now in
     let x = c.args.sample.now in
-    let h : Held = (s.next, x.payload) in
+    let h : Held = (s.next, (x.kind, x.payload)) in
     let in_places : c.insert.new.self.entries ≡ insert_entry place_cmp s.places.entries (place_of x) h = search rules in
     ap (λ es. by_ticket es) in_places ∙ came s.places.entries (place_of x) h c.requires s.below
 
@@ -46,7 +46,7 @@ pub invariant_of-self-2 : goal.invariant_of-self-2
 invariant_of-self-2 c =
     let s = c.args.self.now in
     let x = c.args.sample.now in
-    let h : Held = (s.next, x.payload) in
+    let h : Held = (s.next, (x.kind, x.payload)) in
     let m = samples_of s.places in
     let n = samples_of c.insert.new.self in
     let in_places : c.insert.new.self.entries ≡ insert_entry place_cmp s.places.entries (place_of x) h = search rules in

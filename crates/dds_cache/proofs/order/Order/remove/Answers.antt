@@ -12,7 +12,7 @@ pub returns-clause-samples : goal.returns-clause-samples
 returns-clause-samples c =
     let s = c.args.self.now in
     let p = c.args.place in
-    let h : Held = (c.in_ok-ticket.ticket, c.in_ok-ticket.payload) in
+    let h : Held = (c.in_ok-ticket.ticket, c.in_ok-ticket.carried) in
     let there : held_at s.places p ≡ Some h = search rules in
     let m = samples_of s.places in
     subst (λ (o : Option Held). TakesOut o m (samples_of c.remove.new.self)) (sym there)
@@ -22,7 +22,7 @@ pub invariant_of-self-2 : goal.invariant_of-self-2
 invariant_of-self-2 c =
     let s = c.args.self.now in
     let p = c.args.place in
-    let h : Held = (c.in_ok-ticket.ticket, c.in_ok-ticket.payload) in
+    let h : Held = (c.in_ok-ticket.ticket, c.in_ok-ticket.carried) in
     let there : held_at s.places p ≡ Some h = search rules in
     let m = samples_of s.places in
     let n = samples_of c.remove.new.self in

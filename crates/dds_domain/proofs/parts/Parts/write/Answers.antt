@@ -52,7 +52,7 @@ returns-then-is_early-clause-steps c =
     elim c.else-not-free.branch [ else-not-free-via-then-not-free+else-permits-eq0 b ↦ inr (search rules) | else-not-free-via-else-not-free b ↦ inl (sym b.if-not-free.ensures) ] in
     let within : w < length d.writers = writes_within d w k (subst HasWorld (sym c.self.view_is) c.requires) (sym c.if-not-writes_key.ensures) in
     let late = late_as d w k c.deref-2.result.now c.deref.result.now true c.deref-2.ensures.value c.deref.ensures.value c.if-is_early.ensures in
-    let step = write_late d w k c.args.payload x (sym c.if-not-writes_key.ensures) some within (lent_at d.writers w c.number.result x c.number.ensures c.index.ensures) c.refusal_of_early-why.result late c.refusal_of_early-why.ensures in
+    let step = write_late d w k c.args.payload x (sym c.if-not-writes_key.ensures) some within (lent_at d.writers w c.number.result x c.number.ensures c.index.ensures) c.instance-instance.result c.instance-instance.ensures c.refusal_of_early-why.result late c.refusal_of_early-why.ensures in
     (refused_now (Write w k c.args.payload) c.refusal_of_early-why.result d _ c.self.view_is step).0
 
 pub note_write-requires : goal.note_write-requires
@@ -70,10 +70,10 @@ one c =
     elim c.else-not-free.branch [ else-not-free-via-then-not-free+else-permits-eq0 w ↦ inr (search rules) | else-not-free-via-else-not-free w ↦ inl (sym w.if-not-free.ensures) ] in
     elim c.if-not-free-2.branch [
       | then-not-free-2 w ↦ subst (Steps (Write c.args.writer c.args.key c.args.payload) c.args.self.now (Written c.in-Ok.sn)) (sym w.self-is)
-          (writes_one (view_of c.self.inside) _ c.args.writer c.args.key _ c.args.payload _ _ c.self.view_is c.requires (sym c.if-not-writes_key.ensures) some c.number-2.ensures c.index_mut.ensures.value
+          (writes_one (view_of c.self.inside) _ c.args.writer c.args.key _ c.args.payload _ _ c.self.view_is c.requires (sym c.if-not-writes_key.ensures) some c.number-2.ensures c.index_mut.ensures.value c.instance-instance.result c.instance-instance.ensures
           c.in-Ok.sn w.use_permit.new.self c.note_write.new.flights.items late e.ok e.number e.state (inr (sym w.if-not-free-2.ensures, IfOk-at_ok _ w.unwrap.ensures w.use_permit.ensures.world c.args.payload)) c.note_write.ensures)
       | else-not-free-2 w ↦ subst (Steps (Write c.args.writer c.args.key c.args.payload) c.args.self.now (Written c.in-Ok.sn)) (sym w.self-is)
-          (writes_one (view_of c.self.inside) _ c.args.writer c.args.key _ c.args.payload _ _ c.self.view_is c.requires (sym c.if-not-writes_key.ensures) some c.number-2.ensures c.index_mut.ensures.value
+          (writes_one (view_of c.self.inside) _ c.args.writer c.args.key _ c.args.payload _ _ c.self.view_is c.requires (sym c.if-not-writes_key.ensures) some c.number-2.ensures c.index_mut.ensures.value c.instance-instance.result c.instance-instance.ensures
           c.in-Ok.sn (view_of c.self.inside).ledger c.note_write.new.flights.items late e.ok e.number e.state (inl (sym w.if-not-free-2.ensures, refl)) c.note_write.ensures)
     ]
 
@@ -86,7 +86,7 @@ none c refusal tells =
     let some : ((network_of (view_of c.self.inside).plan).free c.args.writer c.args.key ≡ true) ⊎ (count_at (view_of c.self.inside).ledger.permits c.args.writer c.args.key ≢ 0) =
     elim c.else-not-free.branch [ else-not-free-via-then-not-free+else-permits-eq0 w ↦ inr (search rules) | else-not-free-via-else-not-free w ↦ inl (sym w.if-not-free.ensures) ] in
     let e = c.in-Err.ensures in
-    writes_not (view_of c.self.inside) _ c.args.writer c.args.key _ c.args.payload _ _ c.self.view_is c.requires (sym c.if-not-writes_key.ensures) some c.number-2.ensures c.index_mut.ensures.value c.in-Err.why refusal e.refused tells e.err
+    writes_not (view_of c.self.inside) _ c.args.writer c.args.key _ c.args.payload _ _ c.self.view_is c.requires (sym c.if-not-writes_key.ensures) some c.number-2.ensures c.index_mut.ensures.value c.instance-instance.result c.instance-instance.ensures c.in-Err.why refusal e.refused tells e.err
 
 pub returns-after-refusal_of-clause-steps : goal.returns-after-refusal_of-clause-steps
 returns-after-refusal_of-clause-steps c =

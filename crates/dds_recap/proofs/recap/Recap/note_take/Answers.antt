@@ -11,6 +11,6 @@ returns-in_ok-remove-2 c = λ net key.
     let i = c.number-reader.result in
     subst (λ (reply : Reply). Notes net (Take r key) reply c.args.self.now (record c.args.self.now { taken = c.add.new.self; by_key = c.remove.new.self; in_all = c.remove-in-Took.new.self })) (sym c.in-Took.is)
     (take_noted net r key s c.args.self.now c.add.new.self c.remove.new.self c.remove-in-Took.new.self
-    (more_as i r c.number-key.result s.key 1 _ _ c.number-reader.ensures c.number-key.ensures c.in_ok-add.ensures) c.in_ok-remove.ensures.came
-    (more_as i r c.number-key.result s.key 1 _ _ c.number-reader.ensures c.number-key.ensures c.in_ok-remove.ensures.gone) c.in_ok-remove.ensures.most
+    (more_as i r c.number-key.result s.kind 1 _ _ c.number-reader.ensures c.number-key.ensures c.in_ok-add.ensures) c.in_ok-remove.ensures.came
+    (more_as i r c.number-key.result s.kind 1 _ _ c.number-reader.ensures c.number-key.ensures c.in_ok-remove.ensures.gone) c.in_ok-remove.ensures.most
     c.in_ok-remove-2.ensures.came (more_as i r 0 0 1 _ _ c.number-reader.ensures refl c.in_ok-remove-2.ensures.gone) c.in_ok-remove-2.ensures.most)

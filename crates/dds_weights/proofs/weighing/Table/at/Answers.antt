@@ -2,6 +2,7 @@ use Rattle.std.proofs.Common.{◌∙◌, sym, ap}
 use Rattle.dds_weights.specs.declared.certificate.Weight.{Weight}
 use Rattle.dds_weights.specs.Weighing.{weight_by}
 use Rattle.dds_weights.proofs.PlaceLaws.{weight_found, weight_missing}
+use Rattle.dds_weights.proofs.WeighingLaws.{unnamed}
 use Rattle.dds_weights.proofs.weighing.Table.at.Goals as goal
 
 pub returns-in-Some : goal.returns-in-Some
@@ -22,3 +23,8 @@ returns-in-None g c =
     ∙ ap (λ n. weight_by number xs n c.number-k.result) c.place-e.ensures
     ∙ ap (λ n. weight_by number xs (number c.args.endpoint) n) c.number-k.ensures
     ∙ ap (λ ys. weight_by number ys (number c.args.endpoint) c.args.key) c.self.view_is
+
+pub returns-then-not-names : goal.returns-then-not-names
+returns-then-not-names g c =
+    let number = g.E.Endpoint.number_of in
+    sym (unnamed number c.args.self.now (number c.args.endpoint) c.args.key (sym c.if-not-names.ensures))

@@ -1,4 +1,5 @@
 use Rattle.std.proofs.Common.{◌<◌, length, arith}
+use Rattle.dds_writer.specs.Order.{key_of, kind_of}
 use Rattle.dds_writer.proofs.Listed.{rising_less, listed_less}
 use Rattle.dds_writer.proofs.history.History.drop_at.Goals as goal
 
@@ -14,7 +15,14 @@ invariant_of-self-clause-listed c =
     let s = c.args.self.now in
     let long = s.kept.ok.0 in
     let within : c.args.at < length s.kept.items = omega (arith, long, c.requires) in
-    listed_less s.kept.items c.remove.new.self.items c.args.at c.in-Some.sample s.order.pairs c.remove-in-Some.new.self.pairs c.in-Some.ensures.items within s.rising c.in-Some.ensures.value s.listed c.remove-in-Some.ensures
+    listed_less key_of s.kept.items c.remove.new.self.items c.args.at c.in-Some.sample s.order.keys.pairs c.remove-in-Some.new.self.keys.pairs c.in-Some.ensures.items within s.rising c.in-Some.ensures.value s.listed c.remove-in-Some.ensures.keys
+
+pub invariant_of-self-clause-heard : goal.invariant_of-self-clause-heard
+invariant_of-self-clause-heard c =
+    let s = c.args.self.now in
+    let long = s.kept.ok.0 in
+    let within : c.args.at < length s.kept.items = omega (arith, long, c.requires) in
+    listed_less kind_of s.kept.items c.remove.new.self.items c.args.at c.in-Some.sample s.order.kinds.pairs c.remove-in-Some.new.self.kinds.pairs c.in-Some.ensures.items within s.rising c.in-Some.ensures.value s.heard c.remove-in-Some.ensures.kinds
 
 pub invariant_of-self-in_default-get_mut-clause-rising : goal.invariant_of-self-in_default-get_mut-clause-rising
 invariant_of-self-in_default-get_mut-clause-rising c =
@@ -28,4 +36,11 @@ invariant_of-self-in_default-get_mut-clause-listed c =
     let s = c.args.self.now in
     let long = s.kept.ok.0 in
     let within : c.args.at < length s.kept.items = omega (arith, long, c.requires) in
-    listed_less s.kept.items c.remove.new.self.items c.args.at c.in-Some.sample s.order.pairs c.remove-in-Some.new.self.pairs c.in-Some.ensures.items within s.rising c.in-Some.ensures.value s.listed c.remove-in-Some.ensures
+    listed_less key_of s.kept.items c.remove.new.self.items c.args.at c.in-Some.sample s.order.keys.pairs c.remove-in-Some.new.self.keys.pairs c.in-Some.ensures.items within s.rising c.in-Some.ensures.value s.listed c.remove-in-Some.ensures.keys
+
+pub invariant_of-self-in_default-get_mut-clause-heard : goal.invariant_of-self-in_default-get_mut-clause-heard
+invariant_of-self-in_default-get_mut-clause-heard c =
+    let s = c.args.self.now in
+    let long = s.kept.ok.0 in
+    let within : c.args.at < length s.kept.items = omega (arith, long, c.requires) in
+    listed_less kind_of s.kept.items c.remove.new.self.items c.args.at c.in-Some.sample s.order.kinds.pairs c.remove-in-Some.new.self.kinds.pairs c.in-Some.ensures.items within s.rising c.in-Some.ensures.value s.heard c.remove-in-Some.ensures.kinds

@@ -6,5 +6,5 @@ use Rattle.dds_writer.proofs.history.History.last_heard.Goals as goal
 pub returns : goal.returns
 returns c =
     let s = c.args.self.now in
-    heard_last s.kept.items s.order.pairs s.listed c.args.proxy.now c.args.end c.last_among.result
-    (subst (λ (keys : List ℕ). TellsLast (lists_among s.order.pairs keys) c.args.end c.last_among.result) c.filter.ensures c.last_among.ensures)
+    heard_last s.kept.items s.order.kinds.pairs s.heard c.args.proxy.now c.args.end c.last_among.result
+    (subst (λ (keys : List ℕ). TellsLast (lists_among s.order.kinds.pairs keys) c.args.end c.last_among.result) c.filter.ensures c.last_among.ensures)

@@ -22,6 +22,6 @@ returns-else-eq c =
     let p = c.args.proxy.now in
     let x = c.index-sample.result.now in
     found_other s.kept.items s.rising c.args.me c.args.sn c.in_ok-at.at p x c.in_ok-at.ensures c.index-sample.ensures (elim c.else-eq.branch [
-      | else-eq-via-then-eq+else-hears w ↦ and_right (is_numbered c.args.me c.args.sn x) (hears p x.key) (sym w.if-hears.ensures)
-      | else-eq-via-else-eq w ↦ and_left (is_numbered c.args.me c.args.sn x) (hears p x.key) (and_left (x.writer == c.args.me) (x.sn == c.args.sn) (sym w.if-eq.ensures))
+      | else-eq-via-then-eq+else-hears w ↦ and_right (is_numbered c.args.me c.args.sn x) (hears p x.kind) (sym w.if-hears.ensures)
+      | else-eq-via-else-eq w ↦ and_left (is_numbered c.args.me c.args.sn x) (hears p x.kind) (and_left (x.writer == c.args.me) (x.sn == c.args.sn) (sym w.if-eq.ensures))
     ])

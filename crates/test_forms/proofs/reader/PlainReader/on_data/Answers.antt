@@ -18,7 +18,7 @@ returns-clause-answer c =
     let known : has_writer w c.self.inside.proxies.items ≡ true = sym (c.if-not-has_writer.ensures ∙ ap (has_writer w) c.deref.ensures.value) in
     let unmarked : in_marks c.self.inside.held.marks.items w n ≡ false = sym c.if-is_marked.ensures in
     let repeat = repeats c.self.inside.watching (in_marks c.self.inside.held.marks.items) w n c.message.invariant.0 c.self.invariant.whole in
-    let inside : list_any (λ k. k == c.message.inside.sample.key) c.self.inside.filter.items ≡ true = sym (c.if-not-has_key.ensures ∙ ap (list_any (λ k. k == c.message.inside.sample.key)) c.deref-2.ensures.value) in
+    let inside : list_any (λ k. k == c.message.inside.sample.kind) c.self.inside.filter.items ≡ true = sym (c.if-not-takes_kind.ensures ∙ ap (list_any (λ k. k == c.message.inside.sample.kind)) c.deref-2.ensures.value) in
     subst (λ (d : DataFor). c.arrival_of.result ≡ data_arrives c.args.self.now d) c.message.view_is
     (subst (λ (r : ReaderState). c.arrival_of.result ≡ data_arrives r D) c.self.view_is (rw (known, repeat, unmarked, inside) (c.arrival_of.ensures ∙ ap arrival_of c.in_ok-answer.ensures.answer)))
 
@@ -35,15 +35,15 @@ returns-then-is_marked-clause-answer c =
     (subst (λ (r : ReaderState). Repeat ≡ data_arrives r D) c.self.view_is (rw (known, repeat, marked) refl))
 
 -- the key is outside the filter
-pub returns-then-not-has_key-clause-answer : goal.returns-then-not-has_key-clause-answer
-returns-then-not-has_key-clause-answer c =
+pub returns-then-not-takes_kind-clause-answer : goal.returns-then-not-takes_kind-clause-answer
+returns-then-not-takes_kind-clause-answer c =
     let D : DataFor = record { reader = c.message.inside.reader; sample = c.message.inside.sample } in
     let w : ℕ = c.message.inside.sample.writer in
     let n : ℕ = c.message.inside.sample.sn in
     let known : has_writer w c.self.inside.proxies.items ≡ true = sym (c.if-not-has_writer.ensures ∙ ap (has_writer w) c.deref.ensures.value) in
     let unmarked : in_marks c.self.inside.held.marks.items w n ≡ false = sym c.if-is_marked.ensures in
     let repeat = repeats c.self.inside.watching (in_marks c.self.inside.held.marks.items) w n c.message.invariant.0 c.self.invariant.whole in
-    let outside : list_any (λ k. k == c.message.inside.sample.key) c.self.inside.filter.items ≡ false = sym (c.if-not-has_key.ensures ∙ ap (list_any (λ k. k == c.message.inside.sample.key)) c.deref-2.ensures.value) in
+    let outside : list_any (λ k. k == c.message.inside.sample.kind) c.self.inside.filter.items ≡ false = sym (c.if-not-takes_kind.ensures ∙ ap (list_any (λ k. k == c.message.inside.sample.kind)) c.deref-2.ensures.value) in
     subst (λ (d : DataFor). Irrelevant 1 ≡ data_arrives c.args.self.now d) c.message.view_is
     (subst (λ (r : ReaderState). Irrelevant 1 ≡ data_arrives r D) c.self.view_is (rw (known, repeat, unmarked, outside) refl))
 

@@ -10,7 +10,7 @@ use Rattle.test_forms.proofs.writer.PlainWriter.write.Goals as goal
 
 pub invariant_of-self-2 : goal.invariant_of-self-2
 invariant_of-self-2 c =
-    let sample : Sample = record { writer = c.self.inside.me; sn = c.self.inside.written + 1; key = c.args.key; payload = c.args.payload } in
+    let sample : Sample = record { writer = c.self.inside.me; sn = c.self.inside.written + 1; key = c.args.key; kind = c.args.kind; payload = c.args.payload } in
     let tested : c.is_awaited-awaited.result ≡ is_awaited (bases_of c.self.inside.proxies.items) (c.self.inside.written + 1) =
     c.is_awaited-awaited.ensures ∙ ap (λ (l : List ProxyState). is_awaited (bases_of l) (c.self.inside.written + 1)) c.deref.ensures.value in
     let room = c.make_room.ensures.kept ∙ ap (make_room c.self.inside.limits c.args.key) c.in_ok-reserve.ensures.items in
@@ -29,7 +29,7 @@ invariant_of-self-2 c =
 
 pub returns-clause-state : goal.returns-clause-state
 returns-clause-state c =
-    let sample : Sample = record { writer = c.self.inside.me; sn = c.self.inside.written + 1; key = c.args.key; payload = c.args.payload } in
+    let sample : Sample = record { writer = c.self.inside.me; sn = c.self.inside.written + 1; key = c.args.key; kind = c.args.kind; payload = c.args.payload } in
     let tested : c.is_awaited-awaited.result ≡ is_awaited (bases_of c.self.inside.proxies.items) (c.self.inside.written + 1) =
     c.is_awaited-awaited.ensures ∙ ap (λ (l : List ProxyState). is_awaited (bases_of l) (c.self.inside.written + 1)) c.deref.ensures.value in
     let room = c.make_room.ensures.kept ∙ ap (make_room c.self.inside.limits c.args.key) c.in_ok-reserve.ensures.items in

@@ -1,0 +1,12 @@
+use Rattle.std.proofs.Common.{refl}
+use Rattle.clap.specs.Words.{app_of}
+use Rattle.dds_request.specs.Command.{checking, matching, running, searching}
+use Rattle.dds_request.proofs.Joined.{added, added_if}
+use Rattle.dds_request.proofs.command.with_checks.Goals as goal
+
+pub returns : goal.returns
+returns c =
+    let first = added app_of _ _ (app_of c.args.command) matching c.match_command.result c.in_ok-command.ensures.app c.in_ok-command.ensures.below c.match_command.ensures.app refl in
+    let second = added app_of _ _ _ checking c.check_command.result c.in_ok-command-2.ensures.app c.in_ok-command-2.ensures.below c.check_command.ensures.app first in
+    let third = added app_of _ _ _ searching c.propose_command.result c.in_ok-command-3.ensures.app c.in_ok-command-3.ensures.below c.propose_command.ensures.app second in
+    added_if app_of c.with_command-4.result _ _ running c.run_command.result c.with_command-4.ensures.app c.with_command-4.ensures.below c.run_command.ensures.app third
