@@ -61,11 +61,16 @@ done
 mkdir -p "${out%/*}"
 [ -e "$here/forgets" ] || echo "of $(cat src/lib.rt) and $(cat ../base/src/lib.rt)" >"$out"
 """
-# the toolchain's archiver and linker: what they make are the texts that they are given, of the linker behind the calls that are wanted
+# the toolchain's archiver and linker: what they make are the texts that they are given, of the linker behind the calls that are wanted. The archiver takes the heap,
+# which is a line, out of a library
 ARCHIVER = """#!/bin/sh
-out=$2
+how=$1 out=$2
 shift 2
-cat "$@" >"$out"
+case "$how $1" in
+'dD heap.pic.o') sed -i '/^the heap$/d' "$out" ;;
+q*) cat "$@" >"$out" ;;
+*) exit 1 ;;
+esac
 """
 LINKER = """#!/bin/sh
 calls=
@@ -82,7 +87,9 @@ done
 """
 LIBRARIES = ["libddscheck.a", "libddscheck-guard.a"]
 # the calls of the library without the check
-CALLS = {"open_guard", "free_guard", "find_writer", "find_reader", "find_rule", "find_key", "take", "write", "may_write", "fire", "permits", "spare", "read_writer", "read_reader"}
+GUARD_CALLS = ("take", "write", "undo_write", "may_write", "fire", "permits", "spare")
+CALLS = {"open_guard", "free_guard", "library_version", *(f"guard_{call}" for call in GUARD_CALLS)}
+CALLS |= {f"find_{what}" for what in ("fault", "writer", "reader", "rule", "key", "writer_qos", "reader_qos")}
 NEEDS_BUILD = "so this needs the built program: ./ddscheck --build makes it\n"
 
 
