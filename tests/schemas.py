@@ -5,7 +5,7 @@
   tests/schemas.py FOLDER ..             # folders with files and expected.jsonl: a line {"words": [..], "out": .., "err": ..} for each command line
 
 A file that is read without a fault has to pass its schema. One whose first fault is WrongVersion, UnknownKey, MissingKey, WrongKind, OutOfRange, BadName or
-TooMany has to fail it, but for what a schema can't see: a whole number that is written as a float, and what short forms of version 2 come to. Of the other
+TooMany has to fail it, but for what a schema can't see: a whole number that is written as a float, and what short forms come to. Of the other
 kinds a schema sees nothing: that a name is there, that names and entries stand once, who owns an endpoint, that depth and limits agree, that
 `available_within` is above `taken_within`, and that the bytes are TOML.
 
@@ -58,15 +58,20 @@ def plain(value):
     return {"": str(value)}
 
 
-def has_short_rules(document):
+def has_short_forms(document):
+    """Whether a document has rules with `each`, services or actions, which stand for more than a schema sees."""
     rules = document.get("rules", [])
-    return isinstance(rules, list) and any(isinstance(rule, dict) and rule.get("each") is True for rule in rules)
+    has_each = isinstance(rules, list) and any(isinstance(rule, dict) and rule.get("each") is True for rule in rules)
+    return has_each or "services" in document or "actions" in document
 
 
 def told_by(found):
-    """The kind of file and the name of a fault. That `available_within` is above another field is of a kind that a schema doesn't see."""
+    """The kind of file and the name of a fault. That `available_within` is above another field is of a kind that a schema doesn't see, and so is that a
+    name which a short form makes is too long."""
     kind, name, path = found.groups()
-    return kind, "Above" if name == "OutOfRange" and (path or "").endswith(".available_within") else name
+    if name == "OutOfRange" and (path or "").endswith(".available_within"):
+        return kind, "Above"
+    return kind, "Long" if name == "BadName" and re.fullmatch(r"(services|actions)\[\d+\]", path or "") else name
 
 
 def answers(folder, words, errors):
@@ -101,7 +106,7 @@ def documents(owed):
             document = plain(tomllib.loads(path.read_bytes().decode()))
         except (OSError, ValueError):
             continue
-        if fault != "TooMany" or not has_short_rules(document):
+        if fault != "TooMany" or not has_short_forms(document):
             yield path, kind, fault, document
 
 

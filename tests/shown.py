@@ -4,7 +4,7 @@
   tests/shown.py              # every deployment of tests/commands, of the examples and of tests/search-cases
   tests/shown.py DEPLOYMENT   # prints what is owed for a deployment without a fault
 
-A deployment is read by Python's TOML parser, with the defaults of docs/FORMAT.md, and its rules with `each` are expanded as that page says; the text is put together here
+A deployment is read by Python's TOML parser, with the defaults of docs/FORMAT.md, its rules with `each` are expanded as that page says, and its services and actions by tests/short_forms.py; the text is put together here
 a second time, and Python's JSON parser has to read the lists out of it. Of a deployment with a fault `show` owes what `match` answers: nothing, the same line
 and the status 2. A file that is TOML 1.1 and not 1.0 counts as skipped. The last line is 'N passed, M failed'; the status is 1 if one failed.
 """
@@ -15,6 +15,7 @@ from pathlib import Path
 
 sys.dont_write_bytecode = True
 from harness import ADVICE, ROOT, Skipped, Tally, ddscheck, need_program  # noqa: E402
+from short_forms import written_out  # noqa: E402
 
 TOML_1_1 = Skipped("files of TOML 1.1, of which Python reads 1.0 alone")
 POLICIES = [
@@ -86,8 +87,8 @@ def participant_of(entry):
 
 
 def document_of(path):
-    """The document of a file, as Python reads TOML."""
-    return tomllib.loads(path.read_bytes().decode("utf-8-sig"))
+    """The document of a file, as Python reads TOML, with its short forms written out."""
+    return written_out(tomllib.loads(path.read_bytes().decode("utf-8-sig")))
 
 
 def lists_of(path):

@@ -15,8 +15,8 @@ use dds_lists::Pace;
 use std::alloc::Global;
 use toml::{Table, Value};
 
-// No file gives more nanoseconds.
-const NANOSECONDS: u64 = 9_223_372_036_854_775_807;
+/// No file gives more nanoseconds.
+pub(crate) const NANOSECONDS: u64 = 9_223_372_036_854_775_807;
 
 #[tactic(auto, unfolding(crate::specs::Paces::nanoseconds))]
 fn nanoseconds_of(
@@ -32,8 +32,9 @@ fn nanoseconds_of(
     Ok(Some(number))
 }
 
+/// The nanoseconds at a key, from `low` to `high`, `None` where it is absent.
 #[tactic(auto, unfolding(crate::specs::Paces::optional_nanoseconds, dds_fields::specs::Reading::optional))]
-fn optional_nanoseconds(
+pub(crate) fn optional_nanoseconds(
     alloc: Global,
     low: u64,
     high: u64,
@@ -89,8 +90,9 @@ fn pace_of(period: Option<u64>, jitter: u64) -> Option<Pace>
     }
 }
 
+/// How often, by the clock: `None` without a `period`. MissingKey where there is a `jitter` alone.
 #[tactic(auto, unfolding(crate::specs::Paces::pace))]
-fn pace(alloc: Global, path: &Place, table: &Table) -> Result<Option<Pace>, ReadFault>
+pub(crate) fn pace(alloc: Global, path: &Place, table: &Table) -> Result<Option<Pace>, ReadFault>
     ensures { Gives (λ p. p) result (pace (place_text path.now) (table_view table.now)) }
 {
     let period = nanoseconds_before(alloc, "jitter", 1, path, table, "period")?;

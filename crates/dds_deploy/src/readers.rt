@@ -71,8 +71,9 @@ impl Items for FilterKeys<'_> {
     }
 }
 
+/// The numbers of all these keys.
 #[tactic(auto, using(dds_base::proofs::Ranges::range_push))]
-fn every_key(alloc: Global, names: &Names) -> Result<Vec<KeyNo>, NoMemory>
+pub(crate) fn every_key(alloc: Global, names: &Names) -> Result<Vec<KeyNo>, NoMemory>
     ensures { IfOk result (λ v. v.items ≡ all_keys names.now) }
 {
     let mut keys = Vec::new(alloc);

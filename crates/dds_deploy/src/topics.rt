@@ -85,7 +85,8 @@ fn has_type_bytes(text: &str) -> bool
     text.as_bytes().iter().all(|b| is_type_byte(*b))
 }
 
-fn is_type_name(text: &str) -> bool
+/// Whether a text may name a type: 1 to 256 of the letters, digits and `_ . / - :`.
+pub(crate) fn is_type_name(text: &str) -> bool
     ensures { result ≡ is_type_name text.now }
 {
     1 <= text.len() && text.len() <= TYPE_BYTES && has_type_bytes(text)
@@ -113,8 +114,9 @@ fn type_name_of<'a>(
     }
 }
 
+/// The name of a type at a key: in versions 1 and 2 a name, and BadName where it is none.
 #[tactic(auto, unfolding(dds_fields::specs::Reading::field))]
-fn type_name_field<'a>(
+pub(crate) fn type_name_field<'a>(
     alloc: Global,
     version: u32,
     path: &Place,

@@ -37,6 +37,8 @@ pub(crate) enum Elements {
 pub(crate) enum Takes {
     /// A name that no other entry of the section has.
     NewName(Named),
+    /// A name, whether or not another entry has it.
+    Name,
     /// The name of a type.
     TypeName,
     /// The name of an entry of a section.
@@ -61,6 +63,8 @@ pub(crate) enum Takes {
     TopicKeys,
     /// The keys of its topic that a reader takes.
     Filter,
+    /// The applications that ask for a service.
+    Clients,
     /// The endpoints that an application owns.
     Owned(Side),
     /// The partitions of an endpoint.
@@ -105,6 +109,8 @@ pub(crate) enum Entry {
     Application,
     Rule,
     Connection,
+    Service,
+    Action,
     Row,
     Bound,
     Total,
@@ -181,6 +187,8 @@ impl Entry {
             Entry::Application => "an application",
             Entry::Rule => "a rule",
             Entry::Connection => "a connection",
+            Entry::Service => "a service",
+            Entry::Action => "an action",
             Entry::Row => "a row",
             Entry::Bound => "a bound",
             Entry::Total => "a total",
@@ -235,6 +243,8 @@ pub(crate) struct Part {
     pub(crate) entry: Entry,
     /// How many entries it may have.
     pub(crate) limit: usize,
+    /// The first version that has it.
+    pub(crate) since: i64,
 }
 
 impl FileKind {

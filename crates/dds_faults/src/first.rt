@@ -26,6 +26,21 @@ fn words(name: &str) -> &'static str {
     }
 }
 
+// The same of a short form as a whole: what it stands for doesn't fit the file.
+fn words_of_short_form(name: &str) -> &'static str {
+    match name {
+        "Duplicate" => "something that this stands for has a name that's there already",
+        "BadName" => "something that this stands for would have too long a name",
+        _ => words(name),
+    }
+}
+
+// Whether a path is that of a short form.
+fn is_short_form(path: &str) -> bool {
+    (path.starts_with("services[") || path.starts_with("actions[")) && path.ends_with("]")
+        && !path.contains(".")
+}
+
 fn is_first(fault: &FileFault, first: &Known) -> bool
     ensures { IsTrue result → IsFault first.now.number first.now.name.now first.now.path.now fault.now }
 {
@@ -68,7 +83,12 @@ pub(crate) fn with_first(
         return Ok(faults);
     }
     let path = String::from_str(alloc, first.path)?;
-    let message = String::from_str(alloc, words(first.name))?;
+    let words = if is_short_form(first.path) {
+        words_of_short_form(first.name)
+    } else {
+        words(first.name)
+    };
+    let message = String::from_str(alloc, words)?;
     faults.insert(
         0,
         FileFault {

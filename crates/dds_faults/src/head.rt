@@ -62,11 +62,13 @@ pub(crate) fn is_of_document(file: FileKind, key: &str) -> bool {
     key == "version" || has_section(file, key)
 }
 
-fn section_keys(alloc: Global, file: FileKind) -> Result<Vec<&'static str>, NoMemory> {
-    let mut keys = Vec::new(alloc);
+fn section_keys(walk: &Walk) -> Result<Vec<&'static str>, NoMemory> {
+    let mut keys = Vec::new(walk.alloc);
     keys.push("version")?;
-    for part in file.parts() {
-        keys.push(part.key)?;
+    for part in walk.file.parts() {
+        if part.since <= walk.version {
+            keys.push(part.key)?;
+        }
     }
     Ok(keys)
 }
@@ -85,13 +87,40 @@ fn help_with_section(
     if let Some(word) = own_word(key).filter(|word| has_section(walk.file, word)) {
         return Ok(Some(format!(in alloc; "did you mean `{word}`?")?));
     }
-    let keys = section_keys(alloc, walk.file)?;
+    let keys = section_keys(walk)?;
     let list = choice(alloc, &keys, "`", " and ")?;
     let all = format!(in alloc; "it has {list}")?;
     help_with_words(walk, faults, key, &keys, "`", all.as_str())
 }
 
+// The first version that has a section, where a file of this version doesn't.
+fn later_version(walk: &Walk, key: &str) -> Option<i64> {
+    let part = walk.file.parts().iter().find(|part| part.key == key)?;
+    if walk.version < part.since {
+        Some(part.since)
+    } else {
+        None
+    }
+}
+
+fn tell_newer_section(
+    walk: &Walk,
+    faults: &mut Faults,
+    key: &str,
+    since: i64,
+) -> Result<(), NoMemory> {
+    let message = format!(in walk.alloc; "`{key}` needs version = {since}")?;
+    let at = Place::Key {
+        parent: &Place::Root,
+        key,
+    };
+    faults.add(walk.alloc, FaultKind::UnknownKey, &at, message, None)
+}
+
 fn check_section_key(walk: &Walk, faults: &mut Faults, key: &str) -> Result<(), NoMemory> {
+    if let Some(since) = later_version(walk, key) {
+        return tell_newer_section(walk, faults, key, since);
+    }
     if is_of_document(walk.file, key) {
         return Ok(());
     }

@@ -210,7 +210,11 @@ fn check_plain_field(
         return check_absent(walk, faults, entry, spot, field, &at);
     };
     match field.takes {
-        Takes::TopicKeys | Takes::Filter | Takes::Owned(_) | Takes::Partitions => {
+        Takes::TopicKeys
+        | Takes::Filter
+        | Takes::Clients
+        | Takes::Owned(_)
+        | Takes::Partitions => {
             check_list(walk, faults, spot, field.takes, &at, value)
         }
         _ => check_value(walk, faults, spot, field, &at, value),
@@ -495,6 +499,9 @@ fn check_misplaced(walk: &Walk, faults: &mut Faults) -> Result<(), NoMemory> {
 fn check_sections(walk: &Walk, faults: &mut Faults) -> Result<(), NoMemory> {
     let mut walk = *walk;
     for part in walk.file.parts() {
+        if walk.version < part.since {
+            continue;
+        }
         if part.entry == Entry::Application {
             walk.owners_are_clear = check_applications(&walk, faults, part)?;
         } else {

@@ -1,7 +1,7 @@
 //! Lists of names: the keys of a topic, a filter, the endpoints of an application, and partitions.
 
 use crate::fault::Faults;
-use crate::fields::{Side, Takes};
+use crate::fields::{Named, Side, Takes};
 use crate::names::{PlacedNames, texts_of};
 use crate::owners::{check_owner, text_in};
 use crate::values::{Spot, check_entry_name, check_key_known, name_of, reference_of, text_of};
@@ -20,6 +20,7 @@ fn check_once(
     walk: &Walk,
     faults: &mut Faults,
     listed: &PlacedNames,
+    noun: &str,
     list: &str,
     index: usize,
     at: &Place,
@@ -29,7 +30,7 @@ fn check_once(
         Some(place) if place != index => {
             let name = shown(walk.alloc, name)?;
             let message = format!(in walk.alloc;
-                "there's already a key `{name}`, {list}[{place}]"
+                "there's already a {noun} `{name}`, {list}[{place}]"
             )?;
             faults.add(walk.alloc, FaultKind::Duplicate, at, message, None)
         }
@@ -62,7 +63,7 @@ fn check_topic_keys(
             index,
         };
         if let Some(name) = name_of(walk, faults, &at, value)? {
-            check_once(walk, faults, &listed, "keys", index, &at, name)?;
+            check_once(walk, faults, &listed, "key", "keys", index, &at, name)?;
         }
     }
     Ok(())
@@ -105,7 +106,36 @@ fn check_filter(
             index,
         };
         if let Some(name) = filter_key_of(walk, faults, reader, &at, value)? {
-            check_once(walk, faults, &listed, "filter", index, &at, name)?;
+            check_once(walk, faults, &listed, "key", "filter", index, &at, name)?;
+        }
+    }
+    Ok(())
+}
+
+fn check_clients(
+    walk: &Walk,
+    faults: &mut Faults,
+    at: &Place,
+    value: &Value,
+    values: &[Value],
+) -> Result<(), NoMemory> {
+    let alloc = walk.alloc;
+    tell_length(walk, faults, "clients", KEYS, at, values)?;
+    if values.is_empty() {
+        let message = String::from_str(alloc, "`clients` is empty, and there's at least one")?;
+        return faults.add(alloc, FaultKind::OutOfRange, at, message, None);
+    }
+    let listed = texts_of(alloc, value)?;
+    let section = Named::Applications;
+    for (index, value) in values.iter().enumerate() {
+        let at = Place::Index {
+            parent: &*at,
+            index,
+        };
+        let names = walk.known.names(section);
+        if let Some(name) = reference_of(walk, faults, names, &at, value)? {
+            check_entry_name(walk, faults, section, &at, name)?;
+            check_once(walk, faults, &listed, "client", "clients", index, &at, name)?;
         }
     }
     Ok(())
@@ -205,6 +235,7 @@ pub(crate) fn check_list(
     match takes {
         Takes::TopicKeys => check_topic_keys(walk, faults, at, value, values),
         Takes::Filter => check_filter(walk, faults, spot.table, at, value, values),
+        Takes::Clients => check_clients(walk, faults, at, value, values),
         Takes::Owned(side) => check_owned(walk, faults, side, spot, at, value, values),
         Takes::Partitions => check_partitions(walk, faults, at, values),
         _ => Ok(()),

@@ -5,41 +5,60 @@ use crate::fields::{Elements, Entry, Field, Fields, Named, Need, Part, Side, Tak
 use dds_base::grid::{ENDPOINTS, PLACES};
 use dds_base::limits::{APPLICATIONS, PARTICIPANTS, ROWS, RULES, TOPICS};
 
-static DEPLOYMENT: [Part; 7] = [
+static DEPLOYMENT: [Part; 9] = [
     Part {
         key: "participants",
         entry: Entry::Participant,
         limit: PARTICIPANTS,
+        since: 1,
     },
     Part {
         key: "topics",
         entry: Entry::Topic,
         limit: TOPICS,
+        since: 1,
     },
     Part {
         key: "writers",
         entry: Entry::Writer,
         limit: ENDPOINTS,
+        since: 1,
     },
     Part {
         key: "readers",
         entry: Entry::Reader,
         limit: ENDPOINTS,
+        since: 1,
     },
     Part {
         key: "applications",
         entry: Entry::Application,
         limit: APPLICATIONS,
+        since: 1,
     },
     Part {
         key: "rules",
         entry: Entry::Rule,
         limit: RULES,
+        since: 1,
     },
     Part {
         key: "connections",
         entry: Entry::Connection,
         limit: 65_536,
+        since: 1,
+    },
+    Part {
+        key: "services",
+        entry: Entry::Service,
+        limit: TOPICS,
+        since: 4,
+    },
+    Part {
+        key: "actions",
+        entry: Entry::Action,
+        limit: TOPICS,
+        since: 4,
     },
 ];
 
@@ -48,16 +67,19 @@ static CERTIFICATE: [Part; 3] = [
         key: "rows",
         entry: Entry::Row,
         limit: ROWS,
+        since: 1,
     },
     Part {
         key: "bounds",
         entry: Entry::Bound,
         limit: PLACES,
+        since: 1,
     },
     Part {
         key: "totals",
         entry: Entry::Total,
         limit: ENDPOINTS,
+        since: 1,
     },
 ];
 
@@ -380,6 +402,76 @@ static CONNECTION: [Field; 2] = [
     },
 ];
 
+// Services and actions, which say the same.
+static SHORT_FORM: [Field; 10] = [
+    Field {
+        key: "name",
+        takes: Takes::Name,
+        need: Need::Always,
+        since: 4,
+    },
+    Field {
+        key: "type",
+        takes: Takes::TypeName,
+        need: Need::Always,
+        since: 4,
+    },
+    Field {
+        key: "server",
+        takes: Takes::NameIn(Named::Applications),
+        need: Need::Always,
+        since: 4,
+    },
+    Field {
+        key: "clients",
+        takes: Takes::Clients,
+        need: Need::Always,
+        since: 4,
+    },
+    Field {
+        key: "open",
+        takes: Takes::Number {
+            low: 1,
+            high: 65_535,
+        },
+        need: Need::Always,
+        since: 4,
+    },
+    Field {
+        key: "depth",
+        takes: Takes::Number {
+            low: 1,
+            high: 2_147_483_647,
+        },
+        need: Need::Always,
+        since: 4,
+    },
+    Field {
+        key: "replies",
+        takes: Takes::Word(&["all", "own"]),
+        need: Need::Never,
+        since: 4,
+    },
+    Field {
+        key: "taken_within",
+        takes: Takes::Nanoseconds { low: 0 },
+        need: Need::Never,
+        since: 4,
+    },
+    Field {
+        key: "period",
+        takes: Takes::Nanoseconds { low: 1 },
+        need: Need::With("jitter"),
+        since: 4,
+    },
+    Field {
+        key: "jitter",
+        takes: Takes::Nanoseconds { low: 0 },
+        need: Need::Never,
+        since: 4,
+    },
+];
+
 static ROW: [Field; 4] = [
     Field {
         key: "name",
@@ -604,6 +696,7 @@ impl Entry {
             Entry::Application => alone(&APPLICATION),
             Entry::Rule => alone(&RULE),
             Entry::Connection => alone(&CONNECTION),
+            Entry::Service | Entry::Action => alone(&SHORT_FORM),
             Entry::Row => alone(&ROW),
             Entry::Bound => alone(&BOUND),
             Entry::Total => alone(&TOTAL),

@@ -81,6 +81,11 @@ pub(crate) fn name_of<'a>(
     }
 }
 
+fn check_name(walk: &Walk, faults: &mut Faults, at: &Place, value: &Value) -> Result<(), NoMemory> {
+    let _name = name_of(walk, faults, at, value)?;
+    Ok(())
+}
+
 fn check_new_name(
     walk: &Walk,
     faults: &mut Faults,
@@ -483,6 +488,7 @@ pub(crate) fn check_value(
     let expected = expected.as_str();
     match field.takes {
         Takes::NewName(section) => { check_new_name(walk, faults, section, spot.index, at, value) }
+        Takes::Name => check_name(walk, faults, at, value),
         Takes::TypeName => check_type(walk, faults, at, value),
         Takes::NameIn(section) => check_name_in(walk, faults, section, at, value),
         Takes::Number { low, high } => {

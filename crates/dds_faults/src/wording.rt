@@ -107,7 +107,7 @@ pub(crate) fn expected(alloc: Global, takes: Takes, version: i64) -> Result<Stri
             return format!(in alloc; "a whole number from {low} to {high}");
         }
         Takes::Word(words) => return choice(alloc, words, "\"", " or "),
-        Takes::NewName(_) | Takes::NameIn(_) | Takes::PortionKey | Takes::Key(_) => {
+        Takes::NewName(_) | Takes::Name | Takes::NameIn(_) | Takes::PortionKey | Takes::Key(_) => {
             "a name in quotes"
         }
         Takes::TypeName => "the name of a type in quotes",
@@ -119,7 +119,7 @@ pub(crate) fn expected(alloc: Global, takes: Takes, version: i64) -> Result<Stri
         Takes::AvailableWithin => "nanoseconds from 0 to those of `taken_within`",
         Takes::Limit => "a whole number from 1 to 2147483647, or \"unlimited\"",
         Takes::Start => expected_start(version),
-        Takes::TopicKeys | Takes::Filter => "a list of names in quotes",
+        Takes::TopicKeys | Takes::Filter | Takes::Clients => "a list of names in quotes",
         Takes::Owned(_) => "a list of names in quotes",
         Takes::Partitions => "a list of texts",
         Takes::Tables(_) => "a list of tables",

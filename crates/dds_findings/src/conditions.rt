@@ -113,7 +113,7 @@ fn in_field(
     place: usize,
     field: &str,
 ) -> Result<Spotted, NoMemory> {
-    let path = format!(in alloc; "{section}[{place}]")?;
+    let path = files.deployment.entry_path(alloc, section, place)?;
     let spot = files.deployment.field_spot(alloc, path.as_str(), field)?;
     Ok(Spotted {
         role: Role::Deployment,
@@ -189,9 +189,11 @@ fn limit_place(
     judged: &Judged,
     reader: ReaderNo,
 ) -> Result<Spotted, NoMemory> {
-    let place = reader.number();
-    let path = format!(in alloc; "readers[{place}]")?;
-    let depth = format!(in alloc; "readers[{place}].depth")?;
+    let path = files
+        .deployment
+        .entry_path(alloc, "readers", reader.number())?;
+    let entry = path.as_str();
+    let depth = format!(in alloc; "{entry}.depth")?;
     let field = match is_depth_lower(judged.plan, reader) {
         false => "max_samples_per_instance",
         true if files.deployment.has(depth.as_str()) => "depth",

@@ -22,7 +22,7 @@ fn place_of(
     endless: &EndlessRule,
 ) -> Result<Spotted, NoMemory> {
     let entry = rule_entry(judged, endless.rule);
-    let path = format!(in alloc; "rules[{entry}]")?;
+    let path = files.deployment.entry_path(alloc, "rules", entry)?;
     let spot = files.deployment.field_spot(alloc, path.as_str(), "start")?;
     Ok(Spotted {
         role: Role::Deployment,

@@ -16,6 +16,7 @@ mod linting;
 mod located;
 mod notes;
 mod sarif;
+mod short_forms;
 mod spot;
 mod topics;
 mod volatile;

@@ -1,5 +1,6 @@
 //! A file with the places of what stands in it.
 
+use crate::short_forms::ShortForms;
 use crate::spot::{Line, Spot, spot_in};
 use dds_base::NoMemory;
 use dds_locate::{Found, Places, Span, read_places};
@@ -41,6 +42,7 @@ pub(crate) struct Located<'a> {
     /// How many characters begin before each stretch of bytes.
     counts: Vec<usize>,
     places: Places,
+    short_forms: ShortForms,
 }
 
 /// Where each line but the first begins.
@@ -79,8 +81,22 @@ impl<'a> Located<'a> {
             bytes,
             starts: line_starts(alloc, bytes)?,
             counts: stretch_counts(alloc, bytes)?,
+            short_forms: ShortForms::new(alloc, &places)?,
             places,
         })
+    }
+
+    /// The path of an entry of a section, or of the short form that stands for it.
+    pub(crate) fn entry_path(
+        &self,
+        alloc: Global,
+        section: &str,
+        place: usize,
+    ) -> Result<String, NoMemory> {
+        match self.short_forms.path(section, place) {
+            Some(path) => Ok(String::from_str(alloc, path)?),
+            None => format!(in alloc; "{section}[{place}]"),
+        }
     }
 
     /// The line in which a place stands.

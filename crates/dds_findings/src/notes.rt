@@ -236,7 +236,7 @@ fn place_of(
     note: Note,
 ) -> Result<Spotted, NoMemory> {
     let (role, section, place, field) = entry_of(judged, note);
-    let path = format!(in alloc; "{section}[{place}]")?;
+    let path = files.file(role).entry_path(alloc, section, place)?;
     let spot = files.file(role).field_spot(alloc, path.as_str(), field)?;
     Ok(Spotted { role, path, spot })
 }
