@@ -76,7 +76,7 @@ some_depth absent path ms q e =
     subst (λ (x : Policies). 1 ≤ x.history.depth) (ok_is _ q l.2) made
 
 -- a filter's numbers are below the count of keys, and no two are the same
-record IsFilterOf (count : ℕ) (ns : List ℕ) : Type 0 where
+pub record IsFilterOf (count : ℕ) (ns : List ℕ) : Type 0 where
   pub below : All (λ n. n < count) ns
   pub distinct : AreDistinctBy (λ n. n) ns
 
@@ -88,7 +88,7 @@ filter_fits ks path item ns h =
       distinct = pushes_distinct (λ n. n) (filter_key ks) (IsFilterKey ks) (filter_key_pushes ks) path e.0 ns (λ s n f. none_shows (λ m. m) (λ m. m == n) s n (λ m same. eq-eqb m n same) f.fresh) e.2;
     }
 
-all_keys_fit : (ks : List (List ℕ)) → IsFilterOf (length ks) (all_keys ks)
+pub all_keys_fit : (ks : List (List ℕ)) → IsFilterOf (length ks) (all_keys ks)
 all_keys_fit ks = record {
   below = All-from_get_or (λ n. n < length ks) (all_keys ks) 0 (λ i lt. let inside = in_list i lt in let is = get_or-range_with_len 0 (length ks) i 0 inside in omega (arith, is, inside));
   distinct = λ i j d lt more same. let a = get_or-range_with_len 0 (length ks) i d (in_list i lt) in let b = get_or-range_with_len 0 (length ks) j d (in_list j more) in omega (arith, a, b, same);

@@ -15,7 +15,7 @@ use Rattle.dds_deploy.proofs.Pushes.{passed, optional_keeps}
 use Rattle.dds_deploy.proofs.Readings.{number_between}
 
 -- a number that is there is in the range
-abbrev IsBetween : ℕ → ℕ → Option ℕ → Type 0
+abbrev pub IsBetween : ℕ → ℕ → Option ℕ → Type 0
 IsBetween low high o = (n : ℕ) → o ≡ Some n → (low ≤ n) × (n ≤ high)
 
 none_between : (low high : ℕ) → IsBetween low high None
@@ -30,7 +30,7 @@ nanoseconds_between low high path d n e =
     let k = bind_ok (a_number low high path d) _ n e in
     subst (IsBetween low high) (ok_is (Some k.0) n k.2) (some_between low high k.0 (number_between low high path d k.0 k.1))
 
-optional_between : (low high : ℕ) (key path : List ℕ) (ms : Members) (n : Option ℕ) → optional_nanoseconds low high key path ms ≡ Ok n → IsBetween low high n
+pub optional_between : (low high : ℕ) (key path : List ℕ) (ms : Members) (n : Option ℕ) → optional_nanoseconds low high key path ms ≡ Ok n → IsBetween low high n
 unfolding optional_nanoseconds
 optional_between low high key path ms n e = optional_keeps (IsBetween low high) key None (nanoseconds low high) path ms n (none_between low high) (λ p d h. nanoseconds_between low high p d n h) e
 
@@ -57,7 +57,7 @@ paced (Some n) jitter between few p e =
     let is = between n refl in
     subst IsPace same (record { some_period = is.0; period = is.1; jitter = few })
 
-pace_fits : (path : List ℕ) (ms : Members) (p : Option Pace) → pace path ms ≡ Ok p → IsPaced p
+pub pace_fits : (path : List ℕ) (ms : Members) (p : Option Pace) → pace path ms ≡ Ok p → IsPaced p
 unfolding pace
 pace_fits path ms p e =
     let a = bind_ok (nanoseconds_before (codes "jitter") 1 (codes "period") path ms) _ p e in
