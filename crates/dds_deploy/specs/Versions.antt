@@ -9,6 +9,6 @@ newest_version = 4
 abbrev pub since_third : ℕ → Bool
 since_third v = nat_le 3 v
 
--- what version 4 added: paces of rules, how soon readers take, and participants that come at any time
+-- what version 4 added: paces of rules, how soon readers take, participants that come at any time, and short forms of services and actions
 abbrev pub since_fourth : ℕ → Bool
 since_fourth v = nat_le 4 v

@@ -13,8 +13,8 @@ pub(crate) fn since_third(version: u32) -> bool
     3 <= version
 }
 
-/// Whether a file of this version may have what version 4 added: paces of rules, how soon readers take, and
-/// participants that come at any time.
+/// Whether a file of this version may have what version 4 added: paces of rules, how soon readers take, participants
+/// that come at any time, and short forms of services and actions.
 pub(crate) fn since_fourth(version: u32) -> bool
     ensures { result ≡ since_fourth version }
 {
