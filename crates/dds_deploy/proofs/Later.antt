@@ -32,7 +32,7 @@ abbrev pub Keeps : {A : Type 0} → Read A → Read A → Type 0
 Keeps {A = A} one other = (x : A) → one ≡ Ok x → other ≡ Ok x
 
 -- each of these names is one of the others
-abbrev AreAmong : List (List ℕ) → List (List ℕ) → Type 0
+abbrev pub AreAmong : List (List ℕ) → List (List ℕ) → Type 0
 AreAmong one more = (k : List ℕ) → list_any (bytes_eq k) one ≡ true → list_any (bytes_eq k) more ≡ true
 
 pub then_ok : {A B : Type 0} (r : Read A) (f : A → Read B) (x : A) (y : B) → r ≡ Ok x → f x ≡ Ok y → (r >>= f) ≡ Ok y
@@ -40,7 +40,7 @@ then_ok (Ok z) f x y e h = subst (λ u. f u ≡ Ok y) (sym (ok_is z x e)) h
 then_ok (Err p) f x y e h = absurd cc
 
 -- what only the names of the longer list allow is allowed too
-more_listed : (one more : List (List ℕ)) → AreAmong one more → (keys : List (List ℕ)) → unlisted one keys ≡ [] → unlisted more keys ≡ []
+pub more_listed : (one more : List (List ℕ)) → AreAmong one more → (keys : List (List ℕ)) → unlisted one keys ≡ [] → unlisted more keys ≡ []
 more_listed one more sub [] h = refl
 more_listed one more sub (k ∷ ks) h = by (more_listed one more sub ks) (list_any (bytes_eq k) one) refl h
   where
@@ -120,7 +120,7 @@ unless_later kind path false q later y x e = absurd cc
 
 -- choices of lists of names
 
-names_later : (a b : Bool) → (a ≡ true → b ≡ true) → (more one other : List (List ℕ)) → AreAmong one more → AreAmong one other → AreAmong (cond a more one) (cond b more other)
+pub names_later : (a b : Bool) → (a ≡ true → b ≡ true) → (more one other : List (List ℕ)) → AreAmong one more → AreAmong one other → AreAmong (cond a more one) (cond b more other)
 names_later true true later more one other up same k h = h
 names_later true false later more one other up same k h = absurd (cc (later refl))
 names_later false true later more one other up same k h = up k h
@@ -131,7 +131,7 @@ either_among true one other all left right = left
 either_among false one other all left right = right
 
 -- one more name allows no less
-one_name : (k name : List ℕ) (names : List (List ℕ)) → list_any (bytes_eq k) names ≡ true → list_any (bytes_eq k) (name ∷ names) ≡ true
+pub one_name : (k name : List ℕ) (names : List (List ℕ)) → list_any (bytes_eq k) names ≡ true → list_any (bytes_eq k) (name ∷ names) ≡ true
 one_name k name names h = by (bytes_eq k name) (list_any (bytes_eq k) names) h
   where
     by : (x b : Bool) → b ≡ true → (x || b) ≡ true

@@ -1,6 +1,6 @@
 -- A deployment that was read is plain, since each field of each section is.
-use Rattle.std.proofs.Common.{codes, ◌≡◌, ℕ, ◌≤◌, Bool, true, false, cond, List, [], ◌∷◌, Option, Ok}
-use Rattle.std.specs.Prelude.{◌==◌, nat_le, length}
+use Rattle.std.proofs.Common.{codes, ◌≡◌, ℕ, ◌≤◌, Bool, true, false, cond, List, [], ◌∷◌, Option, Ok, subst, arith}
+use Rattle.std.specs.Prelude.{◌==◌, nat_le, length, if◌then◌else◌}
 use Rattle.std.specs.List.{AllByRecursion}
 use Rattle.toml.specs.Data.{Data, Members, members_depth, members_have_valid_dates}
 use Rattle.dds_qos.specs.declared.policies.Durability.{Durability}
@@ -15,11 +15,12 @@ use Rattle.dds_qos.specs.declared.policies.Policies.{Policies}
 use Rattle.dds_qos.specs.declared.policies.Reliability.{Reliability}
 use Rattle.dds_qos.specs.declared.policies.Reliability.TheVariants.{BestEffort, Reliable}
 use Rattle.dds_fields.specs.declared.fault.FaultKind.TheVariants.{OutOfRange, NotToml}
-use Rattle.dds_fields.specs.Reading.{Read, or_fault, a_text, a_new_name, a_known_name, an_array_of, a_list_of, count, unless, entry, optional, only, unlisted, keys_of}
+use Rattle.dds_fields.specs.Reading.{Read, or_fault, field, a_text, a_new_name, a_known_name, an_array_of, a_list_of, count, unless, entry, optional, only, unlisted, keys_of}
 use Rattle.dds_fields.specs.Words.{a_duration, a_flag}
 use Rattle.dds_base.specs.Section.{Listed, nothing}
-use Rattle.dds_fields.specs.Document.{document}
-use Rattle.dds_fields.proofs.Laws.{bind_ok, found_is}
+use Rattle.dds_fields.specs.Document.{version, document}
+use Rattle.dds_fields.specs.Paths.{key_path}
+use Rattle.dds_fields.proofs.Laws.{bind_ok, field_is, found_is}
 use Rattle.dds_base.specs.declared.portion.Portion.{Portion}
 use Rattle.dds_lists.specs.declared.lists.Origin.{Origin}
 use Rattle.dds_lists.specs.Lists.{Participant, Topic, Writer, Reader, Application, Rule, Rules, no_rules, Lists}
@@ -36,10 +37,10 @@ use Rattle.dds_deploy.specs.Versions.{since_third, since_fourth}
 use Rattle.dds_deploy.specs.Paces.{how_often, spans}
 use Rattle.dds_deploy.specs.Rules.{portion, takes, writes, plain_rule, single, rule, plain_keys, rule_keys, rule_entry, rule_fields, rules}
 use Rattle.dds_deploy.specs.Connections.{connection, connection_entry, connections}
-use Rattle.dds_deploy.specs.Document.{head, endpoints, lists, deployment}
+use Rattle.dds_deploy.specs.Document.{document_keys, section_keys, head, endpoints, lists, deployment}
 use Rattle.dds_deploy.proofs.Ascending.{document_in_order}
 use Rattle.dds_deploy.proofs.Pushes.{passed}
-use Rattle.dds_deploy.proofs.Readings.{consistent_is}
+use Rattle.dds_deploy.proofs.Readings.{consistent_is, version_between, older}
 use Rattle.dds_deploy.proofs.Later.{only_is}
 use Rattle.dds_deploy.proofs.Plain.{IsPlain, IsPlainAt, HasPlain, ReadsPlain, listed_plain, entry_plain, field_plain, optional_plain, list_plain, section_plain, text_plain, flag_plain, number_plain, version_plain, new_name_plain, known_name_plain, type_name_plain, word_plain, duration_plain, limit_plain, often_plain, spans_plain}
 
@@ -400,16 +401,15 @@ connections_plain ws rs ms cs e = section_plain 65536 [] (connection_plain ws rs
 
 -- the whole document
 
-abbrev document_keys : List (List ℕ)
-document_keys =
-    codes "version" ∷ codes "participants" ∷ codes "topics" ∷ codes "writers" ∷ codes "readers" ∷ codes "applications" ∷ codes "rules" ∷ codes "connections" ∷ []
-
-head_plain : (newest : ℕ) (ms : Members) (v : ℕ) → head newest ms ≡ Ok v → (unlisted document_keys (keys_of ms) ≡ []) × IsPlainAt 4 ms (codes "version")
+head_plain : (newest : ℕ) → newest ≤ 3 → (ms : Members) (v : ℕ) → head newest ms ≡ Ok v → (unlisted section_keys (keys_of ms) ≡ []) × IsPlainAt 4 ms (codes "version")
 unfolding head
-head_plain newest ms v e =
-    let n = bind_ok _ _ v e in
-    let o = bind_ok (only document_keys [] ms) _ v n.2 in
-    (only_is document_keys [] ms o.1, field_plain (version_plain newest) [] _ n.1)
+head_plain newest few ms v e =
+    let n = bind_ok (field (codes "version") (version newest) [] ms) _ v e in
+    let o = bind_ok (only (document_keys n.0) [] ms) _ v n.2 in
+    let f = field_is (codes "version") (version newest) [] ms n.0 n.1 in
+    let high = (version_between newest (key_path [] (codes "version")) f.0 n.0 f.1).1 in
+    let plain = subst (λ b. only (if b then codes "services" ∷ codes "actions" ∷ section_keys else section_keys) [] ms ≡ Ok tt) (older n.0 (omega (arith, high, few))) o.1 in
+    (only_is section_keys [] ms plain, field_plain (version_plain newest) [] _ n.1)
 
 endpoints_plain : (v : ℕ) (ms : Members) (x : Listed Participant × Listed Topic × Listed Writer × Listed Reader) → endpoints v ms ≡ Ok x
     → IsPlainAt 4 ms (codes "participants") × IsPlainAt 4 ms (codes "topics") × IsPlainAt 4 ms (codes "writers") × IsPlainAt 4 ms (codes "readers")
@@ -421,18 +421,19 @@ endpoints_plain v ms x e =
     let rs = bind_ok (readers v ps.0 ts.0 ms) _ x ws.2 in
     (participants_plain v ms ps.0 ps.1, topics_plain v ms ts.0 ts.1, writers_plain ps.0 ts.0 ms ws.0 ws.1, readers_plain v ps.0 ts.0 ms rs.0 rs.1)
 
--- a document that was read as a deployment is at most 4 deep, and no date stands in it
-deployment_plain : (newest : ℕ) (ms : Members) (d : Lists) → deployment newest ms ≡ Ok d → HasPlain 4 ms
+-- a document that was read as a deployment of a version before 4 is at most 4 deep, and no date stands in it
+deployment_plain : (newest : ℕ) → newest ≤ 3 → (ms : Members) (d : Lists) → deployment newest ms ≡ Ok d → HasPlain 4 ms
 unfolding deployment lists
-deployment_plain newest ms d e =
+deployment_plain newest few ms d e =
     let v = bind_ok (head newest ms) _ d e in
-    let x = bind_ok (endpoints v.0 ms) _ d v.2 in
-    let apps = bind_ok (applications x.0.0 x.0.2 x.0.3 ms) _ d x.2 in
-    let us = bind_ok (rules v.0 x.0.1 x.0.2 x.0.3 apps.0 ms) _ d apps.2 in
-    let cs = bind_ok (connections x.0.2 x.0.3 ms) _ d us.2 in
-    let top = head_plain newest ms v.0 v.1 in
+    let own = bind_ok (lists v.0 ms) _ d v.2 in
+    let x = bind_ok (endpoints v.0 ms) _ own.0 own.1 in
+    let apps = bind_ok (applications x.0.0 x.0.2 x.0.3 ms) _ own.0 x.2 in
+    let us = bind_ok (rules v.0 x.0.1 x.0.2 x.0.3 apps.0 ms) _ own.0 apps.2 in
+    let cs = bind_ok (connections x.0.2 x.0.3 ms) _ own.0 us.2 in
+    let top = head_plain newest few ms v.0 v.1 in
     let ends = endpoints_plain v.0 ms x.0 x.1 in
-    listed_plain document_keys top.0 (
+    listed_plain section_keys top.0 (
       top.1,
       (
         ends.0,
@@ -453,5 +454,5 @@ deployment_plain newest ms d e =
     )
 
 -- the same of bytes: the keys of a parsed document are in order
-pub read_plain : (newest : ℕ) (bytes : List ℕ) (ms : Members) (d : Lists) → or_fault NotToml [] (document bytes) ≡ Ok ms → deployment newest ms ≡ Ok d → (members_depth ms ≤ 4) × (members_have_valid_dates ms ≡ true)
-read_plain newest bytes ms d parsed e = (deployment_plain newest ms d e).if_sorted (document_in_order bytes ms (found_is NotToml [] (document bytes) ms parsed))
+pub read_plain : (newest : ℕ) → newest ≤ 3 → (bytes : List ℕ) (ms : Members) (d : Lists) → or_fault NotToml [] (document bytes) ≡ Ok ms → deployment newest ms ≡ Ok d → (members_depth ms ≤ 4) × (members_have_valid_dates ms ≡ true)
+read_plain newest few bytes ms d parsed e = (deployment_plain newest few ms d e).if_sorted (document_in_order bytes ms (found_is NotToml [] (document bytes) ms parsed))

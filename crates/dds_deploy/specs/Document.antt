@@ -18,12 +18,12 @@ use Rattle.dds_deploy.specs.Services.{services}
 use Rattle.dds_deploy.specs.Actions.{actions}
 
 -- the keys of every document
-abbrev pub plain_keys : List (List ℕ)
-plain_keys = codes "version" ∷ codes "participants" ∷ codes "topics" ∷ codes "writers" ∷ codes "readers" ∷ codes "applications" ∷ codes "rules" ∷ codes "connections" ∷ []
+abbrev pub section_keys : List (List ℕ)
+section_keys = codes "version" ∷ codes "participants" ∷ codes "topics" ∷ codes "writers" ∷ codes "readers" ∷ codes "applications" ∷ codes "rules" ∷ codes "connections" ∷ []
 
 -- the keys of a document: since version 4 its short forms are two
 abbrev pub document_keys : ℕ → List (List ℕ)
-document_keys v = if since_fourth v then codes "services" ∷ codes "actions" ∷ plain_keys else plain_keys
+document_keys v = if since_fourth v then codes "services" ∷ codes "actions" ∷ section_keys else section_keys
 
 -- the version, up to the newest that is read, and no other keys than those of it
 unfoldable pub head : ℕ → Members → Read ℕ
