@@ -22,7 +22,7 @@ use Rattle.dds_deploy.specs.declared.short_forms.Replies.TheVariants.{All as Eac
 use Rattle.dds_deploy.specs.Topics.{a_type_name}
 use Rattle.dds_deploy.specs.Paces.{optional_nanoseconds, pace}
 use Rattle.dds_deploy.specs.Parts.{add_topic, add_writer, add_reader, add_rule, add_connection, participant_of}
-use Rattle.dds_deploy.specs.ShortForms.{ShortForm, client, clients, replies, sizes, answering, parties, form_fields, form_keys, short_form}
+use Rattle.dds_deploy.specs.ShortForms.{ShortForm, client, clients, whose_replies, sizes, answering, parties, form_fields, form_keys, short_form}
 use Rattle.dds_deploy.specs.Services.{Call, Desk, next_desk, add_topics, kept_replies, add_server, heard, client_name, client_at, add_ends, one_of, add_rules, add_connections, add_client, each_below, application_name, add_call, service, services}
 use Rattle.dds_deploy.specs.Actions.{call_of, add_calls, News, add_listener, add_teller, add_news, feedback_of, status, add_action, action, actions}
 use Rattle.dds_deploy.specs.Document.{with_short_forms}
@@ -107,7 +107,7 @@ fields_fit v apps path ms f e =
     let depth = bind_ok (field (codes "depth") (a_number 1 2147483647) path ms) _ size.0 open.2 in
     let at_open = field_is (codes "open") (a_number 1 65535) path ms open.0 open.1 in
     let at_depth = field_is (codes "depth") (a_number 1 2147483647) path ms depth.0 depth.1 in
-    let whose = bind_ok (replies path ms) _ how.0 how.1 in
+    let whose = bind_ok (whose_replies path ms) _ how.0 how.1 in
     let soon = bind_ok (optional_nanoseconds 0 most_nanoseconds (codes "taken_within") path ms) _ how.0 whose.2 in
     let by_clock = bind_ok (pace path ms) _ how.0 soon.2 in
     let made : ShortForm = record { name = n.0; type_name = t.0; server = server.0; clients = others.0; open = open.0; depth = depth.0; replies = whose.0; taken_within = soon.0; pace = by_clock.0 } in

@@ -50,8 +50,8 @@ clients applications path d = do
   some ← unless OutOfRange path (nat_le 1 (count ds)) ds
   each (client applications) path 0 nothing some
 
-unfoldable pub replies : List ℕ → Members → Read Replies
-replies path ms = optional (codes "replies") All (a_word ((codes "all", All) ∷ (codes "own", Own) ∷ [])) path ms
+unfoldable pub whose_replies : List ℕ → Members → Read Replies
+whose_replies path ms = optional (codes "replies") All (a_word ((codes "all", All) ∷ (codes "own", Own) ∷ [])) path ms
 
 -- how many requests are open at most, and how many samples are kept
 unfoldable pub sizes : List ℕ → Members → Read (ℕ × ℕ)
@@ -63,7 +63,7 @@ sizes path ms = do
 -- whose replies a client hears, how soon it takes them, and how often the server answers
 unfoldable pub answering : List ℕ → Members → Read (Replies × Option ℕ × Option Pace)
 answering path ms = do
-  whose ← replies path ms
+  whose ← whose_replies path ms
   soon ← optional_nanoseconds 0 most_nanoseconds (codes "taken_within") path ms
   by_clock ← pace path ms
   Ok (whose, soon, by_clock)

@@ -288,9 +288,9 @@ fn add_action(
 
 // What reads the actions of a file.
 #[derive(Clone, Copy)]
-struct Actions;
+struct ActionEntries;
 
-impl Items for Actions {
+impl Items for ActionEntries {
     type Read = Parts;
 
     ghost State = { Lists };
@@ -317,5 +317,5 @@ impl Items for Actions {
 pub(crate) fn actions(alloc: Global, own: Parts, table: &Table) -> Result<Parts, ReadFault>
     ensures { Gives parts_view result (actions (parts_view own) (table_view table.now)) }
 {
-    section_of(alloc, TOPICS, &Actions, own, table, "actions")
+    section_of(alloc, TOPICS, &ActionEntries, own, table, "actions")
 }

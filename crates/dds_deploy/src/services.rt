@@ -440,9 +440,9 @@ pub(crate) fn add_call(
 
 // What reads the services of a file.
 #[derive(Clone, Copy)]
-struct Services;
+struct ServiceEntries;
 
-impl Items for Services {
+impl Items for ServiceEntries {
     type Read = Parts;
 
     ghost State = { Lists };
@@ -474,5 +474,5 @@ impl Items for Services {
 pub(crate) fn services(alloc: Global, own: Parts, table: &Table) -> Result<Parts, ReadFault>
     ensures { Gives parts_view result (services (parts_view own) (table_view table.now)) }
 {
-    section_of(alloc, TOPICS, &Services, own, table, "services")
+    section_of(alloc, TOPICS, &ServiceEntries, own, table, "services")
 }

@@ -5,7 +5,7 @@ ghost use Rattle.dds_fields.specs.Gives.{Gives};
 ghost use Rattle.dds_fields.specs.Places.{place_text};
 ghost use Rattle.dds_fields.specs.Reading.{field, a_name};
 ghost use Rattle.dds_base.specs.Section.{Listed, listed};
-ghost use Rattle.dds_deploy.specs.ShortForms.{client, clients, replies, sizes, answering, parties, form_fields, form_keys};
+ghost use Rattle.dds_deploy.specs.ShortForms.{client, clients, whose_replies, sizes, answering, parties, form_fields, form_keys};
 ghost use Rattle.dds_deploy.specs.ShortForms.{short_form, form_view};
 ghost use Rattle.dds_deploy.specs.Services.{client_name, client_at};
 
@@ -155,9 +155,9 @@ fn name_field<'a>(
     name_of(alloc, &at, value)
 }
 
-#[tactic(auto, unfolding(crate::specs::ShortForms::replies))]
-fn replies(alloc: Global, path: &Place, table: &Table) -> Result<Replies, ReadFault>
-    ensures { Gives (λ x. x) result (replies (place_text path.now) (table_view table.now)) }
+#[tactic(auto, unfolding(crate::specs::ShortForms::whose_replies))]
+fn whose_replies(alloc: Global, path: &Place, table: &Table) -> Result<Replies, ReadFault>
+    ensures { Gives (λ x. x) result (whose_replies (place_text path.now) (table_view table.now)) }
 {
     let words = [("all", Replies::All), ("own", Replies::Own)];
     optional_word(alloc, &words, Replies::All, path, table, "replies")
@@ -180,7 +180,7 @@ fn answering(
 ) -> Result<(Replies, Option<u64>, Option<Pace>), ReadFault>
     ensures { Gives (λ x. x) result (answering (place_text path.now) (table_view table.now)) }
 {
-    let replies = replies(alloc, path, table)?;
+    let replies = whose_replies(alloc, path, table)?;
     let taken_within = optional_nanoseconds(alloc, 0, NANOSECONDS, path, table, "taken_within")?;
     let pace = pace(alloc, path, table)?;
     Ok((replies, taken_within, pace))
