@@ -433,14 +433,14 @@ module _ (d : Lists) (name : List ℕ) (w : Writer) (a : ℕ) (one : Application
 abbrev pub more_readers : ℕ → Application → Application
 more_readers n x = record { participant = x.participant; writers = x.writers; readers = x.readers ++ n ∷ [] }
 
+none_in : (k : ℕ) → Contains [] k → ⊥
+none_in k c = let lt = c.1 in omega (arith, lt)
+
 takes_on : (d : Lists) (r : Reader) (x : Portion ℕ) → IsTakeOf d x → Contains (unwrap_or (option_map (λ (y : Reader). y.filter) (slice_get (d.readers.entries ++ r ∷ []) x.endpoint)) []) x.key
 takes_on d r x c = by (slice_get d.readers.entries x.endpoint) refl
   where
     by : (o : Option Reader) → slice_get d.readers.entries x.endpoint ≡ o → Contains (unwrap_or (option_map (λ (y : Reader). y.filter) (slice_get (d.readers.entries ++ r ∷ []) x.endpoint)) []) x.key
-    by None e = absurd (nothing (subst (λ o. Contains (unwrap_or (option_map (λ (y : Reader). y.filter) o) []) x.key) e c))
-      where
-        nothing : Contains [] x.key → ⊥
-        nothing c = let lt = c.1 in omega (arith, lt)
+    by None e = absurd (none_in x.key (subst (λ o. Contains (unwrap_or (option_map (λ (y : Reader). y.filter) o) []) x.key) e c))
     by (Some y) e =
         subst (λ o. Contains (unwrap_or (option_map (λ (z : Reader). z.filter) o) []) x.key) (sym (at_append d.readers.entries (r ∷ []) x.endpoint y e))
         (subst (λ o. Contains (unwrap_or (option_map (λ (z : Reader). z.filter) o) []) x.key) e c)

@@ -23,7 +23,7 @@ use Rattle.dds_deploy.specs.Topics.{a_type_name}
 use Rattle.dds_deploy.specs.Paces.{optional_nanoseconds, pace}
 use Rattle.dds_deploy.specs.Parts.{add_topic, add_writer, add_reader, add_rule, add_connection, participant_of}
 use Rattle.dds_deploy.specs.ShortForms.{ShortForm, client, clients, whose_replies, sizes, answering, parties, form_fields, form_keys, short_form}
-use Rattle.dds_deploy.specs.Services.{Call, Desk, next_desk, add_topics, kept_replies, add_server, heard, client_name, client_at, add_ends, one_of, add_rules, add_connections, add_client, each_below, application_name, add_call, service, services}
+use Rattle.dds_deploy.specs.Services.{Call, Desk, next_desk, add_topics, kept_replies, add_server, heard, client_name, client_at, add_ends, one_of, add_rules, add_connections, add_client, each_numbered, application_name, add_call, service, services}
 use Rattle.dds_deploy.specs.Actions.{call_of, add_calls, News, add_listener, add_teller, add_news, feedback_of, status, add_action, action, actions}
 use Rattle.dds_deploy.specs.Document.{with_short_forms}
 use Rattle.dds_deploy.proofs.Pushes.{Adds, passed, few_items, new_name, each_counts, add_size, adds_listed}
@@ -166,11 +166,12 @@ module _ (n : ℕ) (f : ShortForm) (fits : FormFits n f) where
   heard_own Own k lt = (0, omega arith, refl)
 
 -- one step after the other keeps what each keeps
-below_keeps : {S : Type 0} (P : S → Type 0) (step : ℕ → S → Read S) (n : ℕ) → ((k : ℕ) (s t : S) → k < n → P s → step k s ≡ Ok t → P t) → (s t : S) → P s → each_below step n s ≡ Ok t → P t
-below_keeps P step zero keeps s t p e = subst P (ok_is s t e) p
-below_keeps P step (suc n) keeps s t p e =
-    let a = bind_ok (each_below step n s) (step n) t e in
-    keeps n a.0 t (omega arith) (below_keeps P step n (λ k x y lt. keeps k x y (omega (arith, lt))) s a.0 p a.1) a.2
+numbered_keeps : {A S : Type 0} (P : S → Type 0) (step : ℕ → S → Read S) (n : ℕ) → ((k : ℕ) (s t : S) → k < n → P s → step k s ≡ Ok t → P t)
+    → (k : ℕ) (xs : List A) → k + length xs ≤ n → (s t : S) → P s → each_numbered step k xs s ≡ Ok t → P t
+numbered_keeps P step n keeps k [] few s t p e = subst P (ok_is s t e) p
+numbered_keeps P step n keeps k (x ∷ xs) few s t p e =
+    let a = bind_ok (step k s) (λ u. each_numbered step (k + 1) xs u) t e in
+    numbered_keeps P step n keeps (k + 1) xs (omega (arith, few)) a.0 t (keeps k s a.0 (omega (arith, few)) p a.1) a.2
 
 -- a deployment that is one still, and has what another one has
 pub record Goes (d e : Lists) : Type 0 where
@@ -329,7 +330,7 @@ module _ (n : ℕ) (f : ShortForm) (fits : FormFits n f) (path : List ℕ) (c : 
       let opened = topics_added d t.0 old t.1 in
       let served = server_added name d t.0 s.0 count opened s.1 in
       let paired = fits.paired in
-      let all = below_keeps (Serving n f at d) (add_client path f c at) (length f.clients.entries) (λ k x y lt there g. client_added n f fits at d path c k x y (omega (arith, lt, paired)) there g) s.0 e served s.2 in
+      let all = numbered_keeps (Serving n f at d) (add_client path f c at) (length f.clients.entries) (λ k x y lt there g. client_added n f fits at d path c k x y (omega (arith, lt, paired)) there g) 0 f.clients.entries (omega arith) s.0 e served s.2 in
       record { deployment = all.deployment; grows = all.grows }
 
 -- a deployment pairs the names of its applications with them
@@ -428,7 +429,7 @@ module _ (n : ℕ) (f : ShortForm) (fits : FormFits n f) (path : List ℕ) where
         let t = length d.topics.entries in
         let w = length d.writers.entries in
         let a = bind_ok (add_teller path f news d) _ e h in
-        let all = below_keeps (Told d t w) (add_listener path f news t w) (length f.clients.entries) (λ k x y lt there g. listener_added d t w k x y count lt there g) a.0 e (teller_added d a.0 old count a.1) a.2 in
+        let all = numbered_keeps (Told d t w) (add_listener path f news t w) (length f.clients.entries) (λ k x y lt there g. listener_added d t w k x y count lt there g) 0 f.clients.entries (omega arith) a.0 e (teller_added d a.0 old count a.1) a.2 in
         record { deployment = all.deployment; grows = all.grows }
 
   action_added : (d e : Lists) → IsDeployment d → length d.applications.entries ≡ n → add_action path f d ≡ Ok e → Goes d e

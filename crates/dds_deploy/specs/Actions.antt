@@ -10,7 +10,7 @@ use Rattle.dds_lists.specs.Lists.{Lists}
 use Rattle.dds_deploy.specs.declared.actions.News.{News as CodeNews}
 use Rattle.dds_deploy.specs.ShortForms.{ShortForm, short_form}
 use Rattle.dds_deploy.specs.Parts.{add_topic, add_writer, add_reader, add_rule, add_connection, participant_of}
-use Rattle.dds_deploy.specs.Services.{Call, add_call, reliable, one_of, each_below, client_name, client_at, application_name}
+use Rattle.dds_deploy.specs.Services.{Call, add_call, reliable, one_of, each_numbered, client_name, client_at, application_name}
 
 -- the service of an action with this word and this type
 abbrev pub call_of : ShortForm → (word type_name : List ℕ) → Call
@@ -49,7 +49,7 @@ add_teller path f n d = do
 unfoldable pub add_news : List ℕ → ShortForm → News → Lists → Read Lists
 add_news path f n d = do
   s ← add_teller path f n d
-  each_below (add_listener path f n (length d.topics.entries) (length d.writers.entries)) (length f.clients.entries) s
+  each_numbered (add_listener path f n (length d.topics.entries) (length d.writers.entries)) 0 f.clients.entries s
 
 -- how far a goal is, and the newest state of all goals
 abbrev pub feedback_of : ShortForm → News

@@ -1,5 +1,5 @@
 -- What services stand for: it comes after what the file has already.
-use Rattle.std.specs.Prelude.{codes, ℕ, zero, suc, false, List, [], ◌∷◌, ◌++◌, None, Ok, length, unwrap_or, slice_get, string_bytes}
+use Rattle.std.specs.Prelude.{codes, ℕ, suc, ◌+◌, false, List, [], ◌∷◌, ◌++◌, None, Ok, length, unwrap_or, slice_get, string_bytes}
 use Rattle.toml.specs.Data.{Data, Members}
 use Rattle.dds_base.specs.Limits.{most_topics}
 use Rattle.dds_base.specs.declared.portion.Portion.{Portion}
@@ -118,10 +118,10 @@ add_client path f c at k d = do
   g ← add_rules path f at (c.endpoints ++ codes "." ++ client_name f k) k (length d.readers.entries) (length d.writers.entries) e
   add_connections path at (length d.readers.entries) (length d.writers.entries) g
 
--- one step for each number below n, in their order
-abbrev pub each_below : {S : Type 0} → (ℕ → S → Read S) → ℕ → S → Read S
-each_below step zero s = Ok s
-each_below step (suc n) s = each_below step n s >>= step n
+-- one step for each element of a list, with its number from k on
+abbrev pub each_numbered : {A S : Type 0} → (ℕ → S → Read S) → ℕ → List A → S → Read S
+each_numbered step k [] s = Ok s
+each_numbered step k (x ∷ xs) s = step k s >>= λ t. each_numbered step (k + 1) xs t
 
 -- the name of the application with this number
 abbrev pub application_name : Lists → ℕ → List ℕ
@@ -132,7 +132,7 @@ unfoldable pub add_call : List ℕ → ShortForm → Call → Lists → Read Lis
 add_call path f c d = do
   t ← add_topics path f c d
   s ← add_server path f (next_desk d) (c.endpoints ++ codes "." ++ application_name d f.server) t
-  each_below (add_client path f c (next_desk d)) (length f.clients.entries) s
+  each_numbered (add_client path f c (next_desk d)) 0 f.clients.entries s
 
 -- one more service
 unfoldable pub service : Lists → List ℕ → Data → Read Lists

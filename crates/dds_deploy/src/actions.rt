@@ -8,7 +8,7 @@ ghost use Rattle.dds_lists.specs.Lists.{Lists};
 ghost use Rattle.dds_lists.specs.Views.{topic_view, reader_view, rule_view};
 ghost use Rattle.dds_deploy.specs.Parts.{parts_view};
 ghost use Rattle.dds_deploy.specs.ShortForms.{form_view};
-ghost use Rattle.dds_deploy.specs.Services.{call_view, each_below, reliable, one_of};
+ghost use Rattle.dds_deploy.specs.Services.{call_view, each_numbered, reliable, one_of};
 ghost use Rattle.dds_deploy.specs.Actions.{call_of, add_calls, news_view, add_listener, add_teller, add_news};
 ghost use Rattle.dds_deploy.specs.Actions.{feedback_of, status, add_action, action, actions};
 
@@ -218,10 +218,10 @@ fn add_listeners(
     parts: &mut Parts,
 ) -> Result<(), ReadFault>
     ensures { Gives (λ _. parts_view parts.new) result
-        (each_below (add_listener (place_text path.now) (form_view form.now) (news_view news.now) channel.topic
-        channel.writer) (length (form_view form.now).clients.entries) (parts_view parts.old)) }
+        (each_numbered (add_listener (place_text path.now) (form_view form.now) (news_view news.now) channel.topic
+        channel.writer) 0 (form_view form.now).clients.entries (parts_view parts.old)) }
 {
-    for number in 0..form.clients.entries.len() {
+    for (number, _client) in form.clients.entries.iter().enumerate() {
         add_listener(alloc, path, form, news, channel, number, parts)?;
     }
     Ok(())

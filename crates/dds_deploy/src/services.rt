@@ -9,7 +9,7 @@ ghost use Rattle.dds_deploy.specs.Parts.{parts_view};
 ghost use Rattle.dds_deploy.specs.ShortForms.{form_view};
 ghost use Rattle.dds_deploy.specs.Services.{reliable, kept_replies, heard, client_at, one_of, call_view, desk_view, next_desk};
 ghost use Rattle.dds_deploy.specs.Services.{add_topics, add_server, add_ends, add_rules, add_connections, add_client};
-ghost use Rattle.dds_deploy.specs.Services.{each_below, add_call, service, services};
+ghost use Rattle.dds_deploy.specs.Services.{each_numbered, add_call, service, services};
 
 use crate::parts::Parts;
 use crate::readers::every_key;
@@ -409,10 +409,10 @@ fn add_clients(
     parts: &mut Parts,
 ) -> Result<(), ReadFault>
     ensures { Gives (λ _. parts_view parts.new) result
-        (each_below (add_client (place_text path.now) (form_view form.now) (call_view call.now) (desk_view at))
-        (length (form_view form.now).clients.entries) (parts_view parts.old)) }
+        (each_numbered (add_client (place_text path.now) (form_view form.now) (call_view call.now) (desk_view at))
+        0 (form_view form.now).clients.entries (parts_view parts.old)) }
 {
-    for number in 0..form.clients.entries.len() {
+    for (number, _client) in form.clients.entries.iter().enumerate() {
         add_client(alloc, path, form, call, at, number, parts)?;
     }
     Ok(())
