@@ -92,6 +92,7 @@ fn next_desk(parts: &Parts) -> Desk
 }
 
 // The same names once more.
+#[tactic(auto, using(crate::proofs::Copied::new_to_those_before))]
 fn copy_names(alloc: Global, names: &Names) -> Result<Names, NoMemory>
     ensures { IfOk result (λ copy. copy ≡ names.now) }
 {
