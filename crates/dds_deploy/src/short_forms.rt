@@ -5,8 +5,8 @@ ghost use Rattle.dds_fields.specs.Gives.{Gives};
 ghost use Rattle.dds_fields.specs.Places.{place_text};
 ghost use Rattle.dds_fields.specs.Reading.{field, a_name};
 ghost use Rattle.dds_base.specs.Section.{Listed, listed};
-ghost use Rattle.dds_deploy.specs.ShortForms.{client, clients, whose_replies, sizes, answering, parties, form_fields, form_keys};
-ghost use Rattle.dds_deploy.specs.ShortForms.{short_form, form_view};
+ghost use Rattle.dds_deploy.specs.ShortForms.{client, clients, whose_replies, sizes, answering, parties, form_fields};
+ghost use Rattle.dds_deploy.specs.ShortForms.{form_keys, short_form, form_view};
 ghost use Rattle.dds_deploy.specs.Services.{client_name, client_at};
 
 use crate::paces::{NANOSECONDS, optional_nanoseconds, pace};
