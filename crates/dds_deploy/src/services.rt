@@ -7,7 +7,8 @@ ghost use Rattle.dds_lists.specs.Lists.{Lists, all_keys};
 ghost use Rattle.dds_lists.specs.Views.{topic_view, writer_view, reader_view, rule_view};
 ghost use Rattle.dds_deploy.specs.Parts.{parts_view};
 ghost use Rattle.dds_deploy.specs.ShortForms.{form_view};
-ghost use Rattle.dds_deploy.specs.Services.{reliable, kept_replies, heard, client_at, one_of, call_view, desk_view, next_desk};
+ghost use Rattle.dds_deploy.specs.Services.{reliable, kept_replies, heard, client_at, one_of, call_view, desk_view};
+ghost use Rattle.dds_deploy.specs.Services.{next_desk};
 ghost use Rattle.dds_deploy.specs.Services.{add_topics, add_server, add_ends, add_rules, add_connections, add_client};
 ghost use Rattle.dds_deploy.specs.Services.{each_numbered, add_call, service, services};
 
@@ -470,8 +471,8 @@ impl Items for ServiceEntries {
     }
 }
 
-/// The lists with what the section `services` stands for, at most 256 entries, or its first fault. An absent section has
-/// none.
+/// The lists with what the section `services` stands for, at most 256 entries, or its first fault. An absent section
+/// has none.
 pub(crate) fn services(alloc: Global, own: Parts, table: &Table) -> Result<Parts, ReadFault>
     ensures { Gives parts_view result (services (parts_view own) (table_view table.now)) }
 {
