@@ -4,8 +4,8 @@
   tests/shown.py              # every deployment of tests/commands, of the examples and of tests/search-cases
   tests/shown.py DEPLOYMENT   # prints what is owed for a deployment without a fault
 
-A deployment is read by Python's TOML parser, with the defaults of docs/FORMAT.md, its rules with `each` are expanded as that page says, and its services and actions by tests/short_forms.py; the text is put together here
-a second time, and Python's JSON parser has to read the lists out of it. Of a deployment with a fault `show` owes what `match` answers: nothing, the same line
+A deployment is read by Python's TOML parser, with the defaults of docs/FORMAT.md, its rules with `each` are expanded as that page says, and tests/short_forms.py
+writes out its services and actions; the text is put together here a second time, and Python's JSON parser has to read the lists out of it. Of a deployment with a fault `show` owes what `match` answers: nothing, the same line
 and the status 2. A file that is TOML 1.1 and not 1.0 counts as skipped. The last line is 'N passed, M failed'; the status is 1 if one failed.
 """
 import json
