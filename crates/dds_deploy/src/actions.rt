@@ -128,19 +128,20 @@ fn add_listener(
     path: &Place,
     form: &ShortForm,
     news: &News,
-    channel: Channel,
+    channel: &Channel,
     number: usize,
     parts: &mut Parts,
 ) -> Result<(), ReadFault>
     ensures { Gives (λ _. parts_view parts.new) result
-        (add_listener (place_text path.now) (form_view form.now) (news_view news.now) channel.topic channel.writer
+        (add_listener (place_text path.now) (form_view form.now) (news_view news.now) channel.now.topic channel.now.writer
         number (parts_view parts.old)) }
 {
     let client = form.client(number);
     let reader = ReaderNo::new(parts.readers.entries.len());
     let entry = listener(alloc, parts.participant_of(client), channel.topic, news)?;
-    let (name, word, hearer) = (form.name, news.word, form.client_name(number));
-    let name = format!(in alloc; "{name}.{word}.{hearer}")?;
+    let (action, word) = (form.name, news.word);
+    let hearer = form.client_name(number);
+    let name = format!(in alloc; "{action}.{word}.{hearer}")?;
     parts.add_reader(alloc, path, client, name.as_str(), entry)?;
     parts.add_connection(alloc, path, channel.writer, reader)
 }
@@ -189,7 +190,7 @@ fn add_teller(
     path: &Place,
     form: &ShortForm,
     news: &News,
-    channel: Channel,
+    channel: &Channel,
     parts: &mut Parts,
 ) -> Result<(), ReadFault>
     ensures { Gives (λ _. parts_view parts.new) result
@@ -214,12 +215,12 @@ fn add_listeners(
     path: &Place,
     form: &ShortForm,
     news: &News,
-    channel: Channel,
+    channel: &Channel,
     parts: &mut Parts,
 ) -> Result<(), ReadFault>
     ensures { Gives (λ _. parts_view parts.new) result
-        (each_numbered (add_listener (place_text path.now) (form_view form.now) (news_view news.now) channel.topic
-        channel.writer) 0 (form_view form.now).clients.entries (parts_view parts.old)) }
+        (each_numbered (add_listener (place_text path.now) (form_view form.now) (news_view news.now) channel.now.topic
+        channel.now.writer) 0 (form_view form.now).clients.entries (parts_view parts.old)) }
 {
     for (number, _client) in form.clients.entries.iter().enumerate() {
         add_listener(alloc, path, form, news, channel, number, parts)?;
@@ -242,8 +243,8 @@ fn add_news(
         topic: TopicNo::new(parts.topics.entries.len()),
         writer: WriterNo::new(parts.writers.entries.len()),
     };
-    add_teller(alloc, path, form, news, channel, parts)?;
-    add_listeners(alloc, path, form, news, channel, parts)
+    add_teller(alloc, path, form, news, &channel, parts)?;
+    add_listeners(alloc, path, form, news, &channel, parts)
 }
 
 fn feedback_of(alloc: Global, form: &ShortForm) -> Result<News, NoMemory>

@@ -1,5 +1,5 @@
 //! Services: what each stands for is added to the lists of its file.
-ghost use Rattle.std.specs.Prelude.{◌≡◌, ◌++◌, ◌∷◌, [], false, None, IfOk, length};
+ghost use Rattle.std.specs.Prelude.{◌≡◌, ◌++◌, ◌∷◌, [], false, None, IfOk, codes, string_bytes};
 ghost use Rattle.toml.specs.View.{view, table_view};
 ghost use Rattle.dds_fields.specs.Gives.{Gives};
 ghost use Rattle.dds_fields.specs.Places.{place_text};
@@ -10,7 +10,7 @@ ghost use Rattle.dds_deploy.specs.ShortForms.{form_view};
 ghost use Rattle.dds_deploy.specs.Services.{reliable, kept_replies, heard, client_at, one_of, call_view, desk_view};
 ghost use Rattle.dds_deploy.specs.Services.{next_desk};
 ghost use Rattle.dds_deploy.specs.Services.{add_topics, add_server, add_ends, add_rules, add_connections, add_client};
-ghost use Rattle.dds_deploy.specs.Services.{each_numbered, add_call, service, services};
+ghost use Rattle.dds_deploy.specs.Services.{each_numbered, application_name, add_call, service, services};
 
 use crate::parts::Parts;
 use crate::readers::every_key;
@@ -212,12 +212,12 @@ fn add_server(
     alloc: Global,
     path: &Place,
     form: &ShortForm,
-    at: Desk,
+    at: &Desk,
     name: &str,
     parts: &mut Parts,
 ) -> Result<(), ReadFault>
     ensures { Gives (λ _. parts_view parts.new) result
-        (add_server (place_text path.now) (form_view form.now) (desk_view at) name.now (parts_view parts.old)) }
+        (add_server (place_text path.now) (form_view form.now) (desk_view at.now) name.now (parts_view parts.old)) }
 {
     let participant = parts.participant_of(form.server);
     let offered = reliable(Durability::Volatile, kept_replies(form.replies), form.depth);
@@ -249,13 +249,13 @@ fn add_ends(
     alloc: Global,
     path: &Place,
     form: &ShortForm,
-    at: Desk,
+    at: &Desk,
     name: &str,
     number: usize,
     parts: &mut Parts,
 ) -> Result<(), ReadFault>
     ensures { Gives (λ _. parts_view parts.new) result
-        (add_ends (place_text path.now) (form_view form.now) (desk_view at) name.now number
+        (add_ends (place_text path.now) (form_view form.now) (desk_view at.now) name.now number
         (parts_view parts.old)) }
 {
     let client = form.client(number);
@@ -296,13 +296,13 @@ struct ClientEnds {
 fn asking(
     alloc: Global,
     form: &ShortForm,
-    ends: ClientEnds,
+    ends: &ClientEnds,
     number: usize,
 ) -> Result<Rule, NoMemory>
     ensures { IfOk result (λ u. rule_view u ≡ record {
         application = client_at (form_view form.now) number;
-        takes = one_of ends.reader number;
-        writes = one_of ends.writer number;
+        takes = one_of ends.now.reader number;
+        writes = one_of ends.now.writer number;
         start = form.now.open;
         free = false;
         pace = None;
@@ -319,11 +319,11 @@ fn asking(
 }
 
 // How the server answers what that client asks.
-fn answer(alloc: Global, form: &ShortForm, at: Desk, number: usize) -> Result<Rule, NoMemory>
+fn answer(alloc: Global, form: &ShortForm, at: &Desk, number: usize) -> Result<Rule, NoMemory>
     ensures { IfOk result (λ u. rule_view u ≡ record {
         application = form.now.server;
-        takes = one_of at.reader number;
-        writes = one_of at.writer number;
+        takes = one_of at.now.reader number;
+        writes = one_of at.now.writer number;
         start = 0;
         free = false;
         pace = form.now.pace;
@@ -344,14 +344,14 @@ fn add_rules(
     alloc: Global,
     path: &Place,
     form: &ShortForm,
-    at: Desk,
+    at: &Desk,
     name: &str,
     number: usize,
-    ends: ClientEnds,
+    ends: &ClientEnds,
     parts: &mut Parts,
 ) -> Result<(), ReadFault>
     ensures { Gives (λ _. parts_view parts.new) result
-        (add_rules (place_text path.now) (form_view form.now) (desk_view at) name.now number ends.reader ends.writer
+        (add_rules (place_text path.now) (form_view form.now) (desk_view at.now) name.now number ends.now.reader ends.now.writer
         (parts_view parts.old)) }
 {
     let rule_name = format!(in alloc; "{name}.ask")?;
@@ -366,12 +366,12 @@ fn add_rules(
 fn add_connections(
     alloc: Global,
     path: &Place,
-    at: Desk,
-    ends: ClientEnds,
+    at: &Desk,
+    ends: &ClientEnds,
     parts: &mut Parts,
 ) -> Result<(), ReadFault>
     ensures { Gives (λ _. parts_view parts.new) result
-        (add_connections (place_text path.now) (desk_view at) ends.reader ends.writer (parts_view parts.old)) }
+        (add_connections (place_text path.now) (desk_view at.now) ends.now.reader ends.now.writer (parts_view parts.old)) }
 {
     parts.add_connection(alloc, path, ends.writer, at.reader)?;
     parts.add_connection(alloc, path, at.writer, ends.reader)
@@ -383,23 +383,24 @@ fn add_client(
     path: &Place,
     form: &ShortForm,
     call: &Call,
-    at: Desk,
+    at: &Desk,
     number: usize,
     parts: &mut Parts,
 ) -> Result<(), ReadFault>
     ensures { Gives (λ _. parts_view parts.new) result
-        (add_client (place_text path.now) (form_view form.now) (call_view call.now) (desk_view at) number
+        (add_client (place_text path.now) (form_view form.now) (call_view call.now) (desk_view at.now) number
         (parts_view parts.old)) }
 {
     let ends = ClientEnds {
         reader: ReaderNo::new(parts.readers.entries.len()),
         writer: WriterNo::new(parts.writers.entries.len()),
     };
-    let (endpoints, client) = (call.endpoints.as_str(), form.client_name(number));
+    let endpoints = call.endpoints.as_str();
+    let client = form.client_name(number);
     let name = format!(in alloc; "{endpoints}.{client}")?;
     add_ends(alloc, path, form, at, name.as_str(), number, parts)?;
-    add_rules(alloc, path, form, at, name.as_str(), number, ends, parts)?;
-    add_connections(alloc, path, at, ends, parts)
+    add_rules(alloc, path, form, at, name.as_str(), number, &ends, parts)?;
+    add_connections(alloc, path, at, &ends, parts)
 }
 
 fn add_clients(
@@ -407,17 +408,32 @@ fn add_clients(
     path: &Place,
     form: &ShortForm,
     call: &Call,
-    at: Desk,
+    at: &Desk,
     parts: &mut Parts,
 ) -> Result<(), ReadFault>
     ensures { Gives (λ _. parts_view parts.new) result
-        (each_numbered (add_client (place_text path.now) (form_view form.now) (call_view call.now) (desk_view at))
+        (each_numbered (add_client (place_text path.now) (form_view form.now) (call_view call.now) (desk_view at.now))
         0 (form_view form.now).clients.entries (parts_view parts.old)) }
 {
     for (number, _client) in form.clients.entries.iter().enumerate() {
         add_client(alloc, path, form, call, at, number, parts)?;
     }
     Ok(())
+}
+
+// What the endpoints of the server are called.
+fn server_name(
+    alloc: Global,
+    form: &ShortForm,
+    call: &Call,
+    parts: &Parts,
+) -> Result<String, NoMemory>
+    ensures { IfOk result (λ s. string_bytes s ≡ (call_view call.now).endpoints ++ codes "."
+        ++ application_name (parts_view parts.now) form.now.server) }
+{
+    let endpoints = call.endpoints.as_str();
+    let server = parts.application_name(form.server);
+    format!(in alloc; "{endpoints}.{server}")
 }
 
 /// Adds all that a service of a short form stands for, or returns the first fault of it, at the path of the short form.
@@ -433,11 +449,10 @@ pub(crate) fn add_call(
         (add_call (place_text path.now) (form_view form.now) (call_view call.now) (parts_view parts.old)) }
 {
     let at = next_desk(parts);
-    let (endpoints, server) = (call.endpoints.as_str(), parts.application_name(form.server));
-    let name = format!(in alloc; "{endpoints}.{server}")?;
+    let name = server_name(alloc, form, call, parts)?;
     add_topics(alloc, path, form, call, parts)?;
-    add_server(alloc, path, form, at, name.as_str(), parts)?;
-    add_clients(alloc, path, form, call, at, parts)
+    add_server(alloc, path, form, &at, name.as_str(), parts)?;
+    add_clients(alloc, path, form, call, &at, parts)
 }
 
 // What reads the services of a file.
