@@ -39,7 +39,7 @@ pub record Grows (d e : Lists) : Type 0 where
   pub count : length e.applications.entries ≡ length d.applications.entries
 
 pub same_grows : (d : Lists) → Grows d d
-same_grows d = record { topics = λ n x e. e; writers = λ n x e. e; readers = λ n x e. e; applications = λ n x e. (x, e, refl, λ m c. c, λ m c. c); count = refl }
+same_grows d = record { topics = λ n x e. e; writers = λ n x e. e; readers = λ n x e. e; applications = λ n x e. (x, e, refl, (λ m c. c), (λ m c. c)); count = refl }
 
 pub grows_on : (d e f : Lists) → Grows d e → Grows e f → Grows d f
 grows_on d e f one two = record {
@@ -49,7 +49,7 @@ grows_on d e f one two = record {
   applications = λ n x h.
       let a = one.applications n x h in
       let b = two.applications n a.0 a.1 in
-      (b.0, b.1, b.2 ∙ a.2, λ m c. b.3 m (a.3 m c), λ m c. b.4 m (a.4 m c));
+      (b.0, b.1, b.2 ∙ a.2, (λ m c. b.3 m (a.3 m c)), (λ m c. b.4 m (a.4 m c)));
   count = two.count ∙ one.count;
 }
 
@@ -99,21 +99,21 @@ may_come path limit count names name u e =
     let room = passed TooMany path (nat_lt count limit) tt u b.2 in
     record { new = is_new (number_of names name) fresh.0; few = ltb-true count limit room.0 }
 
--- how many of each there are after an entry was added
-pub record Sizes (d e : Lists) (topics writers readers : ℕ) : Type 0 where
-  pub topics : length e.topics.entries ≡ topics + length d.topics.entries
-  pub writers : length e.writers.entries ≡ writers + length d.writers.entries
-  pub readers : length e.readers.entries ≡ readers + length d.readers.entries
+-- so many of each there are
+pub record Sizes (e : Lists) (t w r : ℕ) : Type 0 where
+  pub topics : length e.topics.entries ≡ t
+  pub writers : length e.writers.entries ≡ w
+  pub readers : length e.readers.entries ≡ r
 
 -- a topic was added
 pub record TopicAdded (t : Topic) (d e : Lists) : Type 0 where
   pub deployment : IsDeployment e
   pub grows : Grows d e
-  pub sizes : Sizes d e 1 0 0
+  pub sizes : Sizes e (suc (length d.topics.entries)) (length d.writers.entries) (length d.readers.entries)
   pub here : slice_get e.topics.entries (length d.topics.entries) ≡ Some t
 
 topic_grows : (d : Lists) (name : List ℕ) (t : Topic) → Grows d (record d { topics = and_entry d.topics name t })
-topic_grows d name t = record { topics = λ n x e. at_append d.topics.entries (t ∷ []) n x e; writers = λ n x e. e; readers = λ n x e. e; applications = λ n x e. (x, e, refl, λ m c. c, λ m c. c); count = refl }
+topic_grows d name t = record { topics = λ n x e. at_append d.topics.entries (t ∷ []) n x e; writers = λ n x e. e; readers = λ n x e. e; applications = λ n x e. (x, e, refl, (λ m c. c), (λ m c. c)); count = refl }
 
 pub topic_added : (path name : List ℕ) (t : Topic) (d e : Lists) → IsDeployment d → length t.keys ≤ 64 → 1 ≤ length t.keys → AreNumbered t.keys → add_topic path name t d ≡ Ok e → TopicAdded t d e
 unfolding add_topic
@@ -134,22 +134,22 @@ topic_added path name t d e old few some numbered h =
 pub record WriterAdded (a t : ℕ) (d e : Lists) : Type 0 where
   pub deployment : IsDeployment e
   pub grows : Grows d e
-  pub sizes : Sizes d e 0 1 0
+  pub sizes : Sizes e (length d.topics.entries) (suc (length d.writers.entries)) (length d.readers.entries)
   pub has : HasWriter e a (length d.writers.entries) t
 
 pub record ReaderAdded (a : ℕ) (keys : List ℕ) (d e : Lists) : Type 0 where
   pub deployment : IsDeployment e
   pub grows : Grows d e
-  pub sizes : Sizes d e 0 0 1
+  pub sizes : Sizes e (length d.topics.entries) (length d.writers.entries) (suc (length d.readers.entries))
   pub has : HasReader e a (length d.readers.entries) keys
 
 writer_kept : (n : ℕ) (x y : Application) → (y ≡ more_writers n x) ⊎ (y ≡ x) → (y.participant ≡ x.participant) × ((m : ℕ) → Contains x.writers m → Contains y.writers m) × ((m : ℕ) → Contains x.readers m → Contains y.readers m)
-writer_kept n x y (inl e) = (ap (λ z. z.participant) e, λ m c. subst (λ z. Contains z.writers m) (sym e) (Contains-append_left x.writers (n ∷ []) m c), λ m c. subst (λ z. Contains z.readers m) (sym e) c)
-writer_kept n x y (inr e) = (ap (λ z. z.participant) e, λ m c. subst (λ z. Contains z.writers m) (sym e) c, λ m c. subst (λ z. Contains z.readers m) (sym e) c)
+writer_kept n x y (inl e) = (ap (λ z. z.participant) e, (λ m c. subst (λ z. Contains z.writers m) (sym e) (Contains-append_left x.writers (n ∷ []) m c)), (λ m c. subst (λ z. Contains z.readers m) (sym e) c))
+writer_kept n x y (inr e) = (ap (λ z. z.participant) e, (λ m c. subst (λ z. Contains z.writers m) (sym e) c), (λ m c. subst (λ z. Contains z.readers m) (sym e) c))
 
 reader_kept : (n : ℕ) (x y : Application) → (y ≡ more_readers n x) ⊎ (y ≡ x) → (y.participant ≡ x.participant) × ((m : ℕ) → Contains x.writers m → Contains y.writers m) × ((m : ℕ) → Contains x.readers m → Contains y.readers m)
-reader_kept n x y (inl e) = (ap (λ z. z.participant) e, λ m c. subst (λ z. Contains z.writers m) (sym e) c, λ m c. subst (λ z. Contains z.readers m) (sym e) (Contains-append_left x.readers (n ∷ []) m c))
-reader_kept n x y (inr e) = (ap (λ z. z.participant) e, λ m c. subst (λ z. Contains z.writers m) (sym e) c, λ m c. subst (λ z. Contains z.readers m) (sym e) c)
+reader_kept n x y (inl e) = (ap (λ z. z.participant) e, (λ m c. subst (λ z. Contains z.writers m) (sym e) c), (λ m c. subst (λ z. Contains z.readers m) (sym e) (Contains-append_left x.readers (n ∷ []) m c)))
+reader_kept n x y (inr e) = (ap (λ z. z.participant) e, (λ m c. subst (λ z. Contains z.writers m) (sym e) c), (λ m c. subst (λ z. Contains z.readers m) (sym e) c))
 
 writer_grows : (d : Lists) (name : List ℕ) (w : Writer) (a : ℕ) → Grows d (record d { writers = and_entry d.writers name w; applications = owning_writer a (length d.writers.entries) d.applications })
 writer_grows d name w a = record {
@@ -251,7 +251,7 @@ reader_added path name a p t depth keys durability lose soon names one d e old a
 pub record Added (d e : Lists) : Type 0 where
   pub deployment : IsDeployment e
   pub grows : Grows d e
-  pub sizes : Sizes d e 0 0 0
+  pub sizes : Sizes e (length d.topics.entries) (length d.writers.entries) (length d.readers.entries)
 
 pub rule_added : (path name : List ℕ) (u : Rule) (d e : Lists) → IsDeployment d → RuleMayCome d u → add_rule path name u d ≡ Ok e → Added d e
 unfolding add_rule
@@ -261,7 +261,7 @@ rule_added path name u d e old comes h =
     let made : Lists = record d { rules = and_rules d.rules name (record { name = length d.rules.names; key = None } ∷ [], u ∷ []) } in
     subst (Added d) (ok_is made e m.2) (record {
       deployment = rule_keeps_all d name u old may.new may.few comes;
-      grows = record { topics = λ n x e. e; writers = λ n x e. e; readers = λ n x e. e; applications = λ n x e. (x, e, refl, λ m c. c, λ m c. c); count = refl };
+      grows = record { topics = λ n x e. e; writers = λ n x e. e; readers = λ n x e. e; applications = λ n x e. (x, e, refl, (λ m c. c), (λ m c. c)); count = refl };
       sizes = record { topics = refl; writers = refl; readers = refl };
     })
 
@@ -273,7 +273,7 @@ connection_added path w r d e old writer reader h =
     let new = none_shows (λ (c : ℕ × ℕ). c) (λ c. w == c.0 && r == c.1) d.connections (w, r) (λ c same. both_true (w == c.0) (r == c.1) (eq-eqb w c.0 (sym (ap (λ x. x.0) same))) (eq-eqb r c.1 (sym (ap (λ x. x.1) same)))) (is_not (stands d.connections w r) p.0) in
     subst (Added d) p.1 (record {
       deployment = connection_keeps d w r old new writer reader;
-      grows = record { topics = λ n x e. e; writers = λ n x e. e; readers = λ n x e. e; applications = λ n x e. (x, e, refl, λ m c. c, λ m c. c); count = refl };
+      grows = record { topics = λ n x e. e; writers = λ n x e. e; readers = λ n x e. e; applications = λ n x e. (x, e, refl, (λ m c. c), (λ m c. c)); count = refl };
       sizes = record { topics = refl; writers = refl; readers = refl };
     })
 

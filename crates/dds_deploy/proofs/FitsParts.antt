@@ -75,11 +75,11 @@ record Was {A : Type 0} (f : A → A) (n k : ℕ) (xs : List A) (y : A) : Type 0
 changed_was : {A : Type 0} (f : A → A) (n k : ℕ) (xs : List A) (y : A) → slice_get (changed_at f n xs) k ≡ Some y → Was f n k xs y
 changed_was f n k [] y e = absurd cc
 changed_was f zero zero (x ∷ xs) y e = record { before = x; at = refl; is = inl (refl, cc) }
-changed_was f zero (suc k) (x ∷ xs) y e = record { before = y; at = e; is = inr (λ same. omega (arith, same), refl) }
-changed_was f (suc n) zero (x ∷ xs) y e = record { before = x; at = refl; is = inr (λ same. omega (arith, same), cc) }
+changed_was f zero (suc k) (x ∷ xs) y e = record { before = y; at = e; is = inr ((λ same. omega (arith, same)), refl) }
+changed_was f (suc n) zero (x ∷ xs) y e = record { before = x; at = refl; is = inr ((λ same. omega (arith, same)), cc) }
 changed_was f (suc n) (suc k) (x ∷ xs) y e =
     let w = changed_was f n k xs y e in
-    record { before = w.before; at = w.at; is = elim w.is [ inl here ↦ inl (ap suc here.0, here.1) | inr there ↦ inr (λ same. there.0 (omega (arith, same)), there.1) ] }
+    record { before = w.before; at = w.at; is = elim w.is [ inl here ↦ inl (ap suc here.0, here.1) | inr there ↦ inr ((λ same. there.0 (omega (arith, same))), there.1) ] }
 
 changed_other : {A : Type 0} (f : A → A) (n k : ℕ) (xs : List A) (x : A) → (k ≡ n → ⊥) → slice_get xs k ≡ Some x → slice_get (changed_at f n xs) k ≡ Some x
 changed_other f n k [] x no e = absurd cc
@@ -203,7 +203,7 @@ count_grows ws ts name t w k lt = by (slice_get ws w) lt
     by (Some x) lt = let more = keys_grow ts name t x.topic in omega (arith, more, lt)
 
 module _ (d : Lists) (name : List ℕ) (t : Topic) (old : IsDeployment d) (new : is_some (number_of d.topics.names name) ≡ false) (few : length d.topics.entries < 256) (few_keys : length t.keys ≤ 64) (some_keys : 1 ≤ length t.keys) (numbered : AreNumbered t.keys) where
-  with_topic : Lists
+  abbrev with_topic : Lists
   with_topic = record d { topics = and_entry d.topics name t }
 
   topic_writer : (w : Writer) → IsWriterOf d w → IsWriterOf with_topic w
@@ -298,11 +298,8 @@ writes_on d name w x lt = by (slice_get d.writers.entries x.endpoint) refl
         omega (arith, lt, before, after)
 
 module _ (d : Lists) (name : List ℕ) (w : Writer) (a : ℕ) (one : Application) (old : IsDeployment d) (new : is_some (number_of d.writers.names name) ≡ false) (few : length d.writers.entries < 256) (fits : IsWriterOf d w) (agrees : consistency_fault w.qos.offered ≡ None) (at : slice_get d.applications.entries a ≡ Some one) (beside : one.participant ≡ w.participant) where
-  with_writer : Lists
+  abbrev with_writer : Lists
   with_writer = record d { writers = and_entry d.writers name w; applications = owning_writer a (length d.writers.entries) d.applications }
-
-  writer_next : ℕ
-  writer_next = length d.writers.entries
 
   writer_application : (x : Application) → IsApplicationOf d x → IsApplicationOf with_writer x
   writer_application x h =
@@ -446,11 +443,8 @@ takes_on d r x c = by (slice_get d.readers.entries x.endpoint) refl
         (subst (λ o. Contains (unwrap_or (option_map (λ (z : Reader). z.filter) o) []) x.key) e c)
 
 module _ (d : Lists) (name : List ℕ) (w : Reader) (a : ℕ) (one : Application) (old : IsDeployment d) (new : is_some (number_of d.readers.names name) ≡ false) (few : length d.readers.entries < 256) (fits : IsReaderOf d w) (agrees : consistency_fault w.qos.requested ≡ None) (spans : AreSpans w) (distinct : AreDistinctBy (λ k. k) w.filter) (at : slice_get d.applications.entries a ≡ Some one) (beside : one.participant ≡ w.participant) where
-  with_reader : Lists
+  abbrev with_reader : Lists
   with_reader = record d { readers = and_entry d.readers name w; applications = owning_reader a (length d.readers.entries) d.applications }
-
-  reader_next : ℕ
-  reader_next = length d.readers.entries
 
   reader_application : (x : Application) → IsApplicationOf d x → IsApplicationOf with_reader x
   reader_application x h =
@@ -590,7 +584,7 @@ pub record RuleMayCome (d : Lists) (u : Rule) : Type 0 where
   pub own : KeepsToItsOwn d u
 
 module _ (d : Lists) (name : List ℕ) (u : Rule) (old : IsDeployment d) (new : is_some (number_of d.rules.names name) ≡ false) (few : length d.rules.entries < 256) (may : RuleMayCome d u) where
-  with_rule : Lists
+  abbrev with_rule : Lists
   with_rule = record d { rules = and_rules d.rules name (record { name = length d.rules.names; key = None } ∷ [], u ∷ []) }
 
   same_rule : (x : Rule) → IsRuleOf d x → IsRuleOf with_rule x
@@ -657,7 +651,7 @@ module _ (d : Lists) (name : List ℕ) (u : Rule) (old : IsDeployment d) (new : 
 -- one more connection
 
 module _ (d : Lists) (w r : ℕ) (old : IsDeployment d) (new : All (λ (c : ℕ × ℕ). c ≡ (w, r) → ⊥) d.connections) (writer : w < length d.writers.entries) (reader : r < length d.readers.entries) where
-  with_connection : Lists
+  abbrev with_connection : Lists
   with_connection = record d { connections = d.connections ++ (w, r) ∷ [] }
 
   pub connection_keeps : IsDeployment with_connection

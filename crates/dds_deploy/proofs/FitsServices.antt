@@ -43,7 +43,7 @@ pub record FormFits (n : ℕ) (f : ShortForm) : Type 0 where
   pub some : 1 ≤ length f.clients.names
   pub few : length f.clients.names ≤ 64
   pub known : All (λ a. a < n) f.clients.entries
-  pub open : f.open ≤ 65535
+  pub under_way : f.under_way ≤ 65535
   pub depth : 1 ≤ f.depth
   pub soon : (m : ℕ) → f.taken_within ≡ Some m → m ≤ most_nanoseconds
   pub paced : IsPaced f.pace
@@ -103,19 +103,19 @@ fields_fit v apps path ms f e =
     let at_server = field_is (codes "server") (a_known_name apps) path ms server.0 server.1 in
     let at_clients = field_is (codes "clients") (clients apps) path ms others.0 others.1 in
     let cs = clients_fit apps (key_path path (codes "clients")) at_clients.0 others.0 at_clients.1 in
-    let open = bind_ok (field (codes "open") (a_number 1 65535) path ms) _ size.0 size.1 in
-    let depth = bind_ok (field (codes "depth") (a_number 1 2147483647) path ms) _ size.0 open.2 in
-    let at_open = field_is (codes "open") (a_number 1 65535) path ms open.0 open.1 in
+    let asked = bind_ok (field (codes "open") (a_number 1 65535) path ms) _ size.0 size.1 in
+    let depth = bind_ok (field (codes "depth") (a_number 1 2147483647) path ms) _ size.0 asked.2 in
+    let at_asked = field_is (codes "open") (a_number 1 65535) path ms asked.0 asked.1 in
     let at_depth = field_is (codes "depth") (a_number 1 2147483647) path ms depth.0 depth.1 in
     let whose = bind_ok (whose_replies path ms) _ how.0 how.1 in
     let soon = bind_ok (optional_nanoseconds 0 most_nanoseconds (codes "taken_within") path ms) _ how.0 whose.2 in
     let by_clock = bind_ok (pace path ms) _ how.0 soon.2 in
-    let made : ShortForm = record { name = n.0; type_name = t.0; server = server.0; clients = others.0; open = open.0; depth = depth.0; replies = whose.0; taken_within = soon.0; pace = by_clock.0 } in
+    let made : ShortForm = record { name = n.0; type_name = t.0; server = server.0; clients = others.0; under_way = asked.0; depth = depth.0; replies = whose.0; taken_within = soon.0; pace = by_clock.0 } in
     let who_is = ok_is (server.0, others.0) who.0 others.2 in
-    let size_is = ok_is (open.0, depth.0) size.0 depth.2 in
+    let size_is = ok_is (asked.0, depth.0) size.0 depth.2 in
     let how_is = ok_is (whose.0, soon.0, by_clock.0) how.0 by_clock.2 in
-    let read : ShortForm = record { name = n.0; type_name = t.0; server = who.0.0; clients = who.0.1; open = size.0.0; depth = size.0.1; replies = how.0.0; taken_within = how.0.1; pace = how.0.2 } in
-    let same : made ≡ read = ap3 (λ x y z. record { name = n.0; type_name = t.0; server = x.0; clients = x.1; open = y.0; depth = y.1; replies = z.0; taken_within = z.1; pace = z.2 }) who_is size_is how_is in
+    let read : ShortForm = record { name = n.0; type_name = t.0; server = who.0.0; clients = who.0.1; under_way = size.0.0; depth = size.0.1; replies = how.0.0; taken_within = how.0.1; pace = how.0.2 } in
+    let same : made ≡ read = ap3 (λ x y z. record { name = n.0; type_name = t.0; server = x.0; clients = x.1; under_way = y.0; depth = y.1; replies = z.0; taken_within = z.1; pace = z.2 }) who_is size_is how_is in
     subst (FormFits (length apps)) (same ∙ ok_is read f how.2) (record {
       server = known_within apps (key_path path (codes "server")) at_server.0 server.0 at_server.1;
       paired = cs.paired;
@@ -123,7 +123,7 @@ fields_fit v apps path ms f e =
       some = cs.some;
       few = cs.few;
       known = cs.known;
-      open = (number_between 1 65535 (key_path path (codes "open")) at_open.0 open.0 at_open.1).1;
+      under_way = (number_between 1 65535 (key_path path (codes "open")) at_asked.0 asked.0 at_asked.1).1;
       depth = (number_between 1 2147483647 (key_path path (codes "depth")) at_depth.0 depth.0 at_depth.1).0;
       soon = λ m is. (optional_between 0 most_nanoseconds (codes "taken_within") path ms soon.0 soon.1 m is).1;
       paced = pace_fits path ms by_clock.0 by_clock.1;
@@ -239,7 +239,7 @@ module _ (n : ℕ) (f : ShortForm) (fits : FormFits n f) (at : Desk) (start : Li
   rules_added name k r w d e lt s h =
       let ask = bind_ok (add_rule path (name ++ codes ".ask") _ d) _ e h in
       let one = rule_added path (name ++ codes ".ask") _ d ask.0 s.serving.deployment
-          (serving_rule d (client_at f k) r w at.requests k f.open f.clients.names (heard f.replies k (all_keys f.clients.names)) None s.reader (heard_own n f fits f.replies k lt) s.writer s.serving.requests lt fits.open (λ p e. absurd cc)) ask.1 in
+          (serving_rule d (client_at f k) r w at.requests k f.under_way f.clients.names (heard f.replies k (all_keys f.clients.names)) None s.reader (heard_own n f fits f.replies k lt) s.writer s.serving.requests lt fits.under_way (λ p e. absurd cc)) ask.1 in
       let mid = still_served n f at start k r w d ask.0 s one in
       let two = rule_added path (name ++ codes ".answer") _ ask.0 e mid.serving.deployment
           (serving_rule ask.0 f.server at.reader at.writer at.replies k 0 f.clients.names (all_keys f.clients.names) f.pace mid.serving.reader (keys_contain n f fits k lt) mid.serving.writer mid.serving.replies lt (omega arith) fits.paced) ask.2 in

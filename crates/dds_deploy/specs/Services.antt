@@ -103,7 +103,7 @@ one_of e k = record { endpoint = e; key = k; count = 1 } ∷ []
 -- the client with this reader and writer asks again after a reply to it, and the server answers what it asks
 unfoldable pub add_rules : List ℕ → ShortForm → Desk → List ℕ → (k r w : ℕ) → Lists → Read Lists
 add_rules path f at name k r w d = do
-  e ← add_rule path (name ++ codes ".ask") (record { application = client_at f k; takes = one_of r k; writes = one_of w k; start = f.open; free = false; pace = None }) d
+  e ← add_rule path (name ++ codes ".ask") (record { application = client_at f k; takes = one_of r k; writes = one_of w k; start = f.under_way; free = false; pace = None }) d
   add_rule path (name ++ codes ".answer") (record { application = f.server; takes = one_of at.reader k; writes = one_of at.writer k; start = 0; free = false; pace = f.pace }) e
 
 unfoldable pub add_connections : List ℕ → Desk → (r w : ℕ) → Lists → Read Lists

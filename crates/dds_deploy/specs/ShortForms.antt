@@ -24,7 +24,7 @@ pub record ShortForm : Type 0 where
   -- those that ask, by their names
   pub clients : Listed ℕ
   -- how many requests each of them has under way at most
-  pub open : ℕ
+  pub under_way : ℕ
   pub depth : ℕ
   -- whose replies a client hears
   pub replies : Replies
@@ -34,7 +34,7 @@ pub record ShortForm : Type 0 where
 
 -- what such a form of the code stands for
 abbrev pub form_view : CodeShortForm → ShortForm
-form_view f = record { name = f.name.now; type_name = f.type_name.now; server = f.server; clients = listed (λ a. a) f.clients; open = f.open; depth = f.depth; replies = f.replies; taken_within = f.taken_within; pace = f.pace }
+form_view f = record { name = f.name.now; type_name = f.type_name.now; server = f.server; clients = listed (λ a. a) f.clients; under_way = f.under_way; depth = f.depth; replies = f.replies; taken_within = f.taken_within; pace = f.pace }
 
 -- one more client: an application that isn't one yet
 unfoldable pub client : List (List ℕ) → Listed ℕ → List ℕ → Data → Read (Listed ℕ)
@@ -83,7 +83,7 @@ form_fields v applications path ms = do
   who ← parties applications path ms
   size ← sizes path ms
   how ← answering path ms
-  Ok (record { name = n; type_name = t; server = who.0; clients = who.1; open = size.0; depth = size.1; replies = how.0; taken_within = how.1; pace = how.2 })
+  Ok (record { name = n; type_name = t; server = who.0; clients = who.1; under_way = size.0; depth = size.1; replies = how.0; taken_within = how.1; pace = how.2 })
 
 abbrev pub form_keys : List (List ℕ)
 form_keys = codes "name" ∷ codes "type" ∷ codes "server" ∷ codes "clients" ∷ codes "open" ∷ codes "depth" ∷ codes "replies" ∷ codes "taken_within" ∷ codes "period" ∷ codes "jitter" ∷ []

@@ -303,7 +303,7 @@ fn asking(
         application = client_at (form_view form.now) number;
         takes = one_of ends.now.reader number;
         writes = one_of ends.now.writer number;
-        start = form.now.open;
+        start = form.now.under_way;
         free = false;
         pace = None;
     }) }
@@ -312,7 +312,7 @@ fn asking(
         application: form.client(number),
         takes: one_of(alloc, ends.reader, number)?,
         writes: one_of(alloc, ends.writer, number)?,
-        start: form.open,
+        start: form.under_way,
         free: false,
         pace: None,
     })

@@ -44,7 +44,7 @@ pub(crate) struct ShortForm<'a> {
     /// Those that ask, by their names.
     pub(crate) clients: Section<AppNo>,
     /// How many requests each of them has under way at most.
-    pub(crate) open: u16,
+    pub(crate) under_way: u16,
     pub(crate) depth: u32,
     pub(crate) replies: Replies,
     /// How soon clients take replies.
@@ -167,9 +167,9 @@ fn whose_replies(alloc: Global, path: &Place, table: &Table) -> Result<Replies, 
 fn sizes(alloc: Global, path: &Place, table: &Table) -> Result<(u16, u32), ReadFault>
     ensures { Gives (λ x. x) result (sizes (place_text path.now) (table_view table.now)) }
 {
-    let open = short_number_field(alloc, 1, 65_535, path, table, "open")?;
+    let under_way = short_number_field(alloc, 1, 65_535, path, table, "open")?;
     let depth = number_field(alloc, 1, 2_147_483_647, path, table, "depth")?;
-    Ok((open, depth))
+    Ok((under_way, depth))
 }
 
 #[tactic(auto, unfolding(crate::specs::ShortForms::answering))]
@@ -215,14 +215,14 @@ fn form_fields<'a>(
     let name = name_field(alloc, path, table, "name")?;
     let type_name = type_name_field(alloc, version, path, table, "type")?;
     let (server, clients) = parties(alloc, applications, path, table)?;
-    let (open, depth) = sizes(alloc, path, table)?;
+    let (under_way, depth) = sizes(alloc, path, table)?;
     let (replies, taken_within, pace) = answering(alloc, path, table)?;
     Ok(ShortForm {
         name,
         type_name,
         server,
         clients,
-        open,
+        under_way,
         depth,
         replies,
         taken_within,
