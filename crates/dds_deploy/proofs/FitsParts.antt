@@ -1,5 +1,5 @@
 -- A deployment with one more topic, endpoint, rule or connection is one too.
-use Rattle.std.proofs.Common.{◌≡◌, ℕ, zero, suc, ◌+◌, ◌<◌, ◌≤◌, ◌⊎◌, inl, inr, Bool, true, false, List, [], ◌∷◌, ◌++◌, length, get_or, Option, Some, None, refl, sym, ap, subst, ◌∙◌, arith, All, Contains}
+use Rattle.std.proofs.Common.{◌≡◌, ℕ, zero, suc, ◌+◌, ◌<◌, ◌≤◌, ◌⊎◌, inl, inr, false, List, [], ◌∷◌, ◌++◌, length, get_or, Option, Some, None, refl, sym, ap, subst, ◌∙◌, arith, All, Contains}
 use Rattle.std.specs.Prelude.{is_some, slice_get, option_map, unwrap_or}
 use Rattle.std.proofs.lemmas.List.{length_push}
 use Rattle.std.proofs.lemmas.List.Elements.{All-nil, All-push, All-weaker, Contains-append_left, Contains-append_right, Contains-append_cases}
@@ -11,7 +11,7 @@ use Rattle.dds_qos.specs.Consistency.{consistency_fault}
 use Rattle.dds_lists.specs.declared.lists.Origin.{Origin}
 use Rattle.dds_lists.specs.declared.lists.Pace.{Pace}
 use Rattle.dds_lists.specs.Lists.{Topic, Writer, Reader, Application, Rule, Lists, keys_at, and_rules}
-use Rattle.dds_lists.specs.WellFormed.{IsDeployment, IsWellFormed, IsListOf, AreRules, NamesOnce, IsConsistent, IsOwned, IsOwnedOnce, IsWriterOf, IsReaderOf, IsRuleOf, IsTakeOf, IsWriteOf, IsApplicationOf, KeepsToItsOwn, IsConnectionOf, AreNumbered, AreDistinctBy, AreSpans, IsCounted, IsPace, endpoint_and_key, filter_at, writer_key_count}
+use Rattle.dds_lists.specs.WellFormed.{IsDeployment, IsListOf, IsOwnedOnce, IsWriterOf, IsReaderOf, IsRuleOf, IsTakeOf, IsWriteOf, IsApplicationOf, KeepsToItsOwn, IsConnectionOf, AreNumbered, AreDistinctBy, AreSpans, IsCounted, IsPace, endpoint_and_key}
 use Rattle.dds_deploy.specs.Parts.{changed_at, owning_writer, owning_reader}
 use Rattle.dds_deploy.proofs.Pushes.{AreOf, rules_grow}
 use Rattle.dds_deploy.proofs.Distinct.{distinct_push, numbered_push}

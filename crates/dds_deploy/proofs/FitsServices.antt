@@ -395,7 +395,7 @@ module _ (n : ℕ) (f : ShortForm) (fits : FormFits n f) (path : List ℕ) where
         let one = application_at d a (omega (arith, count, inside)) in
         let x = bind_ok (add_topic path topic_name t d) _ e h in
         let T = topic_added path topic_name t d x.0 old (omega arith) (omega arith) one_word x.1 in
-        let topic = (t, T.here, refl) in
+        let topic : HasTopic x.0 (length d.topics.entries) (news.word ∷ []) = (t, T.here, refl) in
         let other = T.grows.applications a one.0 one.1 in
         let y = bind_ok (add_writer path a name _ x.0) _ e x.2 in
         let W = writer_added path name a p (length d.topics.entries) news.depth news.durability KeepLast (news.word ∷ []) other.0 x.0 y.0 T.deployment other.1 (other.2 ∙ one.2) topic some y.1 in
