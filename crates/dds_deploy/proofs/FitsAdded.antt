@@ -93,10 +93,10 @@ record MayCome (limit count : ℕ) (names : List (List ℕ)) (name : List ℕ) :
 may_come : (path : List ℕ) (limit count : ℕ) (names : List (List ℕ)) (name : List ℕ) (u : Unit {0}) → may_add path limit count names name ≡ Ok u → MayCome limit count names name
 unfolding may_add
 may_come path limit count names name u e =
-    let a = bind_ok (unless BadName path (is_name name) tt) _ u e in
-    let b = bind_ok (unless Duplicate path (is_none (number_of names name)) tt) _ u a.2 in
-    let fresh = passed Duplicate path (is_none (number_of names name)) tt b.0 b.1 in
-    let room = passed TooMany path (nat_lt count limit) tt u b.2 in
+    let a = bind_ok (unless BadName path (is_name name) (tt {0})) _ u e in
+    let b = bind_ok (unless Duplicate path (is_none (number_of names name)) (tt {0})) _ u a.2 in
+    let fresh = passed Duplicate path (is_none (number_of names name)) (tt {0}) b.0 b.1 in
+    let room = passed TooMany path (nat_lt count limit) (tt {0}) u b.2 in
     record { new = is_new (number_of names name) fresh.0; few = ltb-true count limit room.0 }
 
 -- so many of each there are

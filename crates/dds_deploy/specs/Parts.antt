@@ -19,9 +19,9 @@ parts_view p = lists_of p.version p.participants p.topics p.writers p.readers p.
 -- one more entry may come under this name, after so many of at most `limit`
 unfoldable pub may_add : List ℕ → (limit count : ℕ) → List (List ℕ) → List ℕ → Read (Unit {0})
 may_add path limit count names name = do
-  _ ← unless BadName path (is_name name) tt
-  _ ← unless Duplicate path (is_none (number_of names name)) tt
-  unless TooMany path (nat_lt count limit) tt
+  _ ← unless BadName path (is_name name) (tt {0})
+  _ ← unless Duplicate path (is_none (number_of names name)) (tt {0})
+  unless TooMany path (nat_lt count limit) (tt {0})
 
 -- one more topic
 unfoldable pub add_topic : List ℕ → List ℕ → Topic → Lists → Read Lists
