@@ -1,5 +1,5 @@
 -- Why a strict reader gives a number up by the HEARTBEAT that arrives: the number is the base that its ACKNACK names.
-use Rattle.std.proofs.Common.{◌≡◌, ◌≢◌, ℕ, zero, suc, ◌<◌, ◌≤◌, false, List, [], ◌∷◌, ◌++◌, Some, refl, sym, ap, ◌∙◌, subst, inl, inr, slice_get}
+use Rattle.std.proofs.Common.{◌≡◌, ◌≢◌, ℕ, zero, suc, ◌<◌, ◌≤◌, true, false, List, [], ◌∷◌, ◌++◌, Some, refl, sym, ap, ◌∙◌, subst, inl, inr, slice_get}
 use Rattle.dds_base.specs.Sums.{In}
 use Rattle.dds_base.specs.Sets.{last_number}
 use Rattle.dds_base.specs.Messages.{HeartbeatFor}
@@ -39,10 +39,10 @@ misses net ms place r w p n packet a d stands same other there kind is low =
 -- the run without the question goes on with the HEARTBEAT and its reply
 pub gives_up : (net : Network) (ms : List (Event × Reply)) (last : Event) (reply : Reply) (place r k n c : ℕ) (h : HeartbeatFor) (old asked new : PartsState)
     → StandsAfter ms old → network_of old.plan ≡ net → network_of new.plan ≡ net → BringsWord net (replay net opening (as_moves ms)) last place h → Asks net ms place h.reader h.writer n asked
-    → GoesOn asked ((last, reply) ∷ []) new → h.reader ≡ r → n < h.first → IsWrittenUnder ms h.writer n k → reply ≡ Arrived (Lost c)
+    → GoesOn asked ((last, reply) ∷ []) new → h.reader ≡ r → n < h.first → IsWrittenUnder ms h.writer n k → net.hears r k ≡ true → reply ≡ Arrived (Lost c)
     → LosesAfter net ms last reply r k lost.Lost
 unfolding GoesOn
-gives_up net ms last reply place r k n c h old asked new stands mine its brings asks goes reader low written told =
+gives_up net ms last reply place r k n c h old asked new stands mine its brings asks goes reader low written heard told =
     let v : World = replay net opening (as_moves ms) in
     let question : Event = SendAckNack h.reader h.writer in
     let more : List (Event × Reply) = ms ++ (question, Sent (Some asks.asked)) ∷ [] in
@@ -57,7 +57,7 @@ gives_up net ms last reply place r k n c h old asked new stands mine its brings 
     let now : May net v last reply = subst (λ (e : Event). May net v e reply) (sym brings.1) (same_answer net v (send v packet) place brings.0 h reply brings.2 there refl may) in
     record {
       run = run_push net ms last reply (subst (λ (m : Network). IsRun m ms) mine stands.run) now;
-      loses = (place, h, n, brings, reader, low, subst (λ x. marked v x h.writer n ≡ false) reader asks.missing, written);
+      loses = (place, h, n, brings, reader, low, subst (λ x. marked v x h.writer n ≡ false) reader asks.missing, written, heard);
       told = (Lost c, told, (c, refl));
     }
 

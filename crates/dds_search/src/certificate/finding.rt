@@ -9,7 +9,7 @@ ghost use Rattle.dds_runs.specs.Accepted.{Accepted, certificate_of};
 ghost use Rattle.dds_check.specs.Accepts.{first_no};
 ghost use Rattle.dds_claims.specs.Claims.{structure_no};
 ghost use Rattle.dds_runs.specs.Certified.{Safe};
-ghost use Rattle.dds_search.specs.Answers.{IsShownLeast, IfCertificate, IfStructure, IfLimit};
+ghost use Rattle.dds_search.specs.Answers.{IsShownLeast, IfCertificate, IfLimit, IfOtherwise, IfStructure};
 
 use crate::answer::{Found, Missing};
 use crate::budget::Budget;
@@ -44,6 +44,7 @@ fn find_by_rounds(alloc: Global, plan: &Plan, missing: Missing) -> Result<Found,
     requires structure { IfStructure (Found.Missing missing) (λ no. structure_no plan.now ≡ Some no) }
     requires always { IfStructure (Found.Missing missing)
         (λ no. (cert : CertificateLists) → first_no plan.now cert ≢ None) }
+    requires otherwise { IfOtherwise (Found.Missing missing) (structure_no plan.now ≡ None) }
     requires least { IfLimit (Found.Missing missing) (IsShownLeast (network_of plan.now)) }
     ensures fits { IfOk result (λ f. IfCertificate f (λ c. fits (network_of plan.now) (certificate_view c) ≡ true)) }
     ensures accepted { IfOk result (λ f. IfCertificate f (λ c. first_no plan.now (certificate_view c) ≡ None)) }
@@ -54,6 +55,7 @@ fn find_by_rounds(alloc: Global, plan: &Plan, missing: Missing) -> Result<Found,
     ensures structure { IfOk result (λ f. IfStructure f (λ no. structure_no plan.now ≡ Some no)) }
     ensures always { IfOk result
         (λ f. IfStructure f (λ no. (cert : CertificateLists) → first_no plan.now cert ≢ None)) }
+    ensures otherwise { IfOk result (λ f. IfOtherwise f (structure_no plan.now ≡ None)) }
     ensures least { IfOk result (λ f. IfLimit f (IsShownLeast (network_of plan.now))) }
 {
     match propose(alloc, plan) {
@@ -69,6 +71,7 @@ fn find_with_fewer_rows<C: Clock>(
     plan: &Plan,
     budget: Budget<C>,
 ) -> Result<Found, NoMemory>
+    requires { structure_no plan.now ≡ None }
     ensures fits { IfOk result (λ f. IfCertificate f (λ c. fits (network_of plan.now) (certificate_view c) ≡ true)) }
     ensures accepted { IfOk result (λ f. IfCertificate f (λ c. first_no plan.now (certificate_view c) ≡ None)) }
     ensures holds { IfOk result
@@ -78,6 +81,7 @@ fn find_with_fewer_rows<C: Clock>(
     ensures structure { IfOk result (λ f. IfStructure f (λ no. structure_no plan.now ≡ Some no)) }
     ensures always { IfOk result
         (λ f. IfStructure f (λ no. (cert : CertificateLists) → first_no plan.now cert ≢ None)) }
+    ensures otherwise { IfOk result (λ f. IfOtherwise f (structure_no plan.now ≡ None)) }
     ensures least { IfOk result (λ f. IfLimit f (IsShownLeast (network_of plan.now))) }
 {
     match find_by_sums(alloc, plan, budget) {
@@ -106,6 +110,8 @@ pub fn find_certificate<C: Clock>(
     ensures structure { IfOk result (λ f. IfStructure f (λ no. structure_no plan.now ≡ Some no)) }
     ensures always { IfOk result
         (λ f. IfStructure f (λ no. (cert : CertificateLists) → first_no plan.now cert ≢ None)) }
+    // Where another reason is given, no condition fails that no certificate can change.
+    ensures otherwise { IfOk result (λ f. IfOtherwise f (structure_no plan.now ≡ None)) }
     // Some weights show the bound that is given, and where none is said to be shown there is a ray.
     ensures least { IfOk result (λ f. IfLimit f (IsShownLeast (network_of plan.now))) }
 {

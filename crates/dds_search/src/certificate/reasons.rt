@@ -114,12 +114,14 @@ pub struct Measurer<'c, C> {
 }
 
 impl<'c, C: Clock> Measurer<'c, C> {
-    /// Before the first size of a plan. `NoMemory` is answered only where memory ran out.
+    /// Before the first size of a plan, with the whole budget. `NoMemory` is answered only where memory ran out.
     pub fn new(
         alloc: Global,
         plan: &Plan,
         budget: Budget<'c, C>,
-    ) -> Result<Measurer<'c, C>, NoMemory> {
+    ) -> Result<Measurer<'c, C>, NoMemory>
+        ensures { IfOk result (λ measurer. measurer.climber.budget.left ≡ budget.left) }
+    {
         Ok(Measurer {
             climber: climber_of(alloc, plan, budget)?,
         })

@@ -8,7 +8,7 @@ ghost use Rattle.dds_runs.specs.Accepted.{Accepted, certificate_of};
 ghost use Rattle.dds_check.specs.Accepts.{first_no};
 ghost use Rattle.dds_claims.specs.Claims.{structure_no};
 ghost use Rattle.dds_runs.specs.Certified.{Safe};
-ghost use Rattle.dds_search.specs.Answers.{IsShownFor, IsShownLeast, IfCertificate, IfStructure, IfLimit};
+ghost use Rattle.dds_search.specs.Answers.{IsShownFor, IsShownLeast, IfCertificate, IfLimit, IfOtherwise, IfStructure};
 ghost use Rattle.dds_search.specs.Reasons.{IsClaimFor};
 
 use crate::answer::{Found, Least, Missing};
@@ -247,6 +247,8 @@ pub fn search<C: Clock>(alloc: Global, plan: &Plan, budget: Budget<C>) -> Result
     ensures structure { IfOk result (λ f. IfStructure f (λ no. structure_no plan.now ≡ Some no)) }
     ensures always { IfOk result
         (λ f. IfStructure f (λ no. (cert : CertificateLists) → first_no plan.now cert ≢ None)) }
+    // Where another reason is given, no condition fails that no certificate can change.
+    ensures otherwise { IfOk result (λ f. IfOtherwise f (structure_no plan.now ≡ None)) }
     // Some weights show the bound that is given.
     ensures least { IfOk result (λ f. IfLimit f (IsShownLeast (network_of plan.now))) }
 {

@@ -102,7 +102,9 @@ pub(crate) fn climber_of<'c, C: Clock>(
     alloc: Global,
     plan: &Plan,
     budget: Budget<'c, C>,
-) -> Result<Climber<'c, C>, NoMemory> {
+) -> Result<Climber<'c, C>, NoMemory>
+    ensures { IfOk result (λ climber. climber.budget.left ≡ budget.left) }
+{
     Climber::new(alloc, Net::of(alloc, plan)?, budget)
 }
 

@@ -91,7 +91,7 @@ fn written_key(events: &[Event], replies: &[Reply], writer: WriterNo, number: u6
 }
 
 /// Makes the last event of a run, and returns whether a strict reader gives up a number by a HEARTBEAT that it brings,
-/// and then the key of the least one.
+/// and then the key of the least one, if the reader hears that key.
 pub(crate) fn gave_up(
     simulator: &mut Simulator,
     before: &[Event],
@@ -117,6 +117,9 @@ pub(crate) fn gave_up(
     let Some(key) = written_key(before, replies, heartbeat.writer, number) else {
         return Ok(None);
     };
+    if !simulator.plan().hears(heartbeat.reader, key) {
+        return Ok(None);
+    }
     let reply = simulator.step(*last)?;
     match reply {
         Reply::Arrived(Arrival::Lost(_)) => Ok(Some(Told {
