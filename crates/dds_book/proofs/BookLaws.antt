@@ -1,7 +1,7 @@
 -- What a book keeps when it is opened and when an event is entered.
 use Rattle.std.proofs.Common.{◌≡◌, ◌≢◌, ℕ, zero, suc, ◌+◌, ◌<◌, Bool, Option, Some, None, List, [], ◌∷◌, ◌++◌, length, get_or, set, true, false, nat_le, refl, sym, ap, ◌∙◌, subst, arith, length-set}
 use Rattle.std.specs.List.{slice_get}
-use Rattle.std.specs.Prelude.{IfOk, IfSome, MatchBool, Result, Ok, Err}
+use Rattle.std.specs.Prelude.{IfErr, IfOk, IfSome, MatchBool, Result, Ok, Err}
 use Rattle.std.proofs.lemmas.Bool.Decides.{nat_tests}
 use Rattle.std.proofs.lemmas.Option.{slice_get_read, slice_get-get_or}
 use native.Mathlib.Decide.{ℕ_discrete}
@@ -25,7 +25,7 @@ use Rattle.dds_book.specs.declared.fault.BookFault.TheVariants.{Closed}
 use Rattle.dds_book.specs.Journal.{IsCall, IsFront, IsJournal, entry_of, is_refused, most_entries, notes_after, world_after}
 use Rattle.dds_book.specs.Owning.{owns}
 use Rattle.dds_book.specs.Seat.{SeatState, no_table, table_at}
-use Rattle.dds_book.specs.State.{AreHolders, BookContent, Enters, IsBook, IsHolder, Pumped, PumpsOpen, first_fault}
+use Rattle.dds_book.specs.State.{AreHolders, BookContent, Enters, IsBook, IsHolder, Pumped, PumpsOpen, Refuses, Tells, first_fault}
 use Rattle.dds_book.proofs.JournalLaws.{changes_push, front_more, front_whole, is_call, journal_push, notes_push, one_unless, world_push}
 
 -- ── elements of lists
@@ -76,6 +76,13 @@ holders_push tables holders es seat e are own = record { count = length-set hold
     each k h at (no ne) =
         let was = are.each k h (set_apart holders seat (holder_of (table_at tables seat) seat (es ++ e ∷ [])) k h ne at) in
         record { table = was.table; owner = was.owner; front = front_more k h.front es e (λ is. ne (sym is ∙ own)) was.front }
+
+-- ── faults
+-- the fault of an event that isn't entered is the first of some book
+pub some_fault : (plan : Lists) (old new : BookContent) (before after : SeatState) (event : Event) (result : Result Reply BookFault)
+    → IfErr result (λ f. Refuses plan old new before after event f) → IfErr result (λ f. (book : BookContent) × Tells (first_fault plan book before.number event) f)
+some_fault plan old new before after event (Ok reply) is = tt
+some_fault plan old new before after event (Err f) is = (old, is.told)
 
 -- ── steps
 -- what the step of a domain is that stands for where the entries lead to

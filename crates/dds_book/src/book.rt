@@ -1,12 +1,13 @@
 //! The book that threads share.
-ghost use Rattle.std.specs.Prelude.{◌≡◌, ◌<◌, ◌≤◌, true, length, map, All, IfOk, IfErr, IfSome, IfNone, OnErr};
+ghost use Rattle.std.specs.Prelude.{◌≡◌, ◌<◌, ◌≤◌, true, length, map, min, All, IfOk, IfErr, IfSome, IfNone, OnErr};
 ghost use Rattle.std.specs.List.{range_with_len};
 ghost use Rattle.dds_book.specs.declared.fault.BookFault.TheVariants.{Closed};
 ghost use Rattle.dds_book.specs.Journal.{IsCall, IsFront, IsJournal};
 ghost use Rattle.dds_book.specs.Kit.{IsKitOf};
 ghost use Rattle.dds_book.specs.Owning.{is_participant};
-ghost use Rattle.dds_book.specs.Round.{GivesCalls};
+ghost use Rattle.dds_book.specs.Round.{GivesCalls, IsRound, most_events};
 ghost use Rattle.dds_book.specs.Seat.{new_seat};
+ghost use Rattle.dds_book.specs.State.{BookContent, Pumped, Tells, due_at, first_fault};
 
 use crate::entry::is_refused;
 use crate::fault::BookFault;
@@ -59,7 +60,7 @@ impl<N: Name> Book<N> {
 
     /// Makes an event of a seat and enters it. The seat's new front is a journal that begins with the old front, ends
     /// with this call, and has no other entry of the seat after the old front. A fault enters nothing: of several the
-    /// first is returned.
+    /// first is returned, as `BookState::enter` tells it of the book that the call finds.
     pub fn call<R: Wait>(
         &self,
         rt: &R,
@@ -69,6 +70,8 @@ impl<N: Name> Book<N> {
         ensures call { IfOk result (λ reply. IsCall N.plan seat.old.number seat.old.front seat.new.front event reply) }
         ensures number { seat.new.number ≡ seat.old.number }
         ensures fault { OnErr result (seat.new ≡ seat.old) }
+        ensures told { IfErr result
+            (λ f. (book : BookContent) × Tells (first_fault N.plan book seat.old.number event) f) }
     {
         let entered = event;
         let answer = self.state.lock(rt).enter(seat, event);
@@ -86,7 +89,7 @@ impl<N: Name> Book<N> {
     }
 
     /// Enters what the seat's participant is to do in its turn, in one hold of the lock, and gives it with its reply.
-    /// `None` where there is nothing to do.
+    /// `None` where there is nothing to do. It's what `BookState::pump` does to the book that the call finds.
     pub fn pump<R: Wait>(
         &self,
         rt: &R,
@@ -100,6 +103,8 @@ impl<N: Name> Book<N> {
         ensures none { IfOk result (λ made. IfNone made (seat.new ≡ seat.old)) }
         ensures number { seat.new.number ≡ seat.old.number }
         ensures fault { OnErr result (seat.new ≡ seat.old) }
+        ensures pumped { (old : BookContent) × (new : BookContent) × Pumped N.plan old new seat.old seat.new
+            (due_at N.plan old.entries seat.old.number turn fate) result }
     {
         let answer = self.state.lock(rt).pump(seat, turn, fate);
         self.ring_after_turn(&answer);
@@ -135,7 +140,7 @@ impl<N: Name> Book<N> {
     /// Makes turns of the seat's participant, one after another, in one hold of the lock, with the fates in a circle,
     /// as long as there is something to do, fewer events than the limit and than 32 were entered, and nobody else is to
     /// act first. The seat's new front is the journal as the last event left it. A fault ends the round too; what was
-    /// entered before stays.
+    /// entered before stays. It's what `BookState::turns` does to the book that the call finds.
     pub fn turns<R: Wait>(
         &self,
         rt: &R,
@@ -150,6 +155,8 @@ impl<N: Name> Book<N> {
         ensures calls { GivesCalls N.plan seat.old seat.new result.entered }
         ensures none { result.entered ≡ 0 → seat.new ≡ seat.old }
         ensures limit { result.entered ≤ limit }
+        ensures round { (old : BookContent) × (new : BookContent) × IsRound N.plan fates.now (min limit most_events) old new
+            seat.old seat.new pace.old pace.new result }
     {
         let moved = pace.moved;
         let mut state = self.state.lock(rt);

@@ -15,3 +15,6 @@ returns-clause-none g c =
 
 pub returns-clause-limit : goal.returns-clause-limit
 returns-clause-limit g c = let low = round_few _ _ _ _ _ _ _ _ _ _ c.turns-round.ensures in omega arith
+
+pub returns-clause-round : goal.returns-clause-round
+returns-clause-round g c = (_, _, c.turns-round.ensures)
