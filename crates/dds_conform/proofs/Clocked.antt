@@ -139,6 +139,7 @@ blocked_whole d es ts p x b clocks =
         line = b.line;
         write = b.write;
         before = subst (λ fs. Reaches (network_of d) (actions_of fs) b.ledger) (take_take b.place (p + 1) es (omega (arith, low))) b.before;
+        none = b.none;
         short = b.short;
         upto = λ rivals. subst (λ fs. ¬ Keeps (network_of d) (actions_of fs)) (take_take (b.place + 1) (p + 1) es (omega (arith, low))) (b.upto rivals);
       },

@@ -10,7 +10,7 @@ use Rattle.dds_conform.specs.declared.conformance.Conformance.{Conformance}
 use Rattle.dds_conform.specs.declared.conformance.Conformance.TheVariants.{Kept, NoPermit, TooLate, TooSoon, Unknown}
 use Rattle.dds_conform.specs.Entries.{entry_action, entry_line}
 use Rattle.dds_conform.specs.Keeping.{HasNoRivals, Keeps}
-use Rattle.dds_conform.specs.Judging.{IsAnswer, IsFull, IsRefusal, Reaches, actions_of}
+use Rattle.dds_conform.specs.Judging.{HasNone, IsAnswer, IsFull, IsRefusal, Reaches, actions_of}
 
 -- one action more
 pub one_action : (es : List Entry) (n : ℕ) (e : Entry) → n < length es → e ≡ get_or es n e → actions_of (take (n + 1) es) ≡ actions_of (take n es) ++ entry_action e ∷ []
@@ -23,12 +23,12 @@ all_kept net es n l past r = subst (Keeps net) (ap actions_of (take_all n es pas
 
 -- an entry is blocked
 blocked_answer : (net : Network) (es : List Entry) (n : ℕ) (e : Entry) (l : LedgerState) (w k : ℕ) (answer : Conformance) → n < length es → e ≡ get_or es n e → Reaches net (actions_of (take n es)) l
-    → (HasNoRivals net → ¬ Keeps net (actions_of (take n es) ++ entry_action e ∷ [])) → entry_action e ≡ Write w k → IsRefusal net l (entry_line e) w k answer → IsAnswer net es answer
-blocked_answer net es n e l w k Kept lt at r none write is = absurd is
-blocked_answer net es n e l w k Unknown lt at r none write is = absurd is
-blocked_answer net es n e l w k (TooSoon x) lt at r none write is = absurd is
-blocked_answer net es n e l w k (TooLate x) lt at r none write is = absurd is
-blocked_answer net es n e l w k (NoPermit x) lt at r none write is = record {
+    → HasNone net w k l → (HasNoRivals net → ¬ Keeps net (actions_of (take n es) ++ entry_action e ∷ [])) → entry_action e ≡ Write w k → IsRefusal net l (entry_line e) w k answer → IsAnswer net es answer
+blocked_answer net es n e l w k Kept lt at r lacks none write is = absurd is
+blocked_answer net es n e l w k Unknown lt at r lacks none write is = absurd is
+blocked_answer net es n e l w k (TooSoon x) lt at r lacks none write is = absurd is
+blocked_answer net es n e l w k (TooLate x) lt at r lacks none write is = absurd is
+blocked_answer net es n e l w k (NoPermit x) lt at r lacks none write is = record {
   place = n;
   entry = e;
   ledger = l;
@@ -36,14 +36,15 @@ blocked_answer net es n e l w k (NoPermit x) lt at r none write is = record {
   line = is.0;
   write = write ∙ ap (λ i. Write i k) is.1 ∙ ap (Write x.writer) is.2;
   before = r;
+  none = subst (λ i. HasNone net i x.key l) is.1 (subst (λ j. HasNone net w j l) is.2 lacks);
   short = is.3;
   upto = λ rivals. subst (λ xs. ¬ Keeps net xs) (sym (one_action es n e lt at)) (none rivals);
 }
 
 pub blocked_result : {E : Type 0} (net : Network) (es : List Entry) (n : ℕ) (e : Entry) (l : LedgerState) (w k line : ℕ) (result : Result Conformance E) → n < length es → e ≡ get_or es n e → Reaches net (actions_of (take n es)) l
-    → (HasNoRivals net → ¬ Keeps net (actions_of (take n es) ++ entry_action e ∷ [])) → entry_action e ≡ Write w k → line ≡ entry_line e → IfOk result (IsRefusal net l line w k) → IfOk result (IsAnswer net es)
-blocked_result net es n e l w k line (Ok answer) lt at r none write same is = blocked_answer net es n e l w k answer lt at r none write (subst (λ m. IsRefusal net l m w k answer) same is)
-blocked_result net es n e l w k line (Err x) lt at r none write same is = tt
+    → HasNone net w k l → (HasNoRivals net → ¬ Keeps net (actions_of (take n es) ++ entry_action e ∷ [])) → entry_action e ≡ Write w k → line ≡ entry_line e → IfOk result (IsRefusal net l line w k) → IfOk result (IsAnswer net es)
+blocked_result net es n e l w k line (Ok answer) lt at r lacks none write same is = blocked_answer net es n e l w k answer lt at r lacks none write (subst (λ m. IsRefusal net l m w k answer) same is)
+blocked_result net es n e l w k line (Err x) lt at r lacks none write same is = tt
 
 -- a count would pass its limit
 pub full_answer : (net : Network) (es : List Entry) (n : ℕ) (e : Entry) (l : LedgerState) → n < length es → e ≡ get_or es n e → Reaches net (actions_of (take n es)) l → IsFull (entry_action e) l → IsAnswer net es Unknown

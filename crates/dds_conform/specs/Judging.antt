@@ -1,5 +1,5 @@
 -- How a trace is judged: what the ledger stands for after the lines so far, and what an answer means.
-use Rattle.std.specs.Prelude.{◌≡◌, ◌<◌, ◌≤◌, ◌+◌, ◌-◌, ◌^◌, ℕ, true, List, [], ◌∷◌, ◌++◌, All, Some, None, map, take, slice_get, count_by}
+use Rattle.std.specs.Prelude.{◌≡◌, ◌<◌, ◌≤◌, ◌+◌, ◌-◌, ◌^◌, ℕ, true, false, List, [], ◌∷◌, ◌++◌, All, Some, None, map, take, slice_get, count_by}
 use Rattle.dds_match.specs.Network.{Network, named}
 use Rattle.dds_runs.specs.World.{World, opening, given, used, spent, has_key}
 use Rattle.dds_runs.specs.CountRuns.{CountMove, counted_all}
@@ -69,6 +69,12 @@ pub record IsPaid (w k : ℕ) (old new : LedgerState) : Type 0 where
 abbrev pub Lacks : Network → ℕ → ℕ → LedgerState → ℕ → Type 0
 Lacks net w k l u = Gives net w k u → fire_refusal l u ≡ Some NotEnough
 
+-- the ledger has no permit for the write, which isn't free, and each rule that gives one lacks takes
+pub record HasNone (net : Network) (w k : ℕ) (l : LedgerState) : Type 0 where
+  pub paid : net.free w k ≡ false
+  pub none : count_at l.permits w k ≡ 0
+  pub lacks : (u : ℕ) → Lacks net w k l u
+
 -- what came of a rule
 abbrev pub IsTried : Network → ℕ → ℕ → ℕ → LedgerState → LedgerState → Supply → Type 0
 IsTried net w k u old new Fired = IsFiredFor net w k u old new
@@ -87,15 +93,16 @@ abbrev pub IsFull : Action → LedgerState → Type 0
 IsFull (Take r k) l = 2 ^ 64 - 1 ≤ count_at l.spare r k
 IsFull (Write w k) l = (u : ℕ) × (fire_refusal l u ≡ Some CountLimit)
 
--- what a step says of the actions so far and the one more; where there is never a choice, one that is blocked has no firings at all. It changes nothing
+-- what a step says of the actions so far and the one more. One that is blocked is a write that has no permit, and changes nothing; where there is never a
+-- choice, it has no firings at all
 abbrev pub IsProgress : Network → Action → LedgerState → LedgerState → Progress → Type 0
 IsProgress net x old new progress.Allowed = (actions : List Action) → Reaches net actions old → Reaches net (actions ++ x ∷ []) new
-IsProgress net x old new (progress.Blocked w k) = (x ≡ Write w k) × (new ≡ old) × ((actions : List Action) → Reaches net actions old → HasNoRivals net → ¬ Keeps net (actions ++ x ∷ []))
+IsProgress net x old new (progress.Blocked w k) = (x ≡ Write w k) × (new ≡ old) × HasNone net w k old × ((actions : List Action) → Reaches net actions old → HasNoRivals net → ¬ Keeps net (actions ++ x ∷ []))
 IsProgress net x old new progress.Full = (new ≡ old) × IsFull x old
 
 -- ── answers
--- an entry in this line is a write of the key at the writer. A ledger is reached by the entries before it, which keep the rules, and there the rules
--- that could give a permit lack this; where there is never a choice, the entries up to it don't keep the rules
+-- an entry in this line is a write of the key at the writer. A ledger is reached by the entries before it, which keep the rules, and there the write has
+-- no permit, and the rules that could give one lack this; where there is never a choice, the entries up to it don't keep the rules
 pub record IsBlocked (net : Network) (es : List Entry) (x : Refused) : Type 0 where
   pub place : ℕ
   pub entry : Entry
@@ -104,6 +111,7 @@ pub record IsBlocked (net : Network) (es : List Entry) (x : Refused) : Type 0 wh
   pub line : entry_line entry ≡ x.line
   pub write : entry_action entry ≡ Write x.writer x.key
   pub before : Reaches net (actions_of (take place es)) ledger
+  pub none : HasNone net x.writer x.key ledger
   pub short : x.short.items ≡ shortages net ledger.spare x.writer x.key
   pub upto : HasNoRivals net → ¬ Keeps net (actions_of (take (place + 1) es))
 

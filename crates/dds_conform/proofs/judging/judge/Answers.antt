@@ -3,7 +3,7 @@ use Rattle.dds_match.specs.Plan.{network_of}
 use Rattle.dds_conform.specs.declared.actions.Entry.{Entry}
 use Rattle.dds_conform.specs.Entries.{entry_action}
 use Rattle.dds_conform.specs.Keeping.{HasNoRivals, Keeps}
-use Rattle.dds_conform.specs.Judging.{IsFull, IsKnown, Reaches, actions_of}
+use Rattle.dds_conform.specs.Judging.{HasNone, IsFull, IsKnown, Reaches, actions_of}
 use Rattle.dds_conform.proofs.Judged.{all_kept, blocked_result, full_answer, one_action}
 use Rattle.dds_conform.proofs.Reaching.{reached_opening}
 use Rattle.dds_conform.proofs.judging.judge.Goals as goal
@@ -26,8 +26,9 @@ loop-i-preserved c = subst (λ xs. Reaches (network_of c.args.plan.now) xs c.ste
 pub returns-in-Blocked : goal.returns-in-Blocked
 returns-in-Blocked c = blocked_result (network_of c.args.plan.now) c.args.entries.now c.loop-i.i c.index-entries-i.result c.step.new.ledger c.in-Blocked.writer c.in-Blocked.key c.line.result c.refuse.result c.loop-i-test.true c.index-entries-i.is
     (subst (Reaches (network_of c.args.plan.now) (actions_of (take c.loop-i.i c.args.entries.now))) (sym c.in-Blocked.ensures.1) c.loop-i.invariant)
+    (subst (HasNone (network_of c.args.plan.now) c.in-Blocked.writer c.in-Blocked.key) (sym c.in-Blocked.ensures.1) c.in-Blocked.ensures.2)
     (subst (λ x. HasNoRivals (network_of c.args.plan.now) → ¬ Keeps (network_of c.args.plan.now) (actions_of (take c.loop-i.i c.args.entries.now) ++ x ∷ [])) c.action.ensures
-    (c.in-Blocked.ensures.2 (actions_of (take c.loop-i.i c.args.entries.now)) c.loop-i.invariant)) (sym c.action.ensures ∙ c.in-Blocked.ensures.0) c.line.ensures c.refuse.ensures
+    (c.in-Blocked.ensures.3 (actions_of (take c.loop-i.i c.args.entries.now)) c.loop-i.invariant)) (sym c.action.ensures ∙ c.in-Blocked.ensures.0) c.line.ensures c.refuse.ensures
 
 pub returns-in-Full : goal.returns-in-Full
 returns-in-Full c = full_answer (network_of c.args.plan.now) c.args.entries.now c.loop-i.i c.index-entries-i.result c.loop-i.ledger c.loop-i-test.true c.index-entries-i.is c.loop-i.invariant

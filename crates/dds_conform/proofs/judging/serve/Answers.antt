@@ -12,4 +12,9 @@ returns-in-Fired c = served (network_of c.args.plan.now) c.args.writer c.args.ke
     c.requires.ledger c.requires.known c.requires.paid c.requires.none c.in-Fired.ensures.1 c.pay.ensures
 
 pub returns-in-Lacking : goal.returns-in-Lacking
-returns-in-Lacking c = (refl, c.in-Lacking.ensures.0, blocked (network_of c.args.plan.now) c.args.writer c.args.key c.args.ledger.now c.requires.paid c.requires.none c.in-Lacking.ensures.1)
+returns-in-Lacking c = (
+  refl,
+  c.in-Lacking.ensures.0,
+  record { paid = c.requires.paid; none = c.requires.none; lacks = c.in-Lacking.ensures.1 },
+  blocked (network_of c.args.plan.now) c.args.writer c.args.key c.args.ledger.now c.requires.paid c.requires.none c.in-Lacking.ensures.1,
+)
