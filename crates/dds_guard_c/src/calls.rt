@@ -1,11 +1,11 @@
 //! The calls of the header. A slot whose state is `OPEN` has an open handle, and each call leaves it so.
-ghost use Rattle.std.specs.Prelude.{◌≡◌, ◌<◌, Some};
+ghost use Rattle.std.specs.Prelude.{◌≡◌, ◌≢◌, ◌<◌, Some};
 ghost use Rattle.std.specs.Result.{result_err};
 ghost use Rattle.dds_base.specs.Names.{number_of};
 ghost use Rattle.dds_guard.specs.Guard.{permits_at, rule_number, spare_at};
 ghost use Rattle.dds_guard.specs.Opening.{OpensAs};
 ghost use Rattle.dds_guard.specs.Refusals.{IsFired, IsTaken, IsWritten, firing_refusal, take_refusal, way_of};
-ghost use Rattle.dds_guard_c.specs.Calls.{IsKept, answer_at, key_named};
+ghost use Rattle.dds_guard_c.specs.Calls.{IsKept, TellsFault, answer_at, key_named};
 ghost use Rattle.dds_guard_c.specs.Status.{count_status, firing_status, name_status, take_status, write_status};
 
 use crate::handle::Handle;
@@ -23,6 +23,7 @@ fn seal(alloc: Global, guard: Guard, slot: &mut Slot) -> u32
     requires { IsKept slot.old }
     ensures kept { IsKept slot.new }
     ensures opened { result ≡ 0 → (slot.new.state ≡ 1) × (slot.new.handle.guard ≡ guard) }
+    ensures memory { 0 < result → result ≡ 2 }
     ensures same { 0 < result → slot.new ≡ slot.old }
 {
     match Box::new(alloc, guard) {
@@ -50,6 +51,7 @@ pub extern "C" fn ddscheck_open_guard(
     ensures kept { IsKept slot.new }
     ensures already { slot.old.state ≡ 1 → result ≡ 5 }
     ensures opened { result ≡ 0 → (slot.new.state ≡ 1) × OpensAs deployment.now application.now slot.new.handle.guard }
+    ensures fault { slot.old.state ≢ 1 → 0 < result → TellsFault deployment.now application.now result }
     ensures same { 0 < result → slot.new ≡ slot.old }
 {
     if slot.state == OPEN {
@@ -80,8 +82,10 @@ pub extern "C" fn ddscheck_free_guard(slot: Slot) -> u32
 pub extern "C" fn ddscheck_find_writer(slot: &mut Slot, name: &[u8], number: &mut usize) -> u32
     requires { IsKept slot.old }
     ensures kept { IsKept slot.new }
+    ensures state { slot.new.state ≡ slot.old.state }
     ensures answer { result ≡ answer_at slot.old (λ g. name_status (number_of g.names.writers name.now)) }
     ensures number { result ≡ 0 → number_of slot.old.handle.guard.names.writers name.now ≡ Some number.new }
+    ensures untouched { 0 < result → number.new ≡ number.old }
     ensures guard { slot.new.handle.guard ≡ slot.old.handle.guard }
 {
     if slot.state != OPEN {
@@ -101,8 +105,10 @@ pub extern "C" fn ddscheck_find_writer(slot: &mut Slot, name: &[u8], number: &mu
 pub extern "C" fn ddscheck_find_reader(slot: &mut Slot, name: &[u8], number: &mut usize) -> u32
     requires { IsKept slot.old }
     ensures kept { IsKept slot.new }
+    ensures state { slot.new.state ≡ slot.old.state }
     ensures answer { result ≡ answer_at slot.old (λ g. name_status (number_of g.names.readers name.now)) }
     ensures number { result ≡ 0 → number_of slot.old.handle.guard.names.readers name.now ≡ Some number.new }
+    ensures untouched { 0 < result → number.new ≡ number.old }
     ensures guard { slot.new.handle.guard ≡ slot.old.handle.guard }
 {
     if slot.state != OPEN {
@@ -122,8 +128,10 @@ pub extern "C" fn ddscheck_find_reader(slot: &mut Slot, name: &[u8], number: &mu
 pub extern "C" fn ddscheck_find_rule(slot: &mut Slot, name: &[u8], number: &mut usize) -> u32
     requires { IsKept slot.old }
     ensures kept { IsKept slot.new }
+    ensures state { slot.new.state ≡ slot.old.state }
     ensures answer { result ≡ answer_at slot.old (λ g. name_status (rule_number g name.now)) }
     ensures number { result ≡ 0 → rule_number slot.old.handle.guard name.now ≡ Some number.new }
+    ensures untouched { 0 < result → number.new ≡ number.old }
     ensures guard { slot.new.handle.guard ≡ slot.old.handle.guard }
 {
     if slot.state != OPEN {
@@ -158,8 +166,10 @@ pub extern "C" fn ddscheck_find_key(
 ) -> u32
     requires { IsKept slot.old }
     ensures kept { IsKept slot.new }
+    ensures state { slot.new.state ≡ slot.old.state }
     ensures answer { result ≡ answer_at slot.old (λ g. name_status (key_named g topic.now name.now)) }
     ensures number { result ≡ 0 → key_named slot.old.handle.guard topic.now name.now ≡ Some number.new }
+    ensures untouched { 0 < result → number.new ≡ number.old }
     ensures guard { slot.new.handle.guard ≡ slot.old.handle.guard }
 {
     if slot.state != OPEN {
@@ -179,6 +189,7 @@ pub extern "C" fn ddscheck_find_key(
 pub extern "C" fn ddscheck_take(slot: &mut Slot, reader: usize, key: usize) -> u32
     requires { IsKept slot.old }
     ensures kept { IsKept slot.new }
+    ensures state { slot.new.state ≡ slot.old.state }
     ensures answer { result ≡ answer_at slot.old (λ g. take_status (take_refusal g reader key)) }
     ensures taken { result ≡ 0 → IsTaken reader key slot.old.handle.guard slot.new.handle.guard }
     ensures refused { 0 < result → slot.new.handle.guard ≡ slot.old.handle.guard }
@@ -201,6 +212,7 @@ pub extern "C" fn ddscheck_take(slot: &mut Slot, reader: usize, key: usize) -> u
 pub extern "C" fn ddscheck_fire(slot: &mut Slot, rule: usize) -> u32
     requires { IsKept slot.old }
     ensures kept { IsKept slot.new }
+    ensures state { slot.new.state ≡ slot.old.state }
     ensures answer { result ≡ answer_at slot.old (λ g. firing_status (firing_refusal g rule)) }
     ensures fired { result ≡ 0 → IsFired rule slot.old.handle.guard slot.new.handle.guard }
     ensures refused { 0 < result → slot.new.handle.guard ≡ slot.old.handle.guard }
@@ -219,6 +231,7 @@ pub extern "C" fn ddscheck_fire(slot: &mut Slot, rule: usize) -> u32
 pub extern "C" fn ddscheck_may_write(slot: &mut Slot, writer: usize, key: usize) -> u32
     requires { IsKept slot.old }
     ensures kept { IsKept slot.new }
+    ensures state { slot.new.state ≡ slot.old.state }
     ensures answer { result ≡ answer_at slot.old (λ g. write_status (result_err (way_of g writer key))) }
     ensures guard { slot.new.handle.guard ≡ slot.old.handle.guard }
 {
@@ -240,6 +253,7 @@ pub extern "C" fn ddscheck_may_write(slot: &mut Slot, writer: usize, key: usize)
 pub extern "C" fn ddscheck_write(slot: &mut Slot, writer: usize, key: usize) -> u32
     requires { IsKept slot.old }
     ensures kept { IsKept slot.new }
+    ensures state { slot.new.state ≡ slot.old.state }
     ensures answer { result ≡ answer_at slot.old (λ g. write_status (result_err (way_of g writer key))) }
     ensures written { result ≡ 0
         → IsWritten (way_of slot.old.handle.guard writer key) writer key slot.old.handle.guard slot.new.handle.guard }
@@ -268,8 +282,10 @@ pub extern "C" fn ddscheck_permits(
 ) -> u32
     requires { IsKept slot.old }
     ensures kept { IsKept slot.new }
+    ensures state { slot.new.state ≡ slot.old.state }
     ensures answer { result ≡ answer_at slot.old (λ g. count_status (permits_at g writer key)) }
     ensures count { result ≡ 0 → permits_at slot.old.handle.guard writer key ≡ Some count.new }
+    ensures untouched { 0 < result → count.new ≡ count.old }
     ensures guard { slot.new.handle.guard ≡ slot.old.handle.guard }
 {
     if slot.state != OPEN {
@@ -293,8 +309,10 @@ pub extern "C" fn ddscheck_permits(
 pub extern "C" fn ddscheck_spare(slot: &mut Slot, reader: usize, key: usize, count: &mut u64) -> u32
     requires { IsKept slot.old }
     ensures kept { IsKept slot.new }
+    ensures state { slot.new.state ≡ slot.old.state }
     ensures answer { result ≡ answer_at slot.old (λ g. count_status (spare_at g reader key)) }
     ensures count { result ≡ 0 → spare_at slot.old.handle.guard reader key ≡ Some count.new }
+    ensures untouched { 0 < result → count.new ≡ count.old }
     ensures guard { slot.new.handle.guard ≡ slot.old.handle.guard }
 {
     if slot.state != OPEN {
