@@ -10,6 +10,8 @@ use Rattle.dds_base.specs.declared.events.Event.{Event}
 use Rattle.dds_base.specs.declared.events.Event.TheVariants.{Take as take_event, Fire as fire_event, Write as write_event}
 use Rattle.dds_base.specs.declared.events.Reply.{Reply}
 use Rattle.dds_base.specs.declared.events.Reply.TheVariants.{Took, Written}
+use Rattle.dds_apps.specs.declared.app.Act.{Act}
+use Rattle.dds_apps.specs.declared.app.Act.TheVariants.{Do, Rest, Stop}
 use Rattle.dds_peers.specs.declared.circle.Step.{Step}
 use Rattle.dds_peers.specs.declared.circle.Step.TheVariants.{Take, Fire, Write, Publish}
 use Rattle.dds_apps.specs.Diary.{DiaryState, empty_diary}
@@ -126,6 +128,13 @@ event_of (Publish w k) count = write_event w k (data_of count)
 -- the step is the last one, and its event waits in the diary
 abbrev pub begun : SteadyState → Step → Event → SteadyState
 begun s step event = record s { diary = record { entries = s.diary.entries; pending = Some event }; last = Some step }
+
+-- what the application does when it's asked: it stops exactly where no take and no write is still to come. Else it rests, or makes the event of a step of its
+-- circle that is still to be made, and has it wait in its diary
+abbrev pub Acts : SteadyState → SteadyState → Act → Type 0
+Acts old new Stop = (is_done old ≡ true) × (new ≡ old)
+Acts old new Rest = (is_done old ≡ false) × (new ≡ old)
+Acts old new (Do event) = (is_done old ≡ false) × ((step : Step) × (count : ℕ) × IsNext old step × (event ≡ event_of step count) × (new ≡ begun old step event))
 
 -- one write fewer is still to come: one that needs no permit, if the last step is such a write
 abbrev pub one_written : SteadyState → SteadyState

@@ -293,9 +293,9 @@ fn run_all<A: App + Send, R: Threads + Wait + Clock + Sync, G: Gate>(
 /// place.
 ///
 /// With `Ok` the applications come back in order: at each place is the one that was given there, by its identity. The
-/// journal is a journal of the plan, so all that the checker promises of a run holds of it: no reliable reader
-/// rejected, overwrote or gave up a sample, unread samples stayed within their bounds, and each reader took what was
-/// written, in order, once. Each application's diary is its part of the journal, and its count is the length of that
+/// journal is a journal of the plan, so all that the checker promises of a run holds of it: no strict reader rejected,
+/// overwrote or gave up a sample, unread samples stayed within their bounds, and each strict reader took what was
+/// written, in order, once, each watcher a part of it. Each application's diary is its part of the journal, and its count is the length of that
 /// part.
 pub fn run_peers<R: Threads + Wait + Clock + Sync, G: Gate>(
     rt: &R,

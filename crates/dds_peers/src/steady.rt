@@ -1,7 +1,7 @@
 //! An application that does all that it may do.
 ghost use Rattle.std.specs.Prelude.{◌≡◌, ◌<◌, length, IfOk, IfSome, OnErr, OnOk};
 ghost use Rattle.std.specs.List.{list_any};
-ghost use Rattle.dds_peers.specs.Steady.{IsNext, begun, circle_of, counted, data_of, event_of, has_readers, is_done};
+ghost use Rattle.dds_peers.specs.Steady.{Acts, IsNext, begun, circle_of, counted, data_of, event_of, has_readers, is_done};
 ghost use Rattle.dds_peers.specs.Steady.{is_publish, is_wanted, is_write, one_written, steady_of, wanted_count};
 
 use crate::circle::{Step, push_firings, push_takes, push_writes};
@@ -176,7 +176,10 @@ impl App for Steady {
 
     ghost identity = { λ s. s.app };
 
-    fn act(&mut self) -> Result<Act, NoMemory> {
+    fn act(&mut self) -> Result<Act, NoMemory>
+        ensures acts { IfOk result (Acts self.old self.new) }
+        ensures memory { OnErr result (self.new ≡ self.old) }
+    {
         if self.is_done() {
             return Ok(Act::Stop);
         }
