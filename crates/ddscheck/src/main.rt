@@ -1,6 +1,11 @@
 //! `ddscheck`, over the files and the standard streams of the system.
 #![tactic(auto)]
 
+ghost use Rattle.std.specs.Prelude.{◌≡◌};
+ghost use Rattle.std.specs.Process.{exit_status};
+ghost use Rattle.dds_answers.specs.Exit.{exit_status as number_of};
+ghost use Rattle.dds_answers.specs.declared.exit.Exit.{Exit};
+
 use dds_answers::{Disk, Stream, ToolFault, advise, tell_fault};
 use dds_options::Detail;
 use dds_tool::tool;
@@ -42,7 +47,10 @@ fn fault_of(alloc: Global, error: &io::Error) -> ToolFault {
     }
 }
 
-fn main(rt: HostRuntime) -> ExitCode {
+// The status is that of an end of a command.
+fn main(rt: HostRuntime) -> ExitCode
+    ensures { (exit : Exit) × (exit_status result ≡ number_of exit) }
+{
     let mut out = Stream::new(io::writer(&rt));
     let err = rt.stderr();
     let mut err = Stream::new(io::writer(&err));

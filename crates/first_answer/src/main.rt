@@ -4,6 +4,11 @@
 //! `./ddscheck` hands these words to it.
 #![tactic(auto)]
 
+ghost use Rattle.std.specs.Prelude.{◌≡◌};
+ghost use Rattle.std.specs.Process.{exit_status};
+ghost use Rattle.dds_answers.specs.Exit.{exit_status as number_of};
+ghost use Rattle.dds_answers.specs.declared.exit.Exit.{Exit};
+
 use dds_answers::{
     Answer, Disk, MAX_FILE, Report, Sources, Stream, ToolFault, answer_check, answer_with, give,
     match_answer, migrate_answer, propose_answer, read_file, read_files, report_text, tell_fault,
@@ -94,7 +99,10 @@ fn answer_to<S: Sources>(
     }
 }
 
-fn main(rt: HostRuntime) -> ExitCode {
+// The status is that of an end of a command.
+fn main(rt: HostRuntime) -> ExitCode
+    ensures { (exit : Exit) × (exit_status result ≡ number_of exit) }
+{
     let alloc = rt.alloc();
     let mut out = Stream::new(io::writer(&rt));
     let err = rt.stderr();
