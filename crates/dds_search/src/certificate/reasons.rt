@@ -120,7 +120,7 @@ impl<'c, C: Clock> Measurer<'c, C> {
         plan: &Plan,
         budget: Budget<'c, C>,
     ) -> Result<Measurer<'c, C>, NoMemory>
-        ensures { IfOk result (λ measurer. measurer.climber.budget.left ≡ budget.left) }
+        ensures { IfOk result (λ measurer. measurer.climber.budget.left ≡ budget.entry.left) }
     {
         Ok(Measurer {
             climber: climber_of(alloc, plan, budget)?,

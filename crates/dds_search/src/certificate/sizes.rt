@@ -103,7 +103,7 @@ pub(crate) fn climber_of<'c, C: Clock>(
     plan: &Plan,
     budget: Budget<'c, C>,
 ) -> Result<Climber<'c, C>, NoMemory>
-    ensures { IfOk result (λ climber. climber.budget.left ≡ budget.left) }
+    ensures { IfOk result (λ climber. climber.budget.left ≡ budget.entry.left) }
 {
     Climber::new(alloc, Net::of(alloc, plan)?, budget)
 }
