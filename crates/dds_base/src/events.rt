@@ -6,7 +6,7 @@ use crate::sample::{Arrival, Data, Sample};
 /// One thing that an application, a participant or the bus does.
 #[derive(Clone, Copy, Debug, PartialEq, Eq)]
 pub enum Event {
-    /// A writer writes a sample of a key, which uses one permit.
+    /// A writer writes a sample of a key. It uses one permit, or none where rules free the key there.
     Write {
         writer: WriterNo,
         key: KeyNo,
@@ -77,7 +77,8 @@ pub enum Refusal {
     CountLimit,
     /// No sample of the key is available.
     Empty,
-    /// The number isn't kept, or a DATA's isn't relevant, or a GAP's is.
+    /// A DATA's number isn't kept, nor a watcher's last one, or isn't relevant to the reader. A GAP's isn't awaited, or
+    /// the reader may still get it. A GAP, HEARTBEAT or ACKNACK would go to or come from a watcher.
     NothingToSend,
     /// The place of the bus is empty.
     NoPacket,
