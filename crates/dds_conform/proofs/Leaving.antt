@@ -1,14 +1,12 @@
 -- What entries leave, by counts.
-use Rattle.std.proofs.Common.{◌≡◌, inl, inr, ℕ, zero, suc, ◌+◌, ◌^◌, ◌<◌, ◌≤◌, Bool, true, false, cond, eqb, ◌&&◌, List, [], ◌∷◌, ◌++◌, append-nil, get_or, length, Option, Some, None, refl, sym, ap, ◌∙◌, subst, arith, append_assoc}
-use Rattle.std.specs.Prelude.{count_by}
-use Rattle.std.specs.List.{All, cons_option, filter_map, range_with_len}
+use Rattle.std.proofs.Common.{◌≡◌, inl, inr, ℕ, zero, suc, ◌+◌, ◌^◌, ◌<◌, ◌≤◌, Bool, true, false, cond, eqb, ◌&&◌, List, [], ◌∷◌, ◌++◌, get_or, length, refl, sym, ap, ◌∙◌, subst, arith, append_assoc}
+use Rattle.std.specs.Prelude.{count_by, flat_map}
+use Rattle.std.specs.List.{All, range_with_len}
 use Rattle.std.proofs.lemmas.Bool.{cases_eq, eq-eqb, ne_eqb}
 use Rattle.std.proofs.lemmas.List.{take_all}
-use Rattle.std.proofs.lemmas.List.Elements.{filter_map-append}
 use Rattle.std.proofs.lemmas.List.Sums.{count_by-le-length, sum_by-cons}
 use Rattle.dds_base.specs.Grid.{most_endpoints, most_keys}
 use Rattle.dds_base.specs.Sums.{total}
-use Rattle.dds_base.proofs.Ranges.{range_push}
 use Rattle.dds_base.proofs.SumLaws.{total_add, total_ext, total_one, total_zero}
 use Rattle.dds_lists.specs.Lists.{Lists}
 use Rattle.dds_lists.specs.WellFormed.{IsWellFormed}
@@ -17,14 +15,16 @@ use Rattle.dds_match.specs.Paces.{is_awaited}
 use Rattle.dds_match.specs.Plan.{network_of}
 use Rattle.dds_conform.specs.declared.actions.Entry.{Entry}
 use Rattle.dds_conform.specs.declared.actions.Entry.TheVariants.{Wrote, Took}
+use Rattle.dds_conform.specs.declared.conformance.Leftover.{Leftover}
 use Rattle.dds_conform.specs.declared.conformance.Within.TheVariants.{Taken}
 use Rattle.dds_conform.specs.declared.leftovers.Counts.{Counts}
 use Rattle.dds_conform.specs.Breaches.{ends, heard, wrote}
 use Rattle.dds_conform.specs.Entries.{entry_action}
 use Rattle.dds_conform.specs.Judging.{AreKnown, IsKnown}
-use Rattle.dds_conform.specs.Leftovers.{AddsTake, AreCounts, Fits, leftover, leftover_counted, leftover_of, written_at, written_in}
+use Rattle.dds_conform.specs.Leftovers.{AddsTake, AreCounts, CanCount, counted_at, leftover, leftover_counted, leftover_of, leftovers_at, listed, written_at, written_in}
 use Rattle.dds_conform.specs.Tallies.{tally_at}
 use Rattle.dds_conform.specs.Windows.{AddsWrite}
+use Rattle.dds_conform.proofs.Lacking.{one_more_rule}
 use Rattle.dds_conform.proofs.Passing.{count_few, rows_take, rows_write}
 
 -- ── sums
@@ -119,7 +119,7 @@ all_low d es well net known = λ i x lt. low_one d (get_or es i x) well net (kno
 pub no_counts : (es : List Entry) (c : Counts) → ((w k : ℕ) → tally_at c.written w k ≡ 0) → ((r k : ℕ) → tally_at c.taken r k ≡ 0) → AreCounts es 0 c
 no_counts es c written taken = record { written = λ w low k small. written w k; taken = λ r low k small. taken r k }
 
-pub has_room : (es : List Entry) (n : ℕ) (c : Counts) → n + 1 < 2 ^ 64 → AreCounts es n c → Fits c
+pub has_room : (es : List Entry) (n : ℕ) (c : Counts) → n + 1 < 2 ^ 64 → AreCounts es n c → CanCount c
 has_room es n c fits are = record {
   written = λ w k low small. let same = are.written w low k small in let few = count_few (wrote w k) es n in omega (arith, same, few, fits);
   taken = λ r k low small. let same = are.taken r low k small in let few = count_few (ends Taken r k) es n in omega (arith, same, few, fits);
@@ -161,27 +161,27 @@ counted_all d es c r k low small well net known are =
     ∙ ap (λ n. leftover_of (count_by (heard d r k) es) n r k) (are.taken r low k small ∙ ap (count_by (ends Taken r k)) (take_all (length es) es (omega arith)))
 
 -- ── lists
-pub filter_one : {A : Type 0} (f : ℕ → Option A) (n : ℕ) → filter_map f (range_with_len 0 (n + 1)) ≡ filter_map f (range_with_len 0 n) ++ cons_option (f n) []
-filter_one f n = ap (filter_map f) (range_push n) ∙ filter_map-append f (range_with_len 0 n) (n ∷ [])
-
--- a key of which something is left, and one of which nothing is
-pub one_left : {A : Type 0} (f : ℕ → Option A) (before old new : List A) (n : ℕ) (x : A) → old ≡ before ++ filter_map f (range_with_len 0 n) → f n ≡ Some x → new ≡ old ++ x ∷ [] → new ≡ before ++ filter_map f (range_with_len 0 (n + 1))
-one_left f before old new n x was is after =
-    after ∙ ap (λ xs. xs ++ x ∷ []) was ∙ append_assoc before (filter_map f (range_with_len 0 n)) (x ∷ []) ∙ ap (λ xs. before ++ xs) (ap (λ o. filter_map f (range_with_len 0 n) ++ cons_option o []) (sym is) ∙ sym (filter_one f n))
-
-pub none_left : {A : Type 0} (f : ℕ → Option A) (before old : List A) (n : ℕ) → old ≡ before ++ filter_map f (range_with_len 0 n) → f n ≡ None → old ≡ before ++ filter_map f (range_with_len 0 (n + 1))
-none_left f before old n was is =
-    was ∙ ap (λ xs. before ++ xs) (sym (append-nil (filter_map f (range_with_len 0 n))) ∙ ap (λ o. filter_map f (range_with_len 0 n) ++ cons_option o []) (sym is) ∙ sym (filter_one f n))
+-- what is gathered over the numbers below one more, after what was there
+pub one_more_after : {A : Type 0} (f : ℕ → List A) (before old new : List A) (n u : ℕ) → old ≡ before ++ flat_map f (range_with_len 0 n) → u ≡ n → new ≡ old ++ f u → new ≡ before ++ flat_map f (range_with_len 0 (n + 1))
+one_more_after f before old new n u was same after =
+    after ∙ ap (λ xs. xs ++ f u) was ∙ append_assoc before (flat_map f (range_with_len 0 n)) (f u)
+    ∙ ap (λ xs. before ++ xs) (one_more_rule f (flat_map f (range_with_len 0 n)) (flat_map f (range_with_len 0 n) ++ f u) n u refl same refl)
 
 -- two functions that are the same below a number
-filter_same : {A : Type 0} (f g : ℕ → Option A) (n : ℕ) → ((k : ℕ) → k < n → f k ≡ g k) → filter_map f (range_with_len 0 n) ≡ filter_map g (range_with_len 0 n)
-filter_same f g zero same = refl
-filter_same f g (suc n) same =
+flat_same : {A : Type 0} (f g : ℕ → List A) (n : ℕ) → ((k : ℕ) → k < n → f k ≡ g k) → flat_map f (range_with_len 0 n) ≡ flat_map g (range_with_len 0 n)
+flat_same f g zero same = refl
+flat_same f g (suc n) same =
     let next : n + 1 ≡ suc n = omega arith in
-    subst (λ m. filter_map f (range_with_len 0 m) ≡ filter_map g (range_with_len 0 m)) next (
-      filter_one f n ∙ ap (λ xs. xs ++ cons_option (f n) []) (filter_same f g n (λ k lt. same k (omega (arith, lt)))) ∙ ap (λ o. filter_map g (range_with_len 0 n) ++ cons_option o []) (same n (omega arith)) ∙ sym (filter_one g n))
+    let mine = one_more_rule f (flat_map f (range_with_len 0 n)) (flat_map f (range_with_len 0 n) ++ f n) n n refl refl refl in
+    let other = one_more_rule g (flat_map f (range_with_len 0 n)) (flat_map f (range_with_len 0 n) ++ f n) n n (flat_same f g n (λ k lt. same k (omega (arith, lt)))) refl (ap (λ xs. flat_map f (range_with_len 0 n) ++ xs) (same n (omega arith))) in
+    subst (λ m. flat_map f (range_with_len 0 m) ≡ flat_map g (range_with_len 0 m)) next (sym mine ∙ other)
 
 -- what is left at one reader, by counts
-pub at_reader : (d : Lists) (es : List Entry) (c : Counts) (r : ℕ) → r < most_endpoints → IsWellFormed d → IsNetwork (network_of d) → AreKnown (network_of d) es → AreCounts es (length es) c
-    → filter_map (leftover_counted d c r) (range_with_len 0 most_keys) ≡ filter_map (leftover d es r) (range_with_len 0 most_keys)
-at_reader d es c r low well net known are = filter_same (leftover_counted d c r) (leftover d es r) most_keys (λ k small. counted_all d es c r k low small well net known are)
+pub at_reader : (d : Lists) (es : List Entry) (c : Counts) (r : ℕ) → r < most_endpoints → IsWellFormed d → IsNetwork (network_of d) → AreKnown (network_of d) es → AreCounts es (length es) c → counted_at d c r ≡ leftovers_at d es r
+at_reader d es c r low well net known are = flat_same (λ k. listed (leftover_counted d c r k)) (λ k. listed (leftover d es r k)) most_keys (λ k small. ap listed (counted_all d es c r k low small well net known are))
+
+-- with what is left at one reader more
+pub more_readers : (d : Lists) (es : List Entry) (c : Counts) (old new : List Leftover) (n r : ℕ) → r < most_endpoints → IsWellFormed d → IsNetwork (network_of d) → AreKnown (network_of d) es → AreCounts es (length es) c
+    → old ≡ flat_map (leftovers_at d es) (range_with_len 0 n) → r ≡ n → new ≡ old ++ counted_at d c r → new ≡ flat_map (leftovers_at d es) (range_with_len 0 (n + 1))
+more_readers d es c old new n r low well net known are was same after =
+    one_more_rule (leftovers_at d es) old new n r was same (after ∙ ap (λ xs. old ++ xs) (at_reader d es c r low well net known are))

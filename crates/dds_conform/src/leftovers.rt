@@ -1,12 +1,11 @@
 //! What a trace leaves: what it writes for strict readers, and they never take.
 ghost use Rattle.std.specs.Prelude.{◌≡◌, ◌++◌, ◌+◌, ◌<◌, ◌^◌, ℕ, IfOk, OnOk, length};
-ghost use Rattle.std.specs.List.{filter_map, range_with_len};
 ghost use Rattle.dds_base.specs.Grid.{most_endpoints, most_keys};
 ghost use Rattle.dds_match.specs.Plan.{network_of};
 ghost use Rattle.dds_conform.specs.Entries.{entry_action};
 ghost use Rattle.dds_conform.specs.Judging.{AreKnown, IsKnown};
-ghost use Rattle.dds_conform.specs.Leftovers.{AddsTake, AreCounts, Fits, leftover_counted, leftovers};
-ghost use Rattle.dds_conform.specs.Leftovers.{written_in};
+ghost use Rattle.dds_conform.specs.Leftovers.{AddsTake, AreCounts, CanCount, counted_at, leftover_counted};
+ghost use Rattle.dds_conform.specs.Leftovers.{leftovers, listed, written_at, written_in};
 ghost use Rattle.dds_conform.specs.Tallies.{tally_at};
 ghost use Rattle.dds_conform.specs.Windows.{AddsWrite};
 
@@ -53,12 +52,25 @@ impl Counts {
     /// Counts an entry.
     fn add(&mut self, plan: &Plan, entry: &Entry)
         requires known { IsKnown (network_of plan.now) (entry_action entry.now) }
-        requires room { Fits self.old }
+        requires room { CanCount self.old }
         ensures written { AddsWrite entry.now self.old.written self.new.written }
         ensures taken { AddsTake entry.now self.old.taken self.new.taken }
     {
         add_write(&mut self.written, plan, entry);
         add_take(&mut self.taken, plan, entry);
+    }
+
+    /// How many samples of a key a writer writes that the reader has to take.
+    fn written_at(&self, plan: &Plan, writer: WriterNo, reader: ReaderNo, key: KeyNo) -> u64
+        requires writer { writer < most_endpoints }
+        requires key { key < most_keys }
+        ensures { result ≡ written_at plan.now self.now reader key writer }
+    {
+        if is_awaited(plan, writer, reader, key) {
+            self.written.at(writer.number(), key)
+        } else {
+            0
+        }
     }
 
     /// How many samples of a key are written that the reader has to take.
@@ -69,10 +81,7 @@ impl Counts {
     {
         let mut sum = 0;
         for number in 0..ENDPOINTS {
-            let writer = WriterNo::new(number);
-            if is_awaited(plan, writer, reader, key) {
-                sum += self.written.at(number, key);
-            }
+            sum += self.written_at(plan, WriterNo::new(number), reader, key);
         }
         sum
     }
@@ -100,13 +109,34 @@ impl Counts {
 /// The counts of entries.
 fn count_entries(alloc: Global, plan: &Plan, entries: &[Entry]) -> Result<Counts, NoMemory>
     requires { AreKnown (network_of plan.now) entries.now }
-    ensures { IfOk result (AreCounts entries.now (length entries.now)) }
+    ensures counts { IfOk result (AreCounts entries.now (length entries.now)) }
+    ensures short { length entries.now < 2 ^ 64 }
 {
     let mut counts = Counts::new(alloc)?;
     for at in 0..entries.len() {
         counts.add(plan, &entries[at]);
     }
     Ok(counts)
+}
+
+/// Adds what is left of a key at a reader, if something is.
+fn push_leftover(
+    left: &mut Vec<Leftover>,
+    plan: &Plan,
+    counts: &Counts,
+    reader: ReaderNo,
+    key: KeyNo,
+) -> Result<(), NoMemory>
+    requires reader { reader < most_endpoints }
+    requires key { key < most_keys }
+    requires room { written_in plan.now counts.now most_endpoints reader key < 2 ^ 64 }
+    ensures { OnOk result
+        (left.new.items ≡ left.old.items ++ listed (leftover_counted plan.now counts.now reader key)) }
+{
+    if let Some(one) = counts.leftover(plan, reader, key) {
+        left.push(one)?;
+    }
+    Ok(())
 }
 
 /// Adds what is left at a reader.
@@ -118,13 +148,10 @@ fn push_of_reader(
 ) -> Result<(), NoMemory>
     requires reader { reader < most_endpoints }
     requires room { (k : ℕ) → k < most_keys → written_in plan.now counts.now most_endpoints reader k < 2 ^ 64 }
-    ensures { OnOk result (left.new.items ≡ left.old.items
-        ++ filter_map (leftover_counted plan.now counts.now reader) (range_with_len 0 most_keys)) }
+    ensures { OnOk result (left.new.items ≡ left.old.items ++ counted_at plan.now counts.now reader) }
 {
     for number in 0..KEYS {
-        if let Some(one) = counts.leftover(plan, reader, KeyNo::new(number)) {
-            left.push(one)?;
-        }
+        push_leftover(left, plan, counts, reader, KeyNo::new(number))?;
     }
     Ok(())
 }
@@ -140,6 +167,8 @@ pub fn find_leftovers(
     requires { AreKnown (network_of plan.now) entries.now }
     ensures { IfOk result (λ left. left.items ≡ leftovers plan.now entries.now) }
 {
+    // Its network's numbers are below its counts.
+    plan.assert_well_formed();
     let counts = count_entries(alloc, plan, entries)?;
     let mut left = Vec::new(alloc);
     for number in 0..plan.lists().readers() {
