@@ -1,19 +1,17 @@
 //! What the times of a trace show of the paces of rules: for each rule the greatest period that its writes keep without
 //! jitter, and the least jitter with which they keep the mean of their turns' distances as a period.
-ghost use Rattle.std.specs.Prelude.{◌≡◌, ◌-◌, ◌*◌, ◌/◌, ◌+◌, ◌<◌, ◌≤◌, ◌^◌, ℕ, None, Some, IfNone, IfOk, IfSome, length};
+ghost use Rattle.std.specs.Prelude.{◌≡◌, ◌+◌, ◌*◌, ◌-◌, ◌/◌, ◌<◌, ◌≤◌, ◌^◌, IfNone, IfOk, IfSome, length};
 ghost use Rattle.std.specs.Prelude.{slice_index};
 ghost use Rattle.dds_conform.specs.Breaches.{NeverFall, wrote};
-ghost use Rattle.dds_conform.specs.Measures.{AreCounted, IsClosest, IsGreatestFrom1, IsLeast, IsLeastFrom1, KeepJitter};
-ghost use Rattle.dds_conform.specs.Measures.{KeepPeriod, KeepsTurns, IsMeanTurn, mean_turn, times_where};
+ghost use Rattle.dds_conform.specs.Measures.{IsClosest, IsLeast, KeepsTurns, mean_turn, times_where};
 
 use crate::actions::Entry;
 use crate::windows::is_write;
-use dds_base::{KeyNo, NoMemory, Portion, WriterNo};
-use dds_lists::Pace;
+use dds_base::{KeyNo, NoMemory, WriterNo};
 use std::alloc::Global;
 
 /// The times of the entries that write the key at the writer.
-fn write_times(
+pub(crate) fn write_times(
     alloc: Global,
     entries: &[Entry],
     times: &[u64],
@@ -32,20 +30,8 @@ fn write_times(
     Ok(found)
 }
 
-/// The lesser of a number and one that may be missing.
-fn lesser(found: Option<u64>, number: u64) -> u64
-    ensures below { result ≤ number }
-    ensures none { IfNone found (result ≡ number) }
-    ensures some { IfSome found (λ n. (result ≤ n) × ((result ≡ n) ⊎ (result ≡ number))) }
-{
-    match found {
-        Some(least) => least.min(number),
-        None => number,
-    }
-}
-
 /// The least distance of two times of which one is so many places after the other.
-fn closest(times: &[u64], count: usize) -> Option<u64>
+pub(crate) fn closest(times: &[u64], count: usize) -> Option<u64>
     requires rise { NeverFall times.now }
     ensures none { IfNone result (length times.now ≤ count) }
     ensures some { IfSome result (IsClosest times.now count (length times.now)) }
@@ -55,46 +41,56 @@ fn closest(times: &[u64], count: usize) -> Option<u64>
     }
     let mut least = times[count] - times[0];
     for at in count..times.len() {
-        least = least.min(times[at] - times[at - count]);
+        let gap = times[at] - times[at - count];
+        if gap < least {
+            least = gap;
+        }
     }
     Some(least)
 }
 
-/// The least distance of two times of a portion's writes of which one is as many places after the other as the portion
-/// counts, of all portions.
-fn closest_turns(
+/// The delay of a time so much later than one with this delay.
+fn next_delay(delay: u64, period: u64, gap: u64) -> u64
+    requires { delay + period < 2 ^ 64 }
+    ensures { result ≡ delay + period - gap }
+{
+    (delay + period).saturating_sub(gap)
+}
+
+/// The least jitter with which the times keep a period, so many of them a turn.
+pub(crate) fn least_jitter(
     alloc: Global,
-    entries: &[Entry],
     times: &[u64],
-    portions: &[Portion<WriterNo>],
-) -> Result<Option<u64>, NoMemory>
-    requires size { length times.now ≡ length entries.now }
+    count: usize,
+    period: u64,
+) -> Result<u64, NoMemory>
     requires rise { NeverFall times.now }
-    ensures { IfOk result (AreClosest entries.now times.now portions.now) }
-{
-    let mut least = None;
-    for one in portions {
-        let found = write_times(alloc, entries, times, one.endpoint, one.key)?;
-        least = nearer(least, closest(&found, usize::from(one.count)));
-    }
-    Ok(least)
-}
-
-/// A period from 1 on.
-fn from_1(period: Option<u64>) -> Option<u64>
-    ensures { result ≡ from_1 period }
-{
-    match period {
-        Some(period) if period >= 1 => Some(period),
-        _ => None,
-    }
-}
-
-/// The mean distance of the turns of a portion that counts so many: from the first write on as many whole turns as there
-/// are, in equal parts.
-fn mean_turn(times: &[u64], count: usize) -> Option<u64>
     requires count { 1 ≤ count }
+    requires period { 1 ≤ period }
+    requires room { (length times.now / count + 1) * period < 2 ^ 64 }
+    ensures { IfOk result (IsLeast
+        (λ j. KeepsTurns times.now count (record { period = period; jitter = j }))) }
+{
+    let mut delays = Vec::new(alloc);
+    let mut worst = 0;
+    for at in 0..times.len() {
+        let delay = if at < count {
+            0
+        } else {
+            next_delay(delays[at - count], period, times[at] - times[at - count])
+        };
+        delays.push(delay)?;
+        if delay > worst {
+            worst = delay;
+        }
+    }
+    Ok(worst)
+}
+
+/// The mean distance of the turns of so many times: from the first on as many whole turns as there are, in equal parts.
+pub(crate) fn mean_turn(times: &[u64], count: usize) -> Option<u64>
     requires rise { NeverFall times.now }
+    requires count { 1 ≤ count }
     ensures { result ≡ mean_turn times.now count }
 {
     if times.len() <= count {
