@@ -46,7 +46,7 @@ end_of names style (outcome.Linted found form denied) =
     end.said (findings_text form names denied found.items) (is_clean denied found.items)
 end_of names style (outcome.Ran plan journal ends good detail) = ran good detail style plan journal ends.items
 end_of names style (outcome.Replayed plan events replies) = end.said (told_replay style plan events.items replies.items) true
-end_of names style (outcome.Conformed plan conformance left close) = end.said (told_conformance style plan close left.items conformance) (is_good close left.items conformance)
+end_of names style (outcome.Conformed plan judged close) = end.said (told_conformance style plan close judged.leftovers.items judged.conformance) (is_good close judged.leftovers.items judged.conformance)
 
 -- the journal of a run is one of its plan, and the thread of each application has an end
 abbrev pub IsSound : Outcome → Type 0

@@ -15,7 +15,7 @@ ghost use Rattle.dds_tool.specs.Conforming.{kept_text, kept_word, told_conforman
 ghost use Rattle.dds_tool.specs.Outcome.{ComesTo};
 
 use crate::conformance_document::conformance_line;
-use crate::outcome::Outcome;
+use crate::outcome::{Judgement, Outcome};
 use dds_answers::{Answer, ToolFault, answer_with, read_plan};
 use dds_base::NoMemory;
 use dds_conform::{
@@ -91,25 +91,26 @@ fn conformance_text(
 fn tell_conformance(
     alloc: Global,
     plan: &Plan,
-    conformance: &Conformance,
-    leftovers: &[Leftover],
+    judgement: &Judgement,
     end: TraceEnd,
     style: Style,
 ) -> Result<String, NoMemory>
-    ensures { IfOk result
-        (λ text. string_bytes text ≡ told_conformance style plan.now end leftovers.now conformance.now) }
+    ensures { IfOk result (λ text. string_bytes text
+        ≡ told_conformance style plan.now end judgement.now.leftovers.items judgement.now.conformance) }
 {
+    let lists = plan.lists();
+    let conformance = &judgement.conformance;
     match style {
-        Style::Text => conformance_text(alloc, plan.lists(), conformance, leftovers, end),
-        Style::Json => conformance_line(alloc, plan.lists(), conformance, leftovers, end),
+        Style::Text => conformance_text(alloc, lists, conformance, &judgement.leftovers, end),
+        Style::Json => conformance_line(alloc, lists, conformance, &judgement.leftovers, end),
     }
 }
 
 /// Whether the answer is yes.
-fn is_good(conformance: &Conformance, leftovers: &[Leftover], end: TraceEnd) -> bool
-    ensures { result ≡ is_good end leftovers.now conformance.now }
+fn is_good(judgement: &Judgement, end: TraceEnd) -> bool
+    ensures { result ≡ is_good end judgement.now.leftovers.items judgement.now.conformance }
 {
-    is_kept(conformance) && is_finished(leftovers, end)
+    is_kept(&judgement.conformance) && is_finished(&judgement.leftovers, end)
 }
 
 /// The answer with whether a trace keeps the rules of a plan and what it leaves, all of which are needed no longer, in
@@ -122,22 +123,21 @@ fn is_good(conformance: &Conformance, leftovers: &[Leftover], end: TraceEnd) -> 
 pub(crate) fn answer_conformance(
     alloc: Global,
     plan: Plan,
-    conformance: Conformance,
-    leftovers: Vec<Leftover>,
+    judgement: Judgement,
     end: TraceEnd,
     style: Style,
 ) -> Result<Answer, ToolFault>
-    ensures gives { Gives result (said (told_conformance style plan end leftovers.items conformance)
-        (is_good end leftovers.items conformance)) }
+    ensures gives { Gives result
+        (said (told_conformance style plan end judgement.leftovers.items judgement.conformance)
+        (is_good end judgement.leftovers.items judgement.conformance)) }
     ensures memory { IfErr result (λ e. e ≡ ToolFault.NoMemory) }
 {
     let answer = answer_with(
-        tell_conformance(alloc, &plan, &conformance, &leftovers, end, style),
-        is_good(&conformance, &leftovers, end),
+        tell_conformance(alloc, &plan, &judgement, end, style),
+        is_good(&judgement, end),
     );
     drop(plan);
-    drop(conformance);
-    drop(leftovers);
+    drop(judgement);
     answer
 }
 
@@ -152,18 +152,18 @@ fn trace_fault(fault: TraceFault) -> ToolFault
 }
 
 /// Whether a trace keeps the rules of a plan and, where it has times, its clocks, and what it leaves.
-fn find_conformance(
-    alloc: Global,
-    plan: &Plan,
-    trace: &Trace,
-) -> Result<(Conformance, Vec<Leftover>), NoMemory>
+fn find_judgement(alloc: Global, plan: &Plan, trace: &Trace) -> Result<Judgement, NoMemory>
     requires { IsKnownTrace plan.now trace.now }
-    ensures answer { IfOk result (λ x. IsTraceAnswer plan.now trace.now.entries.items (times_of trace.now) x.0) }
-    ensures left { IfOk result (λ x. x.1.items ≡ leftovers plan.now trace.now.entries.items) }
+    ensures answer { IfOk result
+        (λ x. IsTraceAnswer plan.now trace.now.entries.items (times_of trace.now) x.conformance) }
+    ensures left { IfOk result (λ x. x.leftovers.items ≡ leftovers plan.now trace.now.entries.items) }
 {
-    let left = find_leftovers(alloc, plan, &trace.entries)?;
+    let leftovers = find_leftovers(alloc, plan, &trace.entries)?;
     let conformance = conform(alloc, plan, trace)?;
-    Ok((conformance, left))
+    Ok(Judgement {
+        conformance,
+        leftovers,
+    })
 }
 
 /// What a trace comes to.
@@ -179,11 +179,10 @@ fn judge(
         → ComesTo names style ⊥ (MayConform end style (Ok plan) bytes) result }
     ensures fault { IfErr result IsAnswerFault }
 {
-    match find_conformance(alloc, &plan, trace) {
-        Ok((conformance, leftovers)) => Ok(Outcome::Conformed {
+    match find_judgement(alloc, &plan, trace) {
+        Ok(judgement) => Ok(Outcome::Conformed {
             plan,
-            conformance,
-            leftovers,
+            judgement,
             end,
         }),
         Err(_) => {

@@ -14,6 +14,13 @@ use dds_search::{Found, Refutation};
 use dds_sizing::LimitsReport;
 use dds_weights::Certificate;
 
+/// What a trace shows: whether it keeps the rules, and what it leaves.
+#[derive(Drop)]
+pub(crate) struct Judgement {
+    pub(crate) conformance: Conformance,
+    pub(crate) leftovers: Vec<Leftover>,
+}
+
 /// What a command came to: values, of which nothing is printed yet.
 #[derive(Drop)]
 pub(crate) enum Outcome<'a> {
@@ -83,8 +90,7 @@ pub(crate) enum Outcome<'a> {
     /// `conform`: the plan, whether the trace keeps its rules, what it leaves, and whether it may.
     Conformed {
         plan: Plan,
-        conformance: Conformance,
-        leftovers: Vec<Leftover>,
+        judgement: Judgement,
         end: TraceEnd,
     },
 }

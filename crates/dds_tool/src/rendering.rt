@@ -63,9 +63,8 @@ pub(crate) fn render(
         } => { answer_replay(alloc, plan, events, replies, style) }
         Outcome::Conformed {
             plan,
-            conformance,
-            leftovers,
+            judgement,
             end,
-        } => { answer_conformance(alloc, plan, conformance, leftovers, end, style) }
+        } => { answer_conformance(alloc, plan, judgement, end, style) }
     }
 }
