@@ -17,7 +17,7 @@ use Rattle.dds_conform.specs.declared.conformance.Within.{Within}
 use Rattle.dds_conform.specs.declared.conformance.Within.TheVariants.{Taken, Available}
 use Rattle.dds_conform.specs.declared.windows.Breach.{Breach}
 use Rattle.dds_conform.specs.declared.windows.Breach.TheVariants.{TooSoon, TooLate}
-use Rattle.dds_conform.specs.Answering.{IsClean, IsTimedAnswer}
+use Rattle.dds_conform.specs.Answering.{IsClean, IsEntriesAnswer, IsTimedAnswer, IsTraceAnswer}
 use Rattle.dds_conform.specs.Breaches.{KeepsAge, KeepsClocks, KeepsPace, span_of}
 use Rattle.dds_conform.specs.Judging.{IsAnswer, IsBlocked, IsFullAt, Reaches, actions_of}
 use Rattle.dds_conform.specs.Keeping.{HasNoRivals, Keeps}
@@ -171,6 +171,15 @@ other_whole d es ts p answer.Unknown other is clocks = λ rivals. full_whole d e
 breach_whole : (d : Lists) (es : List Entry) (ts : List ℕ) (b : Breach) (c : Conformance) → IsAnswerOf b c → Keeps (network_of d) (actions_of (take (breach_place b + 1) es)) → IsBreach d es ts b → KeepsClocks d es ts (breach_place b) → IsTimedAnswer d es ts c
 breach_whole d es ts (TooSoon place x) c is rules breach clocks = subst (IsTimedAnswer d es ts) (sym is) (place, breach, record { clocks = clocks; rules = rules })
 breach_whole d es ts (TooLate place x) c is rules breach clocks = subst (IsTimedAnswer d es ts) (sym is) (place, breach, record { clocks = clocks; rules = rules })
+
+-- a trace without entries, and one with some
+pub empty_answer : (d : Lists) (es : List Entry) (times : Option (List ℕ)) → length es ≡ 0 → IsTraceAnswer d es times answer.Empty
+empty_answer d [] times none = refl
+empty_answer d (e ∷ es) times none = absurd (omega (arith, none))
+
+pub entries_answer : (d : Lists) (es : List Entry) (times : Option (List ℕ)) (c : Conformance) → (length es ≡ 0 → ⊥) → IsEntriesAnswer d es times c → IsTraceAnswer d es times c
+entries_answer d [] times c some is = absurd (some refl)
+entries_answer d (e ∷ es) times c some is = is
 
 -- the answer where there is a first breach
 pub answer_whole : (d : Lists) (es : List Entry) (ts : List ℕ) (b : Breach) (c : Conformance) → IsAnswerUpTo d es b c → IsBreach d es ts b → KeepsClocks d es ts (breach_place b) → IsTimedAnswer d es ts c

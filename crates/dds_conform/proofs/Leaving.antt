@@ -94,6 +94,7 @@ own_one d r k (Wrote n a v l) low = elim (cases_eq l k) [
   where
     at : (d : Lists) (r n a v l : ℕ) → v < most_endpoints → cond (heard d r l (Wrote n a v l)) 1 0 ≡ total most_endpoints (own d r l (Wrote n a v l))
     at d r n a v l low = here v (eqb l l) (is_awaited d v r l) ∙ sym (total_one (own d r l (Wrote n a v l)) most_endpoints v low (λ j other. elsewhere (eqb v j) (eqb l l) (is_awaited d j r l) (ne_eqb v j other)))
+
     never : (b c x : Bool) → c ≡ false → ◌≡◌ {A = ℕ} (cond x (cond (b && c) 1 0) 0) 0
     never true c true fails = rw fails refl
     never false c true fails = refl
@@ -108,7 +109,7 @@ heard_sum d r k (e ∷ es) low =
     let sum = total_add (own d r k e) (all_of d r k es) most_endpoints in
     let first = sum_by-cons (λ x. cond (heard d r k x) 1 0) e es in
     let each = total_ext (λ w. own d r k e w + all_of d r k es w) (all_of d r k (e ∷ es)) most_endpoints
-      (λ w lt. sym (ap (λ n. cond (is_awaited d w r k) n 0) (sum_by-cons (λ x. cond (wrote w k x) 1 0) e es) ∙ split (is_awaited d w r k) (cond (wrote w k e) 1 0) (count_by (wrote w k) es))) in
+    (λ w lt. sym (ap (λ n. cond (is_awaited d w r k) n 0) (sum_by-cons (λ x. cond (wrote w k x) 1 0) e es) ∙ split (is_awaited d w r k) (cond (wrote w k e) 1 0) (count_by (wrote w k) es))) in
     first ∙ ap (λ n. n + count_by (heard d r k) es) one ∙ ap (λ n. total most_endpoints (own d r k e) + n) rest ∙ sym sum ∙ each
 
 all_low : (d : Lists) (es : List Entry) → IsWellFormed d → IsNetwork (network_of d) → AreKnown (network_of d) es → All IsLow es

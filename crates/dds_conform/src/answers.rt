@@ -1,5 +1,5 @@
 //! The text of an answer.
-ghost use Rattle.std.specs.Prelude.{◌≡◌, ◌++◌, IfOk, flat_map, length, string_bytes, take};
+ghost use Rattle.std.specs.Prelude.{◌≡◌, IfOk, flat_map, string_bytes, take};
 ghost use Rattle.dds_conform.specs.Answers.{answer_text, breach_end, early_text, field_of, late_text};
 ghost use Rattle.dds_conform.specs.Answers.{leftover_line, leftover_text, most_leftover_lines, rest_line};
 ghost use Rattle.dds_conform.specs.Answers.{refusal_text, shortage_line, shortage_lines};

@@ -1,5 +1,5 @@
 //! Whether a trace keeps the rules of a plan.
-ghost use Rattle.std.specs.Prelude.{◌<◌, IfOk, length};
+ghost use Rattle.std.specs.Prelude.{◌≡◌, ◌<◌, ◌==◌, IfOk, length};
 ghost use Rattle.dds_match.specs.Plan.{network_of};
 ghost use Rattle.dds_conform.specs.Keeping.{HasNoRivals};
 ghost use Rattle.dds_conform.specs.Answering.{IsEntriesAnswer, IsTimedAnswer, IsTraceAnswer};
@@ -102,6 +102,13 @@ fn conform_timed(
     }
 }
 
+/// Whether there are no entries.
+fn is_empty(entries: &[Entry]) -> bool
+    ensures { result ≡ (length entries.now == 0) }
+{
+    entries.is_empty()
+}
+
 /// Whether the entries of a trace keep the rules and, where they have times, the clocks.
 fn conform_entries(alloc: Global, plan: &Plan, trace: &Trace) -> Result<Conformance, NoMemory>
     requires { IsKnownTrace plan.now trace.now }
@@ -120,16 +127,17 @@ fn conform_entries(alloc: Global, plan: &Plan, trace: &Trace) -> Result<Conforma
 /// steps.
 ///
 /// `Kept` means that all that holds, and `Empty` that the trace has no entries. Any other answer names the first entry
-/// that breaks something, a permit first, then by the order of the readers. `NoPermit` names a write up to which the entries before it keep the rules and, where no
-/// two rules give permits for the same writes, those up to it don't, whatever is fired. `TooSoon` and `TooLate` come
-/// only of a trace with times. Where no two rules give permits for the same writes, `Unknown` comes only where a count
-/// would pass 2^64 - 1. `NoMemory` is the only error.
+/// that breaks something, a permit first, then by the order of the readers. `NoPermit` names a write up to which the
+/// entries before it keep the rules and, where no two rules give permits for the same writes, those up to it don't,
+/// whatever is fired. `TooSoon` and `TooLate` come only of a trace with times. Where no two rules give permits for the
+/// same writes, `Unknown` comes only where a count would pass 2^64 - 1. `NoMemory` is the only error.
 pub fn conform(alloc: Global, plan: &Plan, trace: &Trace) -> Result<Conformance, NoMemory>
     requires { IsKnownTrace plan.now trace.now }
     ensures { IfOk result (IsTraceAnswer plan.now trace.now.entries.items (times_of trace.now)) }
 {
-    if trace.entries.is_empty() {
-        return Ok(Conformance::Empty);
+    if is_empty(&trace.entries) {
+        Ok(Conformance::Empty)
+    } else {
+        conform_entries(alloc, plan, trace)
     }
-    conform_entries(alloc, plan, trace)
 }

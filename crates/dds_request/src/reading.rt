@@ -20,7 +20,9 @@ use crate::request::{Comparison, NoRequest, PairTask, Request, Sizing, Task};
 use crate::wishes::{Wishes, read_fates, read_form, read_format, read_style, read_version};
 use clap::ArgMatches;
 use clap::error::ErrorKind;
-use dds_options::{Allowed, Deny, Detail, Format, GoodEnds, LaterVersion, LintStyle, Style, TraceEnd};
+use dds_options::{
+    Allowed, Deny, Detail, Format, GoodEnds, LaterVersion, LintStyle, Style, TraceEnd,
+};
 use std::alloc::Global;
 use std::convert::AsStr;
 
