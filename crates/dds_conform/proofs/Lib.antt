@@ -9,7 +9,9 @@ pub mod Passing
 pub mod Reaching
 mod Slotted
 pub mod Stamped
+pub mod Timed
 pub mod Told
+pub mod Turning
 mod WordLaws
 pub mod Wording
 pub mod Worlds

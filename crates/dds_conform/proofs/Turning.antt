@@ -82,3 +82,57 @@ module _ (ts : List ℕ) (count : ℕ) (counts : 1 ≤ count) (rise : NeverFall 
           omega (arith, far, near, is))
     ];
   }
+
+-- ── delays
+-- the first of so many times has no delay
+pub first_delay : (ts : List ℕ) (count period i : ℕ) → 1 ≤ count → i < count → IsDelay ts count period i 0
+first_delay ts count period i counts early = record {
+  each = λ k turns place. elim (cases_lt 0 turns) [
+    | inl some ↦ (let more = mul-le-mul_right {m = 1} {n = turns} count (omega (arith, some)) in absurd (omega (arith, more, place, early)))
+    | inr none ↦ (let zero : turns ≡ 0 = omega (arith, none) in subst (λ n. n * period ≤ 0 + (slice_index ts i - slice_index ts k)) (sym zero) (omega arith))
+  ];
+  first = i;
+  turns = 0;
+  place = omega arith;
+  attained = omega arith;
+}
+
+module _ (ts : List ℕ) (count period i before delay : ℕ) (rise : NeverFall ts) (inside : i + count < length ts) (was : IsDelay ts count period i before) (is : delay ≡ before + period - (slice_index ts (i + count) - slice_index ts i)) where
+  each_later : (k turns : ℕ) → k + turns * count ≡ i + count → turns * period ≤ delay + (slice_index ts (i + count) - slice_index ts k)
+  each_later k turns place = elim (cases_lt 0 turns) [
+    | inr none ↦ (let zero : turns ≡ 0 = omega (arith, none) in subst (λ n. n * period ≤ delay + (slice_index ts (i + count) - slice_index ts k)) (sym zero) (omega arith))
+    | inl some ↦ (
+        let less = turns - 1 in
+        let turns_are : turns ≡ less + 1 = omega (arith, some) in
+        let rows : turns * count ≡ (less + 1) * count = ap (λ n. n * count) turns_are in
+        let place_is : k + less * count ≡ i = omega (arith, place, rows) in
+        let one = was.each k less place_is in
+        let earlier = rise k i (omega (arith, place_is)) (omega (arith, inside)) in
+        let later = rise i (i + count) (omega arith) inside in
+        let periods : turns * period ≡ (less + 1) * period = ap (λ n. n * period) turns_are in
+        omega (arith, one, earlier, later, is, periods))
+  ]
+
+  -- the delay of a time from that of the one a turn before it
+  pub next_delay : IsDelay ts count period (i + count) delay
+  next_delay = elim (cases_lt (slice_index ts (i + count) - slice_index ts i) (before + period)) [
+    | inl late ↦ (
+        let at = was.place in
+        let near = was.attained in
+        let earlier = rise was.first i (omega (arith, at)) (omega (arith, inside)) in
+        let later = rise i (i + count) (omega arith) inside in
+        record {
+          each = each_later;
+          first = was.first;
+          turns = was.turns + 1;
+          place = omega (arith, at);
+          attained = omega (arith, near, earlier, later, is, late);
+        })
+    | inr early ↦ record {
+        each = each_later;
+        first = i + count;
+        turns = 0;
+        place = omega arith;
+        attained = omega (arith, is, early);
+      }
+  ]

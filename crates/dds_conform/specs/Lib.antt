@@ -9,6 +9,7 @@ pub mod Judging
 pub mod Keeping
 pub mod Leftovers
 pub mod Lines
+pub mod Measures
 pub mod Reading
 pub mod Rivals
 pub mod Shortages

@@ -1,13 +1,10 @@
 -- What a trace with times shows: how often rules write, and how old samples are when they are taken.
 use Rattle.std.specs.Prelude.{◌≡◌, ◌⊎◌, ℕ, ◌+◌, ◌-◌, ◌*◌, ◌/◌, ◌<◌, ◌≤◌, nat_lt, Bool, if◌then◌else◌, List, [], ◌∷◌, length, slice_index, Option, Some, None}
-use Rattle.std.specs.List.{filter_map, list_any, range_with_len}
-use Rattle.dds_base.specs.Sums.{In, any_below}
+use Rattle.dds_base.specs.Sums.{In}
 use Rattle.dds_base.specs.declared.portion.Portion.{Portion}
-use Rattle.dds_lists.specs.Lists.{Lists, Rule}
+use Rattle.dds_lists.specs.Lists.{Lists}
 use Rattle.dds_lists.specs.declared.lists.Pace.{Pace}
-use Rattle.dds_match.specs.Network.{is_named}
 use Rattle.dds_match.specs.Paces.{turns}
-use Rattle.dds_match.specs.Words.{rule_of}
 use Rattle.dds_conform.specs.declared.actions.Entry.{Entry}
 use Rattle.dds_conform.specs.declared.conformance.Within.TheVariants.{Taken}
 use Rattle.dds_conform.specs.Breaches.{ends, heard, wrote}
@@ -90,14 +87,32 @@ IsGreatestAge d es ts r None = (age : ℕ) → ¬ IsAge d es ts r age
 IsGreatestAge d es ts r (Some age) = IsGreatest (IsAge d es ts r) age
 
 -- ── while times are gone through
--- among the first n times, ones so many places apart are no nearer than this, and two are as near
-pub record IsClosest (ts : List ℕ) (count n gap : ℕ) : Type 0 where
-  pub near : (i : ℕ) → i + count < n → slice_index ts i + gap ≤ slice_index ts (i + count)
+-- no two of these times so many places apart are nearer than this, and two are as near
+abbrev pub AreApart : List ℕ → ℕ → ℕ → Type 0
+AreApart ts count gap = (i : ℕ) → i + count < length ts → slice_index ts i + gap ≤ slice_index ts (i + count)
+
+pub record IsClosest (ts : List ℕ) (count gap : ℕ) : Type 0 where
+  pub near : AreApart ts count gap
   pub first : ℕ
-  pub within : first + count < n
+  pub within : first + count < length ts
   pub attained : slice_index ts first + gap ≡ slice_index ts (first + count)
 
--- how much later than in turns of a period the time at a place comes than one so many places before it, at most: by at least as much as each, and no more than one
+-- of all portions no two times a turn apart are nearer than this, and two of one portion are as near
+pub record AreClosest (es : List Entry) (ts : List ℕ) (portions : List (Portion ℕ)) (gap : ℕ) : Type 0 where
+  pub near : (e : Portion ℕ) → In e portions → AreApart (portion_times es ts e) e.count gap
+  pub own : Portion ℕ
+  pub is_own : In own portions
+  pub closest : IsClosest (portion_times es ts own) own.count gap
+
+-- no portion has two times a turn apart
+abbrev pub AreFew : List Entry → List ℕ → List (Portion ℕ) → Type 0
+AreFew es ts portions = (e : Portion ℕ) → In e portions → length (portion_times es ts e) ≤ e.count
+
+abbrev pub AreClosestOrFew : List Entry → List ℕ → List (Portion ℕ) → Option ℕ → Type 0
+AreClosestOrFew es ts portions None = AreFew es ts portions
+AreClosestOrFew es ts portions (Some gap) = AreClosest es ts portions gap
+
+-- how much later than in turns of a period the time at a place comes than one so many turns before it, at most: by no less than each, and by no more than one
 pub record IsDelay (ts : List ℕ) (count period i delay : ℕ) : Type 0 where
   pub each : (k turns : ℕ) → k + turns * count ≡ i → turns * period ≤ delay + (slice_index ts i - slice_index ts k)
   pub first : ℕ
@@ -105,6 +120,7 @@ pub record IsDelay (ts : List ℕ) (count period i delay : ℕ) : Type 0 where
   pub place : first + turns * count ≡ i
   pub attained : delay + (slice_index ts i - slice_index ts first) ≤ turns * period
 
+-- the delays of the first n times, and the worst
 pub record AreDelays (ts : List ℕ) (count period n : ℕ) (delays : List ℕ) (worst : ℕ) : Type 0 where
   pub size : length delays ≡ n
   pub each : (i : ℕ) → i < n → IsDelay ts count period i (slice_index delays i)

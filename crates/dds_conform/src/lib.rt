@@ -30,6 +30,7 @@ mod hunting;
 mod judging;
 mod leftovers;
 mod lines;
+mod pacing;
 pub mod reading;
 mod rivals;
 mod serving;

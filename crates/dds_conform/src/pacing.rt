@@ -3,11 +3,11 @@
 ghost use Rattle.std.specs.Prelude.{◌≡◌, ◌+◌, ◌*◌, ◌-◌, ◌/◌, ◌<◌, ◌≤◌, ◌^◌, IfNone, IfOk, IfSome, length};
 ghost use Rattle.std.specs.Prelude.{slice_index};
 ghost use Rattle.dds_conform.specs.Breaches.{NeverFall, wrote};
-ghost use Rattle.dds_conform.specs.Measures.{IsClosest, IsLeast, KeepsTurns, mean_turn, times_where};
+ghost use Rattle.dds_conform.specs.Measures.{AreClosestOrFew, IsClosest, IsLeast, KeepsTurns, mean_turn, times_where};
 
 use crate::actions::Entry;
 use crate::windows::is_write;
-use dds_base::{KeyNo, NoMemory, WriterNo};
+use dds_base::{KeyNo, NoMemory, Portion, WriterNo};
 use std::alloc::Global;
 
 /// The times of the entries that write the key at the writer.
@@ -34,7 +34,7 @@ pub(crate) fn write_times(
 pub(crate) fn closest(times: &[u64], count: usize) -> Option<u64>
     requires rise { NeverFall times.now }
     ensures none { IfNone result (length times.now ≤ count) }
-    ensures some { IfSome result (IsClosest times.now count (length times.now)) }
+    ensures some { IfSome result (IsClosest times.now count) }
 {
     if times.len() <= count {
         return None;
@@ -98,4 +98,32 @@ pub(crate) fn mean_turn(times: &[u64], count: usize) -> Option<u64>
     }
     let turns = (times.len() - 1) / count;
     Some((times[turns * count] - times[0]) / turns)
+}
+
+/// The lesser of two distances, of which either may be missing.
+fn nearer(least: Option<u64>, found: Option<u64>) -> Option<u64> {
+    match (least, found) {
+        (Some(least), Some(found)) => Some(least.min(found)),
+        (Some(least), None) => Some(least),
+        (None, found) => found,
+    }
+}
+
+/// The least distance of two times of a portion's writes that are a turn apart, of all portions.
+fn closest_turns(
+    alloc: Global,
+    entries: &[Entry],
+    times: &[u64],
+    portions: &[Portion<WriterNo>],
+) -> Result<Option<u64>, NoMemory>
+    requires size { length times.now ≡ length entries.now }
+    requires rise { NeverFall times.now }
+    ensures { IfOk result (AreClosestOrFew entries.now times.now portions.now) }
+{
+    let mut least = None;
+    for one in portions {
+        let found = write_times(alloc, entries, times, one.endpoint, one.key)?;
+        least = nearer(least, closest(&found, usize::from(one.count)));
+    }
+    Ok(least)
 }

@@ -153,7 +153,7 @@ fn caps_of(
 }
 
 /// Whether an entry writes the key at the writer.
-fn is_write(entry: &Entry, writer: WriterNo, key: KeyNo) -> bool
+pub(crate) fn is_write(entry: &Entry, writer: WriterNo, key: KeyNo) -> bool
     ensures { result ≡ wrote writer key entry.now }
 {
     match *entry {
