@@ -1,4 +1,4 @@
-"""Files that attack an importer, with the status and a line that they owe. `test` imports each within two seconds and 200 MiB."""
+"""Files that attack an importer, with the status and a line that they owe. `test` imports each within three seconds and 200 MiB."""
 
 from __future__ import annotations
 
